@@ -3,22 +3,30 @@
 
 mod acting;
 mod acts;
+mod book_laws;
 mod clock;
+mod counting;
 mod items;
 mod laws;
 mod listing;
 mod merging;
 mod opened;
+mod serial;
 mod shard;
 mod slices;
 mod storing;
-mod view_laws;
+#[cfg(test)]
+mod testing;
+#[cfg(test)]
+mod tests;
 mod views;
+mod writing;
 
 pub use acts::{Act, Shown};
+pub use book_laws::{counts_of_books, limits_of_books, views_are_replies};
 pub use clock::{LAST_NUMBER, next_number};
-pub use laws::acts_of_rows;
+pub use laws::{acts_can_be_done, acts_of_entries, acts_of_rows};
 pub use opened::Opened;
+pub use serial::SerialAuction;
 pub use shard::Shard;
 pub use slices::{CategorySlice, ItemSlice, Slice, UserSlice};
-pub use view_laws::views_are_answers;

@@ -1,0 +1,29 @@
+-- What the functions that read scripts say of their readers and of what was asked so far.
+use Rattle.std.specs.Prelude.{ℕ, ◌≡◌, ◌++◌, [], ◌∷◌, true, replicate, slice_index_or, slice_set}
+use Rattle.csv.specs.Reading.{Ready, default_config, is_flexible, reader_config, reader_trim}
+use Rattle.csv.specs.declared.reader.Reader.{Reader}
+use Rattle.csv.specs.declared.reader.Trim.TheVariants as trim
+use Rattle.auction_rows.specs.declared.requests.Request.{Request}
+use Rattle.auction_text.specs.Scripts.{Asked}
+use Rattle.auction_text.specs.declared.faults.ReadFault.{ReadFault}
+use Rattle.auction_text.specs.declared.faults.ReadFault.TheVariants as fault
+
+-- a reader of records with no header row, of any number of fields, that trims nothing
+abbrev pub IsPlain : {R : Type 0} → Reader R → Type 0
+IsPlain r = (reader_config r ≡ default_config) × (reader_trim r ≡ trim.None) × Ready r × (is_flexible r ≡ true)
+
+-- nothing is asked of so many workers
+abbrev pub nothing_asked : ℕ → Asked
+nothing_asked workers = record { rows = []; scripts = replicate workers [] }
+
+-- the same with one more request at the end of worker w's script
+abbrev pub with_request : ℕ → Request → Asked → Asked
+with_request w request asked = record asked { scripts = slice_set asked.scripts w (slice_index_or asked.scripts w [] ++ (request ∷ [])) }
+
+-- a fault of the input itself, and not of the reader or of memory
+abbrev pub IsInputFault : ReadFault → Type 0
+IsInputFault (fault.Line place cause) = Unit {0}
+IsInputFault (fault.Worker place) = Unit {0}
+IsInputFault fault.Long = Unit {0}
+IsInputFault fault.Read = ⊥
+IsInputFault fault.Memory = ⊥

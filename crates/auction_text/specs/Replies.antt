@@ -1,0 +1,89 @@
+-- The texts of replies.
+use Rattle.std.specs.Prelude.{ℕ, ℤ, List, ◌++◌, codes, decimal, Option, Some, None}
+use Rattle.std.specs.Fmt.{signed_decimal}
+use Rattle.std.specs.List.{flat_map}
+use Rattle.auction_rows.specs.declared.rows.Entry.{Entry}
+use Rattle.auction_rows.specs.declared.replies.BidShown.{BidShown}
+use Rattle.auction_rows.specs.declared.replies.ItemShown.{ItemShown}
+use Rattle.auction_rows.specs.declared.replies.Refusal.{Refusal}
+use Rattle.auction_rows.specs.declared.replies.Refusal.TheVariants as refusal
+use Rattle.auction_rows.specs.declared.replies.Reply.{Reply}
+use Rattle.auction_rows.specs.declared.replies.Reply.TheVariants as reply
+use Rattle.auction_text.specs.Order.{in_order}
+
+-- an id: a worker and a serial
+abbrev pub id_text : ℕ → ℕ → List ℕ
+id_text worker serial = decimal worker ++ codes "." ++ decimal serial
+
+-- a number, or `-` where there is none
+abbrev pub optional_text : Option ℕ → List ℕ
+optional_text None = codes "-"
+optional_text (Some n) = decimal n
+
+-- a word, and a number after it
+abbrev pub labelled : List ℕ → ℕ → List ℕ
+labelled label n = label ++ decimal n
+
+abbrev pub labelled_optional : List ℕ → Option ℕ → List ℕ
+labelled_optional label n = label ++ optional_text n
+
+abbrev pub labelled_id : List ℕ → ℕ → ℕ → List ℕ
+labelled_id label worker serial = label ++ id_text worker serial
+
+abbrev pub refusal_text : Refusal → List ℕ
+refusal_text refusal.NoSuchUser = codes "refused 1 NoSuchUser"
+refusal_text refusal.NoSuchCategory = codes "refused 2 NoSuchCategory"
+refusal_text refusal.NoSuchItem = codes "refused 3 NoSuchItem"
+refusal_text refusal.BelowStart = codes "refused 4 BelowStart"
+refusal_text refusal.Closed = codes "refused 5 Closed"
+refusal_text refusal.SoldOut = codes "refused 6 SoldOut"
+refusal_text refusal.NotEnough = codes "refused 7 NotEnough"
+
+-- what is fixed of an item, but for its name
+abbrev pub facts_text : ℕ → ℕ → ℕ → ℕ → List ℕ
+facts_text seller category start closes =
+    labelled (codes "viewitem seller=") seller ++ labelled (codes " category=") category
+    ++ labelled (codes " start=") start ++ labelled (codes " closes=") closes
+
+-- the highest bid on an item, its bidder, how many bids there are, and how many of the item are left
+abbrev pub state_text : Option ℕ → Option ℕ → ℕ → ℕ → List ℕ
+state_text highest bidder bids left =
+    labelled_optional (codes " highest=") highest ++ labelled_optional (codes " bidder=") bidder
+    ++ labelled (codes " bids=") bids ++ labelled (codes " left=") left
+
+-- a bid and an item as lists of them show them
+abbrev pub bid_text : BidShown → List ℕ
+bid_text bid =
+    labelled (codes " ") bid.amount ++ labelled (codes ":") bid.time ++ labelled (codes ":") bid.bidder
+    ++ labelled_id (codes ":") bid.id.worker bid.id.serial
+
+abbrev pub item_text : ItemShown → List ℕ
+item_text item = labelled (codes " ") item.time ++ labelled_id (codes ":") item.id.worker item.id.serial
+
+-- a user's rating, and the number of comments
+abbrev pub user_text : ℤ → ℕ → List ℕ
+user_text rating comments = codes "user rating=" ++ signed_decimal rating ++ labelled (codes " comments=") comments
+
+abbrev pub reply_text : Reply → List ℕ
+reply_text (reply.ItemStored id) = labelled_id (codes "item ") id.worker id.serial
+reply_text (reply.BidStored id) = labelled_id (codes "bid ") id.worker id.serial
+reply_text (reply.CommentStored id) = labelled_id (codes "comment ") id.worker id.serial
+reply_text (reply.Bought id) = labelled_id (codes "buynow ") id.worker id.serial
+reply_text (reply.ItemSeen seller category name start closes highest bidder bids left) =
+    facts_text seller category start closes ++ state_text highest bidder bids left ++ codes " name=" ++ name
+reply_text (reply.BidsSeen bids) = codes "bids" ++ flat_map bid_text bids
+reply_text (reply.CategorySeen items) = codes "latest" ++ flat_map item_text items
+reply_text (reply.UserSeen rating comments) = user_text rating comments
+reply_text (reply.Refused why) = refusal_text why
+
+-- the line of an entry among the replies
+abbrev pub reply_line : Entry → List ℕ
+reply_line entry = decimal entry.worker ++ labelled (codes ",") entry.index ++ codes "," ++ reply_text entry.reply ++ codes "\n"
+
+-- a line for each entry
+abbrev pub lines : (Entry → List ℕ) → List Entry → List ℕ
+lines line entries = flat_map line entries
+
+-- the replies of entries: a line for each, by worker, then index, then place
+abbrev pub replies_text : List Entry → List ℕ
+replies_text entries = lines reply_line (in_order entries)

@@ -1,0 +1,57 @@
+//! Why an input gives no scripts, and why a text was not written.
+
+use thiserror::Error;
+
+/// What is wrong with a record.
+#[derive(Clone, Copy, Debug, PartialEq, Eq, Drop, Error)]
+pub enum Cause {
+    /// A field is not a number of its type.
+    #[error("not a number")]
+    Number,
+    /// The second field is not a kind.
+    #[error("unknown kind")]
+    Kind,
+    /// There are more or fewer fields than the kind has.
+    #[error("wrong number of fields")]
+    Fields,
+    /// A field is not an item's id.
+    #[error("not an item id")]
+    Item,
+    /// A field is not a name.
+    #[error("not a name")]
+    Name,
+    /// A field is not a number from 1 to 1,000,000.
+    #[error("not a quantity")]
+    Quantity,
+}
+
+/// Why an input gives no scripts. Records are counted from 1.
+#[derive(Clone, Copy, Debug, PartialEq, Eq, Drop, Error)]
+pub enum ReadFault {
+    /// A record is not what its kind asks for.
+    #[error("record {0}: {1}")]
+    Line(u32, Cause),
+    /// A record's worker is not below the number of workers.
+    #[error("record {0}: no such worker")]
+    Worker(u32),
+    /// A read of the input failed.
+    #[error("input cannot be read")]
+    Read,
+    /// No memory was left.
+    #[error("no memory")]
+    Memory,
+    /// There are more records than `MOST_RECORDS`.
+    #[error("more than 16000000 records")]
+    Long,
+}
+
+/// Why a text was not written whole.
+#[derive(Clone, Copy, Debug, PartialEq, Eq, Drop, Error)]
+pub enum WriteFault {
+    /// A write or the flush failed, or a write took no byte: a front of the text was written.
+    #[error("output cannot be written")]
+    Write,
+    /// No memory was left: no byte was written.
+    #[error("no memory")]
+    Memory,
+}

@@ -1,0 +1,92 @@
+//! What one field of a record says.
+ghost use Rattle.std.specs.Prelude.{◌≡◌, ◌≤◌, ◌<◌, ◌^◌, true, length, IfSome, MatchOption};
+ghost use Rattle.std.specs.List.{list_all, position};
+ghost use Rattle.std.specs.Char.{is_ascii_digit};
+ghost use Rattle.std.specs.Str.Parse.{digits_value};
+ghost use Rattle.auction_text.specs.Fields.{is_numeral, is_point, item_id, name, number, quantity};
+
+use auction_rows::{ItemId, Name, Quantity};
+
+fn are_digits(bytes: &[u8]) -> bool
+    ensures { result ≡ list_all is_ascii_digit bytes.now }
+{
+    bytes.iter().all(|byte| byte.is_ascii_digit())
+}
+
+fn is_numeral_text(field: &[u8]) -> bool
+    ensures { result ≡ is_numeral field.now }
+{
+    match field {
+        [] => false,
+        [b'0', rest @ ..] => rest.is_empty(),
+        _ => are_digits(field),
+    }
+}
+
+// The number that digits write; none where it doesn't fit.
+fn digits_number(digits: &[u8]) -> Option<u64>
+    requires { list_all is_ascii_digit digits.now ≡ true }
+    ensures { MatchOption result (2 ^ 64 ≤ digits_value 10 digits.now) (λ n. n ≡ digits_value 10 digits.now) }
+{
+    let mut value = 0u64;
+    for digit in digits {
+        value = value
+            .checked_mul(10)?
+            .checked_add(u64::from(*digit - b'0'))?;
+    }
+    Some(value)
+}
+
+/// A number of 64 bits, with no sign and no leading zero.
+pub fn read_u64(field: &[u8]) -> Option<u64>
+    ensures { result ≡ number 64 field.now }
+{
+    if !is_numeral_text(field) {
+        return None;
+    }
+    digits_number(field)
+}
+
+/// A number of 32 bits, with no sign and no leading zero.
+pub fn read_u32(field: &[u8]) -> Option<u32>
+    ensures { result ≡ number 32 field.now }
+{
+    let value = read_u64(field)?;
+    if value <= u64::from(u32::MAX) {
+        Some(value as u32)
+    } else {
+        None
+    }
+}
+
+/// A number from 1 to 1,000,000, with no sign and no leading zero.
+pub fn read_quantity(field: &[u8]) -> Option<Quantity>
+    ensures { result ≡ quantity field.now }
+{
+    Quantity::new(read_u64(field)?)
+}
+
+/// A name: 1 to 32 bytes, each from 0x20 to 0x7E.
+pub fn read_name(field: &[u8]) -> Option<Name>
+    ensures { result ≡ name field.now }
+{
+    Name::new(field)
+}
+
+// The place of the first point.
+fn first_point(field: &[u8]) -> Option<usize>
+    ensures place { result ≡ position is_point field.now }
+    ensures within { IfSome result (λ i. i < length field.now) }
+{
+    field.iter().position(|byte| *byte == b'.')
+}
+
+/// An item's id: its worker, a point and its serial, as `0.0` or `15.999`.
+pub fn read_item_id(field: &[u8]) -> Option<ItemId>
+    ensures { result ≡ item_id field.now }
+{
+    let point = first_point(field)?;
+    let worker = read_u32(&field[..point])?;
+    let serial = read_u32(&field[point + 1..])?;
+    Some(ItemId { worker, serial })
+}

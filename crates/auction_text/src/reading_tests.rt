@@ -1,0 +1,258 @@
+//! Inputs that are read, and those that aren't.
+ghost use Rattle.std.specs.Prelude.{◌≡◌, vec_len, IfOk};
+
+use crate::{Cause, Input, ReadFault, read_scripts};
+use auction_rows::{Facts, ItemId, Name, Quantity, Request};
+use std::alloc::Global;
+use std::io;
+use std::io::Read;
+use std::test::Fail;
+
+const INPUT: &[u8] = b"0,item,0,0,Vase,10,100,1\n0,bid,1,0.0,10,5\n0,viewitem,0.0\n";
+
+// Gives the first bytes of a text, one a call, and then fails.
+#[derive(Drop)]
+struct Broken<'a> {
+    text: &'a [u8],
+    given: usize,
+    cut: usize,
+}
+
+impl<'a> Read for Broken<'a> {
+    fn read(&mut self, buf: &mut [u8]) -> io::Result<usize> {
+        if self.given == self.cut {
+            return Err(io::Error::from(io::ErrorKind::BrokenPipe));
+        }
+        match (self.text.get(self.given), buf.first_mut()) {
+            (Some(byte), Some(place)) => {
+                *place = *byte;
+                self.given = self.given.saturating_add(1);
+                Ok(1)
+            }
+            _ => Ok(0),
+        }
+    }
+}
+
+fn read_one(alloc: Global, text: &[u8]) -> Result<Input, ReadFault>
+    ensures { IfOk result (λ input. vec_len input.scripts ≡ 1) }
+{
+    read_scripts(alloc, text, 1)
+}
+
+fn line(number: u32, cause: Cause) -> ReadFault {
+    ReadFault::Line(number, cause)
+}
+
+// How many requests a text holds for one worker, or its fault.
+fn count_in(alloc: Global, text: &[u8]) -> Result<usize, ReadFault> {
+    Ok(read_one(alloc, text)?.scripts[0].len())
+}
+
+fn fault_in(alloc: Global, text: &[u8]) -> Option<ReadFault> {
+    count_in(alloc, text).err()
+}
+
+// The only request of a text.
+fn request_in(alloc: Global, text: &[u8]) -> Result<Request, Fail> {
+    let input = read_one(alloc, text)?;
+    let request = input.scripts[0].first().ok_or("no request")?;
+    Ok(*request)
+}
+
+#[test]
+fn fronts_of_an_input(rt: HostRuntime) {
+    let table = [
+        (0..=0, Ok(0)),
+        (1..=1, Err(line(1, Cause::Fields))),
+        (2..=5, Err(line(1, Cause::Kind))),
+        (6..=22, Err(line(1, Cause::Fields))),
+        (23..=23, Err(line(1, Cause::Number))),
+        (24..=25, Ok(1)),
+        (26..=26, Err(line(2, Cause::Fields))),
+        (27..=29, Err(line(2, Cause::Kind))),
+        (30..=39, Err(line(2, Cause::Fields))),
+        (40..=40, Err(line(2, Cause::Number))),
+        (41..=42, Ok(2)),
+        (43..=43, Err(line(3, Cause::Fields))),
+        (44..=51, Err(line(3, Cause::Kind))),
+        (52..=52, Err(line(3, Cause::Fields))),
+        (53..=55, Err(line(3, Cause::Item))),
+        (56..=57, Ok(3)),
+    ];
+    for (lengths, want) in table {
+        for length in lengths {
+            let front = &INPUT[..INPUT.len().min(length)];
+            assert_eq!(rt; count_in(rt.alloc(), front), want, "of {length} bytes");
+        }
+    }
+}
+
+#[test]
+fn first_faults(rt: HostRuntime) {
+    let table: [(&[u8], ReadFault); 36] = [
+        (b"00,item", line(1, Cause::Number)),
+        (b",item", line(1, Cause::Number)),
+        (b"+0,item", line(1, Cause::Number)),
+        (b"4294967296,item", line(1, Cause::Number)),
+        (b"4294967295,item", ReadFault::Worker(1)),
+        (b"5,foo", ReadFault::Worker(1)),
+        (b"1,viewitem,0.0", ReadFault::Worker(1)),
+        (b"0,Item", line(1, Cause::Kind)),
+        (b"0,viewuser,0", line(1, Cause::Kind)),
+        (b"0,+item,0,0,Vase,10,100,1", line(1, Cause::Kind)),
+        (b"0,bid,01,0.0,10,5", line(1, Cause::Number)),
+        (b"0,bid,+1,0.0,10,5", line(1, Cause::Number)),
+        (b"0,bid,-1,0.0,10,5", line(1, Cause::Number)),
+        (b"0,bid, 1,0.0,10,5", line(1, Cause::Number)),
+        (b"0,bid,4294967296,0.0,10,5", line(1, Cause::Number)),
+        (
+            b"0,bid,0,0.0,18446744073709551616,1",
+            line(1, Cause::Number),
+        ),
+        (
+            b"0,bid,0,0.0,1,99999999999999999999",
+            line(1, Cause::Number),
+        ),
+        (b"0,bid,x,0,10,5", line(1, Cause::Number)),
+        (b"0,bid,1,0,x,5", line(1, Cause::Item)),
+        (b"0,viewitem,0.00", line(1, Cause::Item)),
+        (b"0,viewitem,4294967296.0", line(1, Cause::Item)),
+        (b"0,viewitem,0.4294967296", line(1, Cause::Item)),
+        (b"0,viewitem,0.0.0", line(1, Cause::Item)),
+        (b"0,viewitem,.0", line(1, Cause::Item)),
+        (b"0,viewitem,0.0,", line(1, Cause::Fields)),
+        (b"0,item,0,0,\xff,10,100,1", line(1, Cause::Name)),
+        (b"0,item,x,0,\xff,10,100,1", line(1, Cause::Number)),
+        (b"0,item,0,0,,10,100,1", line(1, Cause::Name)),
+        (
+            b"0,item,0,0,abcdefghijklmnopqrstuvwxyz0123456,10,100,1",
+            line(1, Cause::Name),
+        ),
+        (b"0,item,0,0,Vase,10,100,1,0", line(1, Cause::Quantity)),
+        (
+            b"0,item,0,0,Vase,10,100,1,1000001",
+            line(1, Cause::Quantity),
+        ),
+        (b"0,item,0,0,Vase,10,100,1,01", line(1, Cause::Quantity)),
+        (b"0,item,0,0,Vase,10,100,x,0", line(1, Cause::Number)),
+        (b"0,item,0,0,Vase,10,100,1,1,1", line(1, Cause::Fields)),
+        (
+            b"0,viewitem,0.0\n\n0,viewitem,0.0\n0,bid,1,0.0,10",
+            line(3, Cause::Fields),
+        ),
+        (
+            b"0,viewitem,0.0\n0,viewitem,0.0\n0,item,0,0,\"Blue vas",
+            line(3, Cause::Fields),
+        ),
+    ];
+    for (text, want) in table {
+        assert_eq!(rt; fault_in(rt.alloc(), text), Some(want), "of {text:?}");
+    }
+}
+
+#[test]
+fn requests_read(rt: HostRuntime) -> Result<(), Fail> {
+    let item = ItemId {
+        worker: 15,
+        serial: 999,
+    };
+    let facts = Facts {
+        seller: 4_294_967_295,
+        category: 7,
+        name: Name::new(b"Red, blue").ok_or("a name")?,
+        start: 10,
+        closes: 100,
+        quantity: Quantity::new(1_000_000).ok_or("a quantity")?,
+    };
+    let table: [(&[u8], Request); 3] = [
+        (
+            b"0,item,4294967295,7,\"Red, blue\",10,100,1,1000000",
+            Request::StoreItem { facts, time: 1 },
+        ),
+        (
+            b"0,bid,2,15.999,18446744073709551615,0\r\n",
+            Request::StoreBid {
+                bidder: 2,
+                item,
+                amount: 18_446_744_073_709_551_615,
+                time: 0,
+            },
+        ),
+        (b"\n\n0,viewitem,15.999\n", Request::ViewItem { item }),
+    ];
+    for (text, want) in table {
+        assert_eq!(rt; request_in(rt.alloc(), text)?, want, "of {text:?}");
+    }
+    Ok(())
+}
+
+#[test]
+fn names_and_quantities(rt: HostRuntime) -> Result<(), Fail> {
+    let text = b"0,item,0,0,abcdefghijklmnopqrstuvwxyz 12345,10,100,1";
+    let Request::StoreItem { facts, .. } = request_in(rt.alloc(), text)? else {
+        return Err(Fail::from("no item"));
+    };
+    assert_eq!(rt;
+        facts.name.bytes(),
+        b"abcdefghijklmnopqrstuvwxyz 12345".as_slice()
+    );
+    assert_eq!(rt; facts.quantity.value(), 1);
+    Ok(())
+}
+
+#[test]
+fn scripts_by_worker(rt: HostRuntime) -> Result<(), Fail> {
+    let text = b"2,viewitem,0.0\n0,viewitem,0.1\n2,viewitem,0.2\n";
+    let input = read_scripts(rt.alloc(), text.as_slice(), 4)?;
+    let mut serials: Vec<Vec<u32>> = Vec::new(rt.alloc());
+    for script in &input.scripts {
+        let mut own = Vec::new(rt.alloc());
+        for request in script {
+            if let Request::ViewItem { item } = request {
+                own.push(item.serial)?;
+            }
+        }
+        serials.push(own)?;
+    }
+    assert!(rt; input.rows.is_empty());
+    assert_eq!(rt; serials.len(), 4);
+    assert_eq!(rt; serials[0].as_slice(), [1].as_slice());
+    assert!(rt; serials[1].is_empty());
+    assert_eq!(rt; serials[2].as_slice(), [0, 2].as_slice());
+    assert!(rt; serials[3].is_empty());
+    Ok(())
+}
+
+#[test]
+fn reader_that_fails(rt: HostRuntime) {
+    for cut in 0..=INPUT.len() {
+        let reader = Broken {
+            text: INPUT,
+            given: 0,
+            cut,
+        };
+        let read = read_scripts(rt.alloc(), reader, 1);
+        assert_eq!(rt; read.err(), Some(ReadFault::Read), "after {cut} bytes");
+    }
+}
+
+#[test]
+fn texts_of_faults(rt: HostRuntime) -> Result<(), Fail> {
+    let table = [
+        (line(1, Cause::Number), "record 1: not a number"),
+        (line(2, Cause::Kind), "record 2: unknown kind"),
+        (line(3, Cause::Fields), "record 3: wrong number of fields"),
+        (line(40, Cause::Item), "record 40: not an item id"),
+        (line(16_000_000, Cause::Name), "record 16000000: not a name"),
+        (line(6, Cause::Quantity), "record 6: not a quantity"),
+        (ReadFault::Worker(7), "record 7: no such worker"),
+        (ReadFault::Read, "input cannot be read"),
+        (ReadFault::Memory, "no memory"),
+        (ReadFault::Long, "more than 16000000 records"),
+    ];
+    for (fault, want) in table {
+        assert_eq!(rt; format!(in rt.alloc(); "{fault}")?.as_str(), want);
+    }
+    Ok(())
+}

@@ -1,0 +1,110 @@
+//! The scripts of an input.
+ghost use Rattle.std.specs.Prelude.{◌≡◌, ◌<◌, true, vec_len, IfOk, IfErr, OnOk, IfSome};
+ghost use Rattle.csv.specs.Reading.{ReadRecord};
+ghost use Rattle.csv.specs.Records.{fields_of};
+ghost use Rattle.auction_text.specs.Reading.{IsInputFault, IsPlain, nothing_asked, with_request};
+ghost use Rattle.auction_text.specs.Scripts.{asked_by, input_of};
+
+use crate::faults::ReadFault;
+use crate::record::request_of_record;
+use auction_rows::Request;
+use csv::{ByteRecord, ErrorKind, Reader, ReaderBuilder};
+use item_shards::Opened;
+use std::alloc::Global;
+use std::io::Read;
+
+/// The most records of an input.
+pub const MOST_RECORDS: u32 = 16_000_000;
+
+/// What an input asks for: the rows that the auction is opened with, and each worker's script.
+#[derive(Drop)]
+pub struct Input {
+    /// The rows, in their order.
+    pub rows: Vec<Opened>,
+    /// The script of each worker, by the worker's number.
+    pub scripts: Vec<Vec<Request>>,
+}
+
+fn fault_of(error: csv::Error) -> ReadFault
+    ensures { IsInputFault result → ⊥ }
+{
+    match error.into_kind() {
+        ErrorKind::OutOfMemory => ReadFault::Memory,
+        _ => ReadFault::Read,
+    }
+}
+
+// Reads the fields of the next record, if there is one.
+fn read_next<R: Read>(records: &mut Reader<R>, fields: &mut ByteRecord) -> Result<bool, ReadFault>
+    requires { IsPlain records.old }
+    ensures plain { IfOk result (λ found. found ≡ true → IsPlain records.new) }
+    ensures reads { IfOk result (λ found. ReadRecord R.remaining records.old records.new found (fields_of fields.new)) }
+    ensures fails { IfErr result (λ fault. IsInputFault fault → ⊥) }
+{
+    match records.read_byte_record(fields) {
+        Ok(found) => Ok(found),
+        Err(error) => Err(fault_of(error)),
+    }
+}
+
+// No rows, and an empty script for each worker.
+fn empty_input(alloc: Global, workers: u32) -> Result<Input, ReadFault>
+    ensures empty { IfOk result (λ input. asked_by input ≡ nothing_asked workers) }
+    ensures count { IfOk result (λ input. vec_len input.scripts ≡ workers) }
+    ensures fails { IfErr result (λ fault. IsInputFault fault → ⊥) }
+{
+    let rows = Vec::new(alloc);
+    let mut scripts = Vec::new(alloc);
+    for _ in 0..workers {
+        if scripts.push(Vec::new(alloc)).is_err() {
+            return Err(ReadFault::Memory);
+        }
+    }
+    Ok(Input { rows, scripts })
+}
+
+fn add_request(input: &mut Input, worker: u32, request: Request) -> Result<(), ReadFault>
+    requires { worker < vec_len input.old.scripts }
+    ensures adds { OnOk result (asked_by input.new ≡ with_request worker request (asked_by input.old)) }
+    ensures count { vec_len input.new.scripts ≡ vec_len input.old.scripts }
+    ensures fails { IfErr result (λ fault. IsInputFault fault → ⊥) }
+{
+    let script = &mut input.scripts[worker as usize];
+    if script.push(request).is_err() {
+        return Err(ReadFault::Memory);
+    }
+    Ok(())
+}
+
+/// Reads to its end what a reader gives, as the scripts of so many workers.
+///
+/// The input is read as `csv` reads it, with no headers and nothing trimmed. The first record with a
+/// fault ends the reading. `Read` comes of a read that failed and `Memory` of memory that was refused;
+/// either may come before the fault of a later record is found.
+pub fn read_scripts<R: Read + Drop>(
+    alloc: Global,
+    reader: R,
+    workers: u32,
+) -> Result<Input, ReadFault>
+    ensures input { IfOk result (λ input. IfSome (R.remaining reader) (λ bytes. input_of workers bytes ≡ Ok (asked_by input))) }
+    ensures scripts { IfOk result (λ input. vec_len input.scripts ≡ workers) }
+    ensures fault { IfErr result (λ fault. IsInputFault fault → IfSome (R.remaining reader) (λ bytes. input_of workers bytes ≡ Err fault)) }
+{
+    let mut input = empty_input(alloc, workers)?;
+    let mut records = ReaderBuilder::new()
+        .has_headers(false)
+        .flexible(true)
+        .from_reader(alloc, reader);
+    let mut fields = ByteRecord::new(alloc);
+    for count in 0..MOST_RECORDS {
+        if !read_next(&mut records, &mut fields)? {
+            return Ok(input);
+        }
+        let (worker, request) = request_of_record(&fields, workers, count + 1)?;
+        add_request(&mut input, worker, request)?;
+    }
+    if read_next(&mut records, &mut fields)? {
+        return Err(ReadFault::Long);
+    }
+    Ok(input)
+}

@@ -1,0 +1,79 @@
+//! A text that is made in memory.
+ghost use Rattle.std.specs.Prelude.{◌≡◌, ◌++◌, OnOk, decimal};
+ghost use Rattle.std.specs.Fmt.{signed_decimal};
+ghost use Rattle.auction_text.specs.Replies.{id_text, labelled, labelled_id, labelled_optional, optional_text};
+
+use std::alloc::AllocError;
+use std::io::Write;
+
+pub fn push_text(text: &mut Vec<u8>, part: &[u8]) -> Result<(), AllocError>
+    ensures { OnOk result (text.new.items ≡ text.old.items ++ part.now) }
+{
+    text.extend_from_slice(part)
+}
+
+pub fn push_number(text: &mut Vec<u8>, number: u64) -> Result<(), AllocError>
+    ensures { OnOk result (text.new.items ≡ text.old.items ++ decimal number) }
+{
+    match write!(text, "{number}") {
+        Ok(()) => Ok(()),
+        Err(_) => Err(AllocError),
+    }
+}
+
+pub fn push_signed(text: &mut Vec<u8>, label: &[u8], number: i64) -> Result<(), AllocError>
+    ensures { OnOk result (text.new.items ≡ text.old.items ++ (label.now ++ signed_decimal number)) }
+{
+    push_text(text, label)?;
+    match write!(text, "{number}") {
+        Ok(()) => Ok(()),
+        Err(_) => Err(AllocError),
+    }
+}
+
+fn push_optional(text: &mut Vec<u8>, number: Option<u64>) -> Result<(), AllocError>
+    ensures { OnOk result (text.new.items ≡ text.old.items ++ optional_text number) }
+{
+    match number {
+        Some(number) => push_number(text, number),
+        None => push_text(text, b"-"),
+    }
+}
+
+fn push_id(text: &mut Vec<u8>, worker: u32, serial: u32) -> Result<(), AllocError>
+    ensures { OnOk result (text.new.items ≡ text.old.items ++ id_text worker serial) }
+{
+    push_number(text, u64::from(worker))?;
+    push_text(text, b".")?;
+    push_number(text, u64::from(serial))
+}
+
+pub fn push_labelled(text: &mut Vec<u8>, label: &[u8], number: u64) -> Result<(), AllocError>
+    ensures { OnOk result (text.new.items ≡ text.old.items ++ labelled label.now number) }
+{
+    push_text(text, label)?;
+    push_number(text, number)
+}
+
+pub fn push_labelled_optional(
+    text: &mut Vec<u8>,
+    label: &[u8],
+    number: Option<u64>,
+) -> Result<(), AllocError>
+    ensures { OnOk result (text.new.items ≡ text.old.items ++ labelled_optional label.now number) }
+{
+    push_text(text, label)?;
+    push_optional(text, number)
+}
+
+pub fn push_labelled_id(
+    text: &mut Vec<u8>,
+    label: &[u8],
+    worker: u32,
+    serial: u32,
+) -> Result<(), AllocError>
+    ensures { OnOk result (text.new.items ≡ text.old.items ++ labelled_id label.now worker serial) }
+{
+    push_text(text, label)?;
+    push_id(text, worker, serial)
+}

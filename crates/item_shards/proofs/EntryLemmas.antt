@@ -1,0 +1,166 @@
+-- What shelves stand for, after the acts that an entry owes.
+use Rattle.std.proofs.Common.{◌≡◌, ℕ, ◌==◌, Bool, true, false, ◌&&◌, ◌||◌, cond, not, List, [], ◌∷◌, ◌++◌, map, filter, Option, Some, None, option_to_list, refl, sym, ap, subst, ◌∙◌}
+use Rattle.std.specs.Prelude.{is_some, is_none}
+use Rattle.std.specs.List.{list_any}
+use Rattle.std.specs.Option.{option_or}
+use Rattle.std.proofs.lemmas.Bool.{false≢true}
+use Rattle.std.proofs.lemmas.List.Elements.{filter-append}
+use Rattle.auction_rows.specs.declared.ids.Object.{Object}
+use Rattle.auction_rows.specs.declared.ids.Object.TheVariants.{Item, User, Category}
+use Rattle.auction_rows.specs.declared.numbers.Opening.{Opening}
+use Rattle.auction_rows.specs.declared.requests.Facts.{Facts}
+use Rattle.auction_rows.specs.declared.requests.Request.{Request}
+use Rattle.auction_rows.specs.declared.requests.Request.TheVariants.{StoreItem, StoreBid, StoreComment, BuyNow, ViewItem, ViewBids, ViewCategory, ViewUser}
+use Rattle.auction_rows.specs.declared.replies.Refusal.{Refusal}
+use Rattle.auction_rows.specs.declared.replies.Reply.{Reply}
+use Rattle.auction_rows.specs.declared.replies.Reply.TheVariants.{ItemStored, BidStored, CommentStored, Bought}
+use Rattle.auction_rows.specs.declared.rows.Row.{Row}
+use Rattle.auction_rows.specs.declared.rows.Entry.{Entry}
+use Rattle.auction_rows.specs.Book.{Book}
+use Rattle.auction_rows.specs.Footprint.{is_hot, objects_of, takes_shard}
+use Rattle.auction_rows.specs.History.{IsRight, after_entry, row_of_entry}
+use Rattle.auction_rows.specs.Refusals.{number_refusal, item_refusal, refusal, facts_for, left_for}
+use Rattle.auction_rows.specs.Replies.{reply, row_of, row_if}
+use Rattle.auction_rows.specs.Requests.{is_view, shard_of}
+use Rattle.auction_rows.proofs.RefusalLemmas.{refusal-split}
+use Rattle.auction_rows.proofs.RequestLemmas.{row_made}
+use Rattle.item_shards.specs.declared.acts.Act.{Act}
+use Rattle.item_shards.specs.declared.acts.Act.TheVariants.{Look}
+use Rattle.item_shards.specs.declared.acts.Shown.{Shown}
+use Rattle.item_shards.specs.Shelves.{Shelf, after_acts}
+use Rattle.item_shards.specs.Standing.{ShelfStandsFor}
+use Rattle.item_shards.specs.Writing.{looks_of, writes_of, writes_if, acts_of, is_cold_in, is_done_on, done_on, padded, acts_owed}
+use Rattle.item_shards.proofs.StandingLemmas.{rows_stand}
+
+-- the looks at nothing leave the shelf
+padded_leaves : (shelf : Shelf) (acts : List Act) → after_acts shelf (padded acts) ≡ after_acts shelf acts
+padded_leaves shelf [] = refl
+padded_leaves shelf (act ∷ []) = refl
+padded_leaves shelf (act ∷ other ∷ acts) = refl
+
+-- where the opening refuses a request the entry adds no row
+is_none_none : {A : Type 0} (o : Option A) → is_some o ≡ false → o ≡ None
+is_none_none None e = refl
+is_none_none (Some x) e = absurd (false≢true (sym e))
+
+and_not : (b : Bool) (reason : Refusal) (o : Option Refusal) → o ≡ Some reason → (b && is_none o) ≡ false
+and_not b reason o e = ap (λ p. b && is_none p) e ∙ at b where
+  at : (b : Bool) → (b && false) ≡ false
+  at true = refl
+  at false = refl
+
+pub no_row : (opening : Opening) (book : Book) (worker : ℕ) (request : Request) (reason : Refusal) → number_refusal opening request ≡ Some reason
+    → row_of worker request (reply opening book worker request) ≡ None
+no_row opening book worker request reason e =
+    is_none_none (row_of worker request (reply opening book worker request))
+    (row_made book worker request (refusal opening book request)
+    ∙ and_not (not (is_view request)) reason (refusal opening book request)
+      (refusal-split opening book request ∙ ap (λ o. option_or o (item_refusal request (facts_for book request) (left_for book request))) e))
+
+module _ (number shards : ℕ) (hot : List Object) where
+  -- a look that is done or not leaves the shelf
+  look_leaves : (shelf : Shelf) (b : Bool) (shown : Shown) (acts : List Act) → after_acts shelf (cond b (Look shown ∷ []) [] ++ acts) ≡ after_acts shelf acts
+  look_leaves shelf true shown acts = refl
+  look_leaves shelf false shown acts = refl
+
+  looks_leave : (shelf : Shelf) (saw : Option (Facts × ℕ)) (answered : Reply) (request : Request) (acts : List Act)
+      → after_acts shelf (done_on number shards hot (looks_of saw answered request) ++ acts) ≡ after_acts shelf acts
+  looks_leave shelf saw answered (StoreItem facts time) acts = refl
+  looks_leave shelf saw answered (StoreBid bidder item amount time) acts = look_leaves shelf (is_cold_in number shards hot (Item item)) _ acts
+  looks_leave shelf saw answered (StoreComment author about item stars) acts = look_leaves shelf (is_cold_in number shards hot (Item item)) _ acts
+  looks_leave shelf saw answered (BuyNow buyer item quantity time) acts = look_leaves shelf (is_cold_in number shards hot (Item item)) _ acts
+  looks_leave shelf saw answered (ViewItem item) acts = look_leaves shelf (is_cold_in number shards hot (Item item)) _ acts
+  looks_leave shelf saw answered (ViewBids item) acts = look_leaves shelf (is_cold_in number shards hot (Item item)) _ acts
+  looks_leave shelf saw answered (ViewCategory category) acts = look_leaves shelf (is_cold_in number shards hot (Category category)) _ acts
+  looks_leave shelf saw answered (ViewUser user) acts = look_leaves shelf (is_cold_in number shards hot (User user)) _ acts
+
+  module _ (opening : Opening) (shelf : Shelf) (book : Book) (saw : Option (Facts × ℕ)) (entry : Entry) (right : IsRight opening book entry) where
+    -- what is written is what is left of the acts
+    writes_alone : (refused : Option Refusal) → number_refusal opening entry.request ≡ refused
+        → after_acts shelf (done_on number shards hot (cond (is_some refused) [] (looks_of saw entry.reply entry.request ++ writes_if (row_of_entry entry))))
+        ≡ after_acts shelf (done_on number shards hot (writes_if (row_of_entry entry)))
+    writes_alone None e =
+        ap (after_acts shelf) (filter-append (is_done_on number shards hot) (looks_of saw entry.reply entry.request) (writes_if (row_of_entry entry)))
+        ∙ looks_leave shelf saw entry.reply entry.request (done_on number shards hot (writes_if (row_of_entry entry)))
+    writes_alone (Some reason) e =
+        ap (λ one. after_acts shelf (done_on number shards hot (writes_if one)))
+        (sym (ap (row_of entry.worker entry.request) right ∙ no_row opening book entry.worker entry.request reason e))
+
+    owed_writes : after_acts shelf (acts_owed opening number shards hot saw entry) ≡ after_acts shelf (done_on number shards hot (writes_if (row_of_entry entry)))
+    owed_writes = padded_leaves shelf (done_on number shards hot (acts_of opening saw entry)) ∙ writes_alone (number_refusal opening entry.request) refl
+
+    pub entry_stands : ShelfStandsFor number shards shelf book hot
+        → ShelfStandsFor number shards (after_acts shelf (acts_owed opening number shards hot saw entry)) (after_entry opening book entry) hot
+    entry_stands stands =
+        subst (λ (now : Shelf). ShelfStandsFor number shards now (after_entry opening book entry) hot) (sym owed_writes)
+        (subst (λ (after : Book). ShelfStandsFor number shards (after_acts shelf (done_on number shards hot (writes_if (row_of_entry entry)))) after hot)
+          (ap (λ answered. book ++ option_to_list (row_of entry.worker entry.request answered)) right)
+          (rows_stand number shards shelf book hot (row_of_entry entry) stands))
+
+  -- a test of any of the objects that are not hot is one of all
+  taken_cold : (objects : List Object) → list_any (λ taken. taken == number) (map (λ o. shard_of o shards) (filter (λ o. not (is_hot hot o)) objects)) ≡ list_any (is_cold_in number shards hot) objects
+  taken_cold [] = refl
+  taken_cold (o ∷ objects) = at (is_hot hot o) (taken_cold objects) where
+    at : (b : Bool) → list_any (λ taken. taken == number) (map (λ p. shard_of p shards) (filter (λ p. not (is_hot hot p)) objects)) ≡ list_any (is_cold_in number shards hot) objects
+        → list_any (λ taken. taken == number) (map (λ p. shard_of p shards) (cond (not b) (o ∷ filter (λ p. not (is_hot hot p)) objects) (filter (λ p. not (is_hot hot p)) objects)))
+        ≡ ((not b && (shard_of o shards == number)) || list_any (is_cold_in number shards hot) objects)
+    at true e = e
+    at false e = ap (λ b. (shard_of o shards == number) || b) e
+
+  none_of : (a b : Bool) → (a || b) ≡ false → (a ≡ false) × (b ≡ false)
+  none_of true b e = absurd (false≢true (sym e))
+  none_of false b e = (refl, e)
+
+  one_dropped : (b : Bool) (act : Act) → (b || false) ≡ false → cond b (act ∷ []) [] ≡ []
+  one_dropped true act e = absurd (false≢true (sym e))
+  one_dropped false act e = refl
+
+  both_dropped : (a b : Bool) (act other : Act) → (a || (b || false)) ≡ false → cond a (act ∷ cond b (other ∷ []) []) (cond b (other ∷ []) []) ≡ []
+  both_dropped true b act other e = absurd (false≢true (sym e))
+  both_dropped false b act other e = one_dropped b other e
+
+  -- nothing is done where no object of the entry is cold
+  module _ (saw : Option (Facts × ℕ)) where
+    no_looks : (request : Request) (answered : Reply) → list_any (is_cold_in number shards hot) (objects_of request answered) ≡ false
+        → done_on number shards hot (looks_of saw answered request) ≡ []
+    no_looks (StoreItem facts time) answered e = refl
+    no_looks (StoreBid bidder item amount time) answered e = one_dropped (is_cold_in number shards hot (Item item)) _ e
+    no_looks (StoreComment author about item stars) answered e =
+        one_dropped (is_cold_in number shards hot (Item item)) _ (ap (λ b. b || false) (none_of (is_cold_in number shards hot (Item item)) _ e).0)
+    no_looks (BuyNow buyer item quantity time) answered e = one_dropped (is_cold_in number shards hot (Item item)) _ e
+    no_looks (ViewItem item) answered e = one_dropped (is_cold_in number shards hot (Item item)) _ e
+    no_looks (ViewBids item) answered e = one_dropped (is_cold_in number shards hot (Item item)) _ e
+    no_looks (ViewCategory category) answered e = one_dropped (is_cold_in number shards hot (Category category)) _ e
+    no_looks (ViewUser user) answered e = one_dropped (is_cold_in number shards hot (User user)) _ e
+
+  row_dropped : (b : Bool) (one : Row) → done_on number shards hot (writes_of one) ≡ [] → done_on number shards hot (writes_if (row_if b one)) ≡ []
+  row_dropped true one e = e
+  row_dropped false one e = refl
+
+  no_writes : (worker : ℕ) (request : Request) (answered : Reply) → list_any (is_cold_in number shards hot) (objects_of request answered) ≡ false
+      → done_on number shards hot (writes_if (row_of worker request answered)) ≡ []
+  no_writes worker (StoreItem facts time) (ItemStored id) e =
+      row_dropped (id.worker == worker) _ (both_dropped (is_cold_in number shards hot (Item id)) (is_cold_in number shards hot (Category facts.category)) _ _ e)
+  no_writes worker (StoreBid bidder item amount time) (BidStored id) e = row_dropped (id.worker == worker) _ (one_dropped (is_cold_in number shards hot (Item item)) _ e)
+  no_writes worker (StoreComment author about item stars) (CommentStored id) e =
+      row_dropped (id.worker == worker) _ (one_dropped (is_cold_in number shards hot (User about)) _ (none_of (is_cold_in number shards hot (Item item)) _ e).1)
+  no_writes worker (BuyNow buyer item quantity time) (Bought id) e = row_dropped (id.worker == worker) _ (one_dropped (is_cold_in number shards hot (Item item)) _ e)
+  no_writes worker request answered e = refl
+
+  pub nothing_done : (opening : Opening) (saw : Option (Facts × ℕ)) (entry : Entry) → takes_shard opening shards hot entry number ≡ false
+      → done_on number shards hot (acts_of opening saw entry) ≡ []
+  nothing_done opening saw entry e = at (is_some (number_refusal opening entry.request)) e where
+    at : (b : Bool) → list_any (λ taken. taken == number) (map (λ o. shard_of o shards) (cond b [] (filter (λ o. not (is_hot hot o)) (objects_of entry.request entry.reply)))) ≡ false
+        → done_on number shards hot (cond b [] (looks_of saw entry.reply entry.request ++ writes_if (row_of_entry entry))) ≡ []
+    at true e = refl
+    at false e =
+        let cold = sym (taken_cold (objects_of entry.request entry.reply)) ∙ e in
+        filter-append (is_done_on number shards hot) (looks_of saw entry.reply entry.request) (writes_if (row_of_entry entry))
+        ∙ (λ i. no_looks saw entry.request entry.reply cold i ++ no_writes entry.worker entry.request entry.reply cold i)
+
+  -- so the shelf of a shard that the entry does not take stands as it is
+  pub untaken_stands : (opening : Opening) (shelf : Shelf) (book : Book) (entry : Entry) → ShelfStandsFor number shards shelf book hot → IsRight opening book entry
+      → takes_shard opening shards hot entry number ≡ false → ShelfStandsFor number shards shelf (after_entry opening book entry) hot
+  untaken_stands opening shelf book entry stands right e =
+      subst (λ acts. ShelfStandsFor number shards (after_acts shelf (padded acts)) (after_entry opening book entry) hot) (nothing_done opening None entry e)
+      (entry_stands opening shelf book None entry right stands)

@@ -1,0 +1,35 @@
+-- That a look is true has one proof at most, and so has an equation of shelves: a ghost field may hold them.
+use Rattle.std.specs.Coded.{Unit-prop}
+use Rattle.std.specs.Prelude.{ℕ, Option}
+use Rattle.std.proofs.Props.{props}
+use Rattle.auction_rows.specs.declared.requests.Facts.{Facts}
+use Rattle.auction_rows.proofs.OneProof.{Reply-set}
+use Rattle.item_shards.specs.declared.acts.Act.{Act}
+use Rattle.item_shards.specs.declared.acts.Act.TheVariants.{AddItem, ListItem, Bid, Comment, Buy, Look}
+use Rattle.item_shards.specs.declared.acts.Shown.TheVariants as shown
+use Rattle.item_shards.specs.Values.{Value}
+use Rattle.item_shards.specs.Shelves.{Shelf}
+use Rattle.item_shards.specs.Looking.{IsTrueAct}
+
+pub Value-set : IsSet Value
+Value-set = hlevel props
+
+pub Shelf-set : IsSet Shelf
+Shelf-set = hlevel (props, Value-set)
+
+facts_set : IsSet (Option Facts)
+facts_set = hlevel props
+
+stock_set : IsSet (Option (Facts × ℕ))
+stock_set = hlevel props
+
+pub IsTrueAct-prop : (shelf : Shelf) (act : Act) → IsProp (IsTrueAct shelf act)
+IsTrueAct-prop shelf (AddItem id facts) = Unit-prop
+IsTrueAct-prop shelf (ListItem category entry) = Unit-prop
+IsTrueAct-prop shelf (Bid id entry) = Unit-prop
+IsTrueAct-prop shelf (Comment user stars) = Unit-prop
+IsTrueAct-prop shelf (Buy id quantity) = Unit-prop
+IsTrueAct-prop shelf (Look shown.Nothing) = Unit-prop
+IsTrueAct-prop shelf (Look (shown.Facts id facts)) = facts_set _ _
+IsTrueAct-prop shelf (Look (shown.Left id seen)) = stock_set _ _
+IsTrueAct-prop shelf (Look (shown.Reply object reply)) = Reply-set _ _

@@ -1,0 +1,242 @@
+-- The auction of one thread: what it answers and stores, by the book that it holds.
+use Rattle.std.proofs.Common.{◌≡◌, ℕ, ◌+◌, ◌<◌, ◌≤◌, ◌==◌, Bool, true, false, cond, ◌&&◌, ◌||◌, List, [], ◌∷◌, ◌++◌, Option, Some, None, option_to_list, length, refl, sym, ap, subst, ◌∙◌, arith}
+use Rattle.std.specs.Prelude.{option_map, option_and_then, unwrap_or, count_by, slice_get, Result, Ok, Err, OnErr}
+use Rattle.std.specs.List.{AllByRecursion, cons_option}
+use Rattle.std.specs.Option.{option_or}
+use Rattle.std.proofs.Common.{set, get_or, filter_map}
+use Rattle.std.specs.Prelude.{replicate}
+use Rattle.std.proofs.Math.ListN.{length-set}
+use Rattle.std.proofs.lemmas.Bool.{eqb-true, eq-eqb, false≢true}
+use Rattle.std.proofs.lemmas.List.{length-append, length-replicate, get_or-replicate, get_or-set_same, get_or-set_other}
+use Rattle.std.proofs.lemmas.Option.{slice_get-get_or, slice_get_within, get_or_from_slice_get}
+use Rattle.std.proofs.lemmas.List.Sums.{sum_by-append, count_by-le-length}
+use Rattle.auction_rows.specs.declared.ids.ItemId.{ItemId}
+use Rattle.auction_rows.specs.declared.ids.Object.{Object}
+use Rattle.auction_rows.specs.declared.ids.Object.TheVariants.{Item, User, Category}
+use Rattle.auction_rows.specs.declared.numbers.Opening.{Opening}
+use Rattle.auction_rows.specs.declared.requests.Facts.{Facts}
+use Rattle.auction_rows.specs.declared.requests.Request.{Request}
+use Rattle.auction_rows.specs.declared.rows.Row.{Row}
+use Rattle.auction_rows.specs.declared.rows.Row.TheVariants as row
+use Rattle.auction_rows.specs.Book.{Book, as_item, as_bid, as_comment, as_buy, facts_of, item_entry}
+use Rattle.auction_rows.specs.Book as book
+use Rattle.auction_rows.specs.History.{commit, commit_of, after_entry, GoOn}
+use Rattle.auction_rows.specs.Replies.{reply, row_of}
+use Rattle.auction_rows.specs.Requests.{item_of, shard_of}
+use Rattle.auction_rows.specs.Refusals.{number_refusal, item_refusal, refusal, facts_for, left_for}
+use Rattle.auction_rows.proofs.HistoryLemmas.{own_row, stored_by as commit_is, rows_go_on}
+use Rattle.auction_rows.proofs.RefusalLemmas.{refusal-split}
+use Rattle.item_shards.specs.declared.counting.StoreCounts.{StoreCounts}
+use Rattle.item_shards.specs.Values.{stock_in}
+use Rattle.item_shards.specs.declared.acts.Act.TheVariants.{AddItem, ListItem}
+use Rattle.item_shards.specs.declared.shard.Shard.{Shard}
+use Rattle.item_shards.specs.ShardShelf.{shelf as shelf_of, with_room, LiesIn, IsSameShard, StandsFor}
+use Rattle.item_shards.specs.Shelves.{Shelf, after_acts}
+use Rattle.item_shards.specs.Standing.{ShelfStandsFor}
+use Rattle.item_shards.specs.Acting.{CanActOn, HasRoomFor}
+use Rattle.item_shards.specs.Counting.{stored_by, worker_of, counted, AreFew}
+use Rattle.item_shards.specs.Limits.{IsWithinLimits, HasStars}
+use Rattle.item_shards.specs.Writing.{writes_of, writes_if, is_done_on, done_on}
+use Rattle.item_shards.proofs.CanActLemmas.{all_both, row_can}
+use Rattle.item_shards.proofs.RowLemmas.{this_kind, other_kind}
+use Rattle.item_shards.proofs.StandingLemmas.{cold_here, row_stands}
+
+-- ---- refusals
+
+abbrev pub facts_seen : Option (Facts × ℕ) → Option Facts
+facts_seen seen = option_map (λ (pair : Facts × ℕ). pair.0) seen
+
+abbrev pub left_seen : Option (Facts × ℕ) → ℕ
+left_seen seen = unwrap_or (option_map (λ (pair : Facts × ℕ). pair.1) seen) 0
+
+-- an item refuses a request by what is seen of its facts and of what is left
+pub refused_by_stock : (b : Book) (request : Request) (id : ItemId) (seen : Option (Facts × ℕ)) → item_of request ≡ Some id → seen ≡ stock_in b id
+    → item_refusal request (facts_seen seen) (left_seen seen) ≡ item_refusal request (facts_for b request) (left_for b request)
+refused_by_stock b request id seen is same =
+    ap (λ s. item_refusal request (facts_seen s) (left_seen s)) same
+    ∙ at (facts_of b id) (book.left b id)
+    ∙ (λ i. item_refusal request (option_and_then (facts_of b) (sym is i)) (unwrap_or (option_map (book.left b) (sym is i)) 0)) where
+  at : (stored : Option Facts) (l : ℕ) → (let s = option_map {U = Facts × ℕ} (λ (facts : Facts). (facts, l)) stored in item_refusal request (facts_seen s) (left_seen s) ≡ item_refusal request stored l)
+  at None l = refl
+  at (Some facts) l = refl
+
+-- where the opening refuses nothing, the item alone refuses
+pub refused_by_item : (start : Opening) (b : Book) (request : Request) → number_refusal start request ≡ None
+    → item_refusal request (facts_for b request) (left_for b request) ≡ refusal start b request
+refused_by_item start b request none =
+    sym (refusal-split start b request ∙ ap (λ o. option_or o (item_refusal request (facts_for b request) (left_for b request))) none)
+
+-- ---- rows that go on a book
+
+-- the row that a request adds goes on the book, and was stored by that worker's request
+pub goes_on : (start : Opening) (b : Book) (worker : ℕ) (request : Request) (r : Row) → row_of worker request (reply start b worker request) ≡ Some r → GoOn start b (r ∷ [])
+goes_on start b worker request r is =
+    subst (λ o. GoOn start b (cons_option o [])) is (rows_go_on start b (commit worker request (reply start b worker request) ∷ []) (refl, tt))
+
+worker_is : (r : Row) → worker_of r ≡ (commit_of r).worker
+worker_is (row.Item r) = refl
+worker_is (row.Bid r) = refl
+worker_is (row.Comment r) = refl
+worker_is (row.Buy r) = refl
+
+pub worker_of_added : (start : Opening) (b : Book) (worker : ℕ) (request : Request) (r : Row) → row_of worker request (reply start b worker request) ≡ Some r → worker_of r ≡ worker
+worker_of_added start b worker request r is = worker_is r ∙ ap (λ e. e.worker) (commit_is b worker request (refusal start b request) r is)
+
+-- the book after the commit that a row was stored by is the book with the row
+pub after_own : (start : Opening) (b : Book) (r : Row) → GoOn start b (r ∷ []) → after_entry start b (commit_of r) ≡ b ++ r ∷ []
+after_own start b r goes =
+    ap (λ answered. b ++ option_to_list (row_of (commit_of r).worker (commit_of r).request answered)) (sym goes.0) ∙ ap (λ o. b ++ option_to_list o) (own_row r)
+
+-- its acts can be done where every object lies
+module _ (start : Opening) (number shards : ℕ) (rooms : ItemId → Bool) (shelf : Shelf) (here : (object : Object) → shard_of object shards ≡ number) where
+  all_done : (r : Row) → AllByRecursion (λ act. is_done_on number shards [] act ≡ true → CanActOn start number shards rooms shelf act) (writes_of r)
+      → AllByRecursion (CanActOn start number shards rooms shelf) (writes_of r)
+  all_done (row.Item r) can =
+      (can.0 (cold_here number shards [] (Item r.id) (here (Item r.id)) refl), (can.1.0 (cold_here number shards [] (Category r.facts.category) (here (Category r.facts.category)) refl), tt))
+  all_done (row.Bid r) can = (can.0 (cold_here number shards [] (Item r.item) (here (Item r.item)) refl), tt)
+  all_done (row.Comment r) can = (can.0 (cold_here number shards [] (User r.about) (here (User r.about)) refl), tt)
+  all_done (row.Buy r) can = (can.0 (cold_here number shards [] (Item r.item) (here (Item r.item)) refl), tt)
+
+  pub writes_can_be_done : (b : Book) (r : Row) → ShelfStandsFor number shards shelf b [] → GoOn start b (r ∷ []) → IsWithinLimits (after_entry start b (commit_of r))
+      → HasRoomFor number shards rooms (commit_of r) → AllByRecursion (CanActOn start number shards rooms shelf) (writes_of r)
+  writes_can_be_done b r stands goes limits room =
+      all_done r (subst (λ o. AllByRecursion (λ act. is_done_on number shards [] act ≡ true → CanActOn start number shards rooms shelf act) (writes_if o)) (own_row r)
+      (row_can start number shards rooms shelf b [] stands None (commit_of r) goes.0 limits room))
+
+  all_acts : (r : Row) → done_on number shards [] (writes_of r) ≡ writes_of r
+  all_acts (row.Item r) = λ i.
+      let added = AddItem r.id r.facts in
+      let listed = ListItem r.facts.category (item_entry r) ∷ [] in
+      let rest = cond (cold_here number shards [] (Category r.facts.category) (here (Category r.facts.category)) refl i) listed [] in
+      cond (cold_here number shards [] (Item r.id) (here (Item r.id)) refl i) (added ∷ rest) rest
+  all_acts (row.Bid r) = ap (λ b. cond b (writes_of (row.Bid r)) []) (cold_here number shards [] (Item r.item) (here (Item r.item)) refl)
+  all_acts (row.Comment r) = ap (λ b. cond b (writes_of (row.Comment r)) []) (cold_here number shards [] (User r.about) (here (User r.about)) refl)
+  all_acts (row.Buy r) = ap (λ b. cond b (writes_of (row.Buy r)) []) (cold_here number shards [] (Item r.item) (here (Item r.item)) refl)
+
+  pub stands_after : (b : Book) (r : Row) → ShelfStandsFor number shards shelf b [] → ShelfStandsFor number shards (after_acts shelf (writes_of r)) (b ++ r ∷ []) []
+  stands_after b r stands = subst (λ acts. ShelfStandsFor number shards (after_acts shelf acts) (b ++ r ∷ []) []) (all_acts r) (row_stands number shards shelf b [] r stands)
+
+-- a shard that is the same one and shows what another shows stands for what that one stands for
+pub stands_as : (old new : Shard) (shown : Shelf) → IsSameShard old new → shelf_of new ≡ shown → (b : Book) → ShelfStandsFor old.number old.shards shown b [] → StandsFor new b []
+stands_as old new shown same is b stands = λ object here cold. ap (λ (s : Shelf). s object) is ∙ stands object (ap (shard_of object) (sym same.shards) ∙ here ∙ same.number) cold
+
+-- a book within limits that is not full is so with one more row
+pub limits_next : (b : Book) (r : Row) → IsWithinLimits b → length b < 16000000 → HasStars r → IsWithinLimits (b ++ r ∷ [])
+limits_next b r limits not_full stars = record {
+  few = omega (arith, not_full, length-append b (r ∷ []));
+  stars = all_both HasStars b (r ∷ []) limits.stars (stars, tt);
+}
+
+-- ---- answers
+
+-- what holds whatever the answer is holds of an error
+pub either_way : {T E P : Type 0} (answered : Result T E) → P → OnErr answered P
+either_way (Ok x) p = tt
+either_way (Err e) p = p
+
+-- ---- counts
+
+count_more : {R : Type 0} (p : R → Bool) (rs : List R) (r : R) → count_by p (rs ++ r ∷ []) ≡ cond (p r) (count_by p rs + 1) (count_by p rs)
+count_more p rs r = sum_by-append (λ x. cond (p x) 1 0) rs (r ∷ []) ∙ at (p r) where
+  at : (b : Bool) → count_by p rs + (0 + cond b 1 0) ≡ cond b (count_by p rs + 1) (count_by p rs)
+  at true = refl
+  at false = omega arith
+
+through : {A B : Type 0} (f : A → B) (b : Bool) (x y : A) → f (cond b x y) ≡ cond b (f x) (f y)
+through f true x y = refl
+through f false x y = refl
+
+-- one more row is counted among its worker's
+pub stored_next : (b : Book) (r : Row) (worker : ℕ) → stored_by (b ++ r ∷ []) worker ≡ cond (worker_of r == worker) (counted r (stored_by b worker)) (stored_by b worker)
+stored_next b (row.Item r) worker =
+    let one = row.Item r in
+    (λ i. record {
+      items = (ap (count_by (λ x. x.id.worker == worker)) (this_kind as_item b one r refl) ∙ count_more (λ x. x.id.worker == worker) (book.item_rows b) r) i;
+      bids = count_by (λ x. x.id.worker == worker) (other_kind as_bid b one refl i);
+      comments = count_by (λ x. x.id.worker == worker) (other_kind as_comment b one refl i);
+      buys = count_by (λ x. x.id.worker == worker) (other_kind as_buy b one refl i);
+    }) ∙ through (λ (n : ℕ). record (stored_by b worker) { items = n }) (r.id.worker == worker) _ _
+stored_next b (row.Bid r) worker =
+    let one = row.Bid r in
+    (λ i. record {
+      items = count_by (λ x. x.id.worker == worker) (other_kind as_item b one refl i);
+      bids = (ap (count_by (λ x. x.id.worker == worker)) (this_kind as_bid b one r refl) ∙ count_more (λ x. x.id.worker == worker) (book.bid_rows b) r) i;
+      comments = count_by (λ x. x.id.worker == worker) (other_kind as_comment b one refl i);
+      buys = count_by (λ x. x.id.worker == worker) (other_kind as_buy b one refl i);
+    }) ∙ through (λ (n : ℕ). record (stored_by b worker) { bids = n }) (r.id.worker == worker) _ _
+stored_next b (row.Comment r) worker =
+    let one = row.Comment r in
+    (λ i. record {
+      items = count_by (λ x. x.id.worker == worker) (other_kind as_item b one refl i);
+      bids = count_by (λ x. x.id.worker == worker) (other_kind as_bid b one refl i);
+      comments = (ap (count_by (λ x. x.id.worker == worker)) (this_kind as_comment b one r refl) ∙ count_more (λ x. x.id.worker == worker) (book.comment_rows b) r) i;
+      buys = count_by (λ x. x.id.worker == worker) (other_kind as_buy b one refl i);
+    }) ∙ through (λ (n : ℕ). record (stored_by b worker) { comments = n }) (r.id.worker == worker) _ _
+stored_next b (row.Buy r) worker =
+    let one = row.Buy r in
+    (λ i. record {
+      items = count_by (λ x. x.id.worker == worker) (other_kind as_item b one refl i);
+      bids = count_by (λ x. x.id.worker == worker) (other_kind as_bid b one refl i);
+      comments = count_by (λ x. x.id.worker == worker) (other_kind as_comment b one refl i);
+      buys = (ap (count_by (λ x. x.id.worker == worker)) (this_kind as_buy b one r refl) ∙ count_more (λ x. x.id.worker == worker) (book.buy_rows b) r) i;
+    }) ∙ through (λ (n : ℕ). record (stored_by b worker) { buys = n }) (r.id.worker == worker) _ _
+
+-- as many stores of a worker as there are rows at most
+of_kind : {R : Type 0} (kind : Row → Option R) (b : Book) → length (filter_map kind b) ≤ length b
+of_kind kind [] = omega arith
+of_kind kind (one ∷ b) = at (kind one) (of_kind kind b) where
+  at : (o : Option _) → length (filter_map kind b) ≤ length b → length (cons_option o (filter_map kind b)) ≤ length (one ∷ b)
+  at None h = omega arith
+  at (Some r) h = omega arith
+
+pub stored_few : (b : Book) (worker : ℕ) → length b < 16000000 → AreFew (stored_by b worker)
+stored_few b worker few =
+    (omega (arith, few, count_by-le-length (λ r. r.id.worker == worker) (book.item_rows b), of_kind as_item b),
+    omega (arith, few, count_by-le-length (λ r. r.id.worker == worker) (book.bid_rows b), of_kind as_bid b),
+    omega (arith, few, count_by-le-length (λ r. r.id.worker == worker) (book.comment_rows b), of_kind as_comment b),
+    omega (arith, few, count_by-le-length (λ r. r.id.worker == worker) (book.buy_rows b), of_kind as_buy b))
+
+-- counts that are those of a book are those of the book with a row once the row is counted
+pub counts_next : (b : Book) (r : Row) (old : List StoreCounts) (d : StoreCounts) → ((worker : ℕ) → worker < 16 → slice_get old worker ≡ Some (stored_by b worker)) → worker_of r < 16
+    → (worker : ℕ) → worker < 16 → slice_get (set old (worker_of r) (counted r (get_or old (worker_of r) d))) worker ≡ Some (stored_by (b ++ r ∷ []) worker)
+counts_next b r old d counts own worker within = at (worker_of r == worker) refl where
+  next : List StoreCounts
+  next = set old (worker_of r) (counted r (get_or old (worker_of r) d))
+
+  inside : (v : ℕ) → v < 16 → v < length old
+  inside v h = slice_get_within old v (stored_by b v) (counts v h)
+
+  read : (v : ℕ) → v < 16 → get_or old v d ≡ stored_by b v
+  read v h = get_or_from_slice_get old v (stored_by b v) d (counts v h)
+
+  got : slice_get next worker ≡ Some (get_or next worker d)
+  got = slice_get-get_or next worker d (subst (λ n. worker < n) (sym (length-set old (worker_of r) (counted r (get_or old (worker_of r) d)))) (inside worker within))
+
+  at : (same : Bool) → (worker_of r == worker) ≡ same → slice_get next worker ≡ Some (stored_by (b ++ r ∷ []) worker)
+  at true e =
+      let is : worker_of r ≡ worker = eqb-true (worker_of r) worker e in
+      got
+      ∙ ap Some (ap (λ v. get_or next v d) (sym is) ∙ get_or-set_same old (worker_of r) (counted r (get_or old (worker_of r) d)) d (inside (worker_of r) own)
+      ∙ ap (counted r) (read (worker_of r) own ∙ ap (stored_by b) is)
+      ∙ sym (stored_next b r worker ∙ ap (λ t. cond t (counted r (stored_by b worker)) (stored_by b worker)) e))
+  at false e =
+      got
+      ∙ ap Some (get_or-set_other old (worker_of r) worker (counted r (get_or old (worker_of r) d)) d (λ is. false≢true (sym e ∙ eq-eqb (worker_of r) worker (sym is)))
+      ∙ read worker within
+      ∙ sym (stored_next b r worker ∙ ap (λ t. cond t (counted r (stored_by b worker)) (stored_by b worker)) e))
+
+-- ---- rooms
+
+pub has_own_room : (id : ItemId) (others : ItemId → Bool) → with_room id others id ≡ true
+has_own_room id others = (λ i. ((eq-eqb id.worker id.worker refl i) && (eq-eqb id.serial id.serial refl i)) || others id)
+
+-- what lies in a shard lies in the same one later
+pub lies_as : (old new : Shard) → IsSameShard old new → (object : Object) → LiesIn old object → LiesIn new object
+lies_as old new same object here = ap (shard_of object) same.shards ∙ here ∙ sym same.number
+
+-- ---- the empty book
+
+pub none_stored : (worker : ℕ) → worker < 16 → slice_get (replicate 16 (stored_by [] worker)) worker ≡ Some (stored_by [] worker)
+none_stored worker within =
+    let none = stored_by [] worker in
+    slice_get-get_or (replicate 16 none) worker none (subst (λ n. worker < n) (sym (length-replicate 16 none)) within) ∙ ap Some (get_or-replicate 16 worker none none within)

@@ -1,0 +1,54 @@
+use Rattle.std.proofs.Common.{◌≡◌, ◌∷◌, [], ◌++◌, true, sym, ap, subst, get_or, set, ◌∙◌}
+use Rattle.std.specs.Prelude.{slice_get}
+use Rattle.item_shards.specs.declared.counting.StoreCounts.{StoreCounts}
+use Rattle.item_shards.specs.Shelves.{after_acts}
+use Rattle.item_shards.specs.Writing.{writes_of}
+use Rattle.std.proofs.lemmas.Option.{get_or_from_slice_get}
+use Rattle.item_shards.specs.Counting.{stored_by, worker_of, counted, AreFew}
+use Rattle.item_shards.specs.Limits.{IsWithinLimits}
+use Rattle.item_shards.specs.Serial.{opening_of}
+use Rattle.item_shards.specs.ShardShelf.{shelf}
+use Rattle.item_shards.proofs.SerialLemmas.{after_own, either_way, counts_next, limits_next, stored_few, stands_as, stands_after, writes_can_be_done}
+use Rattle.item_shards.proofs.serial.SerialAuction.store.Goals as goal
+
+abbrev none : StoreCounts
+none = record { items = 0; bids = 0; comments = 0; buys = 0 }
+
+pub write-requires-clause-can : goal.write-requires-clause-can
+write-requires-clause-can c = λ rooms room.
+    let shard = c.args.self.now.shard in
+    let start = opening_of c.args.self.now in
+    let b = c.requires.book in
+    let r = c.args.row.now in
+    let limits = subst IsWithinLimits (sym (after_own start b r c.requires.goes_on)) (limits_next b r c.requires.holds.limits c.requires.not_full c.requires.stars) in
+    writes_can_be_done start shard.number shard.shards rooms (shelf shard) c.args.self.now.has_all b r c.requires.holds.records c.requires.goes_on limits room
+
+pub returns-in_err-write-clause-refused : goal.returns-in_err-write-clause-refused
+returns-in_err-write-clause-refused c = either_way c.from_residual.result (λ b holds. record {
+  records = stands_as c.args.self.now.shard c.write.new.self (shelf c.args.self.now.shard) c.write.ensures.same c.in_err-write.ensures.refused b holds.records;
+  counts = holds.counts;
+  limits = holds.limits;
+})
+
+pub count-requires : goal.count-requires
+count-requires c =
+    let b = c.requires.book in
+    let w = worker_of c.args.row.now in
+    let old = c.args.self.now.stored in
+    let is : get_or old w _ ≡ stored_by b w = get_or_from_slice_get old w (stored_by b w) _ (c.requires.holds.counts w c.requires.worker) in
+    subst AreFew (sym (ap (λ v. get_or old v _) c.worker_of-worker.ensures ∙ is)) (stored_few b w c.requires.not_full)
+
+pub returns-clause-stored : goal.returns-clause-stored
+returns-clause-stored c = λ b holds not_full.
+    let shard = c.args.self.now.shard in
+    let start = opening_of c.args.self.now in
+    let r = c.args.row.now in
+    let old = c.args.self.now.stored in
+    record {
+      records = stands_as shard c.write.new.self (after_acts (shelf shard) (writes_of r)) c.write.ensures.same c.in_ok-write.ensures.written (b ++ r ∷ [])
+          (stands_after start shard.number shard.shards (λ id. true) (shelf shard) c.args.self.now.has_all b r holds.records);
+      counts = λ w within.
+          (λ i. slice_get (set old (c.worker_of-worker.ensures i) ((c.count.ensures ∙ ap (λ v. counted r (get_or old v none)) c.worker_of-worker.ensures) i)) w)
+          ∙ counts_next b r old none holds.counts c.requires.worker w within;
+      limits = limits_next b r holds.limits not_full c.requires.stars;
+    }

@@ -1,0 +1,12 @@
+use Rattle.std.proofs.Common.{ap, ◌∙◌, rules}
+use Rattle.auction_rows.specs.declared.ids.Object.TheVariants.{Item}
+use Rattle.item_shards.specs.Views.{item_view}
+use Rattle.item_shards.proofs.AnswerLemmas.{item_reply}
+use Rattle.item_shards.proofs.shard.Shard.view_item.Goals as goal
+
+pub returns-clause-shelf : goal.returns-clause-shelf
+returns-clause-shelf c = search rules
+
+pub returns-clause-book : goal.returns-clause-book
+returns-clause-book c book hot stands cold worker =
+    returns-clause-shelf c ∙ ap item_view (stands (Item c.args.item) c.requires.here cold) ∙ item_reply c.args.self.now.opening book worker c.args.item

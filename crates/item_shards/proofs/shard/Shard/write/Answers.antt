@@ -1,0 +1,65 @@
+use Rattle.std.proofs.Common.{◌<◌, ◌∷◌, [], Bool, true, sym, ap, subst, ◌∙◌, refl}
+use Rattle.std.specs.List.{AllByRecursion}
+use Rattle.auction_rows.specs.Book.{item_entry}
+use Rattle.auction_rows.specs.declared.ids.ItemId.{ItemId}
+use Rattle.auction_rows.specs.declared.numbers.Opening.{Opening}
+use Rattle.item_shards.specs.declared.acts.Act.TheVariants.{ListItem}
+use Rattle.auction_rows.specs.declared.ids.Object.TheVariants.{Item, Category}
+use Rattle.auction_rows.specs.declared.rows.Row.TheVariants as row
+use Rattle.item_shards.specs.Acting.{CanActOn}
+use Rattle.item_shards.specs.Shelves.{Shelf, after_acts}
+use Rattle.item_shards.specs.ShardShelf.{shelf, opening, rooms}
+use Rattle.item_shards.specs.Writing.{writes_of}
+use Rattle.item_shards.proofs.SerialLemmas.{either_way, has_own_room, lies_as}
+use Rattle.item_shards.proofs.shard.Shard.write.Goals as goal
+
+pub returns-in_err-prepare_item-in-Item-clause-refused : goal.returns-in_err-prepare_item-in-Item-clause-refused
+returns-in_err-prepare_item-in-Item-clause-refused c = either_way c.from_residual.result c.prepare_item.ensures.shelf
+
+pub act-requires : goal.act-requires
+act-requires c =
+    let old = c.args.self.now in
+    let id = c.in-Item.row.id in
+    (lies_as old c.prepare_item.new.self c.prepare_item.ensures.same (Item id) (c.requires.has_all (Item id)),
+    ap (λ (has : ItemId → Bool). has id) c.in_ok-prepare_item-in-Item.ensures.granted ∙ has_own_room id (rooms old))
+
+pub act-requires-in-Item : goal.act-requires-in-Item
+act-requires-in-Item c =
+    let old = c.args.self.now in
+    let listed = Category c.in-Item.row.facts.category in
+    let can = subst (λ r. AllByRecursion (CanActOn (opening old) old.number old.shards (λ id. true) (shelf old)) (writes_of r)) c.in-Item.is (c.requires.can (λ id. true) (λ id e here. refl)) in
+    (lies_as c.prepare_item.new.self c.act.new.self c.act.ensures.same listed
+      (lies_as old c.prepare_item.new.self c.prepare_item.ensures.same listed (c.requires.has_all listed)),
+    subst (λ (start : Opening). c.in-Item.row.facts.category < start.categories) (sym (c.act.ensures.same.opening ∙ c.prepare_item.ensures.same.opening)) can.1.0.1)
+
+pub act-requires-in-Bid : goal.act-requires-in-Bid
+act-requires-in-Bid c =
+    let shard = c.args.self.now in
+    (subst (λ r. AllByRecursion (CanActOn (opening shard) shard.number shard.shards (λ id. true) (shelf shard)) (writes_of r)) c.in-Bid.is (c.requires.can (λ id. true) (λ id e here. refl))).0
+
+pub act-requires-in-Comment : goal.act-requires-in-Comment
+act-requires-in-Comment c =
+    let shard = c.args.self.now in
+    (subst (λ r. AllByRecursion (CanActOn (opening shard) shard.number shard.shards (λ id. true) (shelf shard)) (writes_of r)) c.in-Comment.is (c.requires.can (λ id. true) (λ id e here. refl))).0
+
+pub act-requires-in-Buy : goal.act-requires-in-Buy
+act-requires-in-Buy c =
+    let shard = c.args.self.now in
+    (subst (λ r. AllByRecursion (CanActOn (opening shard) shard.number shard.shards (λ id. true) (shelf shard)) (writes_of r)) c.in-Buy.is (c.requires.can (λ id. true) (λ id e here. refl))).0
+
+pub returns-in_ok-prepare_item-in-Item-clause-written : goal.returns-in_ok-prepare_item-in-Item-clause-written
+returns-in_ok-prepare_item-in-Item-clause-written c =
+    let r = c.in-Item.row in
+    c.act-in-Item.ensures.shelf
+    ∙ ap (λ (shown : Shelf). after_acts shown (ListItem r.facts.category (item_entry r) ∷ [])) c.act.ensures.shelf
+    ∙ ap (λ (shown : Shelf). after_acts shown (writes_of (row.Item r))) c.prepare_item.ensures.shelf
+    ∙ ap (λ one. after_acts (shelf c.args.self.now) (writes_of one)) (sym c.in-Item.is)
+
+pub returns-in-Bid-clause-written : goal.returns-in-Bid-clause-written
+returns-in-Bid-clause-written c = c.act-in-Bid.ensures.shelf ∙ ap (λ r. after_acts (shelf c.args.self.now) (writes_of r)) (sym c.in-Bid.is)
+
+pub returns-in-Comment-clause-written : goal.returns-in-Comment-clause-written
+returns-in-Comment-clause-written c = c.act-in-Comment.ensures.shelf ∙ ap (λ r. after_acts (shelf c.args.self.now) (writes_of r)) (sym c.in-Comment.is)
+
+pub returns-in-Buy-clause-written : goal.returns-in-Buy-clause-written
+returns-in-Buy-clause-written c = c.act-in-Buy.ensures.shelf ∙ ap (λ r. after_acts (shelf c.args.self.now) (writes_of r)) (sym c.in-Buy.is)

@@ -1,0 +1,36 @@
+-- When a look is true of a shelf.
+use Rattle.std.specs.Prelude.{◌≡◌, ⊤}
+use Rattle.auction_rows.specs.declared.ids.Object.{Object}
+use Rattle.auction_rows.specs.declared.ids.Object.TheVariants.{Item, User, Category}
+use Rattle.auction_rows.specs.declared.replies.Reply.{Reply}
+use Rattle.auction_rows.specs.declared.replies.Reply.TheVariants.{BidsSeen}
+use Rattle.item_shards.specs.declared.acts.Act.{Act}
+use Rattle.item_shards.specs.declared.acts.Act.TheVariants.{AddItem, ListItem, Bid, Comment, Buy, Look}
+use Rattle.item_shards.specs.declared.acts.Shown.{Shown}
+use Rattle.item_shards.specs.declared.acts.Shown.TheVariants as shown
+use Rattle.item_shards.specs.Values.{Value, stock}
+use Rattle.item_shards.specs.Shelves.{Shelf}
+use Rattle.item_shards.specs.Views.{item_view, bids_view, category_view, user_view}
+
+-- the view of an object that a reply is one of: an item is seen with its bids, or itself
+abbrev pub view_like : Reply → Object → Value → Reply
+view_like (BidsSeen bids) (Item id) value = bids_view value
+view_like reply (Item id) value = item_view value
+view_like reply (User user) value = user_view value
+view_like reply (Category category) value = category_view value
+
+-- what is shown is what the shelf has
+abbrev pub IsTrueOf : Shelf → Shown → Type 0
+IsTrueOf shelf shown.Nothing = ⊤
+IsTrueOf shelf (shown.Facts id facts) = facts ≡ (shelf (Item id)).facts
+IsTrueOf shelf (shown.Left id seen) = seen ≡ stock (shelf (Item id))
+IsTrueOf shelf (shown.Reply object reply) = reply ≡ view_like reply object (shelf object)
+
+-- an act that is a look is true
+abbrev pub IsTrueAct : Shelf → Act → Type 0
+IsTrueAct shelf (AddItem id facts) = ⊤
+IsTrueAct shelf (ListItem category entry) = ⊤
+IsTrueAct shelf (Bid id entry) = ⊤
+IsTrueAct shelf (Comment user stars) = ⊤
+IsTrueAct shelf (Buy id quantity) = ⊤
+IsTrueAct shelf (Look shown) = IsTrueOf shelf shown

@@ -1,0 +1,39 @@
+-- The auction of one thread: what it holds, and which rows it can store.
+use Rattle.std.specs.Prelude.{ℕ, ◌≡◌, ◌<◌, [], ◌∷◌, Some, slice_get, length}
+use Rattle.auction_rows.specs.declared.numbers.Opening.{Opening}
+use Rattle.auction_rows.specs.declared.rows.Row.{Row}
+use Rattle.auction_rows.specs.Book.{Book}
+use Rattle.auction_rows.specs.History.{GoOn}
+use Rattle.item_shards.specs.declared.serial.SerialAuction.{SerialAuction}
+use Rattle.item_shards.specs.Counting.{stored_by, worker_of}
+use Rattle.item_shards.specs.Limits.{IsWithinLimits, HasStars}
+use Rattle.item_shards.specs.ShardShelf.{opening, StandsFor}
+
+-- the users and categories of the auction
+abbrev pub opening_of : SerialAuction → Opening
+opening_of auction = opening auction.shard
+
+-- the auction's records are those of a book within limits, and its counts are those of the stores of each of 16 workers in it
+pub record HoldsBook (auction : SerialAuction) (book : Book) : Type 0 where
+  pub records : StandsFor auction.shard book []
+  pub counts : (worker : ℕ) → worker < 16 → slice_get auction.stored worker ≡ Some (stored_by book worker)
+  pub limits : IsWithinLimits book
+
+-- a book of fewer rows than an auction may have
+abbrev pub IsNotFull : Book → Type 0
+IsNotFull book = length book < 16000000
+
+-- the auction holds some book that is not full
+pub record CanGrow (auction : SerialAuction) : Type 0 where
+  pub book : Book
+  pub holds : HoldsBook auction book
+  pub not_full : IsNotFull book
+
+-- a row of one of 16 workers that goes on a book which the auction holds and which is not full
+pub record CanStore (auction : SerialAuction) (row : Row) : Type 0 where
+  pub book : Book
+  pub holds : HoldsBook auction book
+  pub not_full : IsNotFull book
+  pub goes_on : GoOn (opening_of auction) book (row ∷ [])
+  pub stars : HasStars row
+  pub worker : worker_of row < 16

@@ -1,0 +1,42 @@
+//! What the values of a book's objects are.
+ghost use Rattle.std.specs.Prelude.{◌≡◌, ◌≤◌, ◌<◌, ◌*◌, ℕ, length, unwrap_or, unsigned_abs};
+ghost use Rattle.std.specs.List.{AllByRecursion};
+ghost use Rattle.std.specs.Ordering.{is_eq};
+ghost use Rattle.auction_rows.specs.declared.ids.ItemId.{ItemId};
+ghost use Rattle.auction_rows.specs.declared.ids.Object.{Object};
+ghost use Rattle.auction_rows.specs.declared.ids.Object.TheVariants.{Item, User, Category};
+ghost use Rattle.auction_rows.specs.declared.numbers.Opening.{Opening};
+ghost use Rattle.auction_rows.specs.declared.requests.Request.{Request};
+ghost use Rattle.auction_rows.specs.declared.requests.Request.TheVariants.{ViewItem, ViewBids, ViewCategory, ViewUser};
+ghost use Rattle.auction_rows.specs.Book.{Book, left as left_of};
+ghost use Rattle.auction_rows.specs.Orders.{object_cmp};
+ghost use Rattle.auction_rows.specs.Replies.{reply, next};
+ghost use Rattle.item_shards.specs.Values.{value, stock, stock_in, left_in};
+ghost use Rattle.item_shards.specs.Views.{item_view, bids_view, category_reply, user_reply};
+ghost use Rattle.item_shards.specs.Limits.{IsWithinLimits, GivesStars, HasStars};
+
+/// Views of objects with the values of a book are the book's replies. What is left of an item is the book's,
+/// and none of one that isn't stored.
+pub fn views_are_replies()
+    ensures items { (opening : Opening) (book : Book) (worker : ℕ) (id : ItemId) → item_view (value book (Item id)) ≡ reply opening book worker (ViewItem id) }
+    ensures bids { (opening : Opening) (book : Book) (worker : ℕ) (id : ItemId) → bids_view (value book (Item id)) ≡ reply opening book worker (ViewBids id) }
+    ensures categories { (opening : Opening) (book : Book) (worker category : ℕ) →
+        category_reply opening category (value book (Category category)) ≡ reply opening book worker (ViewCategory category) }
+    ensures users { (opening : Opening) (book : Book) (worker user : ℕ) →
+        user_reply opening user (value book (User user)) ≡ reply opening book worker (ViewUser user) }
+    ensures stock { (book : Book) (id : ItemId) → stock (value book (Item id)) ≡ stock_in book id }
+    ensures left { (book : Book) (id : ItemId) → unwrap_or (left_in book id) 0 ≡ left_of book id }
+{}
+
+/// An object has at most as many bids or comments as the book has rows, and a rating of at most 5 for each.
+pub fn counts_of_books()
+    ensures bids { (book : Book) (id : ItemId) → (value book (Item id)).bids.bids ≤ length book }
+    ensures comments { (book : Book) (user : ℕ) → (value book (User user)).comments.comments ≤ length book }
+    ensures ratings { (book : Book) (user : ℕ) → AllByRecursion HasStars book → unsigned_abs (value book (User user)).comments.rating ≤ 5 * length book }
+{}
+
+/// A book within limits that is not full is within limits after one more request.
+pub fn limits_of_books()
+    ensures { (opening : Opening) (book : Book) (worker : ℕ) (request : Request) →
+        IsWithinLimits book → length book < 16000000 → GivesStars request → IsWithinLimits (next opening book worker request) }
+{}

@@ -1,0 +1,53 @@
+//! How many stores of each kind a worker has.
+ghost use Rattle.std.specs.Prelude.{◌≡◌};
+ghost use Rattle.item_shards.specs.Counting.{worker_of};
+ghost use Rattle.item_shards.specs.Limits.{HasStars};
+
+use auction_rows::Row;
+
+/// How many stores of each kind a worker has had accepted.
+#[derive(Clone, Copy, PartialEq, Eq, Debug)]
+pub(crate) struct StoreCounts {
+    pub(crate) items: u32,
+    pub(crate) bids: u32,
+    pub(crate) comments: u32,
+    pub(crate) buys: u32,
+}
+
+impl StoreCounts {
+    ghost use Rattle.item_shards.specs.Counting.{counted, AreFew};
+
+    // Counts one more store of the row's kind.
+    pub(crate) fn count(&mut self, row: &Row)
+        requires { AreFew self.old }
+        ensures { self.new ≡ counted row.now self.old }
+    {
+        match row {
+            Row::Item(_) => self.items += 1,
+            Row::Bid(_) => self.bids += 1,
+            Row::Comment(_) => self.comments += 1,
+            Row::Buy(_) => self.buys += 1,
+        }
+    }
+}
+
+// The worker whose store a row is.
+pub(crate) fn worker_of(row: &Row) -> u32
+    ensures { result ≡ worker_of row.now }
+{
+    match row {
+        Row::Item(row) => row.id.worker,
+        Row::Bid(row) => row.id.worker,
+        Row::Comment(row) => row.id.worker,
+        Row::Buy(row) => row.id.worker,
+    }
+}
+
+// The stars of a row are from -5 to 5: its type keeps them so, and only `value` says it.
+pub(crate) fn stars_are_known(row: &Row)
+    ensures { HasStars row.now }
+{
+    if let Row::Comment(row) = row {
+        let _known = row.stars.value();
+    }
+}

@@ -1,0 +1,134 @@
+//! The auction of one thread: every object in one shard.
+ghost use Rattle.std.specs.Prelude.{◌≡◌, ◌+◌, ◌<◌, ◌++◌, ◌∷◌, [], ℕ, length, IfOk, OnOk, OnErr};
+ghost use Rattle.auction_rows.specs.declared.ids.Object.{Object as Thing};
+ghost use Rattle.item_shards.specs.ShardShelf.{LiesIn};
+
+use crate::counting::{StoreCounts, stars_are_known, worker_of};
+use crate::shard::Shard;
+use auction_rows::{
+    BidId, BuyId, CommentId, ItemId, Opening, Refusal, Reply, Request, Row, item_of, item_refusal,
+    number_refusal, row_of,
+};
+use std::alloc::{AllocError, Global};
+
+/// The auction of one thread, which 16 workers ask in turn. It answers by the records of one shard
+/// and not by its rows, so that a request costs the same however many rows there are.
+#[derive(Drop)]
+pub struct SerialAuction {
+    pub(crate) shard: Shard,
+    pub(crate) stored: [StoreCounts; 16],
+    ghost has_all: { (object : Thing) → LiesIn shard object },
+}
+
+impl SerialAuction {
+    ghost use Rattle.auction_rows.specs.Book.{Book};
+    ghost use Rattle.auction_rows.specs.Refusals.{refusal};
+    ghost use Rattle.auction_rows.specs.Replies.{reply, next, answer_unless};
+    ghost use Rattle.item_shards.specs.Serial.{HoldsBook, IsNotFull, CanGrow, CanStore, opening_of};
+
+    /// An auction in which nothing is stored.
+    pub fn new(alloc: Global, opening: Opening) -> Result<SerialAuction, AllocError>
+        ensures book { IfOk result (λ auction. HoldsBook auction []) }
+        ensures opening { IfOk result (λ auction. opening_of auction ≡ opening) }
+    {
+        let none = StoreCounts {
+            items: 0,
+            bids: 0,
+            comments: 0,
+            buys: 0,
+        };
+        Ok(SerialAuction {
+            shard: Shard::new(alloc, 0, 1, opening)?,
+            stored: [none; 16],
+        })
+    }
+
+    /// The reply to a worker's request.
+    pub fn reply_to(&self, worker: u32, request: Request) -> Reply
+        requires { worker < 16 }
+        ensures { (book : Book) → HoldsBook self.now book → result ≡ reply (opening_of self.now) book worker request }
+    {
+        let stored = self.stored[worker as usize];
+        let request = &request;
+        match *request {
+            Request::StoreItem { .. } => {
+                let serial = stored.items;
+                self.unless_refused(*request, Reply::ItemStored(ItemId { worker, serial }))
+            }
+            Request::StoreBid { .. } => {
+                let serial = stored.bids;
+                self.unless_refused(*request, Reply::BidStored(BidId { worker, serial }))
+            }
+            Request::StoreComment { .. } => {
+                let serial = stored.comments;
+                self.unless_refused(*request, Reply::CommentStored(CommentId { worker, serial }))
+            }
+            Request::BuyNow { .. } => {
+                let serial = stored.buys;
+                self.unless_refused(*request, Reply::Bought(BuyId { worker, serial }))
+            }
+            Request::ViewItem { item } => self.shard.view_item(item),
+            Request::ViewBids { item } => self.shard.view_bids(item),
+            Request::ViewCategory { category } => self.shard.view_category(category),
+            Request::ViewUser { user } => self.shard.view_user(user),
+        }
+    }
+
+    // The refusal of a request, or else the reply.
+    fn unless_refused(&self, request: Request, reply: Reply) -> Reply
+        ensures { (book : Book) → HoldsBook self.now book → result ≡ answer_unless (refusal (opening_of self.now) book request) reply }
+    {
+        match self.refusal(request) {
+            Some(reason) => Reply::Refused(reason),
+            None => reply,
+        }
+    }
+
+    fn refusal(&self, request: Request) -> Option<Refusal>
+        ensures { (book : Book) → HoldsBook self.now book → result ≡ refusal (opening_of self.now) book request }
+    {
+        let request = &request;
+        if let Some(reason) = number_refusal(self.shard.opening, *request) {
+            return Some(reason);
+        }
+        let item = item_of(*request)?;
+        match self.shard.stock(item) {
+            Some((facts, left)) => item_refusal(*request, Some(facts), left),
+            None => item_refusal(*request, None, 0),
+        }
+    }
+
+    // Stores a row. Without memory the auction holds what it held.
+    fn store(&mut self, row: &Row) -> Result<(), AllocError>
+        requires { CanStore self.old row.now }
+        ensures stored { OnOk result ((book : Book) → HoldsBook self.old book → IsNotFull book → HoldsBook self.new (book ++ row.now ∷ [])) }
+        ensures refused { OnErr result ((book : Book) → HoldsBook self.old book → HoldsBook self.new book) }
+        ensures opening { opening_of self.new ≡ opening_of self.old }
+    {
+        self.shard.write(row)?;
+        let worker = worker_of(row) as usize;
+        let mut counts = self.stored[worker];
+        counts.count(row);
+        self.stored[worker] = counts;
+        Ok(())
+    }
+
+    /// Commits a worker's request. Without memory the auction holds what it held.
+    pub fn perform(&mut self, worker: u32, request: Request) -> Result<Reply, AllocError>
+        requires worker { worker < 16 }
+        requires room { CanGrow self.old }
+        ensures reply { IfOk result (λ answered. (book : Book) → HoldsBook self.old book → answered ≡ reply (opening_of self.old) book worker request) }
+        ensures book { OnOk result ((book : Book) → HoldsBook self.old book → IsNotFull book → HoldsBook self.new (next (opening_of self.old) book worker request)) }
+        ensures refused { OnErr result ((book : Book) → HoldsBook self.old book → HoldsBook self.new book) }
+        ensures opening { opening_of self.new ≡ opening_of self.old }
+    {
+        let request = &request;
+        let reply = self.reply_to(worker, *request);
+        let answered = &reply;
+        if let Some(row) = row_of(worker, *request, *answered) {
+            stars_are_known(&row);
+            self.store(&row)?;
+        }
+        Ok(reply)
+    }
+}

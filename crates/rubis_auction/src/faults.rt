@@ -1,0 +1,55 @@
+//! Why the program fails, its exit statuses and its words.
+use auction_text::{ReadFault, WriteFault};
+use std::io::Write;
+use thiserror::Error;
+
+/// Why the program's words are refused: in the words of the parser of options, or for want of memory.
+#[derive(Debug, Drop, Error)]
+pub enum UsageFault {
+    #[error("{0}")]
+    Text(String),
+    #[error("no memory")]
+    Memory,
+}
+
+/// Why a script that was read was not performed.
+#[derive(Clone, Copy, Debug, PartialEq, Eq, Drop, Error)]
+pub enum RunFault {
+    #[error("more than 1000000 requests for a worker")]
+    TooLong,
+    #[error("no memory")]
+    Memory,
+}
+
+/// Why the program failed, by the part that failed.
+#[derive(Debug, Drop, Error)]
+pub enum Fault {
+    #[error("{0}")]
+    Usage(UsageFault),
+    #[error("{0}")]
+    Read(ReadFault),
+    #[error("{0}")]
+    Run(RunFault),
+    #[error("{0}")]
+    Write(WriteFault),
+}
+
+/// The exit status of a fault: 1 for options, 2 for reading, 3 for performing, 4 for writing.
+pub fn status(fault: &Fault) -> u8 {
+    match fault {
+        Fault::Usage(_) => 1,
+        Fault::Read(_) => 2,
+        Fault::Run(_) => 3,
+        Fault::Write(_) => 4,
+    }
+}
+
+/// Writes the line of a fault. The words of the parser of options stand as they are, without the
+/// program's name. It takes no memory, so `Write` is the only fault.
+pub fn write_fault<W: Write>(writer: &mut W, fault: &Fault) -> Result<(), WriteFault> {
+    let written = match fault {
+        Fault::Usage(UsageFault::Text(text)) => writer.write_all(text.as_bytes()),
+        _ => writeln!(writer, "rubis_auction: {fault}"),
+    };
+    written.map_err(|_| WriteFault::Write)
+}

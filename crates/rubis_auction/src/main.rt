@@ -1,0 +1,40 @@
+//! An auction that performs the script of its input and writes the replies.
+#![tactic(auto)]
+
+mod execute;
+mod faults;
+mod options;
+mod perform;
+#[cfg(test)]
+mod tests;
+
+use crate::execute::execute;
+use crate::faults::{Fault, UsageFault, status, write_fault};
+use crate::options::read_options;
+use std::alloc::Global;
+use std::process::ExitCode;
+use std::rt::Env;
+use std::{env, io};
+
+fn main(rt: HostRuntime) -> ExitCode {
+    match run(&rt) {
+        Ok(()) => ExitCode::SUCCESS,
+        Err(fault) => {
+            // A fault that can't be written still has its status.
+            let _ = write_fault(&mut rt.stderr(), &fault);
+            ExitCode::from(status(&fault))
+        }
+    }
+}
+
+// Performs standard input as the program's words say.
+fn run<R: Env + Input + Print + Alloc<A = Global>>(rt: &R) -> Result<(), Fault> {
+    let alloc = rt.alloc();
+    let words = program_words(rt).map_err(|_| Fault::Usage(UsageFault::Memory))?;
+    let options = read_options(alloc, words.as_slice()).map_err(Fault::Usage)?;
+    execute(alloc, rt.reader(), &mut io::writer(rt), &options)
+}
+
+fn program_words<R: Env + Alloc<A = Global>>(rt: &R) -> io::Result<Vec<String>> {
+    Ok(env::args(rt)?.collect(rt.alloc())?)
+}

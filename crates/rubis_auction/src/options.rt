@@ -1,0 +1,84 @@
+//! The options of the program.
+ghost use Rattle.std.specs.Prelude.{◌≡◌, ◌≤◌, IfOk};
+
+use crate::faults::UsageFault;
+use auction_rows::Opening;
+use clap::error::ErrorKind;
+use clap::{Arg, ArgAction, ArgMatches, Command, Error};
+use std::alloc::{AllocError, Global};
+
+const MOST_NUMBERED: u32 = 1_000_000;
+
+/// What the program is asked to do: how many users and categories there are, each at most 1,000,000.
+#[derive(Clone, Copy, Debug, PartialEq, Eq)]
+pub struct Options {
+    pub users: u32,
+    pub categories: u32,
+}
+
+impl Options {
+    ghost use Rattle.rubis_auction.specs.Execution.{opening_of};
+
+    /// The users and categories of the auction.
+    pub fn opening(&self) -> Opening
+        ensures { result ≡ opening_of self.now }
+    {
+        Opening {
+            users: self.users,
+            categories: self.categories,
+        }
+    }
+}
+
+fn number_option<'a>(alloc: Global, id: &'a str, fallback: &'a str) -> Arg<'a> {
+    Arg::new(alloc, id)
+        .long(id)
+        .action(ArgAction::Set)
+        .value_parser(clap::value_parser!(u32).range(0..=1_000_000))
+        .default_value(fallback)
+}
+
+fn command<'a>(alloc: Global) -> Result<Command<'a>, AllocError> {
+    Command::new(alloc, "rubis_auction")
+        .arg(number_option(alloc, "users", "100"))?
+        .arg(number_option(alloc, "categories", "10"))
+}
+
+// The number of an option, which its parser holds to the range.
+fn number_of(matches: &ArgMatches<'_>, id: &str, fallback: u32) -> u32
+    requires { fallback ≤ 1000000 }
+    ensures { result ≤ 1000000 }
+{
+    match matches.get_one::<u32>(id) {
+        Some(number) if number <= MOST_NUMBERED => number,
+        _ => fallback,
+    }
+}
+
+fn usage_fault(alloc: Global, error: &Error) -> UsageFault {
+    if error.kind() == ErrorKind::OutOfMemory {
+        return UsageFault::Memory;
+    }
+    match format!(in alloc; "{error}") {
+        Ok(text) => UsageFault::Text(text),
+        Err(_) => UsageFault::Memory,
+    }
+}
+
+/// The options that the words give, the first of which is the program's name: 100 users and 10 categories
+/// unless they say otherwise. Words that are refused, or that ask for help, are answered in `clap`'s words.
+pub fn read_options(alloc: Global, words: &[String]) -> Result<Options, UsageFault>
+    ensures users { IfOk result (λ options. options.users ≤ 1000000) }
+    ensures categories { IfOk result (λ options. options.categories ≤ 1000000) }
+{
+    let Ok(command) = command(alloc) else {
+        return Err(UsageFault::Memory);
+    };
+    match command.try_get_matches_from(words) {
+        Ok(matches) => Ok(Options {
+            users: number_of(&matches, "users", 100),
+            categories: number_of(&matches, "categories", 10),
+        }),
+        Err(error) => Err(usage_fault(alloc, &error)),
+    }
+}
