@@ -78,7 +78,7 @@ after_set asked v w r rest within = elim (cases_Bool (w == v)) [
       let at : w ≡ v = eqb-true w v same in
       rw (same, ← at, get_or-set_same asked.scripts w (get_or asked.scripts w [] ++ (r ∷ [])) [] within) (sym (append_assoc (get_or asked.scripts w []) (r ∷ []) rest))
   | inr other ↦
-      let not_at : v ≢ w = λ e. absurd (cc (rw e at other, same_number w)) in
+      let not_at : v ≢ w = λ e. absurd (cc (same_number w)) in
       rw (other, get_or-set_other asked.scripts w v (get_or asked.scripts w [] ++ (r ∷ [])) [] not_at) refl
 ]
 

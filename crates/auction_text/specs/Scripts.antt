@@ -1,7 +1,8 @@
 -- What the text of an input asks for.
 use Rattle.std.specs.Prelude.{ℕ, Bool, false, ◌==◌, ◌+◌, List, [], ◌∷◌, map, nat_lt, Option, Some, None, Result, Ok, Err, if◌then◌else◌}
 use Rattle.std.specs.List.{filter_map, range_with_len}
-use Rattle.std.specs.Result.{result_ok}
+use Rattle.std.specs.Option.{option_or}
+use Rattle.std.specs.Result.{result_err, result_ok}
 use Rattle.csv.specs.Reading.{default_config, records, strip_bom}
 use Rattle.auction_rows.specs.declared.requests.Request.{Request}
 use Rattle.item_shards.specs.declared.opened.Opened.{Opened}
@@ -25,17 +26,12 @@ asked_by input = record { rows = input.rows.items; scripts = map (λ script. scr
 abbrev pub records_of : List ℕ → List (List (List ℕ))
 records_of bytes = records default_config (strip_bom bytes)
 
--- the fault of a record, or else that of the records after it
-abbrev pub fault_or : Result (ℕ × Request) ReadFault → Option ReadFault → Option ReadFault
-fault_or (Ok asked) later = later
-fault_or (Err found) later = Some found
-
 -- the first fault of the records, which are counted from `place`
 unfoldable pub first_fault : ℕ → ℕ → List (List (List ℕ)) → Option ReadFault
 first_fault workers place [] = None
 first_fault workers place (fields ∷ rest) =
     if nat_lt MOST_RECORDS place then Some fault.Long
-    else fault_or (read_record workers place fields) (first_fault workers (place + 1) rest)
+    else option_or (result_err (read_record workers place fields)) (first_fault workers (place + 1) rest)
 
 -- whether a field is the number of worker w
 abbrev pub is_worker : ℕ → Option ℕ → Bool

@@ -48,7 +48,7 @@ pub enum ReadFault {
 /// Why a text was not written whole.
 #[derive(Clone, Copy, Debug, PartialEq, Eq, Drop, Error)]
 pub enum WriteFault {
-    /// A write or the flush failed, or a write took no byte: a front of the text was written.
+    /// A write or the flush failed, or a write took no byte: a prefix of the text was written.
     #[error("output cannot be written")]
     Write,
     /// No memory was left: no byte was written.

@@ -53,6 +53,16 @@ fn fault_in(alloc: Global, text: &[u8]) -> Option<ReadFault> {
     count_in(alloc, text).err()
 }
 
+// The fault where the reader fails after some bytes of the input.
+fn fault_after(alloc: Global, cut: usize) -> Option<ReadFault> {
+    let reader = Broken {
+        text: INPUT,
+        given: 0,
+        cut,
+    };
+    read_scripts(alloc, reader, 1).err()
+}
+
 // The only request of a text.
 fn request_in(alloc: Global, text: &[u8]) -> Result<Request, Fail> {
     let input = read_one(alloc, text)?;
@@ -61,7 +71,7 @@ fn request_in(alloc: Global, text: &[u8]) -> Result<Request, Fail> {
 }
 
 #[test]
-fn fronts_of_an_input(rt: HostRuntime) {
+fn prefixes_of_an_input(rt: HostRuntime) {
     let table = [
         (0..=0, Ok(0)),
         (1..=1, Err(line(1, Cause::Fields))),
@@ -82,8 +92,8 @@ fn fronts_of_an_input(rt: HostRuntime) {
     ];
     for (lengths, want) in table {
         for length in lengths {
-            let front = &INPUT[..INPUT.len().min(length)];
-            assert_eq!(rt; count_in(rt.alloc(), front), want, "of {length} bytes");
+            let prefix = &INPUT[..INPUT.len().min(length)];
+            assert_eq!(rt; count_in(rt.alloc(), prefix), want, "of {length} bytes");
         }
     }
 }
@@ -227,13 +237,8 @@ fn scripts_by_worker(rt: HostRuntime) -> Result<(), Fail> {
 #[test]
 fn reader_that_fails(rt: HostRuntime) {
     for cut in 0..=INPUT.len() {
-        let reader = Broken {
-            text: INPUT,
-            given: 0,
-            cut,
-        };
-        let read = read_scripts(rt.alloc(), reader, 1);
-        assert_eq!(rt; read.err(), Some(ReadFault::Read), "after {cut} bytes");
+        let fault = fault_after(rt.alloc(), cut);
+        assert_eq!(rt; fault, Some(ReadFault::Read), "after {cut} bytes");
     }
 }
 

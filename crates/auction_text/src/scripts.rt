@@ -17,7 +17,7 @@ use std::io::Read;
 pub const MOST_RECORDS: u32 = 16_000_000;
 
 /// What an input asks for: the rows that the auction is opened with, and each worker's script.
-#[derive(Drop)]
+#[derive(Debug, Drop)]
 pub struct Input {
     /// The rows, in their order.
     pub rows: Vec<Opened>,
@@ -79,8 +79,9 @@ fn add_request(input: &mut Input, worker: u32, request: Request) -> Result<(), R
 /// Reads to its end what a reader gives, as the scripts of so many workers.
 ///
 /// The input is read as `csv` reads it, with no headers and nothing trimmed. The first record with a
-/// fault ends the reading. `Read` comes of a read that failed and `Memory` of memory that was refused;
-/// either may come before the fault of a later record is found.
+/// fault ends the reading, and so does one past `MOST_RECORDS`: no scripts are given then. `Read` comes
+/// of a read that failed and `Memory` of memory that was refused; either may come before the fault of a
+/// later record is found.
 pub fn read_scripts<R: Read + Drop>(
     alloc: Global,
     reader: R,

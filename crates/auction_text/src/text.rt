@@ -6,12 +6,14 @@ ghost use Rattle.auction_text.specs.Replies.{id_text, labelled, labelled_id, lab
 use std::alloc::AllocError;
 use std::io::Write;
 
+/// Adds a part as it is.
 pub fn push_text(text: &mut Vec<u8>, part: &[u8]) -> Result<(), AllocError>
     ensures { OnOk result (text.new.items ≡ text.old.items ++ part.now) }
 {
     text.extend_from_slice(part)
 }
 
+/// Adds a number in decimal.
 pub fn push_number(text: &mut Vec<u8>, number: u64) -> Result<(), AllocError>
     ensures { OnOk result (text.new.items ≡ text.old.items ++ decimal number) }
 {
@@ -21,6 +23,7 @@ pub fn push_number(text: &mut Vec<u8>, number: u64) -> Result<(), AllocError>
     }
 }
 
+/// Adds a label and a number that may be negative.
 pub fn push_signed(text: &mut Vec<u8>, label: &[u8], number: i64) -> Result<(), AllocError>
     ensures { OnOk result (text.new.items ≡ text.old.items ++ (label.now ++ signed_decimal number)) }
 {
@@ -48,6 +51,7 @@ fn push_id(text: &mut Vec<u8>, worker: u32, serial: u32) -> Result<(), AllocErro
     push_number(text, u64::from(serial))
 }
 
+/// Adds a label and a number.
 pub fn push_labelled(text: &mut Vec<u8>, label: &[u8], number: u64) -> Result<(), AllocError>
     ensures { OnOk result (text.new.items ≡ text.old.items ++ labelled label.now number) }
 {
@@ -55,6 +59,7 @@ pub fn push_labelled(text: &mut Vec<u8>, label: &[u8], number: u64) -> Result<()
     push_number(text, number)
 }
 
+/// Adds a label and a number, or `-` where there is none.
 pub fn push_labelled_optional(
     text: &mut Vec<u8>,
     label: &[u8],
@@ -66,6 +71,7 @@ pub fn push_labelled_optional(
     push_optional(text, number)
 }
 
+/// Adds a label and an id: a worker, a point and a serial.
 pub fn push_labelled_id(
     text: &mut Vec<u8>,
     label: &[u8],

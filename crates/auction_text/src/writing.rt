@@ -11,7 +11,7 @@ use auction_rows::Entry;
 use std::alloc::{AllocError, Global};
 use std::io::Write;
 
-// What the line of a store's reply takes, by which room is asked for ahead.
+// The bytes that most lines take at most: so much room is asked for ahead for each entry.
 const ROOM_OF_A_LINE: usize = 24;
 
 // Writes a text by calls of `write` on the rest that is left, and flushes.

@@ -136,38 +136,34 @@ module _ (opening : Opening) (number shards : ℕ) (rooms : ItemId → Bool) (sh
         → AllByRecursion Can (writes_if (row_of worker request (answer book worker request)))
     accepted_can (StoreItem facts time) e room own =
         row_if_can (worker == worker) _ own (λ _. (λ h. (lies (Item _) h, room _ refl (lies (Item _) h)), (λ h. (lies (Category facts.category) h, known), tt))) where
-      known : facts.category < opening.categories
-      known =
-          let none = by_number opening (StoreItem facts time) (not_by_number opening book (StoreItem facts time) e) in
-          leb-false opening.categories facts.category (none_of (nat_le opening.categories facts.category) false none.1).0
-
+          known : facts.category < opening.categories
+          known =
+              let none = by_number opening (StoreItem facts time) (not_by_number opening book (StoreItem facts time) e) in
+              leb-false opening.categories facts.category (none_of (nat_le opening.categories facts.category) false none.1).0
     accepted_can (StoreBid bidder item amount time) e room own = row_if_can (worker == worker) _ own (λ _. (λ h. (lies (Item item) h, stored h, fits h), tt)) where
       stored : here (Item item) ≡ true → IsSome (shelf (Item item)).facts
       stored h = subst (λ (v : Value). IsSome v.facts) (sym (at_object (Item item) h)) (is_stored (facts_of book item) (enough opening book (StoreBid bidder item amount time) e).0)
 
       fits : here (Item item) ≡ true → (shelf (Item item)).bids.bids + 1 < 2 ^ 64
       fits h = omega (arith, few, bids_at_most book item, ap (λ (v : Value). v.bids.bids) (at_object (Item item) h))
-
     accepted_can (StoreComment author about item given) e room own =
         row_if_can (worker == worker) _ own (λ are. (λ h. (lies (User about) h, known, rated h are, fits h), tt)) where
-      known : about < opening.users
-      known =
-          let none = by_number opening (StoreComment author about item given) (not_by_number opening book (StoreComment author about item given) e) in
-          leb-false opening.users about (none_of (nat_le opening.users about) false (none_of (nat_le opening.users author) _ none.0).1).0
+          known : about < opening.users
+          known =
+              let none = by_number opening (StoreComment author about item given) (not_by_number opening book (StoreComment author about item given) e) in
+              leb-false opening.users about (none_of (nat_le opening.users about) false (none_of (nat_le opening.users author) _ none.0).1).0
 
-      rated : here (User about) ≡ true → AreStars given → FitsSigned w64 ((shelf (User about)).comments.rating +ℤ given)
-      rated h are = subst (λ (v : Value). FitsSigned w64 (v.comments.rating +ℤ given)) (sym (at_object (User about) h))
-          (rating_fits (value book (User about)).comments.rating given (length book) (rating_at_most book about stars) few are)
+          rated : here (User about) ≡ true → AreStars given → FitsSigned w64 ((shelf (User about)).comments.rating +ℤ given)
+          rated h are = subst (λ (v : Value). FitsSigned w64 (v.comments.rating +ℤ given)) (sym (at_object (User about) h))
+              (rating_fits (value book (User about)).comments.rating given (length book) (rating_at_most book about stars) few are)
 
-      fits : here (User about) ≡ true → (shelf (User about)).comments.comments + 1 < 2 ^ 64
-      fits h = omega (arith, few, comments_at_most book about, ap (λ (v : Value). v.comments.comments) (at_object (User about) h))
-
+          fits : here (User about) ≡ true → (shelf (User about)).comments.comments + 1 < 2 ^ 64
+          fits h = omega (arith, few, comments_at_most book about, ap (λ (v : Value). v.comments.comments) (at_object (User about) h))
     accepted_can (BuyNow buyer item quantity time) e room own = row_if_can (worker == worker) _ own (λ _. (λ h. (lies (Item item) h, enough_here h), tt)) where
       enough_here : here (Item item) ≡ true → HasLeft (shelf (Item item)) quantity
       enough_here h =
           let is = enough opening book (BuyNow buyer item quantity time) e in
           subst (λ (v : Value). HasLeft v quantity) (sym (at_object (Item item) h)) (enough_left book item quantity is.0 is.1)
-
     accepted_can (ViewItem item) e room own = tt
     accepted_can (ViewBids item) e room own = tt
     accepted_can (ViewCategory category) e room own = tt

@@ -55,7 +55,7 @@ no_row opening book worker request reason e =
     is_none_none (row_of worker request (reply opening book worker request))
     (row_made book worker request (refusal opening book request)
     ∙ and_not (not (is_view request)) reason (refusal opening book request)
-      (refusal-split opening book request ∙ ap (λ o. option_or o (item_refusal request (facts_for book request) (left_for book request))) e))
+    (refusal-split opening book request ∙ ap (λ o. option_or o (item_refusal request (facts_for book request) (left_for book request))) e))
 
 module _ (number shards : ℕ) (hot : List Object) where
   -- a look that is done or not leaves the shelf
@@ -94,8 +94,8 @@ module _ (number shards : ℕ) (hot : List Object) where
     entry_stands stands =
         subst (λ (now : Shelf). ShelfStandsFor number shards now (after_entry opening book entry) hot) (sym owed_writes)
         (subst (λ (after : Book). ShelfStandsFor number shards (after_acts shelf (done_on number shards hot (writes_if (row_of_entry entry)))) after hot)
-          (ap (λ answered. book ++ option_to_list (row_of entry.worker entry.request answered)) right)
-          (rows_stand number shards shelf book hot (row_of_entry entry) stands))
+        (ap (λ answered. book ++ option_to_list (row_of entry.worker entry.request answered)) right)
+        (rows_stand number shards shelf book hot (row_of_entry entry) stands))
 
   -- a test of any of the objects that are not hot is one of all
   taken_cold : (objects : List Object) → list_any (λ taken. taken == number) (map (λ o. shard_of o shards) (filter (λ o. not (is_hot hot o)) objects)) ≡ list_any (is_cold_in number shards hot) objects

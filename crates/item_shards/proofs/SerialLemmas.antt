@@ -56,9 +56,9 @@ refused_by_stock b request id seen is same =
     ap (λ s. item_refusal request (facts_seen s) (left_seen s)) same
     ∙ at (facts_of b id) (book.left b id)
     ∙ (λ i. item_refusal request (option_and_then (facts_of b) (sym is i)) (unwrap_or (option_map (book.left b) (sym is i)) 0)) where
-  at : (stored : Option Facts) (l : ℕ) → (let s = option_map {U = Facts × ℕ} (λ (facts : Facts). (facts, l)) stored in item_refusal request (facts_seen s) (left_seen s) ≡ item_refusal request stored l)
-  at None l = refl
-  at (Some facts) l = refl
+      at : (stored : Option Facts) (l : ℕ) → (let s = option_map {U = Facts × ℕ} (λ (facts : Facts). (facts, l)) stored in item_refusal request (facts_seen s) (left_seen s) ≡ item_refusal request stored l)
+      at None l = refl
+      at (Some facts) l = refl
 
 -- where the opening refuses nothing, the item alone refuses
 pub refused_by_item : (start : Opening) (b : Book) (request : Request) → number_refusal start request ≡ None
@@ -190,11 +190,12 @@ of_kind kind (one ∷ b) = at (kind one) (of_kind kind b) where
   at (Some r) h = omega arith
 
 pub stored_few : (b : Book) (worker : ℕ) → length b < 16000000 → AreFew (stored_by b worker)
-stored_few b worker few =
-    (omega (arith, few, count_by-le-length (λ r. r.id.worker == worker) (book.item_rows b), of_kind as_item b),
-    omega (arith, few, count_by-le-length (λ r. r.id.worker == worker) (book.bid_rows b), of_kind as_bid b),
-    omega (arith, few, count_by-le-length (λ r. r.id.worker == worker) (book.comment_rows b), of_kind as_comment b),
-    omega (arith, few, count_by-le-length (λ r. r.id.worker == worker) (book.buy_rows b), of_kind as_buy b))
+stored_few b worker few = (
+  omega (arith, few, count_by-le-length (λ r. r.id.worker == worker) (book.item_rows b), of_kind as_item b),
+  omega (arith, few, count_by-le-length (λ r. r.id.worker == worker) (book.bid_rows b), of_kind as_bid b),
+  omega (arith, few, count_by-le-length (λ r. r.id.worker == worker) (book.comment_rows b), of_kind as_comment b),
+  omega (arith, few, count_by-le-length (λ r. r.id.worker == worker) (book.buy_rows b), of_kind as_buy b),
+)
 
 -- counts that are those of a book are those of the book with a row once the row is counted
 pub counts_next : (b : Book) (r : Row) (old : List StoreCounts) (d : StoreCounts) → ((worker : ℕ) → worker < 16 → slice_get old worker ≡ Some (stored_by b worker)) → worker_of r < 16

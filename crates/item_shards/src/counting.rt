@@ -43,8 +43,8 @@ pub(crate) fn worker_of(row: &Row) -> u32
     }
 }
 
-// The stars of a row are from -5 to 5: its type keeps them so, and only `value` says it.
-pub(crate) fn stars_are_known(row: &Row)
+// A row's stars are from -5 to 5. Their type keeps this, and says it where `value` is called.
+pub(crate) fn row_has_stars(row: &Row)
     ensures { HasStars row.now }
 {
     if let Row::Comment(row) = row {

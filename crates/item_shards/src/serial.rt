@@ -3,7 +3,7 @@ ghost use Rattle.std.specs.Prelude.{◌≡◌, ◌+◌, ◌<◌, ◌++◌, ◌�
 ghost use Rattle.auction_rows.specs.declared.ids.Object.{Object as Thing};
 ghost use Rattle.item_shards.specs.ShardShelf.{LiesIn};
 
-use crate::counting::{StoreCounts, stars_are_known, worker_of};
+use crate::counting::{StoreCounts, row_has_stars, worker_of};
 use crate::shard::Shard;
 use auction_rows::{
     BidId, BuyId, CommentId, ItemId, Opening, Refusal, Reply, Request, Row, item_of, item_refusal,
@@ -26,7 +26,7 @@ impl SerialAuction {
     ghost use Rattle.auction_rows.specs.Replies.{reply, next, answer_unless};
     ghost use Rattle.item_shards.specs.Serial.{HoldsBook, IsNotFull, CanGrow, CanStore, opening_of};
 
-    /// An auction in which nothing is stored.
+    /// An auction in which nothing is stored. It errs where the shard can't be made for want of memory.
     pub fn new(alloc: Global, opening: Opening) -> Result<SerialAuction, AllocError>
         ensures book { IfOk result (λ auction. HoldsBook auction []) }
         ensures opening { IfOk result (λ auction. opening_of auction ≡ opening) }
@@ -43,12 +43,13 @@ impl SerialAuction {
         })
     }
 
-    /// The reply to a worker's request.
+    /// The reply to the request of a worker below 16. It changes nothing.
     pub fn reply_to(&self, worker: u32, request: Request) -> Reply
         requires { worker < 16 }
         ensures { (book : Book) → HoldsBook self.now book → result ≡ reply (opening_of self.now) book worker request }
     {
         let stored = self.stored[worker as usize];
+        // A request is large, and lent here so that each call copies it once.
         let request = &request;
         match *request {
             Request::StoreItem { .. } => {
@@ -113,7 +114,8 @@ impl SerialAuction {
         Ok(())
     }
 
-    /// Commits a worker's request. Without memory the auction holds what it held.
+    /// Commits the request of a worker below 16, where the auction has fewer than 16,000,000 rows.
+    /// Without memory it holds what it held.
     pub fn perform(&mut self, worker: u32, request: Request) -> Result<Reply, AllocError>
         requires worker { worker < 16 }
         requires room { CanGrow self.old }
@@ -126,7 +128,7 @@ impl SerialAuction {
         let reply = self.reply_to(worker, *request);
         let answered = &reply;
         if let Some(row) = row_of(worker, *request, *answered) {
-            stars_are_known(&row);
+            row_has_stars(&row);
             self.store(&row)?;
         }
         Ok(reply)

@@ -103,4 +103,40 @@ impl Shard {
             _ => Err(Fail::from("no view of an object of the shard")),
         }
     }
+
+    pub(crate) fn merge_bids(&mut self, item: ItemId, slice: ItemSlice) -> Result<(), Fail> {
+        if self.has(Object::Item(item))
+            && self.has_room(item)
+            && self.bids_of(item) < 1000
+            && slice.bids.value() < 1000
+        {
+            self.merge_item(item, slice);
+            return Ok(());
+        }
+        Err(Fail::from("an item that can't be merged"))
+    }
+
+    pub(crate) fn merge_comments(&mut self, user: u32, slice: UserSlice) -> Result<(), Fail> {
+        if self.has(Object::User(user))
+            && user < self.opening.users
+            && self
+                .rating_of(user)
+                .checked_add(slice.rating.value())
+                .is_some()
+            && self.comments_of(user) < 1000
+            && slice.comments.value() < 1000
+        {
+            self.merge_user(user, slice);
+            return Ok(());
+        }
+        Err(Fail::from("a user that can't be merged"))
+    }
+
+    pub(crate) fn merge_items(&mut self, category: u32, slice: CategorySlice) -> Result<(), Fail> {
+        if self.has(Object::Category(category)) && category < self.opening.categories {
+            self.merge_category(category, slice);
+            return Ok(());
+        }
+        Err(Fail::from("a category that can't be merged"))
+    }
 }

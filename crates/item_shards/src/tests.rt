@@ -1,8 +1,8 @@
 //! Worked examples: users 10, categories 2, shards 4. The item 0.0 and the category 0 lie in shard 0, user 3 in shard 3.
 use crate::{Act, CategorySlice, ItemSlice, LAST_NUMBER, Shard, Shown, UserSlice, next_number};
 use auction_rows::{
-    BidEntry, BidId, BidShown, Facts, ItemEntry, ItemId, ItemShown, Name, Object, Opening, Quantity,
-    Refusal, Reply, Request, Stars, Ten,
+    BidEntry, BidId, BidShown, Facts, ItemEntry, ItemId, ItemShown, Name, Object, Opening,
+    Quantity, Refusal, Reply, Request, Stars, Ten,
 };
 use split_records::Splittable;
 use std::alloc::Global;
@@ -95,9 +95,158 @@ fn clock_goes_forward_and_back_to_0(rt: HostRuntime) -> Result<(), Fail> {
 }
 
 #[test]
+fn room_shows_nothing(rt: HostRuntime) -> Result<(), Fail> {
+    let mut shard = Shard::new(rt.alloc(), 0, 4, OPENING)?;
+    shard.prepare_item(FIRST)?;
+    let view = shard.view(Request::ViewItem { item: FIRST })?;
+    assert_eq!(rt; view, Reply::Refused(Refusal::NoSuchItem));
+    Ok(())
+}
+
+#[test]
 fn first_example(rt: HostRuntime) -> Result<(), Fail> {
     let mut shard = with_vase(rt.alloc(), 10, 1)?;
-    shard.play(&[Act::Bid(FIRST, bid(10, 5, 1, 0, 0)), Act::Look(Shown::Nothing)])?;
-    assert_eq!(rt; shard.view(Request::ViewItem { item: FIRST })?, seen(10, Some(10), Some(1), 1, 1)?);
+    shard.play(&[Act::Bid(FIRST, bid(10, 5, 1, 0, 0))])?;
+    let view = shard.view(Request::ViewItem { item: FIRST })?;
+    assert_eq!(rt; view, seen(10, Some(10), Some(1), 1, 1)?);
+    Ok(())
+}
+
+#[test]
+fn stored_vase(rt: HostRuntime) -> Result<(), Fail> {
+    let mut shard = with_vase(rt.alloc(), 10, 1)?;
+    let vase = vase(10, 1)?;
+    shard.play(&[Act::Look(Shown::Left(FIRST, Some((vase, 1))))])?;
+    if !shard.has(Object::Item(FIRST)) {
+        return Err(Fail::from("the item lies elsewhere"));
+    }
+    assert_eq!(rt; shard.facts(FIRST), Some(vase));
+    assert_eq!(rt; shard.left_of(FIRST), Some(1));
+    assert_eq!(rt; shard.stock(FIRST), Some((vase, 1)));
+    Ok(())
+}
+
+#[test]
+fn eleven_bids(rt: HostRuntime) -> Result<(), Fail> {
+    let mut shard = with_vase(rt.alloc(), 1, 1)?;
+    for serial in 0..10u32 {
+        shard.play(&[Act::Bid(FIRST, bid(11 + serial as u64, 1, 1, 0, serial))])?;
+    }
+    shard.play(&[Act::Bid(FIRST, bid(5, 1, 1, 0, 10))])?;
+    let mut ten = Ten::new();
+    for serial in (0..10u32).rev() {
+        if ten.len() < 10 {
+            ten.push(BidShown {
+                amount: 11 + serial as u64,
+                time: 1,
+                bidder: 1,
+                id: BidId { worker: 0, serial },
+            });
+        }
+    }
+    assert_eq!(rt;
+        shard.view(Request::ViewBids { item: FIRST })?,
+        Reply::BidsSeen(ten)
+    );
+    assert_eq!(rt;
+        shard.view(Request::ViewItem { item: FIRST })?,
+        seen(1, Some(20), Some(1), 11, 1)?
+    );
+    Ok(())
+}
+
+#[test]
+fn last_two_bought(rt: HostRuntime) -> Result<(), Fail> {
+    let mut shard = with_vase(rt.alloc(), 10, 2)?;
+    shard.play(&[Act::Buy(FIRST, Quantity::new(2).ok_or("a quantity")?)])?;
+    assert_eq!(rt;
+        shard.view(Request::ViewItem { item: FIRST })?,
+        seen(10, None, None, 0, 0)?
+    );
+    Ok(())
+}
+
+#[test]
+fn two_comments(rt: HostRuntime) -> Result<(), Fail> {
+    let mut shard = Shard::new(rt.alloc(), 3, 4, OPENING)?;
+    for stars in [-5, 5] {
+        shard.play(&[Act::Comment(3, Stars::new(stars).ok_or("stars")?)])?;
+    }
+    let view = shard.view(Request::ViewUser { user: 3 })?;
+    assert_eq!(rt;
+        view,
+        Reply::UserSeen {
+            rating: 0,
+            comments: 2
+        }
+    );
+    Ok(())
+}
+
+#[test]
+fn no_such_user_or_category(rt: HostRuntime) -> Result<(), Fail> {
+    let shard = Shard::new(rt.alloc(), 2, 4, OPENING)?;
+    let user = shard.view(Request::ViewUser { user: 10 })?;
+    assert_eq!(rt; user, Reply::Refused(Refusal::NoSuchUser));
+    let category = shard.view(Request::ViewCategory { category: 2 })?;
+    assert_eq!(rt; category, Reply::Refused(Refusal::NoSuchCategory));
+    Ok(())
+}
+
+#[test]
+fn equal_bids_in_two_slices(rt: HostRuntime) -> Result<(), Fail> {
+    let mut shard = with_vase(rt.alloc(), 10, 1)?;
+    shard.play(&[Act::Bid(FIRST, bid(10, 1, 0, 0, 0))])?;
+    for second in [bid(50, 7, 1, 0, 1), bid(50, 7, 2, 1, 0)] {
+        let mut slice = ItemSlice::identity();
+        slice.apply(second);
+        shard.merge_bids(FIRST, slice)?;
+    }
+    assert_eq!(rt;
+        shard.view(Request::ViewItem { item: FIRST })?,
+        seen(10, Some(50), Some(2), 3, 1)?
+    );
+    Ok(())
+}
+
+#[test]
+fn comments_in_two_slices(rt: HostRuntime) -> Result<(), Fail> {
+    let mut shard = Shard::new(rt.alloc(), 3, 4, OPENING)?;
+    shard.play(&[Act::Comment(3, Stars::new(0).ok_or("stars")?)])?;
+    for stars in [-5, 5] {
+        let mut slice = UserSlice::identity();
+        slice.apply(Stars::new(stars).ok_or("stars")?);
+        shard.merge_comments(3, slice)?;
+    }
+    assert_eq!(rt;
+        shard.view(Request::ViewUser { user: 3 })?,
+        Reply::UserSeen {
+            rating: 0,
+            comments: 3
+        }
+    );
+    Ok(())
+}
+
+#[test]
+fn later_item_in_a_slice(rt: HostRuntime) -> Result<(), Fail> {
+    let mut shard = with_vase(rt.alloc(), 10, 1)?;
+    let second = ItemId {
+        worker: 0,
+        serial: 1,
+    };
+    let mut slice = CategorySlice::identity();
+    slice.apply(listed(2, second));
+    shard.merge_items(0, slice)?;
+    let mut latest = Ten::new();
+    latest.push(ItemShown {
+        time: 2,
+        id: second,
+    });
+    latest.push(ItemShown { time: 1, id: FIRST });
+    assert_eq!(rt;
+        shard.view(Request::ViewCategory { category: 0 })?,
+        Reply::CategorySeen(latest)
+    );
     Ok(())
 }

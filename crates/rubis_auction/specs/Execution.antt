@@ -1,5 +1,5 @@
 -- What the program answers.
-use Rattle.std.specs.Prelude.{ℕ, ◌≡◌, ◌<◌, ◌≤◌, List, [], ◌∷◌, All, length, map, Option, Ok, Err, ⊤}
+use Rattle.std.specs.Prelude.{ℕ, ◌≡◌, ◌<◌, ◌≤◌, List, [], ◌∷◌, All, length, map, Option, Ok, Err}
 use Rattle.std.specs.List.{range_with_len}
 use Rattle.std.specs.Io.KnownBytes.{Appends}
 use Rattle.auction_rows.specs.declared.numbers.Opening.{Opening}
@@ -28,11 +28,11 @@ pub record IsPerformed (start : Opening) (script : List Request) (entries : List
   pub by_one_worker : All (λ entry. (entry.phase ≡ 0) × (entry.worker ≡ 0)) entries
   pub replays : ReplaysFrom start [] entries
 
--- the input holds one script and no rows
+-- the input has no fault, and asks for this one script and no rows
 abbrev pub Asks : List ℕ → List Request → Type 0
 Asks input script = input_of 1 input ≡ Ok (record { rows = []; scripts = script ∷ [] })
 
--- what was written is said of the text of the replies of the input's script, which is no longer than a script may be
+-- the input asks for one script, which is not too long, and what is said of a text holds of the text of the replies of its history
 pub record WritesReplies (start : Opening) (input : List ℕ) (Written : List ℕ → Type 0) : Type 0 where
   pub script : List Request
   pub history : List Entry
@@ -41,23 +41,31 @@ pub record WritesReplies (start : Opening) (input : List ℕ) (Written : List �
   pub performed : IsPerformed start script history
   pub written : Written (replies_text history)
 
--- the whole text was written, or a front of it
+-- the whole text was written
 abbrev pub Answers : Opening → List ℕ → Option (List ℕ) → Option (List ℕ) → Type 0
 Answers start input old new = WritesReplies start input (Appends old new)
 
+-- a prefix of it was written, and nothing else
 abbrev pub AnswersInPart : Opening → List ℕ → Option (List ℕ) → Option (List ℕ) → Type 0
 AnswersInPart start input old new = WritesReplies start input (IsPartWritten old new)
 
--- the script of the input is longer than a script may be
+-- the input asks for one script, which is too long
 pub record IsTooLong (input : List ℕ) : Type 0 where
   pub script : List Request
   pub asks : Asks input script
   pub long : MOST_REQUESTS < length script
 
--- a fault that the input can have is the one that it has
+-- the input asks for one script, which is not too long
+pub record IsShort (input : List ℕ) : Type 0 where
+  pub script : List Request
+  pub asks : Asks input script
+  pub short : length script ≤ MOST_REQUESTS
+
+-- why the program failed, by the input: a fault in the input is its first one, `TooLong` is answered to a script that is too long, and
+-- what comes after that only to one that is not
 abbrev pub IsCausedBy : List ℕ → Fault → Type 0
 IsCausedBy input (Usage fault) = ⊥
 IsCausedBy input (Read fault) = IsInputFault fault → input_of 1 input ≡ Err fault
 IsCausedBy input (Run TooLong) = IsTooLong input
-IsCausedBy input (Run Memory) = ⊤
-IsCausedBy input (Write fault) = ⊤
+IsCausedBy input (Run Memory) = IsShort input
+IsCausedBy input (Write fault) = IsShort input

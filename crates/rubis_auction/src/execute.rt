@@ -10,7 +10,7 @@ use std::alloc::Global;
 use std::io::{Read, Write};
 
 /// Performs the script that the reader gives, which is worker 0's, and writes the replies. The first
-/// byte is written once the whole script is performed; where the writer then fails, a front of the
+/// byte is written once the whole script is performed; where the writer then fails, a prefix of the
 /// replies was written, and after any other fault nothing.
 pub fn execute<R: Read + Drop, W: Write>(
     alloc: Global,

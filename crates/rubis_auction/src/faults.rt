@@ -6,6 +6,7 @@ use thiserror::Error;
 /// Why the program's words are refused: in the words of the parser of options, or for want of memory.
 #[derive(Debug, Drop, Error)]
 pub enum UsageFault {
+    /// What the parser of options says.
     #[error("{0}")]
     Text(String),
     #[error("no memory")]
@@ -15,6 +16,7 @@ pub enum UsageFault {
 /// Why a script that was read was not performed.
 #[derive(Clone, Copy, Debug, PartialEq, Eq, Drop, Error)]
 pub enum RunFault {
+    /// A worker has more than 1,000,000 requests.
     #[error("more than 1000000 requests for a worker")]
     TooLong,
     #[error("no memory")]

@@ -9,8 +9,8 @@ mod perform;
 mod tests;
 
 use crate::execute::execute;
-use crate::faults::{Fault, UsageFault, status, write_fault};
-use crate::options::read_options;
+use crate::faults::{Fault, status, write_fault};
+use crate::options::{read_options, words_fault};
 use std::alloc::Global;
 use std::process::ExitCode;
 use std::rt::Env;
@@ -30,7 +30,10 @@ fn main(rt: HostRuntime) -> ExitCode {
 // Performs standard input as the program's words say.
 fn run<R: Env + Input + Print + Alloc<A = Global>>(rt: &R) -> Result<(), Fault> {
     let alloc = rt.alloc();
-    let words = program_words(rt).map_err(|_| Fault::Usage(UsageFault::Memory))?;
+    let words = match program_words(rt) {
+        Ok(words) => words,
+        Err(error) => return Err(Fault::Usage(words_fault(alloc, &error))),
+    };
     let options = read_options(alloc, words.as_slice()).map_err(Fault::Usage)?;
     execute(alloc, rt.reader(), &mut io::writer(rt), &options)
 }

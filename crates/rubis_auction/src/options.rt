@@ -6,13 +6,17 @@ use auction_rows::Opening;
 use clap::error::ErrorKind;
 use clap::{Arg, ArgAction, ArgMatches, Command, Error};
 use std::alloc::{AllocError, Global};
+use std::io;
 
-const MOST_NUMBERED: u32 = 1_000_000;
+// The greatest number of users and of categories.
+const GREATEST: u32 = 1_000_000;
 
 /// What the program is asked to do: how many users and categories there are, each at most 1,000,000.
 #[derive(Clone, Copy, Debug, PartialEq, Eq)]
 pub struct Options {
+    /// How many users there are.
     pub users: u32,
+    /// How many categories there are.
     pub categories: u32,
 }
 
@@ -50,7 +54,7 @@ fn number_of(matches: &ArgMatches<'_>, id: &str, fallback: u32) -> u32
     ensures { result ≤ 1000000 }
 {
     match matches.get_one::<u32>(id) {
-        Some(number) if number <= MOST_NUMBERED => number,
+        Some(number) if number <= GREATEST => number,
         _ => fallback,
     }
 }
@@ -60,6 +64,17 @@ fn usage_fault(alloc: Global, error: &Error) -> UsageFault {
         return UsageFault::Memory;
     }
     match format!(in alloc; "{error}") {
+        Ok(text) => UsageFault::Text(text),
+        Err(_) => UsageFault::Memory,
+    }
+}
+
+/// Why the program's words could not be had: memory was refused, or a word is no text.
+pub fn words_fault(alloc: Global, error: &io::Error) -> UsageFault {
+    if error.kind() == io::ErrorKind::OutOfMemory {
+        return UsageFault::Memory;
+    }
+    match format!(in alloc; "error: {error}\n") {
         Ok(text) => UsageFault::Text(text),
         Err(_) => UsageFault::Memory,
     }

@@ -11,7 +11,8 @@ use std::alloc::{AllocError, Global};
 pub const MOST_REQUESTS: usize = 1_000_000;
 
 /// Performs a script in index order, on an auction in which nothing is stored, and gives its
-/// history. `TooLong` comes before anything else; both faults leave nothing behind.
+/// history. `TooLong` comes exactly where the script has more than `MOST_REQUESTS` requests, and
+/// `Memory` where the auction or the history could not grow.
 pub fn perform_script(
     alloc: Global,
     opening: Opening,
@@ -19,6 +20,7 @@ pub fn perform_script(
 ) -> Result<Vec<Entry>, RunFault>
     ensures performed { IfOk result (λ history. IsPerformed opening script.now history.items) }
     ensures too_long { (result ≡ Err RunFault.TooLong) ↔ (MOST_REQUESTS < length script.now) }
+    ensures memory { result ≡ Err RunFault.Memory → length script.now ≤ MOST_REQUESTS }
 {
     if script.len() > MOST_REQUESTS {
         return Err(RunFault::TooLong);
@@ -29,11 +31,7 @@ pub fn perform_script(
     }
 }
 
-fn history_of(
-    alloc: Global,
-    opening: Opening,
-    script: &[Request],
-) -> Result<Vec<Entry>, AllocError>
+fn history_of(alloc: Global, opening: Opening, script: &[Request]) -> Result<Vec<Entry>, AllocError>
     requires { length script.now ≤ MOST_REQUESTS }
     ensures { IfOk result (λ history. IsPerformed opening script.now history.items) }
 {

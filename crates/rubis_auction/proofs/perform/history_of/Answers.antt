@@ -27,9 +27,9 @@ loop-index-preserved c =
     let size : length (take i asked) ≡ i = length-take-le i asked (omega arith) in
     let few : length (take i asked) < 16000000 = omega (arith, size) in
     let grown : take (i + 1) asked ≡ take i asked ++ request ∷ [] =
-        take_more asked i request c.loop-index-test.true ∙ ap (λ r. take i asked ++ r ∷ []) (sym c.index-script-index.is) in
+    take_more asked i request c.loop-index-test.true ∙ ap (λ r. take i asked ++ r ∷ []) (sym c.index-script-index.is) in
     let pushed : c.push.new.self.items ≡ entries ++ next_entry (length (take i asked)) request answered ∷ [] =
-        c.in_ok-push.ensures.items ∙ ap (λ n. entries ++ next_entry n request answered ∷ []) (sym size) in
+    c.in_ok-push.ensures.items ∙ ap (λ n. entries ++ next_entry n request answered ∷ []) (sym size) in
     subst (λ (script : List Request). IsUnderWay start script auction c.push.new.self.items) (sym grown)
     (subst (λ (es : List Entry). IsUnderWay start (take i asked ++ request ∷ []) auction es) (sym pushed)
     (under_way_more start (take i asked) c.loop-index.auction auction entries request answered c.loop-index.invariant few c.in_ok-reply.ensures.reply c.in_ok-reply.ensures.book c.perform.ensures.opening))

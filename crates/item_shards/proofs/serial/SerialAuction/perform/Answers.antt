@@ -2,7 +2,7 @@ use Rattle.std.proofs.Common.{◌≡◌, ◌<◌, Option, Some, ◌++◌, sym, a
 use Rattle.auction_rows.specs.Replies.{reply, row_of, next}
 use Rattle.auction_rows.specs.Book.{Book}
 use Rattle.auction_rows.specs.declared.rows.Row.{Row}
-use Rattle.auction_rows.proofs.HistoryLemmas.{append-nil}
+use Rattle.std.proofs.lemmas.List.{append-nil}
 use Rattle.item_shards.specs.Serial.{opening_of, HoldsBook}
 use Rattle.item_shards.proofs.SerialLemmas.{goes_on, worker_of_added}
 use Rattle.item_shards.proofs.serial.SerialAuction.perform.Goals as goal
@@ -15,13 +15,13 @@ store-requires c =
     let request = c.args.request in
     let b = c.requires.room.book in
     let is : row_of w request (reply start b w request) ≡ Some c.in-Some.row =
-        ap (row_of w request) (sym (c.reply_to-reply.ensures b c.requires.room.holds)) ∙ sym c.row_of.ensures ∙ c.in-Some.is in
+    ap (row_of w request) (sym (c.reply_to-reply.ensures b c.requires.room.holds)) ∙ sym c.row_of.ensures ∙ c.in-Some.is in
     record {
       book = b;
       holds = c.requires.room.holds;
       not_full = c.requires.room.not_full;
       goes_on = goes_on start b w request c.in-Some.row is;
-      stars = c.stars_are_known.ensures;
+      stars = c.row_has_stars.ensures;
       worker = subst (λ v. v < 16) (sym (worker_of_added start b w request c.in-Some.row is)) c.requires.worker;
     }
 
@@ -31,7 +31,7 @@ returns-clause-book c = λ b holds not_full.
     let w = c.args.worker in
     let request = c.args.request in
     let added : row_of w request (reply start b w request) ≡ c.row_of.result =
-        ap (row_of w request) (sym (c.reply_to-reply.ensures b holds)) ∙ sym c.row_of.ensures in
+    ap (row_of w request) (sym (c.reply_to-reply.ensures b holds)) ∙ sym c.row_of.ensures in
     elim c.match-row_of.branch [
       | in-Some+in_ok-store d ↦
           subst (λ auction. HoldsBook auction (next start b w request)) (sym d.self-is)

@@ -19,18 +19,20 @@ returns-in_err-prepare_item-in-Item-clause-refused c = either_way c.from_residua
 pub act-requires : goal.act-requires
 act-requires c =
     let old = c.args.self.now in
-    let id = c.in-Item.row.id in
-    (lies_as old c.prepare_item.new.self c.prepare_item.ensures.same (Item id) (c.requires.has_all (Item id)),
-    ap (λ (has : ItemId → Bool). has id) c.in_ok-prepare_item-in-Item.ensures.granted ∙ has_own_room id (rooms old))
+    let id = c.in-Item.row.id in (
+      lies_as old c.prepare_item.new.self c.prepare_item.ensures.same (Item id) (c.requires.has_all (Item id)),
+      ap (λ (has : ItemId → Bool). has id) c.in_ok-prepare_item-in-Item.ensures.granted ∙ has_own_room id (rooms old),
+    )
 
 pub act-requires-in-Item : goal.act-requires-in-Item
 act-requires-in-Item c =
     let old = c.args.self.now in
     let listed = Category c.in-Item.row.facts.category in
-    let can = subst (λ r. AllByRecursion (CanActOn (opening old) old.number old.shards (λ id. true) (shelf old)) (writes_of r)) c.in-Item.is (c.requires.can (λ id. true) (λ id e here. refl)) in
-    (lies_as c.prepare_item.new.self c.act.new.self c.act.ensures.same listed
-      (lies_as old c.prepare_item.new.self c.prepare_item.ensures.same listed (c.requires.has_all listed)),
-    subst (λ (start : Opening). c.in-Item.row.facts.category < start.categories) (sym (c.act.ensures.same.opening ∙ c.prepare_item.ensures.same.opening)) can.1.0.1)
+    let can = subst (λ r. AllByRecursion (CanActOn (opening old) old.number old.shards (λ id. true) (shelf old)) (writes_of r)) c.in-Item.is (c.requires.can (λ id. true) (λ id e here. refl)) in (
+      lies_as c.prepare_item.new.self c.act.new.self c.act.ensures.same listed
+          (lies_as old c.prepare_item.new.self c.prepare_item.ensures.same listed (c.requires.has_all listed)),
+      subst (λ (start : Opening). c.in-Item.row.facts.category < start.categories) (sym (c.act.ensures.same.opening ∙ c.prepare_item.ensures.same.opening)) can.1.0.1,
+    )
 
 pub act-requires-in-Bid : goal.act-requires-in-Bid
 act-requires-in-Bid c =
