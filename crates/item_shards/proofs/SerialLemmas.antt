@@ -30,7 +30,7 @@ use Rattle.item_shards.specs.declared.counting.StoreCounts.{StoreCounts}
 use Rattle.item_shards.specs.Values.{stock_in}
 use Rattle.item_shards.specs.declared.acts.Act.TheVariants.{AddItem, ListItem}
 use Rattle.item_shards.specs.declared.shard.Shard.{Shard}
-use Rattle.item_shards.specs.ShardShelf.{shelf as shelf_of, with_room, LiesIn, IsSameShard, StandsFor}
+use Rattle.item_shards.specs.ShardShelf.{with_room, LiesIn, IsSameShard}
 use Rattle.item_shards.specs.Shelves.{Shelf, after_acts}
 use Rattle.item_shards.specs.Standing.{ShelfStandsFor}
 use Rattle.item_shards.specs.Acting.{CanActOn, HasRoomFor}
@@ -115,10 +115,6 @@ module _ (start : Opening) (number shards : ℕ) (rooms : ItemId → Bool) (shel
 
   pub stands_after : (b : Book) (r : Row) → ShelfStandsFor number shards shelf b [] → ShelfStandsFor number shards (after_acts shelf (writes_of r)) (b ++ r ∷ []) []
   stands_after b r stands = subst (λ acts. ShelfStandsFor number shards (after_acts shelf acts) (b ++ r ∷ []) []) (all_acts r) (row_stands number shards shelf b [] r stands)
-
--- a shard that is the same one and shows what another shows stands for what that one stands for
-pub stands_as : (old new : Shard) (shown : Shelf) → IsSameShard old new → shelf_of new ≡ shown → (b : Book) → ShelfStandsFor old.number old.shards shown b [] → StandsFor new b []
-stands_as old new shown same is b stands = λ object here cold. ap (λ (s : Shelf). s object) is ∙ stands object (ap (shard_of object) (sym same.shards) ∙ here ∙ same.number) cold
 
 -- a book within limits that is not full is so with one more row
 pub limits_next : (b : Book) (r : Row) → IsWithinLimits b → length b < 16000000 → HasStars r → IsWithinLimits (b ++ r ∷ [])

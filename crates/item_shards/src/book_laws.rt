@@ -1,5 +1,5 @@
 //! What the values of a book's objects are.
-ghost use Rattle.std.specs.Prelude.{◌≡◌, ◌≤◌, ◌<◌, ◌*◌, ℕ, length, unwrap_or, unsigned_abs};
+ghost use Rattle.std.specs.Prelude.{◌≡◌, ◌≤◌, ◌<◌, ◌*◌, ℕ, [], ◌∷◌, ◌++◌, length, unwrap_or, unsigned_abs};
 ghost use Rattle.std.specs.List.{AllByRecursion};
 ghost use Rattle.std.specs.Ordering.{is_eq};
 ghost use Rattle.auction_rows.specs.declared.ids.ItemId.{ItemId};
@@ -8,18 +8,31 @@ ghost use Rattle.auction_rows.specs.declared.ids.Object.TheVariants.{Item, User,
 ghost use Rattle.auction_rows.specs.declared.numbers.Opening.{Opening};
 ghost use Rattle.auction_rows.specs.declared.requests.Request.{Request};
 ghost use Rattle.auction_rows.specs.declared.requests.Request.TheVariants.{ViewItem, ViewBids, ViewCategory, ViewUser};
+ghost use Rattle.auction_rows.specs.declared.ids.Object.{Object};
+ghost use Rattle.auction_rows.specs.declared.rows.Row.{Row};
 ghost use Rattle.auction_rows.specs.Book.{Book, left as left_of};
 ghost use Rattle.auction_rows.specs.Orders.{object_cmp};
 ghost use Rattle.auction_rows.specs.Replies.{reply, next};
-ghost use Rattle.item_shards.specs.Values.{value, stock, stock_in, left_in};
+ghost use Rattle.item_shards.specs.Values.{value, blank, stock, stock_in, left_in};
+ghost use Rattle.item_shards.specs.Shelves.{after_acts};
+ghost use Rattle.item_shards.specs.Writing.{writes_of};
 ghost use Rattle.item_shards.specs.Views.{item_view, bids_view, category_reply, user_reply};
 ghost use Rattle.item_shards.specs.Limits.{IsWithinLimits, GivesStars, HasStars};
+
+/// Of the empty book nothing is known, and one row more changes the values of objects as its acts do.
+pub fn values_of_books()
+    ensures none { (object : Object) → value [] object ≡ blank }
+    ensures one_more { (book : Book) (row : Row) (object : Object) →
+        value (book ++ row ∷ []) object ≡ after_acts (value book) (writes_of row) object }
+{}
 
 /// Views of objects with the values of a book are the book's replies. What is left of an item is the book's,
 /// and none of one that isn't stored.
 pub fn views_are_replies()
-    ensures items { (opening : Opening) (book : Book) (worker : ℕ) (id : ItemId) → item_view (value book (Item id)) ≡ reply opening book worker (ViewItem id) }
-    ensures bids { (opening : Opening) (book : Book) (worker : ℕ) (id : ItemId) → bids_view (value book (Item id)) ≡ reply opening book worker (ViewBids id) }
+    ensures items { (opening : Opening) (book : Book) (worker : ℕ) (id : ItemId) →
+        item_view (value book (Item id)) ≡ reply opening book worker (ViewItem id) }
+    ensures bids { (opening : Opening) (book : Book) (worker : ℕ) (id : ItemId) →
+        bids_view (value book (Item id)) ≡ reply opening book worker (ViewBids id) }
     ensures categories { (opening : Opening) (book : Book) (worker category : ℕ) →
         category_reply opening category (value book (Category category)) ≡ reply opening book worker (ViewCategory category) }
     ensures users { (opening : Opening) (book : Book) (worker user : ℕ) →
@@ -32,11 +45,13 @@ pub fn views_are_replies()
 pub fn counts_of_books()
     ensures bids { (book : Book) (id : ItemId) → (value book (Item id)).bids.bids ≤ length book }
     ensures comments { (book : Book) (user : ℕ) → (value book (User user)).comments.comments ≤ length book }
-    ensures ratings { (book : Book) (user : ℕ) → AllByRecursion HasStars book → unsigned_abs (value book (User user)).comments.rating ≤ 5 * length book }
+    ensures ratings { (book : Book) (user : ℕ) → AllByRecursion HasStars book →
+        unsigned_abs (value book (User user)).comments.rating ≤ 5 * length book }
 {}
 
 /// A book within limits that is not full is within limits after one more request.
 pub fn limits_of_books()
     ensures { (opening : Opening) (book : Book) (worker : ℕ) (request : Request) →
-        IsWithinLimits book → length book < 16000000 → GivesStars request → IsWithinLimits (next opening book worker request) }
+        IsWithinLimits book → length book < 16000000 → GivesStars request →
+        IsWithinLimits (next opening book worker request) }
 {}

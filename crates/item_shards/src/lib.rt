@@ -23,7 +23,7 @@ mod views;
 mod writing;
 
 pub use acts::{Act, Shown};
-pub use book_laws::{counts_of_books, limits_of_books, views_are_replies};
+pub use book_laws::{counts_of_books, limits_of_books, values_of_books, views_are_replies};
 pub use clock::{LAST_NUMBER, next_number};
 pub use laws::{acts_can_be_done, acts_of_entries, acts_of_rows};
 pub use opened::Opened;

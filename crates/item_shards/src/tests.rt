@@ -1,4 +1,5 @@
-//! Worked examples: users 10, categories 2, shards 4. The item 0.0 and the category 0 lie in shard 0, user 3 in shard 3.
+//! Worked examples: users 10, categories 2, shards 4. The item 0.0 and the category 0 lie in shard 0,
+//! and user 3 in shard 3.
 use crate::{Act, CategorySlice, ItemSlice, LAST_NUMBER, Shard, Shown, UserSlice, next_number};
 use auction_rows::{
     BidEntry, BidId, BidShown, Facts, ItemEntry, ItemId, ItemShown, Name, Object, Opening,
@@ -116,13 +117,14 @@ fn first_example(rt: HostRuntime) -> Result<(), Fail> {
 fn stored_vase(rt: HostRuntime) -> Result<(), Fail> {
     let mut shard = with_vase(rt.alloc(), 10, 1)?;
     let vase = vase(10, 1)?;
-    shard.play(&[Act::Look(Shown::Left(FIRST, Some((vase, 1))))])?;
+    let vase = &vase;
+    shard.play(&[Act::Look(Shown::Left(FIRST, Some((*vase, 1))))])?;
     if !shard.has(Object::Item(FIRST)) {
         return Err(Fail::from("the item lies elsewhere"));
     }
-    assert_eq!(rt; shard.facts(FIRST), Some(vase));
+    assert_eq!(rt; shard.facts(FIRST), Some(*vase));
     assert_eq!(rt; shard.left_of(FIRST), Some(1));
-    assert_eq!(rt; shard.stock(FIRST), Some((vase, 1)));
+    assert_eq!(rt; shard.stock(FIRST), Some((*vase, 1)));
     Ok(())
 }
 

@@ -8,7 +8,8 @@ use Rattle.item_shards.specs.Counting.{stored_by, worker_of, counted, AreFew}
 use Rattle.item_shards.specs.Limits.{IsWithinLimits}
 use Rattle.item_shards.specs.Serial.{opening_of}
 use Rattle.item_shards.specs.ShardShelf.{shelf}
-use Rattle.item_shards.proofs.SerialLemmas.{after_own, either_way, counts_next, limits_next, stored_few, stands_as, stands_after, writes_can_be_done}
+use Rattle.item_shards.proofs.SerialLemmas.{after_own, either_way, counts_next, limits_next, stored_few, stands_after, writes_can_be_done}
+use Rattle.item_shards.proofs.StandingLemmas.{stands_moved}
 use Rattle.item_shards.proofs.serial.SerialAuction.store.Goals as goal
 
 abbrev none : StoreCounts
@@ -25,7 +26,7 @@ write-requires-clause-can c = λ rooms room.
 
 pub returns-in_err-write-clause-refused : goal.returns-in_err-write-clause-refused
 returns-in_err-write-clause-refused c = either_way c.from_residual.result (λ b holds. record {
-  records = stands_as c.args.self.now.shard c.write.new.self (shelf c.args.self.now.shard) c.write.ensures.same c.in_err-write.ensures.refused b holds.records;
+  records = stands_moved c.args.self.now.shard c.write.new.self (shelf c.args.self.now.shard) b [] c.write.ensures.same c.in_err-write.ensures.refused holds.records;
   counts = holds.counts;
   limits = holds.limits;
 })
@@ -45,7 +46,7 @@ returns-clause-stored c = λ b holds not_full.
     let r = c.args.row.now in
     let old = c.args.self.now.stored in
     record {
-      records = stands_as shard c.write.new.self (after_acts (shelf shard) (writes_of r)) c.write.ensures.same c.in_ok-write.ensures.written (b ++ r ∷ [])
+      records = stands_moved shard c.write.new.self (after_acts (shelf shard) (writes_of r)) (b ++ r ∷ []) [] c.write.ensures.same c.in_ok-write.ensures.written
           (stands_after start shard.number shard.shards (λ id. true) (shelf shard) c.args.self.now.has_all b r holds.records);
       counts = λ w within.
           (λ i. slice_get (set old (c.worker_of-worker.ensures i) ((c.count.ensures ∙ ap (λ v. counted r (get_or old v none)) c.worker_of-worker.ensures) i)) w)
