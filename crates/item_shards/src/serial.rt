@@ -46,7 +46,8 @@ impl SerialAuction {
     /// The reply to the request of a worker below 16. It changes nothing.
     pub fn reply_to(&self, worker: u32, request: Request) -> Reply
         requires { worker < 16 }
-        ensures { (book : Book) → HoldsBook self.now book → result ≡ reply (opening_of self.now) book worker request }
+        ensures { (book : Book) → HoldsBook self.now book →
+            result ≡ reply (opening_of self.now) book worker request }
     {
         let stored = self.stored[worker as usize];
         // A request is large, and lent here so that each call copies it once.
@@ -77,7 +78,8 @@ impl SerialAuction {
 
     // The refusal of a request, or else the reply.
     fn unless_refused(&self, request: Request, reply: Reply) -> Reply
-        ensures { (book : Book) → HoldsBook self.now book → result ≡ answer_unless (refusal (opening_of self.now) book request) reply }
+        ensures { (book : Book) → HoldsBook self.now book →
+            result ≡ answer_unless (refusal (opening_of self.now) book request) reply }
     {
         match self.refusal(request) {
             Some(reason) => Reply::Refused(reason),
@@ -86,7 +88,8 @@ impl SerialAuction {
     }
 
     fn refusal(&self, request: Request) -> Option<Refusal>
-        ensures { (book : Book) → HoldsBook self.now book → result ≡ refusal (opening_of self.now) book request }
+        ensures { (book : Book) → HoldsBook self.now book →
+            result ≡ refusal (opening_of self.now) book request }
     {
         let request = &request;
         if let Some(reason) = number_refusal(self.shard.opening, *request) {
@@ -102,7 +105,8 @@ impl SerialAuction {
     // Stores a row. Without memory the auction holds what it held.
     fn store(&mut self, row: &Row) -> Result<(), AllocError>
         requires { CanStore self.old row.now }
-        ensures stored { OnOk result ((book : Book) → HoldsBook self.old book → IsNotFull book → HoldsBook self.new (book ++ row.now ∷ [])) }
+        ensures stored { OnOk result ((book : Book) → HoldsBook self.old book → IsNotFull book →
+            HoldsBook self.new (book ++ row.now ∷ [])) }
         ensures refused { OnErr result ((book : Book) → HoldsBook self.old book → HoldsBook self.new book) }
         ensures opening { opening_of self.new ≡ opening_of self.old }
     {
@@ -119,8 +123,10 @@ impl SerialAuction {
     pub fn perform(&mut self, worker: u32, request: Request) -> Result<Reply, AllocError>
         requires worker { worker < 16 }
         requires room { CanGrow self.old }
-        ensures reply { IfOk result (λ answered. (book : Book) → HoldsBook self.old book → answered ≡ reply (opening_of self.old) book worker request) }
-        ensures book { OnOk result ((book : Book) → HoldsBook self.old book → IsNotFull book → HoldsBook self.new (next (opening_of self.old) book worker request)) }
+        ensures reply { IfOk result (λ answered. (book : Book) → HoldsBook self.old book →
+            answered ≡ reply (opening_of self.old) book worker request) }
+        ensures book { OnOk result ((book : Book) → HoldsBook self.old book → IsNotFull book →
+            HoldsBook self.new (next (opening_of self.old) book worker request)) }
         ensures refused { OnErr result ((book : Book) → HoldsBook self.old book → HoldsBook self.new book) }
         ensures opening { opening_of self.new ≡ opening_of self.old }
     {

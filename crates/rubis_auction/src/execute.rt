@@ -18,9 +18,12 @@ pub fn execute<R: Read + Drop, W: Write>(
     writer: &mut W,
     options: &Options,
 ) -> Result<(), Fault>
-    ensures answers { OnOk result (IfSome (R.remaining reader) (λ input. Answers (opening_of options.now) input (W.contents writer.old) (W.contents writer.new))) }
-    ensures part { result ≡ Err (Fault.Write WriteFault.Write) → IfSome (R.remaining reader) (λ input. AnswersInPart (opening_of options.now) input (W.contents writer.old) (W.contents writer.new)) }
-    ensures unwritten { IfErr result (λ fault. (fault ≡ Fault.Write WriteFault.Write → ⊥) → writer.new ≡ writer.old) }
+    ensures answers { OnOk result (IfSome (R.remaining reader) (λ input.
+        Answers (opening_of options.now) input (W.contents writer.old) (W.contents writer.new))) }
+    ensures part { result ≡ Err (Fault.Write WriteFault.Write) → IfSome (R.remaining reader) (λ input.
+        AnswersInPart (opening_of options.now) input (W.contents writer.old) (W.contents writer.new)) }
+    ensures unwritten { IfErr result (λ fault.
+        (fault ≡ Fault.Write WriteFault.Write → ⊥) → writer.new ≡ writer.old) }
     ensures cause { IfErr result (λ fault. IfSome (R.remaining reader) (λ input. IsCausedBy input fault)) }
 {
     let input = match read_scripts(alloc, reader, 1) {
