@@ -9,6 +9,7 @@ use auction_text::{Cause, ReadFault, WriteFault};
 use std::alloc::{AllocError, Global};
 use std::io;
 use std::io::{Read, Write};
+use std::process::Abort;
 use std::test::Fail;
 
 const FIRST_EXAMPLE: &[u8] = b"0,item,0,0,Vase,10,100,1\n0,bid,1,0.0,10,5\n0,viewitem,0.0\n";
@@ -211,8 +212,13 @@ fn bid(amount: u64, time: u64) -> Request {
     }
 }
 
-fn replies_are(rt: &HostRuntime, script: &[Request], replies: &[Reply]) -> Result<(), Fail> {
-    let history = perform_script(rt.alloc(), OPTIONS.opening(), script)?;
+fn replies_are(
+    rt: &impl Abort,
+    alloc: Global,
+    script: &[Request],
+    replies: &[Reply],
+) -> Result<(), Fail> {
+    let history = perform_script(alloc, OPTIONS.opening(), script)?;
     assert_eq!(rt; history.len(), replies.len());
     for (entry, reply) in history.iter().zip(replies) {
         assert_eq!(rt; entry.reply, *reply, "at {}", entry.index);
@@ -246,7 +252,7 @@ fn comments_are_summed_and_items_are_listed(rt: HostRuntime) -> Result<(), Fail>
         Reply::Refused(Refusal::NoSuchUser),
         Reply::Refused(Refusal::NoSuchCategory),
     ];
-    replies_are(&rt, &script, &replies)
+    replies_are(&rt, rt.alloc(), &script, &replies)
 }
 
 #[test]
@@ -272,7 +278,7 @@ fn what_is_bought_is_not_left(rt: HostRuntime) -> Result<(), Fail> {
         Reply::Refused(Refusal::Closed),
         Reply::BidsSeen(Ten::new()),
     ];
-    replies_are(&rt, &script, &replies)
+    replies_are(&rt, rt.alloc(), &script, &replies)
 }
 
 fn line_of(alloc: Global, fault: &Fault) -> Result<Vec<u8>, WriteFault> {
