@@ -3,11 +3,11 @@ use Rattle.std.proofs.Common.{◌≡◌, ℕ, ◌+◌, ◌<◌, ◌≤◌, ◌==
 use Rattle.std.specs.Prelude.{option_map, option_and_then, unwrap_or, count_by, slice_get, Result, Ok, Err, OnErr}
 use Rattle.std.specs.List.{AllByRecursion, cons_option}
 use Rattle.std.specs.Option.{option_or}
-use Rattle.std.proofs.Common.{set, get_or, filter_map}
+use Rattle.std.proofs.Common.{set, get_or, filter_map, take, drop}
 use Rattle.std.specs.Prelude.{replicate}
 use Rattle.std.proofs.Math.ListN.{length-set}
 use Rattle.std.proofs.lemmas.Bool.{eqb-true, eq-eqb, false≢true}
-use Rattle.std.proofs.lemmas.List.{length-append, length-replicate, get_or-replicate, get_or-set_same, get_or-set_other}
+use Rattle.std.proofs.lemmas.List.{length-append, length-replicate, get_or-replicate, get_or-set_same, get_or-set_other, take_more, take-append-drop, length-take-le}
 use Rattle.std.proofs.lemmas.Option.{slice_get-get_or, slice_get_within, get_or_from_slice_get}
 use Rattle.std.proofs.lemmas.List.Sums.{sum_by-append, count_by-le-length}
 use Rattle.auction_rows.specs.declared.ids.ItemId.{ItemId}
@@ -20,11 +20,11 @@ use Rattle.auction_rows.specs.declared.rows.Row.{Row}
 use Rattle.auction_rows.specs.declared.rows.Row.TheVariants as row
 use Rattle.auction_rows.specs.Book.{Book, as_item, as_bid, as_comment, as_buy, facts_of, item_entry}
 use Rattle.auction_rows.specs.Book as book
-use Rattle.auction_rows.specs.History.{commit, commit_of, after_entry, GoOn}
+use Rattle.auction_rows.specs.History.{commit, commit_of, after_entry, GoOn, IsBook}
 use Rattle.auction_rows.specs.Replies.{reply, row_of}
 use Rattle.auction_rows.specs.Requests.{item_of, shard_of}
 use Rattle.auction_rows.specs.Refusals.{number_refusal, item_refusal, refusal, facts_for, left_for}
-use Rattle.auction_rows.proofs.HistoryLemmas.{own_row, stored_by as commit_is, rows_go_on}
+use Rattle.auction_rows.proofs.HistoryLemmas.{own_row, stored_by as commit_is, rows_go_on, book_parts}
 use Rattle.auction_rows.proofs.RefusalLemmas.{refusal-split}
 use Rattle.item_shards.specs.declared.counting.StoreCounts.{StoreCounts}
 use Rattle.item_shards.specs.Values.{stock_in}
@@ -73,7 +73,7 @@ pub goes_on : (start : Opening) (b : Book) (worker : ℕ) (request : Request) (r
 goes_on start b worker request r is =
     subst (λ o. GoOn start b (cons_option o [])) is (rows_go_on start b (commit worker request (reply start b worker request) ∷ []) (refl, tt))
 
-worker_is : (r : Row) → worker_of r ≡ (commit_of r).worker
+pub worker_is : (r : Row) → worker_of r ≡ (commit_of r).worker
 worker_is (row.Item r) = refl
 worker_is (row.Bid r) = refl
 worker_is (row.Comment r) = refl
@@ -237,3 +237,28 @@ pub none_stored : (worker : ℕ) → worker < 16 → slice_get (replicate 16 (st
 none_stored worker within =
     let none = stored_by [] worker in
     slice_get-get_or (replicate 16 none) worker none (subst (λ n. worker < n) (sym (length-replicate 16 none)) within) ∙ ap Some (get_or-replicate 16 worker none none within)
+
+-- ---- a book stored row by row
+
+all_parts : {A : Type 0} (P : A → Type 0) (xs ys : List A) → AllByRecursion P (xs ++ ys) → AllByRecursion P xs × AllByRecursion P ys
+all_parts P [] ys h = (tt, h)
+all_parts P (x ∷ xs) ys h = (let rest = all_parts P xs ys h.1 in ((h.0, rest.0), rest.1))
+
+-- the next row of a book goes on those before it, and what holds of every row holds of it
+module _ (rows : List Row) (i : ℕ) (r : Row) (within : i < length rows) (is : r ≡ get_or rows i r) where
+  pub one_more : take (i + 1) rows ≡ take i rows ++ r ∷ []
+  one_more = take_more rows i r within ∙ ap (λ x. take i rows ++ x ∷ []) (sym is)
+
+  whole : (take i rows ++ r ∷ []) ++ drop (i + 1) rows ≡ rows
+  whole = ap (λ front. front ++ drop (i + 1) rows) (sym one_more) ∙ take-append-drop (i + 1) rows
+
+  pub next_goes_on : (start : Opening) → IsBook start rows → GoOn start (take i rows) (r ∷ [])
+  next_goes_on start book =
+      (book_parts start (take i rows) (r ∷ []) (book_parts start (take i rows ++ r ∷ []) (drop (i + 1) rows) (subst (IsBook start) (sym whole) book)).0).1
+
+  pub holds_of_next : (P : Row → Type 0) → AllByRecursion P rows → P r
+  holds_of_next P all =
+      (all_parts P (take i rows) (r ∷ []) (all_parts P (take i rows ++ r ∷ []) (drop (i + 1) rows) (subst (AllByRecursion P) (sym whole) all)).0).1.0
+
+pub front_not_full : (rows : List Row) (i : ℕ) → i < length rows → IsWithinLimits rows → length (take i rows) < 16000000
+front_not_full rows i within limits = omega (arith, length-take-le i rows (omega arith), within, limits.few)

@@ -1,5 +1,5 @@
-//! What the values of a book's objects are.
-ghost use Rattle.std.specs.Prelude.{◌≡◌, ◌≤◌, ◌<◌, ◌*◌, ℕ, [], ◌∷◌, ◌++◌, length, unwrap_or, unsigned_abs};
+//! What the values of a book's objects are, and which books requests leave.
+ghost use Rattle.std.specs.Prelude.{◌≡◌, ◌≤◌, ◌<◌, ◌*◌, ℕ, List, [], ◌∷◌, ◌++◌, All, map, length, unwrap_or, unsigned_abs};
 ghost use Rattle.std.specs.List.{AllByRecursion};
 ghost use Rattle.std.specs.Ordering.{is_eq};
 ghost use Rattle.auction_rows.specs.declared.ids.ItemId.{ItemId};
@@ -11,8 +11,12 @@ ghost use Rattle.auction_rows.specs.declared.requests.Request.TheVariants.{ViewI
 ghost use Rattle.auction_rows.specs.declared.ids.Object.{Object};
 ghost use Rattle.auction_rows.specs.declared.rows.Row.{Row};
 ghost use Rattle.auction_rows.specs.Book.{Book, left as left_of};
+ghost use Rattle.auction_rows.specs.History.{IsBook};
 ghost use Rattle.auction_rows.specs.Orders.{object_cmp};
 ghost use Rattle.auction_rows.specs.Replies.{reply, next};
+ghost use Rattle.item_shards.specs.declared.opened.Opened.{Opened};
+ghost use Rattle.item_shards.specs.Counting.{worker_of};
+ghost use Rattle.item_shards.specs.OpeningRows.{AreRows, opening_rows, opened_of, asked_by, rows_by};
 ghost use Rattle.item_shards.specs.Values.{value, blank, stock, stock_in, left_in};
 ghost use Rattle.item_shards.specs.Shelves.{after_acts};
 ghost use Rattle.item_shards.specs.Writing.{writes_of};
@@ -54,4 +58,19 @@ pub fn limits_of_books()
     ensures { (opening : Opening) (book : Book) (worker : ℕ) (request : Request) →
         IsWithinLimits book → length book < 16000000 → GivesStars request →
         IsWithinLimits (next opening book worker request) }
+{}
+
+/// Requests that are rows, each at its place, leave a book of the opening: it has a row for each, of its worker.
+/// The rows of a book of workers below 16, handed in again, are rows at their places and leave that book.
+pub fn opening_books()
+    ensures book { (opening : Opening) (all : List Opened) → AreRows opening all →
+        IsBook opening (opening_rows opening all) }
+    ensures rows { (opening : Opening) (all : List Opened) → AreRows opening all →
+        length (opening_rows opening all) ≡ length all }
+    ensures workers { (opening : Opening) (all : List Opened) (worker : ℕ) → AreRows opening all →
+        rows_by (opening_rows opening all) worker ≡ asked_by all worker }
+    ensures again { (opening : Opening) (book : Book) → IsBook opening book → All (λ row. worker_of row < 16) book →
+        AreRows opening (map opened_of book) }
+    ensures same { (opening : Opening) (book : Book) → IsBook opening book → All (λ row. worker_of row < 16) book →
+        opening_rows opening (map opened_of book) ≡ book }
 {}

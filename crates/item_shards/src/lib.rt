@@ -6,15 +6,22 @@ mod acts;
 mod book_laws;
 mod clock;
 mod counting;
+#[cfg(test)]
+mod generated_tests;
 mod items;
 mod laws;
 mod listing;
 mod merging;
 mod opened;
+mod opening_book;
+#[cfg(test)]
+mod opening_tests;
 mod serial;
 mod shard;
 mod slices;
 mod storing;
+#[cfg(test)]
+mod test_requests;
 #[cfg(test)]
 mod testing;
 #[cfg(test)]
@@ -23,10 +30,13 @@ mod views;
 mod writing;
 
 pub use acts::{Act, Shown};
-pub use book_laws::{counts_of_books, limits_of_books, values_of_books, views_are_replies};
+pub use book_laws::{
+    counts_of_books, limits_of_books, opening_books, values_of_books, views_are_replies,
+};
 pub use clock::{LAST_NUMBER, next_number};
 pub use laws::{acts_can_be_done, acts_of_entries, acts_of_rows};
 pub use opened::Opened;
+pub use opening_book::{OpeningBook, ResumeFault};
 pub use serial::SerialAuction;
 pub use shard::Shard;
 pub use slices::{CategorySlice, ItemSlice, Slice, UserSlice};

@@ -1,5 +1,5 @@
 //! The auction of one thread: every object in one shard.
-ghost use Rattle.std.specs.Prelude.{◌≡◌, ◌+◌, ◌<◌, ◌++◌, ◌∷◌, [], ℕ, length, IfOk, OnOk, OnErr};
+ghost use Rattle.std.specs.Prelude.{◌≡◌, ◌+◌, ◌<◌, ◌++◌, ◌∷◌, [], ℕ, length, IfOk, OnOk, OnErr, All};
 ghost use Rattle.auction_rows.specs.declared.ids.Object.{Object as Thing};
 ghost use Rattle.item_shards.specs.ShardShelf.{LiesIn};
 
@@ -24,6 +24,9 @@ impl SerialAuction {
     ghost use Rattle.auction_rows.specs.Book.{Book};
     ghost use Rattle.auction_rows.specs.Refusals.{refusal};
     ghost use Rattle.auction_rows.specs.Replies.{reply, next, answer_unless};
+    ghost use Rattle.auction_rows.specs.History.{IsBook};
+    ghost use Rattle.item_shards.specs.Counting.{worker_of};
+    ghost use Rattle.item_shards.specs.Limits.{IsWithinLimits};
     ghost use Rattle.item_shards.specs.Serial.{HoldsBook, IsNotFull, CanGrow, CanStore, opening_of};
 
     /// An auction in which nothing is stored. It errs where the shard can't be made for want of memory.
@@ -41,6 +44,25 @@ impl SerialAuction {
             shard: Shard::new(alloc, 0, 1, opening)?,
             stored: [none; 16],
         })
+    }
+
+    // The auction that holds a book of workers below 16.
+    pub(crate) fn of_book(
+        alloc: Global,
+        opening: Opening,
+        rows: &[Row],
+    ) -> Result<SerialAuction, AllocError>
+        requires book { IsBook opening rows.now }
+        requires limits { IsWithinLimits rows.now }
+        requires workers { All (λ row. worker_of row < 16) rows.now }
+        ensures book { IfOk result (λ auction. HoldsBook auction rows.now) }
+        ensures opening { IfOk result (λ auction. opening_of auction ≡ opening) }
+    {
+        let mut auction = SerialAuction::new(alloc, opening)?;
+        for row in rows {
+            auction.store(row)?;
+        }
+        Ok(auction)
     }
 
     /// The reply to the request of a worker below 16. It changes nothing.

@@ -1,0 +1,13 @@
+-- A book that an auction is opened with, as contracts see it.
+use Rattle.auction_rows.specs.declared.numbers.Opening.{Opening}
+use Rattle.auction_rows.specs.Book.{Book}
+use Rattle.item_shards.specs.declared.opening_book.OpeningBook.{OpeningBook}
+use Rattle.item_shards.specs.OpeningRows.{rows_in}
+
+-- the users and categories of the auction
+abbrev pub opening_of : OpeningBook → Opening
+opening_of book = book.opening
+
+-- the rows, in commit order
+abbrev pub rows_of : OpeningBook → Book
+rows_of book = rows_in book.rows
