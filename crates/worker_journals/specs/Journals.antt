@@ -1,0 +1,60 @@
+-- What a worker commits in one phase.
+use Rattle.std.specs.Prelude.{◌≡◌, ℕ, ◌<◌, List, [], ◌∷◌, ◌++◌, ⊤}
+use Rattle.std.specs.List.{AllByRecursion}
+use Rattle.phase_laws.specs.Order.{IsAscendingByNumber}
+use Rattle.phase_laws.specs.Numbers.{last_by}
+use Rattle.auction_rows.specs.declared.requests.Request.{Request}
+use Rattle.auction_rows.specs.declared.replies.Reply.{Reply}
+use Rattle.auction_rows.specs.declared.rows.Entry.{Entry}
+
+-- a journal: whose commits of which phase it holds, how many entries it has a place for, and its entries
+pub record JournalView : Type 0 where
+  pub phase : ℕ
+  pub worker : ℕ
+  pub room : ℕ
+  pub entries : List Entry
+
+-- an entry's number, and its worker
+abbrev pub entry_number : Entry → ℕ
+entry_number entry = entry.number
+
+abbrev pub entry_worker : Entry → ℕ
+entry_worker entry = entry.worker
+
+-- a journal by its parts
+abbrev pub seen : ℕ → ℕ → ℕ → List Entry → JournalView
+seen phase worker room entries = record { phase = phase; worker = worker; room = room; entries = entries }
+
+-- a journal before the first commit
+abbrev pub empty_journal : ℕ → ℕ → ℕ → JournalView
+empty_journal phase worker room = seen phase worker room []
+
+-- a commit of a journal's worker in its phase
+abbrev pub commit_in : JournalView → ℕ → ℕ → Request → Reply → Entry
+commit_in journal number index request reply = record {
+  phase = journal.phase;
+  number = number;
+  worker = journal.worker;
+  index = index;
+  request = request;
+  reply = reply;
+}
+
+-- a journal with one more commit at its end
+abbrev pub with_commit : JournalView → ℕ → ℕ → Request → Reply → JournalView
+with_commit journal number index request reply =
+    seen journal.phase journal.worker journal.room (journal.entries ++ commit_in journal number index request reply ∷ [])
+
+-- a number is greater than the last entry's, if there is one
+abbrev pub ComesAfter : List Entry → ℕ → Type 0
+ComesAfter [] number = ⊤
+ComesAfter (entry ∷ entries) number = last_by entry_number (entry_number entry) entries < number
+
+-- an entry is of a phase, and of a worker
+abbrev pub IsOf : ℕ → ℕ → Entry → Type 0
+IsOf phase worker entry = (entry.phase ≡ phase) × (entry.worker ≡ worker)
+
+-- what each journal keeps: its entries are of its phase and its worker, in the order of their numbers
+pub record IsLawful (journal : JournalView) : Type 0 where
+  pub own : AllByRecursion (IsOf journal.phase journal.worker) journal.entries
+  pub ascending : IsAscendingByNumber entry_number journal.entries
