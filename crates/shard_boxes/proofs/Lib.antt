@@ -1,0 +1,10 @@
+pub mod LimitLemmas
+pub mod LineLemmas
+pub mod StateLemmas
+pub mod SeatLemmas
+pub mod BoxSteps
+pub mod PassSteps
+pub mod KeySteps
+pub mod Each
+pub mod Sweeps
+pub mod Leaves

@@ -1,0 +1,61 @@
+use Rattle.std.proofs.Common.{◌≡◌, ◌+◌, ◌<◌, [], ◌∷◌, ◌++◌, length, refl, sym, ap, ◌∙◌, subst, arith}
+use Rattle.std.specs.Vec.Iter.{into_iter_items}
+use Rattle.shard_boxes.specs.declared.rule.View.{View}
+use Rattle.shard_boxes.specs.Passes.{LeaveState}
+use Rattle.shard_boxes.specs.Keys.{lines_at}
+use Rattle.shard_boxes.specs.Leaves.{IsFree, own_at}
+use Rattle.shard_boxes.proofs.Each.{drop_next, at_head}
+use Rattle.shard_boxes.proofs.Sweeps.{swept_more}
+use Rattle.shard_boxes.proofs.KeySteps.{same_places}
+use Rattle.shard_boxes.proofs.Leaves.{place_is, as_many, joined_free}
+use Rattle.shard_boxes.proofs.close.collect.Goals as goal
+
+pub collect-requires-clause-place : goal.collect-requires-clause-place
+collect-requires-clause-place g c =
+    let places = c.args.places.now in let others = c.args.others.items in
+    let was = c.loop-other.invariant in let step = c.in-Some.ensures.steps in
+    let s = c.loop-other.s in let leaves = c.loop-other.leaves.items in let other = c.in-Some.other in
+    let low : s < length places = omega (arith, step.1, was.0, c.requires.places) in
+    let below : s < length leaves = omega (arith, low, as_many leaves places was.2) in
+    let below' : s < length others = omega (arith, low, as_many others places c.requires.others.0) in (
+      place_is leaves places s c.index_mut.result.now c.index-places-s.result was.2 below c.index_mut.ensures.value c.index-places-s.is,
+      place_is others places s other c.index-places-s.result c.requires.others.0 below' (sym (at_head others s other (into_iter_items c.next.new.self) other (sym step.0 ∙ was.1))) c.index-places-s.is,
+    )
+
+pub collect-requires-clause-next : goal.collect-requires-clause-next
+collect-requires-clause-next g c =
+    let places = c.args.places.now in let others = c.args.others.items in
+    let was = c.loop-other.invariant in let step = c.in-Some.ensures.steps in
+    let s = c.loop-other.s in let leaves = c.loop-other.leaves.items in let other = c.in-Some.other in let leave = c.index_mut.result.now in
+    let low : s < length places = omega (arith, step.1, was.0, c.requires.places) in
+    let below : s < length leaves = omega (arith, low, as_many leaves places was.2) in
+    let below' : s < length others = omega (arith, low, as_many others places c.requires.others.0) in
+    let theirs = (c.requires.others.1 s other below').from in
+    let head = at_head others s other (into_iter_items c.next.new.self) other (sym step.0 ∙ was.1) in
+    let mine = was.3.1 s leave (omega arith) below in
+    let at = c.index_mut.ensures.value in
+    let first : other.knows.first ≡ c.args.key.worker + 1 = ap (λ (l : LeaveState). l.knows.first) (sym head) ∙ theirs in
+    let from : leave.knows.first ≡ c.args.key.worker = ap (λ (l : LeaveState). l.knows.first) at ∙ mine.0.from in
+    let one : length leave.knows.own ≡ 1 = ap (λ (l : LeaveState). length l.knows.own) at ∙ ap length mine.1 in
+    omega (arith, first, from, one)
+
+pub loop-other-preserved : goal.loop-other-preserved
+loop-other-preserved g c =
+    let places = c.args.places.now in let others = c.args.others.items in let key = c.args.key in
+    let was = c.loop-other.invariant in let step = c.in-Some.ensures.steps in
+    let s = c.loop-other.s in let leaves = c.loop-other.leaves.items in let other = c.in-Some.other in let leave = c.index_mut.result.now in
+    let at = c.index_mut.ensures.value in
+    let low : s < length places = omega (arith, step.1, was.0, c.requires.places) in
+    let below : s < length leaves = omega (arith, low, as_many leaves places was.2) in
+    let mine = subst (λ (l : LeaveState). IsFree s key.worker l.knows × (l.knows.own ≡ lines_at key s ∷ [])) (sym at) (was.3.1 s leave (omega arith) below) in
+    let new = ap (λ (l : LeaveState). l.knows) c.collect.ensures in
+    let head : (e : LeaveState) → own_at others s e ≡ other.knows.own = (λ e. ap (λ (l : LeaveState). l.knows.own) (at_head others s other (into_iter_items c.next.new.self) e (sym step.0 ∙ was.1))) in (
+      omega (arith, step.1, was.0),
+      drop_next others s (s + 1) other (into_iter_items c.next.new.self) (sym step.0 ∙ was.1) refl,
+      same_places leaves s leave c.collect.new.leave at (ap (λ (l : LeaveState). l.place) c.collect.ensures) ∙ was.2,
+      swept_more (λ k (x : LeaveState). IsFree k key.worker x.knows × ((e : LeaveState) → x.knows.own ≡ lines_at key k ∷ own_at others k e))
+          (λ k (x : LeaveState). IsFree k key.worker x.knows × (x.knows.own ≡ lines_at key k ∷ [])) leaves s (s + 1) c.collect.new.leave below was.3 (
+            subst (λ (v : View). IsFree s key.worker v) (sym new) (joined_free s key.worker leave.knows other.knows mine.0),
+            λ e. ap (λ (v : View). v.own) new ∙ (λ i. mine.1 i ++ sym (head e) i),
+          ) refl,
+    )

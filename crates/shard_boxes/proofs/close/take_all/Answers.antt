@@ -1,0 +1,38 @@
+use Rattle.std.proofs.Common.{◌≡◌, ◌<◌, length, map, slice_index_or, sym, ap, ◌∙◌, subst, arith, vec_len}
+use Rattle.std.specs.Vec.Iter.{into_iter_items}
+use Rattle.std.proofs.lemmas.List.{length-map}
+use Rattle.shard_boxes.specs.States.{state_of, no_shard}
+use Rattle.shard_boxes.specs.Passes.{LeaveState}
+use Rattle.shard_boxes.specs.Leaves.{IsFree, IsTaken, own_at}
+use Rattle.shard_boxes.proofs.Each.{each_push, map_push, drop_next, at_head}
+use Rattle.shard_boxes.proofs.Leaves.{place_is, as_many, taken_is}
+use Rattle.shard_boxes.proofs.close.take_all.Goals as goal
+
+pub take_last-shard-requires-clause-place : goal.take_last-shard-requires-clause-place
+take_last-shard-requires-clause-place g c =
+    let places = c.args.places.now in let leaves = c.args.leaves.items in
+    let was = c.loop-leave.invariant in let step = c.in-Some.ensures.steps in
+    let s = vec_len c.loop-leave.answer in let p = c.index-places-len.result in
+    let below : s < length leaves = omega (arith, step.1, was.0, c.requires.places, as_many leaves places c.requires.free.0) in
+    place_is leaves places s c.in-Some.leave p c.requires.free.0 below (sym (at_head leaves s c.in-Some.leave (into_iter_items c.next.new.self) c.in-Some.leave (sym step.0 ∙ was.1)))
+    (c.index-places-len.is ∙ ap (λ m. slice_index_or places m p) c.len.ensures)
+
+pub loop-leave-preserved : goal.loop-leave-preserved
+loop-leave-preserved g c =
+    let opening = g.N.PhaseName.opening in let workers = g.N.PhaseName.workers in
+    let places = c.args.places.now in let leaves = c.args.leaves.items in let leave = c.in-Some.leave in
+    let was = c.loop-leave.invariant in let step = c.in-Some.ensures.steps in let p = c.push_reserved.ensures in
+    let s = vec_len c.loop-leave.answer in let shard = c.take_last-shard.result in
+    let below : s < length leaves = omega (arith, step.1, was.0, c.requires.places, as_many leaves places c.requires.free.0) in
+    let free = subst (λ (l : LeaveState). IsFree s 0 l.knows) (at_head leaves s leave (into_iter_items c.next.new.self) leave (sym step.0 ∙ was.1)) (c.requires.free.1 s leave below) in
+    let took = c.take_last-shard.ensures in
+    let same : length (map state_of c.loop-leave.answer.items) ≡ length c.loop-leave.answer.items = simp length-map in
+    let many : length (map state_of c.loop-leave.answer.items) ≡ s = omega (arith, same, c.loop-leave.answer.ok.0) in
+    let grown = ap (map state_of) p.items ∙ map_push state_of c.loop-leave.answer.items shard in (
+      omega (arith, p.len, step.1, was.0),
+      drop_next leaves s (vec_len c.push_reserved.new.self) leave (into_iter_items c.next.new.self) (sym step.0 ∙ was.1) p.len,
+      omega (arith, p.capacity, was.2),
+      λ k d low. each_push (λ j state. IsTaken opening workers (own_at leaves j d) j state) (map state_of c.loop-leave.answer.items) (map state_of c.push_reserved.new.self.items) (state_of shard) no_shard s many grown (λ j lo. was.3 j d lo)
+          (taken_is opening workers s leave.knows (own_at leaves s d) c.take_last-shard.new.leave.knows.seen (state_of shard) free
+          (ap (λ (l : LeaveState). l.knows.own) (at_head leaves s leave (into_iter_items c.next.new.self) d (sym step.0 ∙ was.1))) (c.requires.own s d below) took.1 took.2 took.4) k (omega (arith, low, p.len)),
+    )

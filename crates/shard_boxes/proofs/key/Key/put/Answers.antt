@@ -1,0 +1,39 @@
+use Rattle.std.proofs.Common.{◌<◌, ap, ◌∙◌, arith, length}
+use Rattle.shard_boxes.specs.Keys.{KeyState, seat_at, with_seat, put_seat}
+use Rattle.shard_boxes.specs.Passes.{LeaveState}
+use Rattle.shard_boxes.specs.Seats.{IsFor}
+use Rattle.shard_boxes.proofs.KeySteps.{key_after, put_seat_is}
+use Rattle.shard_boxes.proofs.Sweeps.{each_set}
+use Rattle.shard_boxes.proofs.BoxSteps.{length-with_first}
+use Rattle.shard_boxes.proofs.key.Key.put.Goals as goal
+
+pub returns : goal.returns
+returns g c =
+    let inside = c.self.inside in
+    let leave = c.index_mut-leave.result.now in
+    let below : c.args.s < length inside.leaves.items = omega (arith, inside.leaves.ok.0, c.self.invariant.1, c.requires.known) in
+    let fit = c.self.invariant.2 c.args.s leave below in
+    let is = c.self.view_is in
+    let at = c.index_mut-leave.ensures.value in
+    let first = ap (λ (l : LeaveState). l.knows.first) at ∙ fit.from in
+    let alone = ap (λ (l : LeaveState). length l.knows.own) at ∙ fit.as_many in
+    key_after (λ t. put_seat inside.worker t c.args.line.now) inside.worker c.args.s inside.leaves.items leave c.put.new.leave c.args.self.now is below at (ap (λ (l : LeaveState). l.place) c.put.ensures)
+    (put_seat_is inside.worker leave c.put.new.leave c.args.line.now c.put.ensures first alone)
+    ∙ ap (λ (x : KeyState). with_seat c.args.self.now c.args.s (put_seat x.worker (seat_at c.args.self.now c.args.s) c.args.line.now)) is
+
+pub invariant_of-self : goal.invariant_of-self
+invariant_of-self g c =
+    let inside = c.self.inside in
+    let leave = c.index_mut-leave.result.now in
+    let below : c.args.s < length inside.leaves.items = omega (arith, inside.leaves.ok.0, c.self.invariant.1, c.requires.known) in
+    let fit = c.self.invariant.2 c.args.s leave below in
+    let at = c.index_mut-leave.ensures.value in
+    let new = c.put.ensures in (
+      c.self.invariant.0,
+      c.self.invariant.1,
+      each_set (λ k (l : LeaveState). IsFor l k inside.worker 1) inside.leaves.items c.args.s c.put.new.leave below c.self.invariant.2 (record {
+        numbered = ap (λ (l : LeaveState). l.knows.number) new ∙ ap (λ (l : LeaveState). l.knows.number) at ∙ fit.numbered;
+        from = ap (λ (l : LeaveState). l.knows.first) new ∙ ap (λ (l : LeaveState). l.knows.first) at ∙ fit.from;
+        as_many = ap (λ (l : LeaveState). length l.knows.own) new ∙ length-with_first leave.knows.own _ ∙ ap (λ (l : LeaveState). length l.knows.own) at ∙ fit.as_many;
+      }),
+    )

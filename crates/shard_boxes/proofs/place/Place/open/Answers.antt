@@ -1,0 +1,10 @@
+use Rattle.std.proofs.Common.{ap, ◌∙◌}
+use Rattle.shard_boxes.specs.declared.rule.View.{View}
+use Rattle.shard_boxes.specs.Passes.{LeaveState}
+use Rattle.shard_boxes.proofs.BoxSteps.{opens, learns_empty}
+use Rattle.shard_boxes.proofs.place.Place.open.Goals as goal
+
+pub push_as-requires-clause-rule : goal.push_as-requires-clause-rule
+push_as-requires-clause-rule g c =
+    let knows = ap (λ (l : LeaveState). l.knows) c.leave.view_is ∙ c.requires.maker in
+    (opens _ _ _ _ _ _ knows c.requires.kept c.requires.opening, learns_empty _ _ _ _ (ap (λ (v : View). v.holds) knows))

@@ -1,0 +1,27 @@
+-- A shard that is held.
+use Rattle.std.specs.Prelude.{◌≡◌, ℕ, List, Option, Some, None, refl}
+use Rattle.std.specs.Coded.{Coded, code_by, coded×, coded_ℕ}
+use Rattle.item_shards.specs.declared.shard.Shard.{Shard}
+use Rattle.item_shards.specs.contracts.shard.Shard.{the_row as shard_row}
+use Rattle.shard_boxes.specs.declared.line.Line.{Line}
+use Rattle.shard_boxes.specs.States.{ShardState, state_at}
+use Rattle.shard_boxes.specs.Lines.{after, after_line, MayFollow}
+use Rattle.shard_boxes.specs.Keys.{KeyState, seen_at}
+
+-- its number, and the shard as it is
+pub record HeldState : Type 0 where
+  pub number : ℕ
+  pub shard : Shard
+
+-- it is stored as the pair of these
+abbrev pub held_code : Coded HeldState
+held_code = code_by (ℕ × Shard) (coded× coded_ℕ shard_row.coded) (λ h. (h.number, h.shard)) (λ p. record { number = p.0; shard = p.1 }) (λ _. refl)
+
+-- the shard as the key took it: the one with which the phase opened, after the lines that the key has seen
+abbrev pub taken_at : List ShardState → KeyState → ℕ → ShardState
+taken_at opening key s = after (state_at opening s) (seen_at key s)
+
+-- what may be put back where this was taken: with a line what the line makes of it, which may follow it; with none the same
+abbrev pub MayPut : ShardState → ShardState → Option Line → Type 0
+MayPut taken now None = now ≡ taken
+MayPut taken now (Some line) = MayFollow taken line × (now ≡ after_line taken line)

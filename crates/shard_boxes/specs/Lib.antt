@@ -1,0 +1,10 @@
+pub mod States
+pub mod Lines
+pub mod Limits
+pub mod Rule
+pub mod Passes
+pub mod Keys
+pub mod Seats
+pub mod Leaves
+pub mod Helds
+pub mod Closed

@@ -1,0 +1,38 @@
+-- How far acts can raise counts and ratings.
+use Rattle.std.specs.Prelude.{◌≡◌, ◌+◌, ◌<◌, ◌^◌, ◌+ℤ◌, FitsSigned, length, Option, Some, None, ⊤}
+use Rattle.std.specs.Int.{w64}
+use Rattle.std.specs.List.{AllByRecursion}
+use Rattle.auction_rows.specs.declared.ids.Object.TheVariants.{Item, User}
+use Rattle.item_shards.specs.declared.acts.Act.{Act}
+use Rattle.item_shards.specs.declared.acts.Act.TheVariants.{AddItem, ListItem, Bid, Comment, Buy, Look}
+use Rattle.item_shards.specs.Limits.{AreStars}
+use Rattle.item_shards.specs.Shelves.{Shelf}
+use Rattle.shard_boxes.specs.declared.line.Line.{Line}
+
+-- the stars that an act gives are from -5 to 5
+abbrev pub ActGivesStars : Act → Type 0
+ActGivesStars (AddItem id facts) = ⊤
+ActGivesStars (ListItem category entry) = ⊤
+ActGivesStars (Bid id entry) = ⊤
+ActGivesStars (Comment user stars) = AreStars stars
+ActGivesStars (Buy id quantity) = ⊤
+ActGivesStars (Look shown) = ⊤
+
+-- the sums that an act makes fit their types
+abbrev pub SumsFit : Shelf → Act → Type 0
+SumsFit shelf (AddItem id facts) = ⊤
+SumsFit shelf (ListItem category entry) = ⊤
+SumsFit shelf (Bid id entry) = (shelf (Item id)).bids.bids + 1 < 2 ^ 64
+SumsFit shelf (Comment user stars) =
+    FitsSigned w64 ((shelf (User user)).comments.rating +ℤ stars) × ((shelf (User user)).comments.comments + 1 < 2 ^ 64)
+SumsFit shelf (Buy id quantity) = ⊤
+SumsFit shelf (Look shown) = ⊤
+
+-- the line has two acts, and the stars that they give are such
+pub record IsWellFormed (line : Line) : Type 0 where
+  pub two : length line.acts ≡ 2
+  pub stars : AllByRecursion ActGivesStars line.acts
+
+abbrev pub IsWellFormedIfAny : Option Line → Type 0
+IsWellFormedIfAny None = ⊤
+IsWellFormedIfAny (Some line) = IsWellFormed line

@@ -1,0 +1,52 @@
+-- The lines that transactions leave with a shard, and the shard that they make.
+use Rattle.std.specs.Prelude.{◌≡◌, ℕ, ◌<◌, List, [], ◌∷◌, ◌++◌, length, map}
+use Rattle.std.specs.List.{AllByRecursion}
+use Rattle.phase_laws.specs.Numbers.{IsLinkedFrom}
+use Rattle.phase_laws.specs.Order.{IsAscendingByNumber, part}
+use Rattle.phase_laws.specs.Replay.{SawInTurn}
+use Rattle.item_shards.specs.declared.acts.Act.{Act}
+use Rattle.item_shards.specs.Looking.{IsTrueAct}
+use Rattle.item_shards.specs.Shelves.{Shelf, after_act, after_acts}
+use Rattle.shard_boxes.specs.declared.line.Line.{Line}
+use Rattle.shard_boxes.specs.States.{ShardState, state_at, IsWithin}
+
+-- the shard after a line: its acts are done, and its number is the clock
+abbrev pub after_line : ShardState → Line → ShardState
+after_line state line = record state { clock = line.number; shelf = after_acts state.shelf line.acts }
+
+-- the shard after the lines of all workers, in order
+abbrev pub after : ShardState → List (ℕ × Line) → ShardState
+after state [] = state
+after state (entry ∷ lines) = after (after_line state entry.1) lines
+
+-- the lines of one worker
+abbrev pub lines_of : ℕ → List (ℕ × Line) → List Line
+lines_of worker lines = map (λ entry. entry.1) (part (λ entry. entry.0) worker lines)
+
+-- the list begins with what was seen
+abbrev pub StartsWith : List (ℕ × Line) → List (ℕ × Line) → Type 0
+StartsWith lines seen = (more : List (ℕ × Line)) × (lines ≡ seen ++ more)
+
+-- each look carries what the shelf shows of its object, after the acts before it
+abbrev pub AreTrueOf : Shelf → List Act → Type 0
+AreTrueOf shelf acts = SawInTurn IsTrueAct after_act shelf acts
+
+-- the line tells the clock of the shard, its number is greater, and its looks are true
+pub record MayFollow (state : ShardState) (line : Line) : Type 0 where
+  pub found : line.before ≡ state.clock
+  pub later : state.clock < line.number
+  pub looks : AreTrueOf state.shelf line.acts
+
+-- the shard is the one of this number with which the phase opened, after these lines of workers below a number: they ascend
+-- in number, each one's `before` is the number of the line before it, 0 at first, and their looks are true
+pub record IsHistory (opening : List ShardState) (workers number : ℕ) (lines : List (ℕ × Line)) (state : ShardState) : Type 0 where
+  pub known : number < length opening
+  pub state_is : state ≡ after (state_at opening number) lines
+  pub workers_are : AllByRecursion (λ entry. entry.0 < workers) lines
+  pub ascending : IsAscendingByNumber (λ entry. entry.1.number) lines
+  pub linked : IsLinkedFrom (λ entry. entry.1.number) (λ entry. entry.1.before) 0 lines
+  pub looks : SawInTurn (λ (found : ShardState) entry. AreTrueOf found.shelf entry.1.acts) (λ found entry. after_line found entry.1) (state_at opening number) lines
+  pub number_is : state.number ≡ number
+  pub shards_is : state.shards ≡ length opening
+  pub opening_is : state.opening ≡ (state_at opening number).opening
+  pub within : IsWithin state

@@ -1,0 +1,50 @@
+-- What a shard shows.
+use Rattle.std.specs.Prelude.{◌≡◌, ℕ, ◌+◌, ◌*◌, ◌<◌, ◌≤◌, List, length, slice_index_or, unsigned_abs}
+use Rattle.auction_rows.specs.declared.ids.ItemId.{ItemId}
+use Rattle.auction_rows.specs.declared.ids.Object.TheVariants.{Item, User}
+use Rattle.auction_rows.specs.declared.numbers.Opening.{Opening}
+use Rattle.item_shards.specs.declared.shard.Shard.{Shard}
+use Rattle.item_shards.specs.Values.{blank}
+use Rattle.item_shards.specs.Shelves.{Shelf}
+use Rattle.item_shards.specs.ShardShelf.{shard_number, shard_count, opening as opening_of, clock as clock_of, shelf as shelf_of}
+
+-- which shard it is, of how many, the users and categories of its auction, its clock, and the value of each object
+pub record ShardState : Type 0 where
+  pub number : ℕ
+  pub shards : ℕ
+  pub opening : Opening
+  pub clock : ℕ
+  pub shelf : Shelf
+
+abbrev pub state_of : Shard → ShardState
+state_of shard = record {
+  number = shard_number shard;
+  shards = shard_count shard;
+  opening = opening_of shard;
+  clock = clock_of shard;
+  shelf = shelf_of shard;
+}
+
+-- counts and ratings as large as transactions can have made them by the clock, which each of them raises: by two acts each
+pub record IsWithin (state : ShardState) : Type 0 where
+  pub bids : (id : ItemId) → (state.shelf (Item id)).bids.bids ≤ 16000000 + 2 * state.clock
+  pub comments : (user : ℕ) → (state.shelf (User user)).comments.comments ≤ 16000000 + 2 * state.clock
+  pub ratings : (user : ℕ) → unsigned_abs (state.shelf (User user)).comments.rating ≤ 80000000 + 10 * state.clock
+
+-- a shard with which a phase may open: of this number, of so many, at clock 0
+pub record IsOpened (shards number : ℕ) (state : ShardState) : Type 0 where
+  pub number_is : state.number ≡ number
+  pub shards_is : state.shards ≡ shards
+  pub clock_is : state.clock ≡ 0
+  pub within : IsWithin state
+
+abbrev pub no_shard : ShardState
+no_shard = record { number = 0; shards = 0; opening = record { users = 0; categories = 0 }; clock = 0; shelf = λ object. blank }
+
+-- the shard of this number
+abbrev pub state_at : List ShardState → ℕ → ShardState
+state_at states s = slice_index_or states s no_shard
+
+-- shards with which a phase may open, numbered from 0
+abbrev pub AreOpened : List ShardState → Type 0
+AreOpened states = (s : ℕ) → s < length states → IsOpened (length states) s (state_at states s)

@@ -1,0 +1,73 @@
+//! The boxes of one phase, and how a worker takes a shard and puts it back.
+ghost use Rattle.std.specs.Prelude.{◌≡◌, ◌<◌, length, true};
+ghost use Rattle.shard_boxes.specs.States.{state_of};
+ghost use Rattle.shard_boxes.specs.Lines.{lines_of, StartsWith, IsHistory};
+ghost use Rattle.shard_boxes.specs.Keys.{taking, putting, lines_at, seen_at, holds_at, HoldsNoneFrom};
+ghost use Rattle.shard_boxes.specs.Helds.{taken_at, MayPut};
+
+use crate::held::Held;
+use crate::key::Key;
+use crate::line::{Line, is_well_formed};
+use crate::phase::PhaseName;
+use crate::place::Place;
+use item_shards::Shard;
+use std::marker::Model;
+use std::sync::Wait;
+
+/// The boxes of one phase, one for each of its 1 to 64 shards. They are shared by reference, and no lock is taken.
+#[derive(Drop)]
+pub struct Boxes<N: PhaseName> {
+    pub(crate) places: Vec<Place<N>>,
+    pub(crate) answer: Vec<Shard>,
+}
+
+impl<N: PhaseName> Model for Boxes<N> {
+    ghost use Rattle.std.specs.Prelude.{◌≡◌, ◌<◌, ◌≤◌, List, length, vec_len, vec_capacity};
+    ghost use Rattle.shard_boxes.specs.Keys.{BoxId};
+
+    ghost Value = { List BoxId };
+
+    ghost view = { λ b. b.places.items };
+
+    ghost invariant = { λ b. (vec_len b.places ≡ length N.opening) × (length N.opening ≤ 64) × (0 < N.workers)
+        × (vec_len b.answer ≡ 0) × (length N.opening ≤ vec_capacity b.answer) };
+}
+
+impl<N: PhaseName> Boxes<N> {
+    /// How many shards there are, 1 to 64.
+    pub fn shards(&self) -> u32
+        ensures { result ≡ length N.opening }
+    {
+        self.places.len() as u32
+    }
+
+    /// Takes a shard: it tries until the shard is in its box. A key that holds shards takes greater ones alone, so that
+    /// workers don't wait for one another in a ring. It takes no memory.
+    pub fn take<R: Wait>(&self, rt: &R, key: &mut Key<N>, s: u32) -> Held<N>
+        requires of { key.old.boxes ≡ self.now }
+        requires known { s < length N.opening }
+        requires rising { HoldsNoneFrom key.old s }
+        ensures key { key.new ≡ taking key.old s (seen_at key.new s) }
+        ensures holds { holds_at key.new s ≡ true }
+        ensures number { result.number ≡ s }
+        ensures history { IsHistory N.opening N.workers s (seen_at key.new s) (state_of result.shard) }
+        ensures later { StartsWith (seen_at key.new s) (seen_at key.old s) }
+        ensures own { lines_of key.old.worker (seen_at key.new s) ≡ lines_at key.old s }
+    {
+        let shard = key.take(rt, &self.places[s as usize], s as usize);
+        Held::new(s, shard)
+    }
+
+    /// Puts a shard back: as it was taken, or after the line of what was done on it. It takes no memory.
+    pub fn put<R: Wait>(&self, rt: &R, key: &mut Key<N>, held: Held<N>, line: Option<Line>)
+        requires of { key.old.boxes ≡ self.now }
+        requires holder { holds_at key.old held.number ≡ true }
+        requires may { MayPut (taken_at N.opening key.old held.number) (state_of held.shard) line }
+        ensures { key.new ≡ putting key.old held.number line }
+    {
+        is_well_formed(&line);
+        let (number, shard) = held.open();
+        let s = number as usize;
+        key.put(rt, &self.places[s], s, shard, &line);
+    }
+}

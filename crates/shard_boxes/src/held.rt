@@ -1,0 +1,73 @@
+//! A shard out of its box.
+ghost use Rattle.std.specs.Prelude.{◌≡◌, ◌<◌, length};
+ghost use Rattle.std.specs.Borrow.{Lends, sem};
+ghost use Rattle.item_shards.specs.contracts.shard.Shard.{the_row as shard_row};
+ghost use Rattle.shard_boxes.specs.contracts.held.Held.{the_row};
+
+use crate::phase::PhaseName;
+use item_shards::Shard;
+use std::marker::{Model, PhantomData};
+
+/// A shard that was taken out of its box. It must be put back by `Boxes::put`: it can't be dropped.
+pub struct Held<N: PhaseName> {
+    number: u32,
+    shard: Shard,
+    of: PhantomData<N>,
+}
+
+impl<N: PhaseName> Model for Held<N> {
+    ghost use Rattle.std.specs.Prelude.{◌<◌, length};
+    ghost use Rattle.shard_boxes.specs.Helds.{HeldState, held_code};
+
+    ghost Value = { HeldState };
+
+    ghost coded = { held_code };
+
+    ghost view = { λ h. record { number = h.number; shard = h.shard } };
+
+    ghost invariant = { λ h. h.number < length N.opening };
+}
+
+impl<N: PhaseName> Held<N> {
+    pub(crate) fn new(number: u32, shard: Shard) -> Held<N>
+        requires { number < length N.opening }
+        ensures number { result.number ≡ number }
+        ensures shard { result.shard ≡ shard }
+    {
+        Held {
+            number,
+            shard,
+            of: PhantomData,
+        }
+    }
+
+    // The shard with its number.
+    pub(crate) fn open(self) -> (u32, Shard)
+        ensures known { self.number < length N.opening }
+        ensures number { result.0 ≡ self.number }
+        ensures shard { result.1 ≡ self.shard }
+    {
+        let Held {
+            number,
+            shard,
+            of: _,
+        } = self;
+        (number, shard)
+    }
+
+    /// The shard.
+    pub fn shard(&self) -> &Shard
+        ensures { result.now ≡ self.now.shard }
+    {
+        &self.shard
+    }
+
+    /// The shard, to act on it.
+    pub fn shard_mut(&mut self) -> &mut Shard
+        ensures* lends { sem 𝓛 (Lends (the_row N.row N.PhaseName) shard_row self.entry result
+            (λ w. record self.old { shard = w })) }
+        ensures value { result.now ≡ self.old.shard }
+    {
+        &mut self.shard
+    }
+}

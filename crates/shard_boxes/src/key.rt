@@ -1,0 +1,99 @@
+//! A worker's right to take the shards of a phase.
+ghost use Rattle.std.specs.Prelude.{◌≡◌, ◌<◌, ◌∷◌, [], ℕ, true, false, length};
+ghost use Rattle.shard_boxes.specs.States.{state_of, state_at};
+ghost use Rattle.shard_boxes.specs.Lines.{after, lines_of, StartsWith, IsHistory};
+ghost use Rattle.shard_boxes.specs.Limits.{IsWellFormedIfAny};
+ghost use Rattle.shard_boxes.specs.Keys.{taking, putting, lines_at, seen_at, holds_at};
+ghost use Rattle.shard_boxes.specs.Helds.{taken_at, MayPut};
+ghost use Rattle.shard_boxes.specs.Passes.{LeaveState};
+ghost use Rattle.shard_boxes.specs.Seats.{IsPlaceAt};
+ghost use Rattle.shard_boxes.specs.Leaves.{AreFree, own_at};
+
+use crate::line::Line;
+use crate::phase::PhaseName;
+use crate::place::{Leave, Place};
+use item_shards::Shard;
+use std::marker::{Brand, Model, PhantomData};
+use std::sync::Wait;
+
+/// A worker's right to take the shards of a phase. Contracts see of each shard whether the key holds it, the lines that were
+/// put by it, and the list of all workers' lines that it has seen.
+#[derive(Drop)]
+pub struct Key<N: PhaseName> {
+    pub(crate) worker: u32,
+    pub(crate) leaves: Vec<Leave>,
+    pub(crate) of: PhantomData<N>,
+}
+
+impl<N: PhaseName> Model for Key<N> {
+    ghost use Rattle.std.specs.Prelude.{◌≡◌, ◌<◌, length, vec_len};
+    ghost use Rattle.shard_boxes.specs.Keys.{KeyState};
+    ghost use Rattle.shard_boxes.specs.Seats.{key_of, AreFor};
+
+    ghost Value = { KeyState };
+
+    ghost view = { λ k. key_of k.worker k.leaves.items };
+
+    ghost invariant = { λ k. (k.worker < N.workers) × (vec_len k.leaves ≡ length N.opening)
+        × AreFor k.leaves.items k.worker };
+}
+
+impl<N: PhaseName> Key<N> {
+    /// The worker whose key it is.
+    pub fn worker(&self) -> u32
+        ensures value { result ≡ self.now.worker }
+        ensures known { self.now.worker < N.workers }
+        ensures seats { length self.now.seats ≡ length N.opening }
+    {
+        self.worker
+    }
+
+    // Tries until the shard is in the box.
+    pub(crate) fn take<R: Wait>(&mut self, rt: &R, place: &Place<N>, s: usize) -> Shard
+        requires known { s < length N.opening }
+        requires place { IsPlaceAt self.old.boxes s place.now }
+        ensures key { self.new ≡ taking self.old s (seen_at self.new s) }
+        ensures holds { holds_at self.new s ≡ true }
+        ensures history { IsHistory N.opening N.workers s (seen_at self.new s) (state_of result) }
+        ensures later { StartsWith (seen_at self.new s) (seen_at self.old s) }
+        ensures own { lines_of self.old.worker (seen_at self.new s) ≡ lines_at self.old s }
+    {
+        let leave = &mut self.leaves[s];
+        place.take(rt, leave)
+    }
+
+    // Puts the shard back, after the line, where there is one.
+    pub(crate) fn put<R: Wait>(
+        &mut self,
+        rt: &R,
+        place: &Place<N>,
+        s: usize,
+        shard: Shard,
+        line: &Option<Line>,
+    )
+        requires known { s < length N.opening }
+        requires place { IsPlaceAt self.old.boxes s place.now }
+        requires holds { holds_at self.old s ≡ true }
+        requires stars { IsWellFormedIfAny line.now }
+        requires may { MayPut (taken_at N.opening self.old s) (state_of shard) line.now }
+        ensures { self.new ≡ putting self.old s line.now }
+    {
+        let leave = &mut self.leaves[s];
+        place.put::<Brand, R>(rt, leave, shard, line);
+    }
+
+    // The leaves, one for each box.
+    pub(crate) fn leaves(self) -> Vec<Leave>
+        requires { (s : ℕ) → holds_at self s ≡ false }
+        ensures free { AreFree self.boxes self.worker result.items }
+        ensures own { (s : ℕ) (d : LeaveState) → s < length result.items →
+            own_at result.items s d ≡ lines_at self s ∷ [] }
+    {
+        let Key {
+            worker: _,
+            leaves,
+            of: _,
+        } = self;
+        leaves
+    }
+}

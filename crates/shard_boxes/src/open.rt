@@ -1,0 +1,155 @@
+//! How the boxes of a phase are made. All memory is asked for before the first shard lies in its box.
+ghost use Rattle.std.specs.Prelude.{◌≡◌, ◌+◌, ◌-◌, ◌<◌, ◌≤◌, ◌^◌, ℕ, length, map, slice_index_or, vec_len, vec_capacity, IfOk, IfErr};
+ghost use Rattle.shard_boxes.specs.States.{state_of, AreOpened};
+ghost use Rattle.shard_boxes.specs.Keys.{IsNewKey, AreNewKeys};
+ghost use Rattle.shard_boxes.specs.Leaves.{makers, AreReady};
+
+use crate::boxes::Boxes;
+use crate::key::Key;
+use crate::phase::PhaseName;
+use crate::place::{Leave, Place};
+use item_shards::Shard;
+use std::alloc::{AllocError, Global};
+use std::marker::PhantomData;
+use std::sync::Wait;
+
+impl<N: PhaseName> Boxes<N> {
+    /// A box for each of 1 to 64 shards, and a key for each of 1 to 16 workers. The shards are numbered from 0, each of as
+    /// many as there are, at clock 0. Without memory they come back as they were. No other call asks for memory.
+    pub fn new<R: Wait>(
+        rt: &R,
+        alloc: Global,
+        shards: Vec<Shard>,
+        workers: u32,
+    ) -> Result<(Boxes<N>, Vec<Key<N>>), (Vec<Shard>, AllocError)>
+        requires opening { map state_of shards.items ≡ N.opening }
+        requires few { (0 < length N.opening) × (length N.opening ≤ 64) }
+        requires opened { AreOpened N.opening }
+        requires workers { workers ≡ N.workers }
+        requires some { (0 < N.workers) × (N.workers ≤ 16) }
+        ensures boxes { IfOk result (λ r. length r.0 ≡ length N.opening) }
+        ensures keys { IfOk result (λ r. AreNewKeys r.0 N.workers r.1.items) }
+        ensures err { IfErr result (λ e. e.0 ≡ shards) }
+    {
+        let count = shards.len();
+        let Ok((places, leaves)) = make_places::<N>(alloc, count) else {
+            return Err((shards, AllocError));
+        };
+        let Ok(rooms) = make_rooms(alloc, count, workers) else {
+            return Err((shards, AllocError));
+        };
+        let Ok(keys) = Vec::with_capacity(alloc, workers as usize) else {
+            return Err((shards, AllocError));
+        };
+        let Ok(answer) = Vec::with_capacity(alloc, count) else {
+            return Err((shards, AllocError));
+        };
+        let leaves = open_all(rt, &places, leaves, shards);
+        let keys = deal_all(&places, leaves, rooms, keys);
+        Ok((Boxes { places, answer }, keys))
+    }
+}
+
+// So many empty boxes, and their makers' leaves.
+fn make_places<N: PhaseName>(
+    alloc: Global,
+    count: usize,
+) -> Result<(Vec<Place<N>>, Vec<Leave>), AllocError>
+    requires workers { 0 < N.workers }
+    requires shards { 0 < length N.opening }
+    requires opened { AreOpened N.opening }
+    ensures len { IfOk result (λ r. vec_len r.0 ≡ count) }
+    ensures leaves { IfOk result (λ r. r.1.items ≡ makers N.workers r.0.items) }
+{
+    let mut places = Vec::new(alloc);
+    let mut leaves = Vec::new(alloc);
+    for _ in 0..count {
+        let (place, leave) = Place::new(alloc)?;
+        places.push(place)?;
+        leaves.push(leave)?;
+    }
+    Ok((places, leaves))
+}
+
+// For each worker the room for its leaves.
+fn make_rooms(alloc: Global, count: usize, workers: u32) -> Result<Vec<Vec<Leave>>, AllocError>
+    ensures len { IfOk result (λ v. vec_len v ≡ workers) }
+    ensures each { IfOk result (λ v. (w : ℕ) (d : _) → w < workers →
+        (vec_len (slice_index_or v.items w d) ≡ 0) × (count ≤ vec_capacity (slice_index_or v.items w d))) }
+{
+    let mut rooms = Vec::new(alloc);
+    for _ in 0..workers {
+        rooms.push(Vec::with_capacity(alloc, count)?)?;
+    }
+    Ok(rooms)
+}
+
+// Puts each shard into its box.
+fn open_all<N: PhaseName, R: Wait>(
+    rt: &R,
+    places: &[Place<N>],
+    mut leaves: Vec<Leave>,
+    shards: Vec<Shard>,
+) -> Vec<Leave>
+    requires opening { map state_of shards.items ≡ N.opening }
+    requires opened { AreOpened N.opening }
+    requires places { length places.now ≡ length N.opening }
+    requires leaves { leaves.items ≡ makers N.workers places.now }
+    ensures { AreReady places.now 0 N.workers result.items }
+{
+    let mut s = 0;
+    for shard in shards {
+        places[s].open(rt, &mut leaves[s], shard);
+        s += 1;
+    }
+    leaves
+}
+
+// A key for each worker.
+fn deal_all<N: PhaseName>(
+    places: &[Place<N>],
+    mut leaves: Vec<Leave>,
+    rooms: Vec<Vec<Leave>>,
+    mut keys: Vec<Key<N>>,
+) -> Vec<Key<N>>
+    requires places { length places.now ≡ length N.opening }
+    requires leaves { AreReady places.now 0 N.workers leaves.items }
+    requires workers { N.workers < 2 ^ 32 }
+    requires rooms { vec_len rooms ≡ N.workers }
+    requires each { (w : ℕ) (d : _) → w < N.workers →
+        (vec_len (slice_index_or rooms.items w d) ≡ 0)
+        × (length N.opening ≤ vec_capacity (slice_index_or rooms.items w d)) }
+    requires keys { (vec_len keys ≡ 0) × (N.workers ≤ vec_capacity keys) }
+    ensures { AreNewKeys places.now N.workers result.items }
+{
+    let mut worker = 0;
+    for room in rooms {
+        keys.push_reserved(deal(places, &mut leaves, room, worker));
+        worker += 1;
+    }
+    keys
+}
+
+// The key of the first worker for whom the leaves speak.
+fn deal<N: PhaseName>(
+    places: &[Place<N>],
+    leaves: &mut Vec<Leave>,
+    mut room: Vec<Leave>,
+    worker: u32,
+) -> Key<N>
+    requires worker { worker < N.workers }
+    requires places { length places.now ≡ length N.opening }
+    requires leaves { AreReady places.now worker (N.workers - worker) leaves.old.items }
+    requires room { (vec_len room ≡ 0) × (length N.opening ≤ vec_capacity room) }
+    ensures leaves { AreReady places.now (worker + 1) (N.workers - (worker + 1)) leaves.new.items }
+    ensures key { IsNewKey places.now worker result }
+{
+    for s in 0..places.len() {
+        room.push_reserved(places[s].deal(&mut leaves[s]));
+    }
+    Key {
+        worker,
+        leaves: room,
+        of: PhantomData,
+    }
+}
