@@ -2,5 +2,6 @@ pub mod ListedLemmas
 pub mod NameLemmas
 pub mod RecordsLeft
 pub mod ReplyOrder
+pub mod RowsFirst
 pub mod SoFar
 pub mod SortLemmas

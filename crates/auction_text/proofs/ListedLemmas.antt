@@ -1,8 +1,9 @@
 -- A text that lists the elements of a list.
-use Rattle.std.proofs.Common.{◌≡◌, ◌++◌, ◌+◌, ◌<◌, ℕ, List, [], ◌∷◌, Some, take, get_or, slice_get, length, append_assoc, refl}
-use Rattle.std.specs.List.{flat_map}
+use Rattle.std.proofs.Common.{◌≡◌, ◌++◌, ◌+◌, ◌<◌, ℕ, List, [], ◌∷◌, Option, Some, None, option_to_list, take, get_or, slice_get, length, append_assoc, refl, sym, ap, ◌∙◌}
+use Rattle.std.specs.List.{filter_map, flat_map}
 use Rattle.std.proofs.lemmas.Grind.{flat_map-append}
 use Rattle.std.proofs.lemmas.List.{append-nil, take_more}
+use Rattle.std.proofs.lemmas.List.Elements.{filter_map-append}
 use Rattle.std.proofs.lemmas.Option.{slice_get-get_or, slice_get_within}
 
 -- what stands before a list, its first elements and the next one
@@ -12,3 +13,11 @@ listed_more f text word xs i x e =
     let within : i < length xs = slice_get_within xs i x e in
     let here : get_or xs i x ≡ x = cc (slice_get-get_or xs i x within, e) in
     rw (take_more xs i x within, here, flat_map-append f (take i xs) (x ∷ []), append-nil (f x), append_assoc, append_assoc) refl
+
+-- what stands before a list, those that its first elements stand for, and the one of the next, if there is one
+pub listed_some : {X Y : Type 0} (f : Y → List ℕ) (h : X → Option Y) (text : List ℕ) (xs : List X) (i : ℕ) (x : X) (found : Option Y) → i < length xs → x ≡ get_or xs i x → h x ≡ found
+    → (text ++ flat_map f (filter_map h (take i xs))) ++ flat_map f (option_to_list found) ≡ text ++ flat_map f (filter_map h (take (i + 1) xs))
+listed_some f h text xs i x None within here is =
+    rw (take_more xs i x within, sym here, filter_map-append h (take i xs) (x ∷ []), is) (append-nil (text ++ flat_map f (filter_map h (take i xs))) ∙ ap (λ (l : List _). text ++ flat_map f l) (sym (append-nil (filter_map h (take i xs)))))
+listed_some f h text xs i x (Some y) within here is =
+    rw (take_more xs i x within, sym here, filter_map-append h (take i xs) (x ∷ []), is, flat_map-append f (filter_map h (take i xs)) (y ∷ []), append_assoc) refl

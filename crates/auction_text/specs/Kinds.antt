@@ -1,19 +1,41 @@
 -- The kinds of records.
-use Rattle.std.specs.Prelude.{ℕ, ◌==◌, List, Bool, ◌||◌, codes, Option, Some, None, if◌then◌else◌}
+use Rattle.std.specs.Prelude.{ℕ, ◌==◌, List, Bool, true, false, ◌||◌, codes, Option, Some, None, if◌then◌else◌}
 use Rattle.std.specs.Str.{bytes_eq}
 use Rattle.auction_text.specs.declared.kinds.Kind.{Kind}
-use Rattle.auction_text.specs.declared.kinds.Kind.TheVariants as kind
+use Rattle.auction_text.specs.declared.kinds.RequestKind.{RequestKind}
+use Rattle.auction_text.specs.declared.kinds.RequestKind.TheVariants as kind
+
+-- a request of a kind, and a row that such a request would add
+abbrev pub request : RequestKind → Kind
+request k = record { is_row = false; request = k }
+
+abbrev pub row : RequestKind → Kind
+row k = record { is_row = true; request = k }
 
 -- the kind that a word names
 abbrev pub kind_of : List ℕ → Option Kind
 kind_of word =
-    if bytes_eq word (codes "item") then Some kind.Item
-    else if bytes_eq word (codes "bid") then Some kind.Bid
-    else if bytes_eq word (codes "viewitem") then Some kind.ViewItem
+    if bytes_eq word (codes "item") then Some (request kind.Item)
+    else if bytes_eq word (codes "bid") then Some (request kind.Bid)
+    else if bytes_eq word (codes "comment") then Some (request kind.Comment)
+    else if bytes_eq word (codes "buynow") then Some (request kind.BuyNow)
+    else if bytes_eq word (codes "viewitem") then Some (request kind.ViewItem)
+    else if bytes_eq word (codes "viewbids") then Some (request kind.ViewBids)
+    else if bytes_eq word (codes "viewcategory") then Some (request kind.ViewCategory)
+    else if bytes_eq word (codes "viewuser") then Some (request kind.ViewUser)
+    else if bytes_eq word (codes "+item") then Some (row kind.Item)
+    else if bytes_eq word (codes "+bid") then Some (row kind.Bid)
+    else if bytes_eq word (codes "+comment") then Some (row kind.Comment)
+    else if bytes_eq word (codes "+buynow") then Some (row kind.BuyNow)
     else None
 
--- whether a record of a kind may have so many fields
-abbrev pub has_count : Kind → ℕ → Bool
+-- whether a record of a request's kind may have so many fields
+abbrev pub has_count : RequestKind → ℕ → Bool
 has_count kind.Item count = (count == 8) || (count == 9)
 has_count kind.Bid count = count == 6
+has_count kind.Comment count = count == 6
+has_count kind.BuyNow count = count == 6
 has_count kind.ViewItem count = count == 3
+has_count kind.ViewBids count = count == 3
+has_count kind.ViewCategory count = count == 3
+has_count kind.ViewUser count = count == 3

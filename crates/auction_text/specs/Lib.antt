@@ -4,5 +4,6 @@ pub mod Order
 pub mod Reading
 pub mod Records
 pub mod Replies
+pub mod RowLines
 pub mod Scripts
 pub mod Writing

@@ -1,10 +1,10 @@
 -- What the functions that read scripts say of their readers and of what was asked so far.
-use Rattle.std.specs.Prelude.{ℕ, ◌≡◌, ◌++◌, [], ◌∷◌, true, replicate, slice_index_or, slice_set}
+use Rattle.std.specs.Prelude.{ℕ, ◌≡◌, ◌++◌, [], ◌∷◌, true, replicate, slice_index_or, slice_set, if◌then◌else◌}
 use Rattle.csv.specs.Reading.{Ready, default_config, is_flexible, reader_config, reader_trim}
 use Rattle.csv.specs.declared.reader.Reader.{Reader}
 use Rattle.csv.specs.declared.reader.Trim.TheVariants as trim
-use Rattle.auction_rows.specs.declared.requests.Request.{Request}
-use Rattle.auction_text.specs.Scripts.{Asked}
+use Rattle.auction_text.specs.Scripts.{Asked, as_row}
+use Rattle.auction_text.specs.declared.record.Record.{Record}
 use Rattle.auction_text.specs.declared.faults.ReadFault.{ReadFault}
 use Rattle.auction_text.specs.declared.faults.ReadFault.TheVariants as fault
 
@@ -16,9 +16,11 @@ IsPlain r = (reader_config r ≡ default_config) × (reader_trim r ≡ trim.None
 abbrev pub nothing_asked : ℕ → Asked
 nothing_asked workers = record { rows = []; scripts = replicate workers [] }
 
--- the same with one more request at the end of worker w's script
-abbrev pub with_request : ℕ → Request → Asked → Asked
-with_request w request asked = record asked { scripts = slice_set asked.scripts w (slice_index_or asked.scripts w [] ++ (request ∷ [])) }
+-- the same with one more record: a row at the end of the rows, a request at the end of its worker's script
+abbrev pub with_record : Record → Asked → Asked
+with_record said asked =
+    if said.is_row then record asked { rows = asked.rows ++ (as_row said ∷ []) }
+    else record asked { scripts = slice_set asked.scripts said.worker (slice_index_or asked.scripts said.worker [] ++ (said.request ∷ [])) }
 
 -- a fault of the input itself, and not of the reader or of memory
 abbrev pub IsInputFault : ReadFault → Type 0

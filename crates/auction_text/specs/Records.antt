@@ -1,19 +1,21 @@
--- What one record says: a worker and its request, or the first fault.
-use Rattle.std.specs.Prelude.{ℕ, ◌==◌, List, [], length, nat_lt, Result, Ok, Err, if◌then◌else◌}
+-- What one record says: a worker's request, or a row, or the first fault.
+use Rattle.std.specs.Prelude.{ℕ, ℤ, Bool, ◌&&◌, ◌==◌, List, [], length, nat_lt, Result, Ok, Err, if◌then◌else◌}
 use Rattle.std.specs.Option.{unwrap_or, ok_or}
 use Rattle.std.specs.Result.{result_map_both}
 use Rattle.csv.specs.Records.{field_at}
 use Rattle.auction_rows.specs.declared.ids.ItemId.{ItemId}
 use Rattle.auction_rows.specs.declared.requests.Request.{Request}
 use Rattle.auction_rows.specs.declared.requests.Request.TheVariants as request
-use Rattle.auction_text.specs.Fields.{number, item_id, name, quantity}
+use Rattle.auction_text.specs.Fields.{number, item_id, name, quantity, stars}
 use Rattle.auction_text.specs.Kinds.{kind_of, has_count}
 use Rattle.auction_text.specs.declared.faults.Cause.{Cause}
 use Rattle.auction_text.specs.declared.faults.Cause.TheVariants as cause
 use Rattle.auction_text.specs.declared.faults.ReadFault.{ReadFault}
 use Rattle.auction_text.specs.declared.faults.ReadFault.TheVariants as fault
 use Rattle.auction_text.specs.declared.kinds.Kind.{Kind}
-use Rattle.auction_text.specs.declared.kinds.Kind.TheVariants as kind
+use Rattle.auction_text.specs.declared.kinds.RequestKind.{RequestKind}
+use Rattle.auction_text.specs.declared.kinds.RequestKind.TheVariants as kind
+use Rattle.auction_text.specs.declared.record.Record.{Record}
 
 -- the field at a place, empty past the last
 abbrev pub field : List (List ℕ) → ℕ → List ℕ
@@ -32,6 +34,9 @@ name_at fields place = ok_or (name (field fields place)) cause.Name
 abbrev pub quantity_at : List (List ℕ) → ℕ → Result ℕ Cause
 quantity_at fields place = ok_or (quantity (field fields place)) cause.Quantity
 
+abbrev pub stars_at : List (List ℕ) → ℕ → Result ℤ Cause
+stars_at fields place = ok_or (stars (field fields place)) cause.Stars
+
 -- how many of an item are put up: what the ninth field says, or one
 abbrev pub put_up : List (List ℕ) → Result ℕ Cause
 put_up fields = if length fields == 9 then quantity_at fields 8 else Ok 1
@@ -41,8 +46,8 @@ abbrev pub and_then : {A B E : Type 0} → Result A E → (A → Result B E) →
 and_then (Ok x) next = next x
 and_then (Err e) next = Err e
 
--- the request of a record of a kind, or why there is none
-abbrev pub request_of : Kind → List (List ℕ) → Result Request Cause
+-- the request that these fields of its kind state, or what is wrong with them
+abbrev pub request_of : RequestKind → List (List ℕ) → Result Request Cause
 request_of kind.Item fields =
     and_then (number_at 32 fields 2) (λ seller.
     and_then (number_at 32 fields 3) (λ category.
@@ -58,21 +63,48 @@ request_of kind.Bid fields =
     and_then (number_at 64 fields 4) (λ amount.
     and_then (number_at 64 fields 5) (λ time.
     Ok (request.StoreBid bidder item amount time)))))
+request_of kind.Comment fields =
+    and_then (number_at 32 fields 2) (λ author.
+    and_then (number_at 32 fields 3) (λ about.
+    and_then (item_at fields 4) (λ item.
+    and_then (stars_at fields 5) (λ stars.
+    Ok (request.StoreComment author about item stars)))))
+request_of kind.BuyNow fields =
+    and_then (number_at 32 fields 2) (λ buyer.
+    and_then (item_at fields 3) (λ item.
+    and_then (quantity_at fields 4) (λ quantity.
+    and_then (number_at 64 fields 5) (λ time.
+    Ok (request.BuyNow buyer item quantity time)))))
 request_of kind.ViewItem fields =
     and_then (item_at fields 2) (λ item.
     Ok (request.ViewItem item))
+request_of kind.ViewBids fields =
+    and_then (item_at fields 2) (λ item.
+    Ok (request.ViewBids item))
+request_of kind.ViewCategory fields =
+    and_then (number_at 32 fields 2) (λ category.
+    Ok (request.ViewCategory category))
+request_of kind.ViewUser fields =
+    and_then (number_at 32 fields 2) (λ user.
+    Ok (request.ViewUser user))
 
--- the request of a record of these fields, or why there is none
-abbrev pub checked_request : List (List ℕ) → Result Request Cause
-checked_request fields =
-    if nat_lt (length fields) 2 then Err cause.Fields
-    else and_then (ok_or (kind_of (field fields 1)) cause.Kind) (λ kind.
-    if has_count kind (length fields) then request_of kind fields else Err cause.Fields)
+-- the kind of a record, or why it has none
+abbrev pub kind_in : List (List ℕ) → Result Kind Cause
+kind_in fields = if nat_lt (length fields) 2 then Err cause.Fields else ok_or (kind_of (field fields 1)) cause.Kind
 
--- the worker and the request of the record with this number, or its first fault
-abbrev pub read_record : ℕ → ℕ → List (List ℕ) → Result (ℕ × Request) ReadFault
-read_record workers place fields =
+-- what a record of worker w says, or what is wrong with it; `begun` tells whether a request stands before it
+abbrev pub checked : Bool → ℕ → List (List ℕ) → Result Record Cause
+checked begun w fields =
+    and_then (kind_in fields) (λ kind.
+    if kind.is_row && begun then Err cause.Late
+    else if has_count kind.request (length fields)
+    then and_then (request_of kind.request fields) (λ request. Ok (record { is_row = kind.is_row; worker = w; request = request }))
+    else Err cause.Fields)
+
+-- what the record with this number says, or its first fault
+abbrev pub read_record : ℕ → ℕ → Bool → List (List ℕ) → Result Record ReadFault
+read_record workers place begun fields =
     and_then (ok_or (number 32 (field fields 0)) (fault.Line place cause.Number)) (λ worker.
     if nat_lt worker workers
-    then result_map_both (λ request. (worker, request)) (λ cause. fault.Line place cause) (checked_request fields)
+    then result_map_both (λ said. said) (λ cause. fault.Line place cause) (checked begun worker fields)
     else Err (fault.Worker place))

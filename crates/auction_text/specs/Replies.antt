@@ -1,4 +1,4 @@
--- The texts of replies.
+-- The texts of replies and of histories.
 use Rattle.std.specs.Prelude.{ℕ, ℤ, List, ◌++◌, codes, decimal, Option, Some, None}
 use Rattle.std.specs.Fmt.{signed_decimal}
 use Rattle.std.specs.List.{flat_map}
@@ -80,10 +80,24 @@ reply_text (reply.Refused why) = refusal_text why
 abbrev pub reply_line : Entry → List ℕ
 reply_line entry = decimal entry.worker ++ labelled (codes ",") entry.index ++ codes "," ++ reply_text entry.reply ++ codes "\n"
 
--- a line for each entry
-abbrev pub lines : (Entry → List ℕ) → List Entry → List ℕ
-lines line entries = flat_map line entries
+-- where an entry stands in a history: its phase and number, its worker and the index of its request
+abbrev pub place_text : Entry → List ℕ
+place_text entry =
+    decimal entry.phase ++ labelled (codes " ") entry.number
+    ++ labelled (codes " ") entry.worker ++ labelled (codes " ") entry.index
+
+-- the line of an entry in a history
+abbrev pub history_line : Entry → List ℕ
+history_line entry = place_text entry ++ codes " " ++ reply_text entry.reply ++ codes "\n"
+
+-- a line for each
+abbrev pub lines : {X : Type 0} → (X → List ℕ) → List X → List ℕ
+lines line xs = flat_map line xs
 
 -- the replies of entries: a line for each, by worker, then index, then place
 abbrev pub replies_text : List Entry → List ℕ
 replies_text entries = lines reply_line (in_order entries)
+
+-- a history: a line for each entry, as they stand
+abbrev pub history_text : List Entry → List ℕ
+history_text entries = lines history_line entries

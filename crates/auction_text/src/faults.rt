@@ -1,5 +1,6 @@
 //! Why an input gives no scripts, and why a text was not written.
 
+use crate::scripts::MOST_RECORDS;
 use thiserror::Error;
 
 /// What is wrong with a record.
@@ -11,6 +12,9 @@ pub enum Cause {
     /// The second field is not a kind.
     #[error("unknown kind")]
     Kind,
+    /// A row stands after a request.
+    #[error("row after a request")]
+    Late,
     /// There are more or fewer fields than the kind has.
     #[error("wrong number of fields")]
     Fields,
@@ -23,6 +27,9 @@ pub enum Cause {
     /// A field is not a number from 1 to 1,000,000.
     #[error("not a quantity")]
     Quantity,
+    /// A field is not a number from -5 to 5.
+    #[error("not stars")]
+    Stars,
 }
 
 /// Why an input gives no scripts. Records are counted from 1.
@@ -41,7 +48,7 @@ pub enum ReadFault {
     #[error("no memory")]
     Memory,
     /// There are more records than `MOST_RECORDS`.
-    #[error("more than 16000000 records")]
+    #[error("more than {} records", MOST_RECORDS)]
     Long,
 }
 

@@ -3,9 +3,9 @@ ghost use Rattle.std.specs.Prelude.{◌≡◌, ◌≤◌, ◌<◌, ◌^◌, true
 ghost use Rattle.std.specs.List.{list_all, position};
 ghost use Rattle.std.specs.Char.{is_ascii_digit};
 ghost use Rattle.std.specs.Str.Parse.{digits_value};
-ghost use Rattle.auction_text.specs.Fields.{is_numeral, is_point, item_id, name, number, quantity};
+ghost use Rattle.auction_text.specs.Fields.{is_numeral, is_point, item_id, name, number, quantity, stars};
 
-use auction_rows::{ItemId, Name, Quantity};
+use auction_rows::{ItemId, Name, Quantity, Stars};
 
 fn are_digits(bytes: &[u8]) -> bool
     ensures { result ≡ list_all is_ascii_digit bytes.now }
@@ -64,6 +64,17 @@ pub fn read_quantity(field: &[u8]) -> Option<Quantity>
     ensures { result ≡ quantity field.now }
 {
     Quantity::new(read_u64(field)?)
+}
+
+/// Stars: `0` to `5`, or a minus and then `1` to `5`.
+pub fn read_stars(field: &[u8]) -> Option<Stars>
+    ensures { result ≡ stars field.now }
+{
+    match field {
+        [digit @ b'0'..=b'5'] => Stars::new(i64::from(*digit - b'0')),
+        [b'-', digit @ b'1'..=b'5'] => Stars::new(-i64::from(*digit - b'0')),
+        _ => None,
+    }
 }
 
 /// A name: 1 to 32 bytes, each from 0x20 to 0x7E.

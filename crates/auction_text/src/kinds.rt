@@ -1,13 +1,45 @@
 //! The kinds of records.
 ghost use Rattle.std.specs.Prelude.{◌≡◌};
-ghost use Rattle.auction_text.specs.Kinds.{has_count, kind_of};
+ghost use Rattle.auction_text.specs.Kinds.{has_count, kind_of, request, row};
 
-/// What a record asks for.
-#[derive(Clone, Copy, PartialEq, Eq)]
-pub enum Kind {
+/// What a request asks for.
+#[derive(Clone, Copy)]
+pub enum RequestKind {
     Item,
     Bid,
+    Comment,
+    BuyNow,
     ViewItem,
+    ViewBids,
+    ViewCategory,
+    ViewUser,
+}
+
+/// What a record is: a request of a kind, or a row that such a request would add.
+#[derive(Clone, Copy)]
+pub struct Kind {
+    pub is_row: bool,
+    pub request: RequestKind,
+}
+
+impl Kind {
+    fn request(kind: RequestKind) -> Kind
+        ensures { result ≡ request kind }
+    {
+        Kind {
+            is_row: false,
+            request: kind,
+        }
+    }
+
+    fn row(kind: RequestKind) -> Kind
+        ensures { result ≡ row kind }
+    {
+        Kind {
+            is_row: true,
+            request: kind,
+        }
+    }
 }
 
 /// The kind that a record's second field names.
@@ -15,23 +47,46 @@ pub fn kind_named(word: &[u8]) -> Option<Kind>
     ensures { result ≡ kind_of word.now }
 {
     if word == b"item".as_slice() {
-        Some(Kind::Item)
+        Some(Kind::request(RequestKind::Item))
     } else if word == b"bid".as_slice() {
-        Some(Kind::Bid)
+        Some(Kind::request(RequestKind::Bid))
+    } else if word == b"comment".as_slice() {
+        Some(Kind::request(RequestKind::Comment))
+    } else if word == b"buynow".as_slice() {
+        Some(Kind::request(RequestKind::BuyNow))
     } else if word == b"viewitem".as_slice() {
-        Some(Kind::ViewItem)
+        Some(Kind::request(RequestKind::ViewItem))
+    } else if word == b"viewbids".as_slice() {
+        Some(Kind::request(RequestKind::ViewBids))
+    } else if word == b"viewcategory".as_slice() {
+        Some(Kind::request(RequestKind::ViewCategory))
+    } else if word == b"viewuser".as_slice() {
+        Some(Kind::request(RequestKind::ViewUser))
+    } else if word == b"+item".as_slice() {
+        Some(Kind::row(RequestKind::Item))
+    } else if word == b"+bid".as_slice() {
+        Some(Kind::row(RequestKind::Bid))
+    } else if word == b"+comment".as_slice() {
+        Some(Kind::row(RequestKind::Comment))
+    } else if word == b"+buynow".as_slice() {
+        Some(Kind::row(RequestKind::BuyNow))
     } else {
         None
     }
 }
 
-/// Whether a record of a kind may have so many fields.
-pub fn has_count(kind: Kind, count: usize) -> bool
+/// Whether a record of a request's kind may have so many fields.
+pub fn has_count(kind: RequestKind, count: usize) -> bool
     ensures { result ≡ has_count kind count }
 {
     match kind {
-        Kind::Item => count == 8 || count == 9,
-        Kind::Bid => count == 6,
-        Kind::ViewItem => count == 3,
+        RequestKind::Item => count == 8 || count == 9,
+        RequestKind::Bid => count == 6,
+        RequestKind::Comment => count == 6,
+        RequestKind::BuyNow => count == 6,
+        RequestKind::ViewItem => count == 3,
+        RequestKind::ViewBids => count == 3,
+        RequestKind::ViewCategory => count == 3,
+        RequestKind::ViewUser => count == 3,
     }
 }

@@ -1,21 +1,29 @@
-//! The texts of an auction: the scripts that are read, and the replies that are written.
+//! The texts of an auction: the scripts that are read, and the replies, histories and rows that are
+//! written.
 #![tactic(auto)]
 
 mod faults;
 mod fields;
 mod kinds;
+mod reading_laws;
 mod record;
 mod replies;
+mod row_lines;
 mod scripts;
 mod text;
 mod text_laws;
 mod writing;
 
 pub use faults::{Cause, ReadFault, WriteFault};
+pub use reading_laws::rows_come_first;
 pub use scripts::{Input, MOST_RECORDS, read_scripts};
-pub use text_laws::replies_in_order;
-pub use writing::write_replies;
+pub use text_laws::{replies_in_order, rows_of_histories};
+pub use writing::{write_history, write_replies, write_rows};
 
+#[cfg(test)]
+mod history_tests;
+#[cfg(test)]
+mod kinds_tests;
 #[cfg(test)]
 mod reading_tests;
 #[cfg(test)]

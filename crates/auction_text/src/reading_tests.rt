@@ -40,7 +40,7 @@ fn read_one(alloc: Global, text: &[u8]) -> Result<Input, ReadFault>
     read_scripts(alloc, text, 1)
 }
 
-fn line(number: u32, cause: Cause) -> ReadFault {
+pub fn line(number: u32, cause: Cause) -> ReadFault {
     ReadFault::Line(number, cause)
 }
 
@@ -49,7 +49,7 @@ fn count_in(alloc: Global, text: &[u8]) -> Result<usize, ReadFault> {
     Ok(read_one(alloc, text)?.scripts[0].len())
 }
 
-fn fault_in(alloc: Global, text: &[u8]) -> Option<ReadFault> {
+pub fn fault_in(alloc: Global, text: &[u8]) -> Option<ReadFault> {
     count_in(alloc, text).err()
 }
 
@@ -64,7 +64,7 @@ fn fault_after(alloc: Global, cut: usize) -> Option<ReadFault> {
 }
 
 // The only request of a text.
-fn request_in(alloc: Global, text: &[u8]) -> Result<Request, Fail> {
+pub fn request_in(alloc: Global, text: &[u8]) -> Result<Request, Fail> {
     let input = read_one(alloc, text)?;
     let request = input.scripts[0].first().ok_or("no request")?;
     Ok(*request)
@@ -109,8 +109,8 @@ fn first_faults(rt: HostRuntime) {
         (b"5,foo", ReadFault::Worker(1)),
         (b"1,viewitem,0.0", ReadFault::Worker(1)),
         (b"0,Item", line(1, Cause::Kind)),
-        (b"0,viewuser,0", line(1, Cause::Kind)),
-        (b"0,+item,0,0,Vase,10,100,1", line(1, Cause::Kind)),
+        (b"0,viewusers,0", line(1, Cause::Kind)),
+        (b"0,", line(1, Cause::Kind)),
         (b"0,bid,01,0.0,10,5", line(1, Cause::Number)),
         (b"0,bid,+1,0.0,10,5", line(1, Cause::Number)),
         (b"0,bid,-1,0.0,10,5", line(1, Cause::Number)),
@@ -175,7 +175,7 @@ fn requests_read(rt: HostRuntime) -> Result<(), Fail> {
         closes: 100,
         quantity: Quantity::new(1_000_000).ok_or("a quantity")?,
     };
-    let table: [(&[u8], Request); 3] = [
+    let table: [(&[u8], Request); 4] = [
         (
             b"0,item,4294967295,7,\"Red, blue\",10,100,1,1000000",
             Request::StoreItem { facts, time: 1 },
@@ -189,25 +189,20 @@ fn requests_read(rt: HostRuntime) -> Result<(), Fail> {
                 time: 0,
             },
         ),
+        (
+            b"0,bid,0,0.0,0,18446744073709551615",
+            Request::StoreBid {
+                bidder: 0,
+                item: ItemId::default(),
+                amount: 0,
+                time: 18_446_744_073_709_551_615,
+            },
+        ),
         (b"\n\n0,viewitem,15.999\n", Request::ViewItem { item }),
     ];
     for (text, want) in table {
         assert_eq!(rt; request_in(rt.alloc(), text)?, want, "of {text:?}");
     }
-    Ok(())
-}
-
-#[test]
-fn names_and_quantities(rt: HostRuntime) -> Result<(), Fail> {
-    let text = b"0,item,0,0,abcdefghijklmnopqrstuvwxyz 12345,10,100,1";
-    let Request::StoreItem { facts, .. } = request_in(rt.alloc(), text)? else {
-        return Err(Fail::from("no item"));
-    };
-    assert_eq!(rt;
-        facts.name.bytes(),
-        b"abcdefghijklmnopqrstuvwxyz 12345".as_slice()
-    );
-    assert_eq!(rt; facts.quantity.value(), 1);
     Ok(())
 }
 
@@ -247,10 +242,12 @@ fn texts_of_faults(rt: HostRuntime) -> Result<(), Fail> {
     let table = [
         (line(1, Cause::Number), "record 1: not a number"),
         (line(2, Cause::Kind), "record 2: unknown kind"),
+        (line(2, Cause::Late), "record 2: row after a request"),
         (line(3, Cause::Fields), "record 3: wrong number of fields"),
         (line(40, Cause::Item), "record 40: not an item id"),
         (line(16_000_000, Cause::Name), "record 16000000: not a name"),
         (line(6, Cause::Quantity), "record 6: not a quantity"),
+        (line(5, Cause::Stars), "record 5: not stars"),
         (ReadFault::Worker(7), "record 7: no such worker"),
         (ReadFault::Read, "input cannot be read"),
         (ReadFault::Memory, "no memory"),

@@ -1,13 +1,21 @@
-//! One record: a worker and its request, or the first fault.
+//! One record: a worker's request, or a row, or the first fault.
 ghost use Rattle.std.specs.Prelude.{◌≡◌, ◌<◌, IfOk};
 ghost use Rattle.csv.specs.Records.{fields_of};
-ghost use Rattle.auction_text.specs.Records.{checked_request, field, item_at, name_at, number_at, put_up, quantity_at, read_record, request_of};
+ghost use Rattle.auction_text.specs.Records.{checked, field, item_at, kind_in, name_at, number_at, put_up, quantity_at, read_record, request_of, stars_at};
 
 use crate::faults::{Cause, ReadFault};
-use crate::fields::{read_item_id, read_name, read_quantity, read_u32, read_u64};
-use crate::kinds::{Kind, has_count, kind_named};
-use auction_rows::{Facts, ItemId, Name, Quantity, Request};
+use crate::fields::{read_item_id, read_name, read_quantity, read_stars, read_u32, read_u64};
+use crate::kinds::{Kind, RequestKind, has_count, kind_named};
+use auction_rows::{Facts, ItemId, Name, Quantity, Request, Stars};
 use csv::ByteRecord;
+
+/// What a record without a fault says: a worker's request, or a row that its request would add.
+#[derive(Clone, Copy)]
+pub struct Record {
+    pub is_row: bool,
+    pub worker: u32,
+    pub request: Request,
+}
 
 fn field_of(fields: &ByteRecord, place: usize) -> &[u8]
     ensures { result.now ≡ field (fields_of fields.now) place }
@@ -45,6 +53,12 @@ fn quantity_at(fields: &ByteRecord, place: usize) -> Result<Quantity, Cause>
     read_quantity(field_of(fields, place)).ok_or(Cause::Quantity)
 }
 
+fn stars_at(fields: &ByteRecord, place: usize) -> Result<Stars, Cause>
+    ensures { result ≡ stars_at (fields_of fields.now) place }
+{
+    read_stars(field_of(fields, place)).ok_or(Cause::Stars)
+}
+
 // How many of an item are put up: one where the record doesn't say.
 fn put_up(fields: &ByteRecord) -> Result<Quantity, Cause>
     ensures { result ≡ put_up (fields_of fields.now) }
@@ -57,7 +71,7 @@ fn put_up(fields: &ByteRecord) -> Result<Quantity, Cause>
 }
 
 fn store_item(fields: &ByteRecord) -> Result<Request, Cause>
-    ensures { result ≡ request_of Kind.Item (fields_of fields.now) }
+    ensures { result ≡ request_of RequestKind.Item (fields_of fields.now) }
 {
     let seller = u32_at(fields, 2)?;
     let category = u32_at(fields, 3)?;
@@ -78,7 +92,7 @@ fn store_item(fields: &ByteRecord) -> Result<Request, Cause>
 }
 
 fn store_bid(fields: &ByteRecord) -> Result<Request, Cause>
-    ensures { result ≡ request_of Kind.Bid (fields_of fields.now) }
+    ensures { result ≡ request_of RequestKind.Bid (fields_of fields.now) }
 {
     let bidder = u32_at(fields, 2)?;
     let item = item_at(fields, 3)?;
@@ -92,38 +106,118 @@ fn store_bid(fields: &ByteRecord) -> Result<Request, Cause>
     })
 }
 
+fn store_comment(fields: &ByteRecord) -> Result<Request, Cause>
+    ensures { result ≡ request_of RequestKind.Comment (fields_of fields.now) }
+{
+    let author = u32_at(fields, 2)?;
+    let about = u32_at(fields, 3)?;
+    let item = item_at(fields, 4)?;
+    let stars = stars_at(fields, 5)?;
+    Ok(Request::StoreComment {
+        author,
+        about,
+        item,
+        stars,
+    })
+}
+
+fn buy_now(fields: &ByteRecord) -> Result<Request, Cause>
+    ensures { result ≡ request_of RequestKind.BuyNow (fields_of fields.now) }
+{
+    let buyer = u32_at(fields, 2)?;
+    let item = item_at(fields, 3)?;
+    let quantity = quantity_at(fields, 4)?;
+    let time = u64_at(fields, 5)?;
+    Ok(Request::BuyNow {
+        buyer,
+        item,
+        quantity,
+        time,
+    })
+}
+
 fn view_item(fields: &ByteRecord) -> Result<Request, Cause>
-    ensures { result ≡ request_of Kind.ViewItem (fields_of fields.now) }
+    ensures { result ≡ request_of RequestKind.ViewItem (fields_of fields.now) }
 {
     let item = item_at(fields, 2)?;
     Ok(Request::ViewItem { item })
 }
 
-fn request_in(fields: &ByteRecord) -> Result<Request, Cause>
-    ensures { result ≡ checked_request (fields_of fields.now) }
+fn view_bids(fields: &ByteRecord) -> Result<Request, Cause>
+    ensures { result ≡ request_of RequestKind.ViewBids (fields_of fields.now) }
+{
+    let item = item_at(fields, 2)?;
+    Ok(Request::ViewBids { item })
+}
+
+fn view_category(fields: &ByteRecord) -> Result<Request, Cause>
+    ensures { result ≡ request_of RequestKind.ViewCategory (fields_of fields.now) }
+{
+    let category = u32_at(fields, 2)?;
+    Ok(Request::ViewCategory { category })
+}
+
+fn view_user(fields: &ByteRecord) -> Result<Request, Cause>
+    ensures { result ≡ request_of RequestKind.ViewUser (fields_of fields.now) }
+{
+    let user = u32_at(fields, 2)?;
+    Ok(Request::ViewUser { user })
+}
+
+fn request_of(kind: RequestKind, fields: &ByteRecord) -> Result<Request, Cause>
+    ensures { result ≡ request_of kind (fields_of fields.now) }
+{
+    match kind {
+        RequestKind::Item => store_item(fields),
+        RequestKind::Bid => store_bid(fields),
+        RequestKind::Comment => store_comment(fields),
+        RequestKind::BuyNow => buy_now(fields),
+        RequestKind::ViewItem => view_item(fields),
+        RequestKind::ViewBids => view_bids(fields),
+        RequestKind::ViewCategory => view_category(fields),
+        RequestKind::ViewUser => view_user(fields),
+    }
+}
+
+fn kind_in(fields: &ByteRecord) -> Result<Kind, Cause>
+    ensures { result ≡ kind_in (fields_of fields.now) }
 {
     if fields.len() < 2 {
         return Err(Cause::Fields);
     }
-    let kind = kind_named(field_of(fields, 1)).ok_or(Cause::Kind)?;
-    if !has_count(kind, fields.len()) {
-        return Err(Cause::Fields);
-    }
-    match kind {
-        Kind::Item => store_item(fields),
-        Kind::Bid => store_bid(fields),
-        Kind::ViewItem => view_item(fields),
-    }
+    kind_named(field_of(fields, 1)).ok_or(Cause::Kind)
 }
 
-/// The worker and the request of the record with the number `place`, or its first fault.
-pub fn request_of_record(
+// What a record of this worker says; `begun` tells whether a request stands before it.
+fn checked(fields: &ByteRecord, worker: u32, begun: bool) -> Result<Record, Cause>
+    ensures value { result ≡ checked begun worker (fields_of fields.now) }
+    ensures worker { IfOk result (λ said. said.worker ≡ worker) }
+{
+    let kind = kind_in(fields)?;
+    if kind.is_row && begun {
+        return Err(Cause::Late);
+    }
+    if !has_count(kind.request, fields.len()) {
+        return Err(Cause::Fields);
+    }
+    let request = request_of(kind.request, fields)?;
+    Ok(Record {
+        is_row: kind.is_row,
+        worker,
+        request,
+    })
+}
+
+/// What the record with the number `place` says, or its first fault. `begun` tells whether a request
+/// stands before it: a row is late then.
+pub fn read_record(
     fields: &ByteRecord,
     workers: u32,
     place: u32,
-) -> Result<(u32, Request), ReadFault>
-    ensures value { result ≡ read_record workers place (fields_of fields.now) }
-    ensures worker { IfOk result (λ asked. asked.0 < workers) }
+    begun: bool,
+) -> Result<Record, ReadFault>
+    ensures value { result ≡ read_record workers place begun (fields_of fields.now) }
+    ensures worker { IfOk result (λ said. said.worker < workers) }
 {
     let Some(worker) = read_u32(field_of(fields, 0)) else {
         return Err(ReadFault::Line(place, Cause::Number));
@@ -131,8 +225,8 @@ pub fn request_of_record(
     if worker >= workers {
         return Err(ReadFault::Worker(place));
     }
-    match request_in(fields) {
-        Ok(request) => Ok((worker, request)),
+    match checked(fields, worker, begun) {
+        Ok(said) => Ok(said),
         Err(cause) => Err(ReadFault::Line(place, cause)),
     }
 }

@@ -1,7 +1,7 @@
-//! The texts of replies.
+//! The texts of replies, and their lines.
 ghost use Rattle.std.specs.Prelude.{◌≡◌, ◌++◌, OnOk, codes};
 ghost use Rattle.std.specs.List.{flat_map};
-ghost use Rattle.auction_text.specs.Replies.{bid_text, facts_text, item_text, refusal_text, reply_line, reply_text, state_text, user_text};
+ghost use Rattle.auction_text.specs.Replies.{bid_text, facts_text, history_line, item_text, place_text, refusal_text, reply_line, reply_text, state_text, user_text};
 
 use crate::text::{
     push_labelled, push_labelled_id, push_labelled_optional, push_number, push_signed, push_text,
@@ -134,6 +134,25 @@ pub fn push_reply_line(text: &mut Vec<u8>, entry: &Entry) -> Result<(), AllocErr
     push_number(text, u64::from(entry.worker))?;
     push_labelled(text, b",", u64::from(entry.index))?;
     push_text(text, b",")?;
+    push_reply(text, &entry.reply)?;
+    push_text(text, b"\n")
+}
+
+fn push_place(text: &mut Vec<u8>, entry: &Entry) -> Result<(), AllocError>
+    ensures { OnOk result (text.new.items ≡ text.old.items ++ place_text entry.now) }
+{
+    push_number(text, entry.phase)?;
+    push_labelled(text, b" ", entry.number)?;
+    push_labelled(text, b" ", u64::from(entry.worker))?;
+    push_labelled(text, b" ", u64::from(entry.index))
+}
+
+/// Adds the line of an entry in a history.
+pub fn push_history_line(text: &mut Vec<u8>, entry: &Entry) -> Result<(), AllocError>
+    ensures { OnOk result (text.new.items ≡ text.old.items ++ history_line entry.now) }
+{
+    push_place(text, entry)?;
+    push_text(text, b" ")?;
     push_reply(text, &entry.reply)?;
     push_text(text, b"\n")
 }

@@ -2,11 +2,11 @@
 ghost use Rattle.std.specs.Prelude.{◌≡◌, ◌<◌, true, vec_len, IfOk, IfErr, OnOk, IfSome};
 ghost use Rattle.csv.specs.Reading.{ReadRecord};
 ghost use Rattle.csv.specs.Records.{fields_of};
-ghost use Rattle.auction_text.specs.Reading.{IsInputFault, IsPlain, nothing_asked, with_request};
+ghost use Rattle.auction_text.specs.Reading.{IsInputFault, IsPlain, nothing_asked, with_record};
 ghost use Rattle.auction_text.specs.Scripts.{asked_by, input_of};
 
 use crate::faults::ReadFault;
-use crate::record::request_of_record;
+use crate::record::{Record, read_record};
 use auction_rows::Request;
 use csv::{ByteRecord, ErrorKind, Reader, ReaderBuilder};
 use item_shards::Opened;
@@ -38,7 +38,8 @@ fn fault_of(error: csv::Error) -> ReadFault
 fn read_next<R: Read>(records: &mut Reader<R>, fields: &mut ByteRecord) -> Result<bool, ReadFault>
     requires { IsPlain records.old }
     ensures plain { IfOk result (λ found. found ≡ true → IsPlain records.new) }
-    ensures reads { IfOk result (λ found. ReadRecord R.remaining records.old records.new found (fields_of fields.new)) }
+    ensures reads { IfOk result (λ found.
+        ReadRecord R.remaining records.old records.new found (fields_of fields.new)) }
     ensures fails { IfErr result (λ fault. IsInputFault fault → ⊥) }
 {
     match records.read_byte_record(fields) {
@@ -63,33 +64,47 @@ fn empty_input(alloc: Global, workers: u32) -> Result<Input, ReadFault>
     Ok(Input { rows, scripts })
 }
 
-fn add_request(input: &mut Input, worker: u32, request: Request) -> Result<(), ReadFault>
-    requires { worker < vec_len input.old.scripts }
-    ensures adds { OnOk result (asked_by input.new ≡ with_request worker request (asked_by input.old)) }
+// Puts a row at the end of the rows, and a request at the end of its worker's script.
+fn add_record(input: &mut Input, said: Record) -> Result<(), ReadFault>
+    requires { said.worker < vec_len input.old.scripts }
+    ensures adds { OnOk result (asked_by input.new ≡ with_record said (asked_by input.old)) }
     ensures count { vec_len input.new.scripts ≡ vec_len input.old.scripts }
     ensures fails { IfErr result (λ fault. IsInputFault fault → ⊥) }
 {
-    let script = &mut input.scripts[worker as usize];
-    if script.push(request).is_err() {
+    let Record {
+        is_row,
+        worker,
+        request,
+    } = said;
+    let refused = if is_row {
+        input.rows.push(Opened { worker, request }).is_err()
+    } else {
+        let script = &mut input.scripts[worker as usize];
+        script.push(request).is_err()
+    };
+    if refused {
         return Err(ReadFault::Memory);
     }
     Ok(())
 }
 
-/// Reads to its end what a reader gives, as the scripts of so many workers.
+/// Reads to its end what a reader gives: rows to open with, and after them the scripts of so many
+/// workers, whose requests may stand among one another.
 ///
 /// The input is read as `csv` reads it, with no headers and nothing trimmed. The first record with a
-/// fault ends the reading, and so does one past `MOST_RECORDS`: no scripts are given then. `Read` comes
-/// of a read that failed and `Memory` of memory that was refused; either may come before the fault of a
-/// later record is found.
+/// fault ends the reading, and so do a row after a request and a record past `MOST_RECORDS`: no scripts
+/// are given then. `Read` comes of a read that failed and `Memory` of memory that was refused; either
+/// may come before the fault of a later record is found.
 pub fn read_scripts<R: Read + Drop>(
     alloc: Global,
     reader: R,
     workers: u32,
 ) -> Result<Input, ReadFault>
-    ensures input { IfOk result (λ input. IfSome (R.remaining reader) (λ bytes. input_of workers bytes ≡ Ok (asked_by input))) }
-    ensures scripts { IfOk result (λ input. vec_len input.scripts ≡ workers) }
-    ensures fault { IfErr result (λ fault. IsInputFault fault → IfSome (R.remaining reader) (λ bytes. input_of workers bytes ≡ Err fault)) }
+    ensures input { IfOk result (λ input. IfSome (R.remaining reader) (λ bytes.
+        input_of workers bytes ≡ Ok (asked_by input))) }
+    ensures count { IfOk result (λ input. vec_len input.scripts ≡ workers) }
+    ensures fault { IfErr result (λ fault. IsInputFault fault →
+        IfSome (R.remaining reader) (λ bytes. input_of workers bytes ≡ Err fault)) }
 {
     let mut input = empty_input(alloc, workers)?;
     let mut records = ReaderBuilder::new()
@@ -97,12 +112,14 @@ pub fn read_scripts<R: Read + Drop>(
         .flexible(true)
         .from_reader(alloc, reader);
     let mut fields = ByteRecord::new(alloc);
+    let mut begun = false;
     for count in 0..MOST_RECORDS {
         if !read_next(&mut records, &mut fields)? {
             return Ok(input);
         }
-        let (worker, request) = request_of_record(&fields, workers, count + 1)?;
-        add_request(&mut input, worker, request)?;
+        let said = read_record(&fields, workers, count + 1, begun)?;
+        begun |= !said.is_row;
+        add_record(&mut input, said)?;
     }
     if read_next(&mut records, &mut fields)? {
         return Err(ReadFault::Long);

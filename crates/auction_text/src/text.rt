@@ -3,8 +3,8 @@ ghost use Rattle.std.specs.Prelude.{◌≡◌, ◌++◌, OnOk, decimal};
 ghost use Rattle.std.specs.Fmt.{signed_decimal};
 ghost use Rattle.auction_text.specs.Replies.{id_text, labelled, labelled_id, labelled_optional, optional_text};
 
+use itoa::Buffer;
 use std::alloc::AllocError;
-use std::io::Write;
 
 /// Adds a part as it is.
 pub fn push_text(text: &mut Vec<u8>, part: &[u8]) -> Result<(), AllocError>
@@ -17,10 +17,7 @@ pub fn push_text(text: &mut Vec<u8>, part: &[u8]) -> Result<(), AllocError>
 pub fn push_number(text: &mut Vec<u8>, number: u64) -> Result<(), AllocError>
     ensures { OnOk result (text.new.items ≡ text.old.items ++ decimal number) }
 {
-    match write!(text, "{number}") {
-        Ok(()) => Ok(()),
-        Err(_) => Err(AllocError),
-    }
+    text.extend_from_slice(Buffer::new().format(number).as_bytes())
 }
 
 /// Adds a label and a number that may be negative.
@@ -28,10 +25,7 @@ pub fn push_signed(text: &mut Vec<u8>, label: &[u8], number: i64) -> Result<(), 
     ensures { OnOk result (text.new.items ≡ text.old.items ++ (label.now ++ signed_decimal number)) }
 {
     push_text(text, label)?;
-    match write!(text, "{number}") {
-        Ok(()) => Ok(()),
-        Err(_) => Err(AllocError),
-    }
+    text.extend_from_slice(Buffer::new().format(number).as_bytes())
 }
 
 fn push_optional(text: &mut Vec<u8>, number: Option<u64>) -> Result<(), AllocError>

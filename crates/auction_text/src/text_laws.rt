@@ -1,9 +1,13 @@
-//! What holds of the order of replies.
+//! What holds of the texts that are written.
 ghost use Rattle.std.specs.Prelude.{◌≡◌, List};
 ghost use Rattle.std.specs.List.Sorted.{IsPermutation, IsSorted, IsStable};
+ghost use Rattle.auction_rows.specs.declared.numbers.Opening.{Opening};
 ghost use Rattle.auction_rows.specs.declared.rows.Entry.{Entry as Commit};
+ghost use Rattle.auction_rows.specs.Book.{Book};
+ghost use Rattle.auction_rows.specs.History.{ReplaysFrom, book_after};
 ghost use Rattle.auction_text.specs.Order.{in_order, precedence};
 ghost use Rattle.auction_text.specs.Replies.{lines, replies_text, reply_line};
+ghost use Rattle.auction_text.specs.RowLines.{row_line, rows_text};
 
 /// The replies stand by worker, then index, then place, each once; entries that are in order already
 /// give a line each as they stand.
@@ -12,4 +16,12 @@ pub fn replies_in_order()
     ensures sorted { (entries : List Commit) → IsSorted precedence (in_order entries) }
     ensures stable { (entries : List Commit) → IsStable precedence entries (in_order entries) }
     ensures already { (entries : List Commit) → IsSorted precedence entries → replies_text entries ≡ lines reply_line entries }
+{}
+
+/// The rows written of a book, and of a history that replays from it, are the lines of the book that
+/// the history leaves.
+pub fn rows_of_histories()
+    ensures { (opening : Opening) (book : Book) (entries : List Commit) →
+        ReplaysFrom opening book entries →
+        rows_text book entries ≡ lines row_line (book_after opening book entries) }
 {}

@@ -1,23 +1,27 @@
 //! The writing of texts.
-ghost use Rattle.std.specs.Prelude.{◌≡◌, map, IfOk, IfErr, OnOk};
+ghost use Rattle.std.specs.Prelude.{◌≡◌, ◌↔◌, map, IfOk, IfErr, IsErr, IsOkAnd, OnOk};
 ghost use Rattle.std.specs.Io.KnownBytes.{Appends};
 ghost use Rattle.auction_text.specs.Order.{in_order};
-ghost use Rattle.auction_text.specs.Replies.{replies_text};
+ghost use Rattle.auction_text.specs.Replies.{history_text, replies_text};
+ghost use Rattle.auction_text.specs.RowLines.{rows_text};
 ghost use Rattle.auction_text.specs.Writing.{IsPartWritten};
 
 use crate::faults::WriteFault;
-use crate::replies::push_reply_line;
-use auction_rows::Entry;
+use crate::replies::{push_history_line, push_reply_line};
+use crate::row_lines::{push_rows, push_rows_of};
+use auction_rows::{Entry, Row};
 use std::alloc::{AllocError, Global};
 use std::io::Write;
 
-// The bytes that most lines take at most: so much room is asked for ahead for each entry.
-const ROOM_OF_A_LINE: usize = 24;
+// The bytes that most lines take at most: so much room is asked for ahead for each entry and row.
+const ROOM_OF_A_LINE: usize = 40;
 
 // Writes a text by calls of `write` on the rest that is left, and flushes.
 fn write_text<W: Write>(writer: &mut W, text: &[u8]) -> Result<(), WriteFault>
-    ensures whole { OnOk result (Appends (W.contents writer.old) (W.contents writer.new) text.now) }
-    ensures part { IfErr result (λ fault. (fault ≡ WriteFault.Write) × IsPartWritten (W.contents writer.old) (W.contents writer.new) text.now) }
+    ensures whole { OnOk result
+        (Appends (W.contents writer.old) (W.contents writer.new) text.now) }
+    ensures part { IfErr result (λ fault. (fault ≡ WriteFault.Write) ×
+        IsPartWritten (W.contents writer.old) (W.contents writer.new) text.now) }
 {
     let mut written = 0;
     while written < text.len() {
@@ -30,6 +34,21 @@ fn write_text<W: Write>(writer: &mut W, text: &[u8]) -> Result<(), WriteFault>
         Ok(()) => Ok(()),
         Err(_) => Err(WriteFault::Write),
     }
+}
+
+// Writes a text, where there was memory to make it.
+fn write_made<W: Write>(writer: &mut W, made: Result<Vec<u8>, AllocError>) -> Result<(), WriteFault>
+    ensures whole { OnOk result (IsOkAnd made (λ text.
+        Appends (W.contents writer.old) (W.contents writer.new) text.items)) }
+    ensures part { result ≡ Err WriteFault.Write → IsOkAnd made (λ text.
+        IsPartWritten (W.contents writer.old) (W.contents writer.new) text.items) }
+    ensures memory { result ≡ Err WriteFault.Memory → writer.new ≡ writer.old }
+    ensures unmade { (result ≡ Err WriteFault.Memory) ↔ IsErr made }
+{
+    let Ok(text) = made else {
+        return Err(WriteFault::Memory);
+    };
+    write_text(writer, text.as_slice())
 }
 
 // The entries by worker, then index, then place: they are large, and stay where they are.
@@ -52,6 +71,26 @@ fn replies_text(alloc: Global, entries: &[Entry]) -> Result<Vec<u8>, AllocError>
     Ok(text)
 }
 
+fn history_text(alloc: Global, entries: &[Entry]) -> Result<Vec<u8>, AllocError>
+    ensures { IfOk result (λ text. text.items ≡ history_text entries.now) }
+{
+    let mut text = Vec::with_capacity(alloc, entries.len().saturating_mul(ROOM_OF_A_LINE))?;
+    for entry in entries {
+        push_history_line(&mut text, entry)?;
+    }
+    Ok(text)
+}
+
+fn rows_text(alloc: Global, rows: &[Row], entries: &[Entry]) -> Result<Vec<u8>, AllocError>
+    ensures { IfOk result (λ text. text.items ≡ rows_text rows.now entries.now) }
+{
+    let most = rows.len().saturating_add(entries.len());
+    let mut text = Vec::with_capacity(alloc, most.saturating_mul(ROOM_OF_A_LINE))?;
+    push_rows(&mut text, rows)?;
+    push_rows_of(&mut text, entries)?;
+    Ok(text)
+}
+
 /// Writes the reply of each entry as a line, by worker, then index, then place, and flushes.
 ///
 /// The text is made whole before its first byte is written.
@@ -60,12 +99,47 @@ pub fn write_replies<W: Write>(
     writer: &mut W,
     entries: &[Entry],
 ) -> Result<(), WriteFault>
-    ensures whole { OnOk result (Appends (W.contents writer.old) (W.contents writer.new) (replies_text entries.now)) }
-    ensures part { IfErr result (λ fault. fault ≡ WriteFault.Write → IsPartWritten (W.contents writer.old) (W.contents writer.new) (replies_text entries.now)) }
+    ensures whole { OnOk result
+        (Appends (W.contents writer.old) (W.contents writer.new) (replies_text entries.now)) }
+    ensures part { IfErr result (λ fault. fault ≡ WriteFault.Write →
+        IsPartWritten (W.contents writer.old) (W.contents writer.new) (replies_text entries.now)) }
     ensures memory { IfErr result (λ fault. fault ≡ WriteFault.Memory → writer.new ≡ writer.old) }
 {
-    let Ok(text) = replies_text(alloc, entries) else {
-        return Err(WriteFault::Memory);
-    };
-    write_text(writer, text.as_slice())
+    write_made(writer, replies_text(alloc, entries))
+}
+
+/// Writes each entry of a history as a line, in the order given, and flushes.
+///
+/// The text is made whole before its first byte is written.
+pub fn write_history<W: Write>(
+    alloc: Global,
+    writer: &mut W,
+    entries: &[Entry],
+) -> Result<(), WriteFault>
+    ensures whole { OnOk result
+        (Appends (W.contents writer.old) (W.contents writer.new) (history_text entries.now)) }
+    ensures part { IfErr result (λ fault. fault ≡ WriteFault.Write →
+        IsPartWritten (W.contents writer.old) (W.contents writer.new) (history_text entries.now)) }
+    ensures memory { IfErr result (λ fault. fault ≡ WriteFault.Memory → writer.new ≡ writer.old) }
+{
+    write_made(writer, history_text(alloc, entries))
+}
+
+/// Writes these rows, and then those of the accepted stores among the entries, as records that can
+/// be read again, each a line, in the order given, and flushes.
+///
+/// The text is made whole before its first byte is written.
+pub fn write_rows<W: Write>(
+    alloc: Global,
+    writer: &mut W,
+    rows: &[Row],
+    entries: &[Entry],
+) -> Result<(), WriteFault>
+    ensures whole { OnOk result
+        (Appends (W.contents writer.old) (W.contents writer.new) (rows_text rows.now entries.now)) }
+    ensures part { IfErr result (λ fault. fault ≡ WriteFault.Write →
+        IsPartWritten (W.contents writer.old) (W.contents writer.new) (rows_text rows.now entries.now)) }
+    ensures memory { IfErr result (λ fault. fault ≡ WriteFault.Memory → writer.new ≡ writer.old) }
+{
+    write_made(writer, rows_text(alloc, rows, entries))
 }

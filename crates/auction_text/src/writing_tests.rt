@@ -16,11 +16,11 @@ const FIRST: ItemId = ItemId {
     serial: 0,
 };
 
-// Takes at most `step` bytes a call and `room` in all, and fails then. Its flush fails where
-// `is_stuck` says so.
+/// Takes at most `step` bytes a call and `room` in all, and fails then. Its flush fails where
+/// `is_stuck` says so.
 #[derive(Drop)]
-struct Narrow {
-    held: Vec<u8>,
+pub struct Narrow {
+    pub held: Vec<u8>,
     step: usize,
     room: usize,
     is_stuck: bool,
@@ -45,7 +45,8 @@ impl Write for Narrow {
     }
 }
 
-fn narrow_writer(alloc: Global, step: usize, room: usize, is_stuck: bool) -> Narrow {
+/// A writer that has nothing yet.
+pub fn narrow_writer(alloc: Global, step: usize, room: usize, is_stuck: bool) -> Narrow {
     Narrow {
         held: Vec::new(alloc),
         step,

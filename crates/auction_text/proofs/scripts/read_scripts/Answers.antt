@@ -20,17 +20,17 @@ returns-then-not-branch-clause-input g c =
     let inv = c.loop-count.invariant in
     let found : c.in_ok-read_next.field-0 ≡ false = search rules in
     known_map (g.R.Read.remaining c.args.reader) inv.reads (λ bytes e h.
-    reading_end g.R.Read.remaining c.args.workers bytes c.loop-count.count c.loop-count.records c.read_next.new.records _ (fields_of c.read_next.new.fields)
+    reading_end g.R.Read.remaining c.args.workers bytes c.loop-count.count c.loop-count.begun c.loop-count.records c.read_next.new.records _ (fields_of c.read_next.new.fields)
     h inv.plain.0 (rw found at c.in_ok-read_next.ensures.reads))
 
-pub returns-in_err-worker-clause-fault : goal.returns-in_err-worker-clause-fault
-returns-in_err-worker-clause-fault g c =
+pub returns-in_err-said-clause-fault : goal.returns-in_err-said-clause-fault
+returns-in_err-said-clause-fault g c =
     let inv = c.loop-count.invariant in
     let found : c.in_ok-read_next.field-0 ≡ true = search rules in
-    let fault : c.from_residual-in_err-worker.result ≡ Err c.in_err-worker.field-0.0 = search rules in
+    let fault : c.from_residual-in_err-said.result ≡ Err c.in_err-said.field-0.0 = search rules in
     rw fault (λ input. known_map (g.R.Read.remaining c.args.reader) inv.reads (λ bytes e h.
-    reading_fault g.R.Read.remaining c.args.workers bytes c.loop-count.count c.loop-count.records c.read_next.new.records _ (fields_of c.read_next.new.fields) _
-    h inv.plain.0 (rw found at c.in_ok-read_next.ensures.reads) c.loop-count-test.true (sym c.in_err-worker.ensures.value)))
+    reading_fault g.R.Read.remaining c.args.workers bytes c.loop-count.count c.loop-count.begun c.loop-count.records c.read_next.new.records _ (fields_of c.read_next.new.fields) _
+    h inv.plain.0 (rw found at c.in_ok-read_next.ensures.reads) c.loop-count-test.true (sym c.in_err-said.ensures.value)))
 
 pub loop-count-preserved : goal.loop-count-preserved
 loop-count-preserved g c =
@@ -38,11 +38,11 @@ loop-count-preserved g c =
     let found : c.in_ok-read_next.field-0 ≡ true = search rules in
     record {
       plain = c.in_ok-read_next.ensures.plain found;
-      counts = c.add_request.ensures.count ∙ inv.counts;
+      counts = c.add_record.ensures.count ∙ inv.counts;
       reads = known_map (g.R.Read.remaining c.args.reader) inv.reads (λ bytes e h.
-          rw c.in_ok-add_request.ensures.adds (reading_more g.R.Read.remaining c.args.workers bytes c.loop-count.count c.loop-count.records c.read_next.new.records
-          (asked_by c.loop-count.input) (fields_of c.read_next.new.fields) c.in_ok-worker.worker c.in_ok-worker.request
-          h inv.plain.0 (rw found at c.in_ok-read_next.ensures.reads) c.loop-count-test.true (sym c.in_ok-worker.ensures.value) c.in_ok-worker.ensures.worker));
+          rw c.in_ok-add_record.ensures.adds (reading_more g.R.Read.remaining c.args.workers bytes c.loop-count.count c.loop-count.begun c.loop-count.records c.read_next.new.records
+          (asked_by c.loop-count.input) (fields_of c.read_next.new.fields) c.in_ok-said.said
+          h inv.plain.0 (rw found at c.in_ok-read_next.ensures.reads) c.loop-count-test.true (sym c.in_ok-said.ensures.value) c.in_ok-said.ensures.worker));
     }
 
 pub returns-then-branch-clause-fault : goal.returns-then-branch-clause-fault
@@ -51,7 +51,7 @@ returns-then-branch-clause-fault g c = λ input.
     let found : c.in_ok-read_next-2.field-0 ≡ true = search rules in
     let all : c.loop-count.count ≡ MOST_RECORDS = omega arith in
     known_map (g.R.Read.remaining c.args.reader) inv.reads (λ bytes e h.
-    reading_long g.R.Read.remaining c.args.workers bytes c.loop-count.records c.read_next-2.new.records _ (fields_of c.read_next-2.new.fields)
+    reading_long g.R.Read.remaining c.args.workers bytes c.loop-count.begun c.loop-count.records c.read_next-2.new.records _ (fields_of c.read_next-2.new.fields)
     (rw all at h) inv.plain.0 (rw found at c.in_ok-read_next-2.ensures.reads))
 
 pub returns-clause-input : goal.returns-clause-input
@@ -59,5 +59,5 @@ returns-clause-input g c =
     let inv = c.loop-count.invariant in
     let found : c.in_ok-read_next-2.field-0 ≡ false = search rules in
     known_map (g.R.Read.remaining c.args.reader) inv.reads (λ bytes e h.
-    reading_end g.R.Read.remaining c.args.workers bytes c.loop-count.count c.loop-count.records c.read_next-2.new.records _ (fields_of c.read_next-2.new.fields)
+    reading_end g.R.Read.remaining c.args.workers bytes c.loop-count.count c.loop-count.begun c.loop-count.records c.read_next-2.new.records _ (fields_of c.read_next-2.new.fields)
     h inv.plain.0 (rw found at c.in_ok-read_next-2.ensures.reads))

@@ -8,5 +8,5 @@ abbrev pub invariant-loop-count : goal.invariant-loop-count
 invariant-loop-count g l = record {
   plain : IsPlain l.records;
   counts : vec_len l.input.scripts ≡ l.workers;
-  reads : IfSome (g.R.Read.remaining l.fn.reader) (λ bytes. IsReading g.R.Read.remaining l.workers bytes l.count l.records (asked_by l.input));
+  reads : IfSome (g.R.Read.remaining l.fn.reader) (λ bytes. IsReading g.R.Read.remaining l.workers bytes l.count l.begun l.records (asked_by l.input));
 }
