@@ -1,5 +1,6 @@
 //! Why the program fails, its exit statuses and its words.
 use auction_text::{ReadFault, WriteFault};
+use item_shards::ResumeFault;
 use std::io::Write;
 use thiserror::Error;
 
@@ -16,7 +17,7 @@ pub enum UsageFault {
 /// Why a script that was read was not performed.
 #[derive(Clone, Copy, Debug, PartialEq, Eq, Drop, Error)]
 pub enum RunFault {
-    /// A worker has more than 1,000,000 requests.
+    /// A worker has more than 1,000,000 rows and requests.
     #[error("more than 1000000 requests for a worker")]
     TooLong,
     #[error("no memory")]
@@ -31,17 +32,19 @@ pub enum Fault {
     #[error("{0}")]
     Read(ReadFault),
     #[error("{0}")]
+    Resume(ResumeFault),
+    #[error("{0}")]
     Run(RunFault),
     #[error("{0}")]
     Write(WriteFault),
 }
 
-/// The exit status of a fault: 1 for options, 2 for reading, 3 for performing, 4 for writing.
+/// The exit status of a fault: 1 for options, 2 for reading, 3 for opening and performing, 4 for writing.
 pub fn status(fault: &Fault) -> u8 {
     match fault {
         Fault::Usage(_) => 1,
         Fault::Read(_) => 2,
-        Fault::Run(_) => 3,
+        Fault::Resume(_) | Fault::Run(_) => 3,
         Fault::Write(_) => 4,
     }
 }

@@ -1,8 +1,12 @@
-//! An auction that performs the script of its input and writes the replies.
+//! An auction that is opened with the rows of its input, performs its script and writes the replies.
 #![tactic(auto)]
 
 mod execute;
+#[cfg(test)]
+mod failing_tests;
 mod faults;
+#[cfg(test)]
+mod option_tests;
 mod options;
 mod perform;
 #[cfg(test)]

@@ -11,13 +11,17 @@ use std::io;
 // The greatest number of users and of categories.
 const GREATEST: u32 = 1_000_000;
 
-/// What the program is asked to do: how many users and categories there are, each at most 1,000,000.
+/// What the program is asked to do: how many users and categories there are, each at most 1,000,000, and what is written.
 #[derive(Clone, Copy, Debug, PartialEq, Eq)]
 pub struct Options {
     /// How many users there are.
     pub users: u32,
     /// How many categories there are.
     pub categories: u32,
+    /// Whether the history is written in place of the replies.
+    pub history: bool,
+    /// Whether the rows are written in place of the replies, and of the history.
+    pub rows: bool,
 }
 
 impl Options {
@@ -38,14 +42,20 @@ fn number_option<'a>(alloc: Global, id: &'a str, fallback: &'a str) -> Arg<'a> {
     Arg::new(alloc, id)
         .long(id)
         .action(ArgAction::Set)
-        .value_parser(clap::value_parser!(u32).range(0..=1_000_000))
+        .value_parser(clap::value_parser!(u32).range(0..=i64::from(GREATEST)))
         .default_value(fallback)
+}
+
+fn flag<'a>(alloc: Global, id: &'a str) -> Arg<'a> {
+    Arg::new(alloc, id).long(id).action(ArgAction::SetTrue)
 }
 
 fn command<'a>(alloc: Global) -> Result<Command<'a>, AllocError> {
     Command::new(alloc, "rubis_auction")
         .arg(number_option(alloc, "users", "100"))?
-        .arg(number_option(alloc, "categories", "10"))
+        .arg(number_option(alloc, "categories", "10"))?
+        .arg(flag(alloc, "history"))?
+        .arg(flag(alloc, "rows"))
 }
 
 // The number of an option, which its parser holds to the range.
@@ -80,8 +90,8 @@ pub fn words_fault(alloc: Global, error: &io::Error) -> UsageFault {
     }
 }
 
-/// The options that the words give, the first of which is the program's name: 100 users and 10 categories
-/// unless they say otherwise. Words that are refused, or that ask for help, are answered in `clap`'s words.
+/// The options that the words give, the first of which is the program's name: 100 users, 10 categories and
+/// the replies, unless they say otherwise. Words that are refused, or that ask for help, are answered in `clap`'s words.
 pub fn read_options(alloc: Global, words: &[String]) -> Result<Options, UsageFault>
     ensures users { IfOk result (λ options. options.users ≤ 1000000) }
     ensures categories { IfOk result (λ options. options.categories ≤ 1000000) }
@@ -93,6 +103,8 @@ pub fn read_options(alloc: Global, words: &[String]) -> Result<Options, UsageFau
         Ok(matches) => Ok(Options {
             users: number_of(&matches, "users", 100),
             categories: number_of(&matches, "categories", 10),
+            history: matches.get_flag("history"),
+            rows: matches.get_flag("rows"),
         }),
         Err(error) => Err(usage_fault(alloc, &error)),
     }

@@ -1,90 +1,73 @@
 use crate::execute::execute;
-use crate::faults::{Fault, RunFault, UsageFault, status, write_fault};
-use crate::options::{Options, read_options};
-use crate::perform::perform_script;
-use auction_rows::{
-    BuyId, CommentId, Facts, ItemId, ItemShown, Name, Quantity, Refusal, Reply, Request, Stars, Ten,
-};
-use auction_text::{Cause, ReadFault, WriteFault};
-use std::alloc::{AllocError, Global};
-use std::io;
-use std::io::{Read, Write};
+use crate::faults::Fault;
+use crate::options::Options;
+use auction_text::{Cause, ReadFault};
+use item_shards::ResumeFault;
+use std::alloc::Global;
 use std::process::Abort;
 use std::test::Fail;
 
-const FIRST_EXAMPLE: &[u8] = b"0,item,0,0,Vase,10,100,1\n0,bid,1,0.0,10,5\n0,viewitem,0.0\n";
+pub const FIRST_EXAMPLE: &[u8] = b"0,item,0,0,Vase,10,100,1\n0,bid,1,0.0,10,5\n0,viewitem,0.0\n";
 
-const FIRST_REPLIES: &[u8] =
+pub const FIRST_REPLIES: &[u8] =
     b"0,0,item 0.0\n0,1,bid 0.0\n0,2,viewitem seller=0 category=0 start=10 closes=100 highest=10 bidder=1 bids=1 left=1 name=Vase\n";
 
-const OPTIONS: Options = Options {
+pub const REPLIES: Options = Options {
     users: 10,
     categories: 2,
+    history: false,
+    rows: false,
 };
 
-// Gives the first bytes of a text and then fails.
-#[derive(Drop)]
-struct CutReader<'a> {
-    text: &'a [u8],
-    at: usize,
-    cut: usize,
-}
+const HISTORY: Options = Options {
+    users: 10,
+    categories: 2,
+    history: true,
+    rows: false,
+};
 
-impl<'a> Read for CutReader<'a> {
-    fn read(&mut self, buf: &mut [u8]) -> io::Result<usize> {
-        if self.at >= self.cut {
-            return Err(io::Error::from(io::ErrorKind::BrokenPipe));
-        }
-        match (self.text.get(self.at), buf.first_mut()) {
-            (Some(byte), Some(place)) => {
-                *place = *byte;
-                self.at = self.at.saturating_add(1);
-                Ok(1)
-            }
-            _ => Ok(0),
-        }
-    }
-}
+// Where both are asked for, the rows are written.
+const ROWS: Options = Options {
+    users: 10,
+    categories: 2,
+    history: true,
+    rows: true,
+};
 
-// Takes so many bytes and then fails.
-#[derive(Drop)]
-struct FullWriter {
-    held: Vec<u8>,
-    room: usize,
-}
-
-impl Write for FullWriter {
-    fn write(&mut self, buf: &[u8]) -> io::Result<usize> {
-        let left = self.room.saturating_sub(self.held.len());
-        if left == 0 {
-            return Err(io::Error::from(io::ErrorKind::BrokenPipe));
-        }
-        let most = buf.len().min(left);
-        self.held.extend_from_slice(&buf[..most])?;
-        Ok(most)
-    }
-
-    fn flush(&mut self) -> io::Result<()> {
-        Ok(())
-    }
-}
-
-fn replies_to(alloc: Global, input: &[u8]) -> Result<Vec<u8>, Fault> {
+fn answer_to(alloc: Global, input: &[u8], options: &Options) -> Result<Vec<u8>, Fault> {
     let mut text = Vec::new(alloc);
-    execute(alloc, input, &mut text, &OPTIONS)?;
+    execute(alloc, input, &mut text, options)?;
     Ok(text)
 }
 
-#[test]
-fn performs_the_first_example(rt: HostRuntime) -> Result<(), Fail> {
-    let text = replies_to(rt.alloc(), FIRST_EXAMPLE)?;
-    assert_eq!(rt; text.as_slice(), FIRST_REPLIES);
+// Each input is answered by its text.
+fn texts_are(
+    rt: &impl Abort,
+    alloc: Global,
+    options: &Options,
+    table: &[(&[u8], &[u8])],
+) -> Result<(), Fail> {
+    for (input, wanted) in table {
+        let text = answer_to(alloc, input, options)?;
+        assert_eq!(rt; text.as_slice(), *wanted, "at {input:?}");
+    }
     Ok(())
 }
 
 #[test]
+fn performs_the_first_example(rt: HostRuntime) -> Result<(), Fail> {
+    let alloc = rt.alloc();
+    let history: &[u8] =
+        b"0 1 0 0 item 0.0\n0 2 0 1 bid 0.0\n0 3 0 2 viewitem seller=0 category=0 start=10 closes=100 highest=10 bidder=1 bids=1 left=1 name=Vase\n";
+    let rows: &[u8] = b"0,+item,0,0,\"Vase\",10,100,1,1\n0,+bid,1,0.0,10,5\n";
+    texts_are(&rt, alloc, &REPLIES, &[(FIRST_EXAMPLE, FIRST_REPLIES)])?;
+    texts_are(&rt, alloc, &HISTORY, &[(FIRST_EXAMPLE, history)])?;
+    texts_are(&rt, alloc, &ROWS, &[(FIRST_EXAMPLE, rows), (rows, rows)])
+}
+
+#[test]
 fn answers_by_the_first_reason(rt: HostRuntime) -> Result<(), Fail> {
-    let table: [(&[u8], &[u8]); 6] = [
+    let table: [(&[u8], &[u8]); 10] = [
         (
             b"0,item,0,0,Vase,10,100,1\n0,bid,0,0.0,9,5\n0,bid,0,0.0,10,100\n0,bid,0,0.0,9,100\n0,bid,0,0.0,10,99\n",
             b"0,0,item 0.0\n0,1,refused 4 BelowStart\n0,2,refused 5 Closed\n0,3,refused 4 BelowStart\n0,4,bid 0.0\n",
@@ -105,28 +88,89 @@ fn answers_by_the_first_reason(rt: HostRuntime) -> Result<(), Fail> {
             b"0,item,0,0,Vase,10,100,1\n0,bid,1,0.0,50,7\n0,bid,2,0.0,50,7\n0,viewitem,0.0\n",
             b"0,0,item 0.0\n0,1,bid 0.0\n0,2,bid 0.1\n0,3,viewitem seller=0 category=0 start=10 closes=100 highest=50 bidder=2 bids=2 left=1 name=Vase\n",
         ),
+        (
+            b"0,item,0,0,Vase,10,100,1,2\n0,buynow,1,0.0,3,5\n0,buynow,1,0.0,2,5\n0,bid,2,0.0,50,6\n0,bid,2,0.0,9,100\n0,buynow,1,0.0,1,100\n0,viewitem,0.0\n",
+            b"0,0,item 0.0\n0,1,refused 7 NotEnough\n0,2,buynow 0.0\n0,3,refused 6 SoldOut\n0,4,refused 4 BelowStart\n0,5,refused 5 Closed\n0,6,viewitem seller=0 category=0 start=10 closes=100 highest=- bidder=- bids=0 left=0 name=Vase\n",
+        ),
+        (
+            b"0,item,0,0,Vase,10,100,1\n0,buynow,1,0.0,1,2\n0,bid,2,0.0,10,100\n0,bid,2,0.0,10,99\n",
+            b"0,0,item 0.0\n0,1,buynow 0.0\n0,2,refused 5 Closed\n0,3,refused 6 SoldOut\n",
+        ),
+        (
+            b"0,comment,0,10,3.0,1\n0,comment,10,0,3.0,1\n0,comment,0,0,3.0,1\n0,buynow,10,3.0,1,1\n0,viewbids,3.0\n",
+            b"0,0,refused 1 NoSuchUser\n0,1,refused 1 NoSuchUser\n0,2,refused 3 NoSuchItem\n0,3,refused 1 NoSuchUser\n0,4,refused 3 NoSuchItem\n",
+        ),
+        (
+            b"0,viewuser,10\n0,viewuser,9\n0,viewcategory,2\n0,viewcategory,1\n",
+            b"0,0,refused 1 NoSuchUser\n0,1,user rating=0 comments=0\n0,2,refused 2 NoSuchCategory\n0,3,latest\n",
+        ),
         (b"", b""),
     ];
-    for (input, replies) in table {
-        let text = replies_to(rt.alloc(), input)?;
-        assert_eq!(rt; text.as_slice(), replies, "at {input:?}");
-    }
-    Ok(())
+    texts_are(&rt, rt.alloc(), &REPLIES, &table)
+}
+
+#[test]
+fn comments_are_summed_and_lists_keep_ten(rt: HostRuntime) -> Result<(), Fail> {
+    let table: [(&[u8], &[u8]); 4] = [
+        (
+            b"0,item,0,0,Vase,10,100,1\n0,comment,0,3,0.0,-5\n0,comment,1,3,0.0,5\n0,viewuser,3\n0,viewcategory,0\n",
+            b"0,0,item 0.0\n0,1,comment 0.0\n0,2,comment 0.1\n0,3,user rating=0 comments=2\n0,4,latest 1:0.0\n",
+        ),
+        (
+            b"0,item,0,0,Vase,1,100,1\n0,bid,1,0.0,11,1\n0,bid,1,0.0,12,1\n0,bid,1,0.0,13,1\n0,bid,1,0.0,14,1\n0,bid,1,0.0,15,1\n0,bid,1,0.0,16,1\n0,bid,1,0.0,17,1\n0,bid,1,0.0,18,1\n0,bid,1,0.0,19,1\n0,bid,1,0.0,20,1\n0,bid,1,0.0,5,1\n0,viewbids,0.0\n0,viewitem,0.0\n",
+            b"0,0,item 0.0\n0,1,bid 0.0\n0,2,bid 0.1\n0,3,bid 0.2\n0,4,bid 0.3\n0,5,bid 0.4\n0,6,bid 0.5\n0,7,bid 0.6\n0,8,bid 0.7\n0,9,bid 0.8\n0,10,bid 0.9\n0,11,bid 0.10\n0,12,bids 20:1:1:0.9 19:1:1:0.8 18:1:1:0.7 17:1:1:0.6 16:1:1:0.5 15:1:1:0.4 14:1:1:0.3 13:1:1:0.2 12:1:1:0.1 11:1:1:0.0\n0,13,viewitem seller=0 category=0 start=1 closes=100 highest=20 bidder=1 bids=11 left=1 name=Vase\n",
+        ),
+        (
+            b"0,item,0,0,Vase,0,18446744073709551615,0\n0,bid,1,0.0,18446744073709551615,18446744073709551614\n0,bid,1,0.0,0,0\n0,viewbids,0.0\n",
+            b"0,0,item 0.0\n0,1,bid 0.0\n0,2,bid 0.1\n0,3,bids 18446744073709551615:18446744073709551614:1:0.0 0:0:1:0.1\n",
+        ),
+        (
+            b"0,item,0,0,V,1,2,3\n0,item,0,0,\"A \"\"name\"\", of thirty-two bytes!!!\",1,2,2\n0,viewitem,0.1\n0,viewcategory,0\n",
+            b"0,0,item 0.0\n0,1,item 0.1\n0,2,viewitem seller=0 category=0 start=1 closes=2 highest=- bidder=- bids=0 left=1 name=A \"name\", of thirty-two bytes!!!\n0,3,latest 3:0.0 2:0.1\n",
+        ),
+    ];
+    texts_are(&rt, rt.alloc(), &REPLIES, &table)
+}
+
+#[test]
+fn goes_on_from_the_rows_it_is_opened_with(rt: HostRuntime) -> Result<(), Fail> {
+    let input: &[u8] =
+        b"0,+item,0,0,Vase,10,100,1,2\n0,+bid,1,0.0,20,5\n0,bid,2,0.0,50,6\n0,viewitem,0.0\n";
+    let replies: &[u8] =
+        b"0,0,bid 0.1\n0,1,viewitem seller=0 category=0 start=10 closes=100 highest=50 bidder=2 bids=2 left=2 name=Vase\n";
+    let history: &[u8] =
+        b"0 1 0 0 bid 0.1\n0 2 0 1 viewitem seller=0 category=0 start=10 closes=100 highest=50 bidder=2 bids=2 left=2 name=Vase\n";
+    let rows: &[u8] = b"0,+item,0,0,\"Vase\",10,100,1,2\n0,+bid,1,0.0,20,5\n0,+bid,2,0.0,50,6\n";
+    let all_kinds: &[u8] =
+        b"0,+item,9,1,\"Red, \"\"blue\"\"\",0,18446744073709551615,1,1000000\n0,+comment,1,3,0.0,-5\n0,+comment,1,3,0.0,0\n0,+buynow,1,0.0,999999,2\n0,+bid,1,0.0,0,3\n";
+    texts_are(&rt, rt.alloc(), &REPLIES, &[(input, replies)])?;
+    texts_are(&rt, rt.alloc(), &HISTORY, &[(input, history)])?;
+    texts_are(
+        &rt,
+        rt.alloc(),
+        &ROWS,
+        &[(input, rows), (rows, rows), (all_kinds, all_kinds)],
+    )
 }
 
 #[test]
 fn writes_nothing_of_an_input_with_a_fault(rt: HostRuntime) {
-    let table: [(&[u8], ReadFault); 3] = [
+    let table: [(&[u8], ReadFault); 5] = [
         (
             b"0,item,0,0,Vase,10,100,1\n0,bid,1,0.0,10,5\n0,item,0,0,\"Blue vas",
             ReadFault::Line(3, Cause::Fields),
         ),
         (b"1,viewitem,0.0\n", ReadFault::Worker(1)),
-        (b"0,viewuser,0\n", ReadFault::Line(1, Cause::Kind)),
+        (b"0,+viewuser,1\n", ReadFault::Line(1, Cause::Kind)),
+        (
+            b"0,viewuser,1\n0,+bid,1,0.0,20,5\n",
+            ReadFault::Line(2, Cause::Late),
+        ),
+        (b"0,comment,1,1,0.0,6\n", ReadFault::Line(1, Cause::Stars)),
     ];
     for (input, fault) in table {
         let mut text = Vec::new(rt.alloc());
-        let answered = execute(rt.alloc(), input, &mut text, &OPTIONS);
+        let answered = execute(rt.alloc(), input, &mut text, &REPLIES);
         assert!(rt; matches!(answered, Err(Fault::Read(_))), "at {input:?}");
         if let Err(Fault::Read(found)) = answered {
             assert_eq!(rt; found, fault, "at {input:?}");
@@ -136,291 +180,25 @@ fn writes_nothing_of_an_input_with_a_fault(rt: HostRuntime) {
 }
 
 #[test]
-fn answers_a_reader_that_fails_and_a_writer_that_fails(rt: HostRuntime) {
-    for cut in 0..=FIRST_EXAMPLE.len() {
+fn writes_nothing_of_rows_with_a_fault(rt: HostRuntime) {
+    let table: [(&[u8], u32); 3] = [
+        (b"0,+bid,1,0.0,20,5\n", 1),
+        (
+            b"0,+item,0,0,Vase,10,100,1\n0,+bid,1,0.0,10,5\n0,+bid,1,0.0,9,5\n0,viewuser,0\n",
+            3,
+        ),
+        (
+            b"0,+item,0,0,Vase,10,100,1\n0,+buynow,1,0.0,1,2\n0,+buynow,1,0.0,1,2\n",
+            3,
+        ),
+    ];
+    for (input, row) in table {
         let mut text = Vec::new(rt.alloc());
-        let reader = CutReader {
-            text: FIRST_EXAMPLE,
-            at: 0,
-            cut,
-        };
-        let answered = execute(rt.alloc(), reader, &mut text, &OPTIONS);
-        assert!(rt;
-            matches!(answered, Err(Fault::Read(ReadFault::Read))),
-            "at {cut}"
-        );
+        let answered = execute(rt.alloc(), input, &mut text, &ROWS);
+        assert!(rt; matches!(answered, Err(Fault::Resume(_))), "at {input:?}");
+        if let Err(Fault::Resume(found)) = answered {
+            assert_eq!(rt; found, ResumeFault::BadRow(row), "at {input:?}");
+        }
         assert!(rt; text.is_empty());
     }
-    for room in 0..FIRST_REPLIES.len() {
-        let held = Vec::new(rt.alloc());
-        let mut writer = FullWriter { held, room };
-        let answered = execute(rt.alloc(), FIRST_EXAMPLE, &mut writer, &OPTIONS);
-        assert!(rt;
-            matches!(answered, Err(Fault::Write(WriteFault::Write))),
-            "at {room}"
-        );
-        assert_eq!(rt; writer.held.as_slice(), &FIRST_REPLIES[..room]);
-    }
-}
-
-const VASE: ItemId = ItemId {
-    worker: 0,
-    serial: 0,
-};
-
-fn store(quantity: u64) -> Result<Request, &'static str> {
-    let facts = Facts {
-        seller: 0,
-        category: 0,
-        name: Name::new(b"Vase").ok_or("a name")?,
-        start: 10,
-        closes: 100,
-        quantity: Quantity::new(quantity).ok_or("a quantity")?,
-    };
-    Ok(Request::StoreItem { facts, time: 1 })
-}
-
-fn comment(author: u32, stars: i64) -> Result<Request, &'static str> {
-    let stars = Stars::new(stars).ok_or("stars")?;
-    let (about, item) = (3, VASE);
-    Ok(Request::StoreComment {
-        author,
-        about,
-        item,
-        stars,
-    })
-}
-
-fn buy(quantity: u64, time: u64) -> Result<Request, &'static str> {
-    let quantity = Quantity::new(quantity).ok_or("a quantity")?;
-    let (buyer, item) = (1, VASE);
-    Ok(Request::BuyNow {
-        buyer,
-        item,
-        quantity,
-        time,
-    })
-}
-
-fn bid(amount: u64, time: u64) -> Request {
-    let (bidder, item) = (2, VASE);
-    Request::StoreBid {
-        bidder,
-        item,
-        amount,
-        time,
-    }
-}
-
-fn replies_are(
-    rt: &impl Abort,
-    alloc: Global,
-    script: &[Request],
-    replies: &[Reply],
-) -> Result<(), Fail> {
-    let history = perform_script(alloc, OPTIONS.opening(), script)?;
-    assert_eq!(rt; history.len(), replies.len());
-    for (entry, reply) in history.iter().zip(replies) {
-        assert_eq!(rt; entry.reply, *reply, "at {}", entry.index);
-    }
-    Ok(())
-}
-
-#[test]
-fn comments_are_summed_and_items_are_listed(rt: HostRuntime) -> Result<(), Fail> {
-    let mut latest = Ten::new();
-    latest.push(ItemShown { time: 1, id: VASE });
-    let (worker, author) = (0, 0);
-    let script = [
-        store(1)?,
-        comment(author, -5)?,
-        comment(1, 5)?,
-        Request::ViewUser { user: 3 },
-        Request::ViewCategory { category: 0 },
-        Request::ViewUser { user: 10 },
-        Request::ViewCategory { category: 2 },
-    ];
-    let replies = [
-        Reply::ItemStored(VASE),
-        Reply::CommentStored(CommentId { worker, serial: 0 }),
-        Reply::CommentStored(CommentId { worker, serial: 1 }),
-        Reply::UserSeen {
-            rating: 0,
-            comments: 2,
-        },
-        Reply::CategorySeen(latest),
-        Reply::Refused(Refusal::NoSuchUser),
-        Reply::Refused(Refusal::NoSuchCategory),
-    ];
-    replies_are(&rt, rt.alloc(), &script, &replies)
-}
-
-#[test]
-fn what_is_bought_is_not_left(rt: HostRuntime) -> Result<(), Fail> {
-    let script = [
-        store(2)?,
-        buy(3, 5)?,
-        buy(2, 5)?,
-        bid(50, 6),
-        bid(9, 100),
-        buy(1, 100)?,
-        Request::ViewBids { item: VASE },
-    ];
-    let replies = [
-        Reply::ItemStored(VASE),
-        Reply::Refused(Refusal::NotEnough),
-        Reply::Bought(BuyId {
-            worker: 0,
-            serial: 0,
-        }),
-        Reply::Refused(Refusal::SoldOut),
-        Reply::Refused(Refusal::BelowStart),
-        Reply::Refused(Refusal::Closed),
-        Reply::BidsSeen(Ten::new()),
-    ];
-    replies_are(&rt, rt.alloc(), &script, &replies)
-}
-
-fn line_of(alloc: Global, fault: &Fault) -> Result<Vec<u8>, WriteFault> {
-    let mut line = Vec::new(alloc);
-    write_fault(&mut line, fault)?;
-    Ok(line)
-}
-
-#[test]
-fn a_fault_has_its_status_and_its_line(rt: HostRuntime) -> Result<(), Fail> {
-    let table: [(Fault, u8, &[u8]); 15] = [
-        (Fault::Usage(UsageFault::Memory), 1, b"no memory"),
-        (
-            Fault::Read(ReadFault::Line(7, Cause::Number)),
-            2,
-            b"record 7: not a number",
-        ),
-        (
-            Fault::Read(ReadFault::Line(7, Cause::Kind)),
-            2,
-            b"record 7: unknown kind",
-        ),
-        (
-            Fault::Read(ReadFault::Line(7, Cause::Fields)),
-            2,
-            b"record 7: wrong number of fields",
-        ),
-        (
-            Fault::Read(ReadFault::Line(7, Cause::Item)),
-            2,
-            b"record 7: not an item id",
-        ),
-        (
-            Fault::Read(ReadFault::Line(7, Cause::Name)),
-            2,
-            b"record 7: not a name",
-        ),
-        (
-            Fault::Read(ReadFault::Line(7, Cause::Quantity)),
-            2,
-            b"record 7: not a quantity",
-        ),
-        (
-            Fault::Read(ReadFault::Worker(16)),
-            2,
-            b"record 16: no such worker",
-        ),
-        (Fault::Read(ReadFault::Read), 2, b"input cannot be read"),
-        (Fault::Read(ReadFault::Memory), 2, b"no memory"),
-        (
-            Fault::Read(ReadFault::Long),
-            2,
-            b"more than 16000000 records",
-        ),
-        (
-            Fault::Run(RunFault::TooLong),
-            3,
-            b"more than 1000000 requests for a worker",
-        ),
-        (Fault::Run(RunFault::Memory), 3, b"no memory"),
-        (
-            Fault::Write(WriteFault::Write),
-            4,
-            b"output cannot be written",
-        ),
-        (Fault::Write(WriteFault::Memory), 4, b"no memory"),
-    ];
-    for (fault, wanted, text) in table.iter() {
-        assert_eq!(rt; status(fault), *wanted, "at {text:?}");
-        let line = line_of(rt.alloc(), fault)?;
-        let mut whole = b"rubis_auction: ".to_vec(rt.alloc())?;
-        whole.extend_from_slice(text)?;
-        whole.push(b'\n')?;
-        assert_eq!(rt; line.as_slice(), whole.as_slice());
-    }
-    let mut full = FullWriter {
-        held: Vec::new(rt.alloc()),
-        room: 3,
-    };
-    let refused = write_fault(&mut full, &Fault::Run(RunFault::Memory));
-    assert_eq!(rt; refused, Err(WriteFault::Write));
-    Ok(())
-}
-
-fn options_of(alloc: Global, words: &[&str]) -> Result<Result<Options, UsageFault>, AllocError> {
-    let mut owned = Vec::new(alloc);
-    for word in words {
-        owned.push(String::from_str(alloc, word)?)?;
-    }
-    Ok(read_options(alloc, owned.as_slice()))
-}
-
-#[test]
-fn reads_its_options(rt: HostRuntime) -> Result<(), Fail> {
-    let alloc = rt.alloc();
-    let plain = options_of(alloc, &["rubis_auction"])?;
-    let least = options_of(alloc, &["rubis_auction", "--users", "0", "--categories=0"])?;
-    let most = options_of(
-        alloc,
-        &[
-            "rubis_auction",
-            "--users=1000000",
-            "--categories",
-            "1000000",
-        ],
-    )?;
-    assert!(rt;
-        matches!(
-            plain,
-            Ok(Options {
-                users: 100,
-                categories: 10
-            })
-        )
-    );
-    assert!(rt;
-        matches!(
-            least,
-            Ok(Options {
-                users: 0,
-                categories: 0
-            })
-        )
-    );
-    assert!(rt;
-        matches!(
-            most,
-            Ok(Options {
-                users: 1_000_000,
-                categories: 1_000_000
-            })
-        )
-    );
-    for word in [
-        "--users=1000001",
-        "--users=-1",
-        "--categories=x",
-        "--workers=1",
-        "--help",
-    ] {
-        let refused = options_of(alloc, &["rubis_auction", word])?;
-        assert!(rt; matches!(refused, Err(UsageFault::Text(_))), "at {word}");
-    }
-    Ok(())
 }
