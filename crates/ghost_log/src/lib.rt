@@ -1,0 +1,37 @@
+//! A history that only proofs read.
+#![tactic(auto)]
+
+ghost use Rattle.std.specs.Prelude.{◌≡◌, List, [], ◌∷◌, ◌++◌};
+ghost use Rattle.std.specs.Borrow.{ftrue};
+
+use std::marker::{Model, PhantomData};
+
+/// A list of pairs that stands in proofs alone: it has no bytes, and its methods do nothing at run time.
+#[derive(Drop)]
+pub struct Log<A, B> {
+    of: PhantomData<(A, B)>,
+    pub ghost items: { List (A × B) },
+}
+
+impl<A, B> Model for Log<A, B> {
+    ghost also_owns = { λ _. ftrue };
+}
+
+// It owns nothing.
+unsafe impl<A: Send, B: Send> Send for Log<A, B> {}
+
+impl<A, B> Log<A, B> {
+    /// The empty list.
+    pub fn new() -> Log<A, B>
+        ensures { result.items ≡ [] }
+    {
+        Log { of: PhantomData }
+    }
+
+    /// The list with one more pair at its end.
+    pub fn and(&self, first: &A, second: &B) -> Log<A, B>
+        ensures { result.items ≡ self.now.items ++ (first.now, second.now) ∷ [] }
+    {
+        Log { of: PhantomData }
+    }
+}
