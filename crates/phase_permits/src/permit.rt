@@ -1,0 +1,186 @@
+//! A worker's right to perform in a split phase, and what it leaves.
+ghost use Rattle.std.specs.Prelude.{◌≡◌, ◌+◌, ◌≤◌, ◌<◌, ◌↔◌, [], length, IsNone, IfNone, IfSome};
+ghost use Rattle.item_shards.specs.CommitNumbers.{last_number};
+
+use crate::counters::Counters;
+use crate::slices::Slices;
+use crate::split::SplitDesk;
+use crate::stash::Stash;
+use auction_rows::{ItemId, Object, Opening, Reply, Stars};
+use shard_boxes::{Key, PhaseName};
+use std::marker::Model;
+use worker_journals::Journal;
+
+/// A worker's right to perform in a split phase. It must be spent by `finish`.
+pub struct SplitPermit<N: PhaseName> {
+    split: SplitDesk,
+    key: Key<N>,
+}
+
+impl<N: PhaseName> Model for SplitPermit<N> {
+    ghost use Rattle.std.specs.Prelude.{length};
+    ghost use Rattle.phase_permits.specs.Permits.{PermitState, IsWorth};
+
+    ghost Value = { PermitState };
+
+    ghost view = { λ p. record { split = p.split; key = p.key } };
+
+    ghost invariant = { λ p. IsWorth (length N.opening) p.split p.key };
+}
+
+/// What a finished split permit leaves: its journal, its slices, its stash, its key and its counters.
+#[derive(Drop)]
+pub struct SplitReceipt<N: PhaseName> {
+    split: SplitDesk,
+    key: Key<N>,
+}
+
+impl<N: PhaseName> Model for SplitReceipt<N> {
+    ghost use Rattle.std.specs.Prelude.{length};
+    ghost use Rattle.phase_permits.specs.Permits.{PermitState, IsWorth};
+
+    ghost Value = { PermitState };
+
+    ghost view = { λ p. record { split = p.split; key = p.key } };
+
+    ghost invariant = { λ p. IsWorth (length N.opening) p.split p.key };
+}
+
+impl<N: PhaseName> SplitPermit<N> {
+    ghost use Rattle.auction_rows.specs.declared.ids.Object.TheVariants.{Item, User};
+    ghost use Rattle.auction_rows.specs.declared.requests.Request.TheVariants.{StoreBid, StoreComment};
+    ghost use Rattle.auction_rows.specs.Footprint.{is_hot};
+    ghost use Rattle.phase_permits.specs.Slicing.{objects_of, stocks_of, slices_of};
+    ghost use Rattle.phase_permits.specs.Desks.{AreCounted, new_desk};
+    ghost use Rattle.phase_permits.specs.Splits.{IsHot, HasStored};
+    ghost use Rattle.phase_permits.specs.Permits.{IsUnused, IsWorth};
+
+    /// A permit to perform so many requests. It takes no memory.
+    pub fn new(
+        key: Key<N>,
+        opening: Opening,
+        counters: Counters,
+        journal: Journal,
+        stash: Stash,
+        slices: Slices,
+        quota: u32,
+        clock: u64,
+    ) -> SplitPermit<N>
+        requires key { IsUnused key }
+        requires worker { journal.worker ≡ key.worker }
+        requires empty { journal.entries ≡ [] }
+        requires stash { stash.requests ≡ [] }
+        requires identities { slices ≡ slices_of (stocks_of slices) [] }
+        requires room { quota ≤ journal.room }
+        requires stash_room { quota ≤ stash.room }
+        requires limit { counters.commits + quota ≤ 1000000 }
+        requires counted { AreCounted counters }
+        ensures { result ≡ record {
+          split = record { desk = new_desk opening counters journal stash quota clock; slices = slices };
+          key = key;
+        } }
+    {
+        SplitPermit {
+            split: SplitDesk::new(opening, counters, journal, stash, slices, quota, clock),
+            key,
+        }
+    }
+
+    /// A bid on a hot item: None exactly where the worker's clock is at the end of numbers, and then nothing has
+    /// changed. It takes no shard and no memory.
+    pub fn bid_hot(
+        &mut self,
+        bidder: u32,
+        item: ItemId,
+        amount: u64,
+        time: u64,
+        index: u32,
+    ) -> Option<Reply>
+        requires hot { IsHot self.old.split (Item item) }
+        requires left { 0 < self.old.split.desk.left }
+        ensures none { IsNone result ↔ (last_number ≤ self.old.split.desk.clock) }
+        ensures unchanged { IfNone result (self.new ≡ self.old) }
+        ensures stored { IfSome result (λ reply.
+            HasStored self.old.split self.new.split (StoreBid bidder item amount time) index reply) }
+        ensures key { self.new.key ≡ self.old.key }
+    {
+        self.split.bid_hot(bidder, item, amount, time, index)
+    }
+
+    /// A comment about a hot user on the occasion of a hot item: None exactly where the worker's clock is at the end
+    /// of numbers, and then nothing has changed. It takes no shard and no memory.
+    pub fn comment_hot(
+        &mut self,
+        author: u32,
+        about: u32,
+        item: ItemId,
+        stars: Stars,
+        index: u32,
+    ) -> Option<Reply>
+        requires item { IsHot self.old.split (Item item) }
+        requires user { IsHot self.old.split (User about) }
+        requires left { 0 < self.old.split.desk.left }
+        ensures none { IsNone result ↔ (last_number ≤ self.old.split.desk.clock) }
+        ensures unchanged { IfNone result (self.new ≡ self.old) }
+        ensures stored { IfSome result (λ reply.
+            HasStored self.old.split self.new.split (StoreComment author about item stars) index reply) }
+        ensures key { self.new.key ≡ self.old.key }
+    {
+        self.split.comment_hot(author, about, item, stars, index)
+    }
+
+    /// How many requests of the quota are not performed.
+    pub fn left(&self) -> u32
+        ensures { result ≡ self.now.split.desk.left }
+    {
+        self.split.left()
+    }
+
+    /// How many requests were put off.
+    pub fn stashed(&self) -> usize
+        ensures { result ≡ length self.now.split.desk.stash.requests }
+    {
+        self.split.stashed()
+    }
+
+    /// How many calls of `perform` were made.
+    pub fn tries(&self) -> u32
+        ensures { result ≡ self.now.split.desk.tries }
+    {
+        self.split.tries()
+    }
+
+    /// Whether an object is one of those that the slices are of.
+    pub fn is_hot(&self, object: Object) -> bool
+        ensures { result ≡ is_hot (objects_of self.now.split.slices) object }
+    {
+        self.split.is_hot(object)
+    }
+
+    /// Spends the permit.
+    pub fn finish(self) -> SplitReceipt<N>
+        ensures { result ≡ self }
+    {
+        let SplitPermit { split, key } = self;
+        SplitReceipt { split, key }
+    }
+}
+
+impl<N: PhaseName> SplitReceipt<N> {
+    ghost use Rattle.phase_permits.specs.Permits.{IsWorth};
+
+    /// The journal, the slices, the stash, the key and the counters, and what they are worth.
+    pub fn parts(self) -> (Journal, Slices, Stash, Key<N>, Counters)
+        ensures journal { result.0 ≡ self.split.desk.journal }
+        ensures slices { result.1 ≡ self.split.slices }
+        ensures stash { result.2 ≡ self.split.desk.stash }
+        ensures key { result.3 ≡ self.key }
+        ensures counters { result.4 ≡ self.split.desk.counters }
+        ensures worth { IsWorth (length N.opening) self.split self.key }
+    {
+        let SplitReceipt { split, key } = self;
+        let (desk, slices) = split.open();
+        let (journal, stash, counters) = desk.open();
+        (journal, slices, stash, key, counters)
+    }
+}
