@@ -1,5 +1,6 @@
 pub mod ListedLemmas
 pub mod NameLemmas
+pub mod NumberedLemmas
 pub mod RecordsLeft
 pub mod ReplyOrder
 pub mod RowsFirst

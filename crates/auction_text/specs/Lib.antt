@@ -4,6 +4,7 @@ pub mod Order
 pub mod Reading
 pub mod Records
 pub mod Replies
+pub mod Report
 pub mod RowLines
 pub mod Scripts
 pub mod Writing

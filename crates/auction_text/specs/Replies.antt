@@ -61,8 +61,8 @@ abbrev pub item_text : ItemShown → List ℕ
 item_text item = labelled (codes " ") item.time ++ labelled_id (codes ":") item.id.worker item.id.serial
 
 -- a user's rating, and the number of comments
-abbrev pub user_text : ℤ → ℕ → List ℕ
-user_text rating comments = codes "user rating=" ++ signed_decimal rating ++ labelled (codes " comments=") comments
+abbrev pub score_text : ℤ → ℕ → List ℕ
+score_text rating comments = codes " rating=" ++ signed_decimal rating ++ labelled (codes " comments=") comments
 
 abbrev pub reply_text : Reply → List ℕ
 reply_text (reply.ItemStored id) = labelled_id (codes "item ") id.worker id.serial
@@ -73,7 +73,7 @@ reply_text (reply.ItemSeen seller category name start closes highest bidder bids
     facts_text seller category start closes ++ state_text highest bidder bids left ++ codes " name=" ++ name
 reply_text (reply.BidsSeen bids) = codes "bids" ++ flat_map bid_text bids
 reply_text (reply.CategorySeen items) = codes "latest" ++ flat_map item_text items
-reply_text (reply.UserSeen rating comments) = user_text rating comments
+reply_text (reply.UserSeen rating comments) = codes "user" ++ score_text rating comments
 reply_text (reply.Refused why) = refusal_text why
 
 -- the line of an entry among the replies

@@ -5,20 +5,30 @@ ghost use Rattle.auction_text.specs.Kinds.{has_count, kind_of, request, row};
 /// What a request asks for.
 #[derive(Clone, Copy)]
 pub enum RequestKind {
+    /// That an item be put up.
     Item,
+    /// That a bid be made on an item.
     Bid,
+    /// That a comment be made about a user.
     Comment,
+    /// That some of an item be bought at once.
     BuyNow,
+    /// To see an item.
     ViewItem,
+    /// To see the greatest bids on an item.
     ViewBids,
+    /// To see the latest items of a category.
     ViewCategory,
+    /// To see a user's rating.
     ViewUser,
 }
 
 /// What a record is: a request of a kind, or a row that such a request would add.
 #[derive(Clone, Copy)]
 pub struct Kind {
+    /// Whether it is a row.
     pub is_row: bool,
+    /// The kind of the request.
     pub request: RequestKind,
 }
 

@@ -109,11 +109,8 @@ fn row(worker: u32, request: Request) -> Opened {
     Opened { worker, request }
 }
 
-#[test]
-fn rows_stand_before_requests(rt: HostRuntime) -> Result<(), Fail> {
-    let text = b"1,+item,7,2,\"Red, blue\",10,100,1,5\n0,+bid,2,3.41,20,5\n\
-        1,+comment,1,7,3.41,5\n0,+buynow,3,3.41,2,6\n\
-        1,viewuser,7\n0,viewitem,3.41\n";
+// An item and a bid, a comment and a purchase of it.
+fn row_of_each_kind() -> Result<[Opened; 4], Fail> {
     let facts = Facts {
         seller: 7,
         category: 2,
@@ -140,12 +137,20 @@ fn rows_stand_before_requests(rt: HostRuntime) -> Result<(), Fail> {
         quantity: Quantity::new(2).ok_or("a quantity")?,
         time: 6,
     };
-    let rows = [
+    Ok([
         row(1, Request::StoreItem { facts, time: 1 }),
         row(0, bid),
         row(1, comment),
         row(0, purchase),
-    ];
+    ])
+}
+
+#[test]
+fn rows_stand_before_requests(rt: HostRuntime) -> Result<(), Fail> {
+    let text = b"1,+item,7,2,\"Red, blue\",10,100,1,5\n0,+bid,2,3.41,20,5\n\
+        1,+comment,1,7,3.41,5\n0,+buynow,3,3.41,2,6\n\
+        1,viewuser,7\n0,viewitem,3.41\n";
+    let rows = row_of_each_kind()?;
     let views = [
         Request::ViewItem { item: ITEM },
         Request::ViewUser { user: 7 },

@@ -1,5 +1,5 @@
-//! The texts of an auction: the scripts that are read, and the replies, histories and rows that are
-//! written.
+//! The texts of an auction: the scripts that are read, and the replies, histories, rows and reports
+//! that are written.
 #![tactic(auto)]
 
 mod faults;
@@ -8,6 +8,7 @@ mod kinds;
 mod reading_laws;
 mod record;
 mod replies;
+mod report;
 mod row_lines;
 mod scripts;
 mod text;
@@ -16,9 +17,10 @@ mod writing;
 
 pub use faults::{Cause, ReadFault, WriteFault};
 pub use reading_laws::rows_come_first;
+pub use report::ReportLines;
 pub use scripts::{Input, MOST_RECORDS, read_scripts};
 pub use text_laws::{replies_in_order, rows_of_histories};
-pub use writing::{write_history, write_replies, write_rows};
+pub use writing::{write_history, write_replies, write_report, write_rows};
 
 #[cfg(test)]
 mod history_tests;
@@ -26,5 +28,7 @@ mod history_tests;
 mod kinds_tests;
 #[cfg(test)]
 mod reading_tests;
+#[cfg(test)]
+mod report_tests;
 #[cfg(test)]
 mod writing_tests;

@@ -40,6 +40,7 @@ fn read_one(alloc: Global, text: &[u8]) -> Result<Input, ReadFault>
     read_scripts(alloc, text, 1)
 }
 
+/// The fault of a record that is not what its kind asks for.
 pub fn line(number: u32, cause: Cause) -> ReadFault {
     ReadFault::Line(number, cause)
 }
@@ -49,6 +50,7 @@ fn count_in(alloc: Global, text: &[u8]) -> Result<usize, ReadFault> {
     Ok(read_one(alloc, text)?.scripts[0].len())
 }
 
+/// The fault of a text that is read for one worker.
 pub fn fault_in(alloc: Global, text: &[u8]) -> Option<ReadFault> {
     count_in(alloc, text).err()
 }
@@ -63,7 +65,7 @@ fn fault_after(alloc: Global, cut: usize) -> Option<ReadFault> {
     read_scripts(alloc, reader, 1).err()
 }
 
-// The only request of a text.
+/// The first request of a text that is read for one worker.
 pub fn request_in(alloc: Global, text: &[u8]) -> Result<Request, Fail> {
     let input = read_one(alloc, text)?;
     let request = input.scripts[0].first().ok_or("no request")?;
@@ -99,8 +101,8 @@ fn prefixes_of_an_input(rt: HostRuntime) {
 }
 
 #[test]
-fn first_faults(rt: HostRuntime) {
-    let table: [(&[u8], ReadFault); 36] = [
+fn faults_of_workers_and_kinds(rt: HostRuntime) {
+    let table: [(&[u8], ReadFault); 10] = [
         (b"00,item", line(1, Cause::Number)),
         (b",item", line(1, Cause::Number)),
         (b"+0,item", line(1, Cause::Number)),
@@ -111,6 +113,15 @@ fn first_faults(rt: HostRuntime) {
         (b"0,Item", line(1, Cause::Kind)),
         (b"0,viewusers,0", line(1, Cause::Kind)),
         (b"0,", line(1, Cause::Kind)),
+    ];
+    for (text, want) in table {
+        assert_eq!(rt; fault_in(rt.alloc(), text), Some(want), "of {text:?}");
+    }
+}
+
+#[test]
+fn faults_of_numbers_and_ids(rt: HostRuntime) {
+    let table: [(&[u8], ReadFault); 15] = [
         (b"0,bid,01,0.0,10,5", line(1, Cause::Number)),
         (b"0,bid,+1,0.0,10,5", line(1, Cause::Number)),
         (b"0,bid,-1,0.0,10,5", line(1, Cause::Number)),
@@ -132,6 +143,15 @@ fn first_faults(rt: HostRuntime) {
         (b"0,viewitem,0.0.0", line(1, Cause::Item)),
         (b"0,viewitem,.0", line(1, Cause::Item)),
         (b"0,viewitem,0.0,", line(1, Cause::Fields)),
+    ];
+    for (text, want) in table {
+        assert_eq!(rt; fault_in(rt.alloc(), text), Some(want), "of {text:?}");
+    }
+}
+
+#[test]
+fn faults_of_items_and_ends(rt: HostRuntime) {
+    let table: [(&[u8], ReadFault); 11] = [
         (b"0,item,0,0,\xff,10,100,1", line(1, Cause::Name)),
         (b"0,item,x,0,\xff,10,100,1", line(1, Cause::Number)),
         (b"0,item,0,0,,10,100,1", line(1, Cause::Name)),
@@ -161,20 +181,24 @@ fn first_faults(rt: HostRuntime) {
     }
 }
 
-#[test]
-fn requests_read(rt: HostRuntime) -> Result<(), Fail> {
-    let item = ItemId {
-        worker: 15,
-        serial: 999,
-    };
-    let facts = Facts {
+fn far_facts() -> Result<Facts, Fail> {
+    Ok(Facts {
         seller: 4_294_967_295,
         category: 7,
         name: Name::new(b"Red, blue").ok_or("a name")?,
         start: 10,
         closes: 100,
         quantity: Quantity::new(1_000_000).ok_or("a quantity")?,
+    })
+}
+
+#[test]
+fn requests_read(rt: HostRuntime) -> Result<(), Fail> {
+    let item = ItemId {
+        worker: 15,
+        serial: 999,
     };
+    let facts = far_facts()?;
     let table: [(&[u8], Request); 4] = [
         (
             b"0,item,4294967295,7,\"Red, blue\",10,100,1,1000000",

@@ -12,8 +12,11 @@ use csv::ByteRecord;
 /// What a record without a fault says: a worker's request, or a row that its request would add.
 #[derive(Clone, Copy)]
 pub struct Record {
+    /// Whether it is a row.
     pub is_row: bool,
+    /// The worker that its first field names.
     pub worker: u32,
+    /// The request, or the one that would add the row.
     pub request: Request,
 }
 

@@ -1,7 +1,7 @@
 //! The texts of replies, and their lines.
 ghost use Rattle.std.specs.Prelude.{◌≡◌, ◌++◌, OnOk, codes};
 ghost use Rattle.std.specs.List.{flat_map};
-ghost use Rattle.auction_text.specs.Replies.{bid_text, facts_text, history_line, item_text, place_text, refusal_text, reply_line, reply_text, state_text, user_text};
+ghost use Rattle.auction_text.specs.Replies.{bid_text, facts_text, history_line, item_text, place_text, refusal_text, reply_line, reply_text, score_text, state_text};
 
 use crate::text::{
     push_labelled, push_labelled_id, push_labelled_optional, push_number, push_signed, push_text,
@@ -89,14 +89,16 @@ fn push_items(text: &mut Vec<u8>, items: &Ten<ItemShown>) -> Result<(), AllocErr
     Ok(())
 }
 
-fn push_user(text: &mut Vec<u8>, rating: i64, comments: u64) -> Result<(), AllocError>
-    ensures { OnOk result (text.new.items ≡ text.old.items ++ user_text rating comments) }
+/// Adds a user's rating and the number of comments, each after its label.
+pub fn push_score(text: &mut Vec<u8>, rating: i64, comments: u64) -> Result<(), AllocError>
+    ensures { OnOk result (text.new.items ≡ text.old.items ++ score_text rating comments) }
 {
-    push_signed(text, b"user rating=", rating)?;
+    push_signed(text, b" rating=", rating)?;
     push_labelled(text, b" comments=", comments)
 }
 
-fn push_reply(text: &mut Vec<u8>, reply: &Reply) -> Result<(), AllocError>
+/// Adds the text of a reply.
+pub fn push_reply(text: &mut Vec<u8>, reply: &Reply) -> Result<(), AllocError>
     ensures { OnOk result (text.new.items ≡ text.old.items ++ reply_text reply.now) }
 {
     match reply {
@@ -122,7 +124,10 @@ fn push_reply(text: &mut Vec<u8>, reply: &Reply) -> Result<(), AllocError>
         }
         Reply::BidsSeen(bids) => push_bids(text, bids),
         Reply::CategorySeen(items) => push_items(text, items),
-        Reply::UserSeen { rating, comments } => push_user(text, *rating, *comments),
+        Reply::UserSeen { rating, comments } => {
+            push_text(text, b"user")?;
+            push_score(text, *rating, *comments)
+        }
         Reply::Refused(refusal) => push_text(text, text_of_refusal(*refusal)),
     }
 }

@@ -20,6 +20,7 @@ const FIRST: ItemId = ItemId {
 /// `is_stuck` says so.
 #[derive(Drop)]
 pub struct Narrow {
+    /// What it took so far.
     pub held: Vec<u8>,
     step: usize,
     room: usize,
@@ -116,10 +117,43 @@ fn two_items() -> Ten<ItemShown> {
     items
 }
 
+// The line of a reply to worker 16's request 3.
+fn line_of(alloc: Global, reply: Reply) -> Result<Vec<u8>, WriteFault> {
+    let mut line = Vec::new(alloc);
+    write_replies(alloc, &mut line, [entry(16, 3, reply)].as_slice())?;
+    Ok(line)
+}
+
 #[test]
-fn text_of_each_reply(rt: HostRuntime) -> Result<(), Fail> {
+fn texts_of_stores(rt: HostRuntime) -> Result<(), Fail> {
     let worker = 4_294_967_295;
     let serial = 7;
+    let table: [(Reply, &[u8]); 4] = [
+        (
+            Reply::ItemStored(ItemId { worker, serial }),
+            b"16,3,item 4294967295.7\n",
+        ),
+        (
+            Reply::BidStored(BidId { worker, serial }),
+            b"16,3,bid 4294967295.7\n",
+        ),
+        (
+            Reply::CommentStored(CommentId { worker, serial }),
+            b"16,3,comment 4294967295.7\n",
+        ),
+        (
+            Reply::Bought(BuyId { worker, serial }),
+            b"16,3,buynow 4294967295.7\n",
+        ),
+    ];
+    for (reply, want) in table {
+        assert_eq!(rt; line_of(rt.alloc(), reply)?.as_slice(), want);
+    }
+    Ok(())
+}
+
+#[test]
+fn text_of_an_unsold_item(rt: HostRuntime) -> Result<(), Fail> {
     let unsold = Reply::ItemSeen {
         seller: 4_294_967_295,
         category: 1,
@@ -131,58 +165,55 @@ fn text_of_each_reply(rt: HostRuntime) -> Result<(), Fail> {
         bids: 0,
         left: 1_000_000,
     };
+    let want =
+        b"16,3,viewitem seller=4294967295 category=1 start=0 closes=18446744073709551615 highest=- bidder=- bids=0 left=1000000 name=Red, \"blue\" ~\n";
+    assert_eq!(rt; line_of(rt.alloc(), unsold)?.as_slice(), want.as_slice());
+    Ok(())
+}
+
+#[test]
+fn texts_of_views(rt: HostRuntime) -> Result<(), Fail> {
     let user = |rating: i64| Reply::UserSeen {
         rating,
         comments: 3,
     };
-    let table: [(Reply, &[u8]); 18] = [
-        (
-            Reply::ItemStored(ItemId { worker, serial }),
-            b"item 4294967295.7",
-        ),
-        (
-            Reply::BidStored(BidId { worker, serial }),
-            b"bid 4294967295.7",
-        ),
-        (
-            Reply::CommentStored(CommentId { worker, serial }),
-            b"comment 4294967295.7",
-        ),
-        (
-            Reply::Bought(BuyId { worker, serial }),
-            b"buynow 4294967295.7",
-        ),
-        (
-            unsold,
-            b"viewitem seller=4294967295 category=1 start=0 closes=18446744073709551615 highest=- bidder=- bids=0 left=1000000 name=Red, \"blue\" ~",
-        ),
-        (Reply::BidsSeen(Ten::new()), b"bids"),
+    let table: [(Reply, &[u8]); 6] = [
+        (Reply::BidsSeen(Ten::new()), b"16,3,bids\n"),
         (
             Reply::BidsSeen(two_bids()),
-            b"bids 20:1:3:15.9 18446744073709551615:1:3:15.8",
+            b"16,3,bids 20:1:3:15.9 18446744073709551615:1:3:15.8\n",
         ),
-        (Reply::CategorySeen(Ten::new()), b"latest"),
-        (Reply::CategorySeen(two_items()), b"latest 2:0.1 1:0.0"),
-        (user(0), b"user rating=0 comments=3"),
-        (user(-80_000_000), b"user rating=-80000000 comments=3"),
-        (Reply::Refused(Refusal::NoSuchUser), b"refused 1 NoSuchUser"),
+        (Reply::CategorySeen(Ten::new()), b"16,3,latest\n"),
         (
-            Reply::Refused(Refusal::NoSuchCategory),
-            b"refused 2 NoSuchCategory",
+            Reply::CategorySeen(two_items()),
+            b"16,3,latest 2:0.1 1:0.0\n",
         ),
-        (Reply::Refused(Refusal::NoSuchItem), b"refused 3 NoSuchItem"),
-        (Reply::Refused(Refusal::BelowStart), b"refused 4 BelowStart"),
-        (Reply::Refused(Refusal::Closed), b"refused 5 Closed"),
-        (Reply::Refused(Refusal::SoldOut), b"refused 6 SoldOut"),
-        (Reply::Refused(Refusal::NotEnough), b"refused 7 NotEnough"),
+        (user(0), b"16,3,user rating=0 comments=3\n"),
+        (
+            user(-80_000_000),
+            b"16,3,user rating=-80000000 comments=3\n",
+        ),
     ];
     for (reply, want) in table {
-        let mut text = Vec::new(rt.alloc());
-        write_replies(rt.alloc(), &mut text, [entry(16, 3, reply)].as_slice())?;
-        let mut line = Vec::from_slice(rt.alloc(), b"16,3,".as_slice())?;
-        line.extend_from_slice(want)?;
-        line.push(b'\n')?;
-        assert_eq!(rt; text.as_slice(), line.as_slice());
+        assert_eq!(rt; line_of(rt.alloc(), reply)?.as_slice(), want);
+    }
+    Ok(())
+}
+
+#[test]
+fn texts_of_refusals(rt: HostRuntime) -> Result<(), Fail> {
+    let table: [(Refusal, &[u8]); 7] = [
+        (Refusal::NoSuchUser, b"16,3,refused 1 NoSuchUser\n"),
+        (Refusal::NoSuchCategory, b"16,3,refused 2 NoSuchCategory\n"),
+        (Refusal::NoSuchItem, b"16,3,refused 3 NoSuchItem\n"),
+        (Refusal::BelowStart, b"16,3,refused 4 BelowStart\n"),
+        (Refusal::Closed, b"16,3,refused 5 Closed\n"),
+        (Refusal::SoldOut, b"16,3,refused 6 SoldOut\n"),
+        (Refusal::NotEnough, b"16,3,refused 7 NotEnough\n"),
+    ];
+    for (why, want) in table {
+        let line = line_of(rt.alloc(), Reply::Refused(why))?;
+        assert_eq!(rt; line.as_slice(), want);
     }
     Ok(())
 }

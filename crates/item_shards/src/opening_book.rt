@@ -76,8 +76,8 @@ impl OpeningBook {
     }
 
     /// The rows of requests that are handed in, each with the id that its worker's store gets at its place. It takes
-    /// time in proportion to their number. `TooLong` is looked at first; then, request by request, `BadRow` or
-    /// `Memory`, whichever comes first. An error leaves no book.
+    /// time in proportion to their number and to the users and categories. `TooLong` is looked at first; then, request
+    /// by request, `BadRow` or `Memory`, whichever comes first. An error leaves no book.
     pub fn new(
         alloc: Global,
         opening: Opening,
@@ -156,8 +156,8 @@ impl SerialAuction {
     ghost use Rattle.item_shards.specs.OpeningRows.{with_opened, IsRow};
     ghost use Rattle.item_shards.specs.OpeningBooks as opened;
 
-    /// The auction that holds a book. It costs in proportion to the rows, and errs where the auction can't
-    /// be made or grow for want of memory.
+    /// The auction that holds a book. It costs in proportion to the rows, the users and the categories, and errs
+    /// where the auction can't be made or grow for want of memory.
     pub fn resume(alloc: Global, book: &OpeningBook) -> Result<SerialAuction, AllocError>
         ensures book { IfOk result (λ auction. HoldsBook auction (opened.rows_of book.now)) }
         ensures opening { IfOk result (λ auction. opening_of auction ≡ opened.opening_of book.now) }

@@ -1,10 +1,1 @@
-pub mod Places
-pub mod RowSlices
-pub mod Keeping
-pub mod DeskLemmas
-pub mod FewLemmas
-pub mod AnswerLemmas
-pub mod Hots
-pub mod PutLemmas
-pub mod KeyLemmas
-pub mod ViewLemmas
+pub mod StashedLemmas

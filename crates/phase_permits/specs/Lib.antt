@@ -1,10 +1,1 @@
-pub mod Stashes
-pub mod Slicing
-pub mod Deeds
-pub mod Works
-pub mod Desks
-pub mod Splits
-pub mod Bids
-pub mod Permits
-pub mod Putting
-pub mod Viewing
+pub mod Stashed

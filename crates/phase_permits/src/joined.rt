@@ -1,12 +1,11 @@
 //! A worker's right to perform in a joined phase, and what it leaves.
-ghost use Rattle.std.specs.Prelude.{◌≡◌, ◌+◌, ◌≤◌, ◌<◌, [], length, IfSome, IfNone};
+ghost use Rattle.std.specs.Prelude.{◌≡◌, ◌+◌, ◌≤◌, ◌<◌, [], ◌↔◌, length, slice_get, IsNone, IfSome, IfNone, IfOk, IfErr};
 
-use crate::counters::Counters;
-use crate::desk::Desk;
-use crate::found::Found;
-use crate::stash::Stash;
-use crate::viewing::look_at_item;
-use auction_rows::{ItemId, Object, Opening, Reply, Request, shard_of};
+use auction_rows::{Object, Opening, Refusal, Reply, Request, number_refusal};
+use phase_desks::{Comment, Counters, Desk, NewItem, Stash};
+use phase_transactions::{
+    PermitFault, comment_in_joined, only_object, perform_on, store_in_joined,
+};
 use shard_boxes::{Boxes, Key, PhaseName};
 use std::marker::Model;
 use std::sync::Wait;
@@ -20,7 +19,7 @@ pub struct JoinedPermit<N: PhaseName> {
 
 impl<N: PhaseName> Model for JoinedPermit<N> {
     ghost use Rattle.std.specs.Prelude.{length};
-    ghost use Rattle.phase_permits.specs.Permits.{PermitState, joined, IsWorth};
+    ghost use Rattle.phase_transactions.specs.Permits.{PermitState, joined, IsWorth};
 
     ghost Value = { PermitState };
 
@@ -38,7 +37,7 @@ pub struct JoinedReceipt<N: PhaseName> {
 
 impl<N: PhaseName> Model for JoinedReceipt<N> {
     ghost use Rattle.std.specs.Prelude.{length};
-    ghost use Rattle.phase_permits.specs.Permits.{PermitState, joined, IsWorth};
+    ghost use Rattle.phase_transactions.specs.Permits.{PermitState, joined, IsWorth};
 
     ghost Value = { PermitState };
 
@@ -48,9 +47,17 @@ impl<N: PhaseName> Model for JoinedReceipt<N> {
 }
 
 impl<N: PhaseName> JoinedPermit<N> {
-    ghost use Rattle.phase_permits.specs.Desks.{AreCounted, new_desk};
-    ghost use Rattle.phase_permits.specs.Permits.{IsUnused, HasCommitted, joined};
-    ghost use Rattle.auction_rows.specs.declared.requests.Request.TheVariants.{ViewItem};
+    ghost use Rattle.phase_desks.specs.Desks.{AreCounted, new_desk};
+    ghost use Rattle.std.specs.Prelude.{Some, None};
+    ghost use Rattle.auction_rows.specs.Refusals.{number_refusal};
+    ghost use Rattle.item_shards.specs.CommitNumbers.{last_number};
+    ghost use Rattle.phase_transactions.specs.Permits.{IsUnused, HasCommitted, joined};
+    ghost use Rattle.phase_transactions.specs.Single.{only_object, HaveOpening};
+    ghost use Rattle.phase_transactions.specs.Performing.{HasFailed, with_try};
+    ghost use Rattle.phase_permits.specs.Stashed.{with_first_called, HasPerformedFirst, HasFailedFirst};
+    ghost use Rattle.phase_desks.specs.Bids.{comment_request};
+    ghost use Rattle.phase_desks.specs.Items.{item_request};
+    ghost use Rattle.phase_transactions.specs.declared.fault.PermitFault.TheVariants.{NumberFull};
 
     /// A permit to perform so many requests. It takes no memory.
     pub fn new(
@@ -79,40 +86,238 @@ impl<N: PhaseName> JoinedPermit<N> {
         }
     }
 
-    // A view of an item, over its shard. Where the numbers are at their end nothing has changed but what the key has seen.
-    pub(crate) fn view_item<R: Wait>(
+    // A request that the opening refuses, which takes no shard: None exactly where the worker's clock is at the end of
+    // numbers, and then nothing has changed.
+    pub(crate) fn refuse(&mut self, request: &Request, reason: Refusal, index: u32) -> Option<Reply>
+        requires refused { number_refusal self.old.split.desk.opening request.now ≡ Some reason }
+        requires left { 0 < self.old.split.desk.left }
+        ensures none { IsNone result ↔ (last_number ≤ self.old.split.desk.clock) }
+        ensures unchanged { IfNone result (self.new ≡ self.old) }
+        ensures committed { IfSome result (λ reply.
+            HasCommitted N.opening self.old self.new request.now index reply) }
+        ensures key { self.new.key ≡ self.old.key }
+    {
+        let _worker = self.key.worker();
+        self.desk.refuse(request, reason, index)
+    }
+
+    // A request over the shard of the one object that it needs. At the end of numbers nothing has changed but what the key
+    // has seen.
+    pub(crate) fn perform_on<R: Wait>(
         &mut self,
         rt: &R,
         boxes: &Boxes<N>,
-        item: ItemId,
+        request: &Request,
+        object: Object,
         index: u32,
     ) -> Option<Reply>
         requires of { self.old.key.boxes ≡ boxes.now }
-        requires some { 0 < length N.opening }
+        requires opening { HaveOpening N.opening self.old.split.desk.opening }
+        requires only { only_object request.now ≡ Some object }
+        requires accepted { number_refusal self.old.split.desk.opening request.now ≡ None }
         requires left { 0 < self.old.split.desk.left }
         ensures committed { IfSome result (λ reply.
-            HasCommitted (length N.opening) self.old self.new (ViewItem item) index reply) }
-        ensures refused { IfNone result (self.new.split ≡ self.old.split) }
+            HasCommitted N.opening self.old self.new request.now index reply) }
+        ensures failed { IfNone result (HasFailed N.opening self.old self.new request.now NumberFull) }
     {
         let _worker = self.key.worker();
-        let shard = shard_of(Object::Item(item), boxes.shards());
-        let clock = self.desk.clock();
-        let (number, before, reply) = look_at_item(
+        let _some = boxes.shards();
+        perform_on(
             rt,
             boxes,
             &mut self.key,
-            clock,
-            shard,
-            item,
+            &mut self.desk,
+            request,
+            object,
             index,
-        )?;
-        let found = Found {
-            stock: None,
-            clocks: [Some((shard, before)), None],
+        )
+    }
+
+    // A comment that the opening does not refuse. At the end of numbers nothing has changed but what the key has seen.
+    fn comment<R: Wait>(
+        &mut self,
+        rt: &R,
+        boxes: &Boxes<N>,
+        comment: &Comment,
+        index: u32,
+    ) -> Option<Reply>
+        requires of { self.old.key.boxes ≡ boxes.now }
+        requires opening { HaveOpening N.opening self.old.split.desk.opening }
+        requires accepted { number_refusal self.old.split.desk.opening (comment_request comment.now) ≡ None }
+        requires left { 0 < self.old.split.desk.left }
+        ensures committed { IfSome result (λ reply.
+            HasCommitted N.opening self.old self.new (comment_request comment.now) index reply) }
+        ensures failed { IfNone result (HasFailed N.opening self.old self.new (comment_request comment.now) NumberFull) }
+    {
+        let _worker = self.key.worker();
+        comment_in_joined(rt, boxes, &mut self.key, &mut self.desk, comment, index)
+    }
+
+    // An item to be stored that the opening does not refuse. After a fault nothing has changed but what the key has seen.
+    fn store_item<R: Wait>(
+        &mut self,
+        rt: &R,
+        boxes: &Boxes<N>,
+        item: &NewItem,
+        index: u32,
+    ) -> Result<Reply, PermitFault>
+        requires of { self.old.key.boxes ≡ boxes.now }
+        requires opening { HaveOpening N.opening self.old.split.desk.opening }
+        requires accepted { number_refusal self.old.split.desk.opening (item_request item.now) ≡ None }
+        requires left { 0 < self.old.split.desk.left }
+        ensures committed { IfOk result (λ reply.
+            HasCommitted N.opening self.old self.new (item_request item.now) index reply) }
+        ensures failed { IfErr result (HasFailed N.opening self.old self.new (item_request item.now)) }
+    {
+        let _worker = self.key.worker();
+        store_in_joined(rt, boxes, &mut self.key, &mut self.desk, item, index)
+    }
+
+    // A request that the opening does not refuse, over the shards of the objects that it needs. After a fault nothing has
+    // changed but what the key has seen.
+    fn transact<R: Wait>(
+        &mut self,
+        rt: &R,
+        boxes: &Boxes<N>,
+        request: &Request,
+        index: u32,
+    ) -> Result<Reply, PermitFault>
+        requires of { self.old.key.boxes ≡ boxes.now }
+        requires opening { HaveOpening N.opening self.old.split.desk.opening }
+        requires accepted { number_refusal self.old.split.desk.opening request.now ≡ None }
+        requires left { 0 < self.old.split.desk.left }
+        ensures committed { IfOk result (λ reply.
+            HasCommitted N.opening self.old self.new request.now index reply) }
+        ensures failed { IfErr result (HasFailed N.opening self.old self.new request.now) }
+    {
+        if let Some(object) = only_object(request) {
+            return self
+                .perform_on(rt, boxes, request, object, index)
+                .ok_or(PermitFault::NumberFull);
+        }
+        match *request {
+            Request::StoreItem { facts, time } => {
+                let item = NewItem { facts, time };
+                self.store_item(rt, boxes, &item, index)
+            }
+            Request::StoreComment {
+                author,
+                about,
+                item,
+                stars,
+            } => {
+                let comment = Comment {
+                    author,
+                    about,
+                    item,
+                    stars,
+                };
+                self.comment(rt, boxes, &comment, index)
+                    .ok_or(PermitFault::NumberFull)
+            }
+            _ => unreachable!(),
+        }
+    }
+
+    // A request of the quota whose try is counted. After a fault nothing has changed but what the key has seen.
+    fn perform_counted<R: Wait>(
+        &mut self,
+        rt: &R,
+        boxes: &Boxes<N>,
+        request: &Request,
+        index: u32,
+    ) -> Result<Reply, PermitFault>
+        requires of { self.old.key.boxes ≡ boxes.now }
+        requires opening { HaveOpening N.opening self.old.split.desk.opening }
+        requires left { 0 < self.old.split.desk.left }
+        ensures committed { IfOk result (λ reply.
+            HasCommitted N.opening self.old self.new request.now index reply) }
+        ensures failed { IfErr result (HasFailed N.opening self.old self.new request.now) }
+    {
+        match number_refusal(self.desk.opening(), *request) {
+            Some(reason) => self
+                .refuse(request, reason, index)
+                .ok_or(PermitFault::NumberFull),
+            None => self.transact(rt, boxes, request, index),
+        }
+    }
+
+    /// Performs a request of the quota: it is committed with its reply, or after a fault all but `tries` is as before.
+    /// It takes memory for a new item alone.
+    pub fn perform<R: Wait>(
+        &mut self,
+        rt: &R,
+        boxes: &Boxes<N>,
+        request: &Request,
+        index: u32,
+    ) -> Result<Reply, PermitFault>
+        requires of { self.old.key.boxes ≡ boxes.now }
+        requires opening { HaveOpening N.opening self.old.split.desk.opening }
+        requires left { 0 < self.old.split.desk.left }
+        requires tries { self.old.split.desk.tries < 1000000000 }
+        ensures committed { IfOk result (λ reply.
+            HasCommitted N.opening (with_try self.old) self.new request.now index reply) }
+        ensures failed { IfErr result (HasFailed N.opening (with_try self.old) self.new request.now) }
+    {
+        self.count_try();
+        self.perform_counted(rt, boxes, request, index)
+    }
+
+    /// Performs the first stashed request, which uses none of the quota: None exactly where there is none. After a fault
+    /// it is the first as before, and so is all but `tries`. It takes memory for a new item alone.
+    pub fn perform_stashed<R: Wait>(
+        &mut self,
+        rt: &R,
+        boxes: &Boxes<N>,
+    ) -> Result<Option<Reply>, PermitFault>
+        requires of { self.old.key.boxes ≡ boxes.now }
+        requires opening { HaveOpening N.opening self.old.split.desk.opening }
+        requires tries { self.old.split.desk.tries < 1000000000 }
+        ensures none { IfOk result (λ answer. IfNone answer (self.old.split.desk.stash.requests ≡ [])) }
+        ensures unchanged { IfOk result (λ answer. IfNone answer (self.new ≡ with_try self.old)) }
+        ensures performed { IfOk result (λ answer. IfSome answer
+            (HasPerformedFirst N.opening (with_try self.old) self.new)) }
+        ensures failed { IfErr result (HasFailedFirst N.opening (with_try self.old) self.new) }
+    {
+        self.count_try();
+        let Some((index, request)) = self.call_first() else {
+            return Ok(None);
         };
-        self.desk
-            .commit(number, index, &Request::ViewItem { item }, &reply, &found);
-        Some(reply)
+        match self.perform_counted(rt, boxes, &request, index) {
+            Ok(reply) => Ok(Some(reply)),
+            Err(fault) => {
+                self.call_off();
+                Err(fault)
+            }
+        }
+    }
+
+    // Counts a try.
+    fn count_try(&mut self)
+        requires few { self.old.split.desk.tries < 1000000000 }
+        ensures { self.new ≡ with_try self.old }
+    {
+        self.desk.count_try();
+    }
+
+    // Calls the first stashed request into the quota, if there is one.
+    fn call_first(&mut self) -> Option<(u32, Request)>
+        ensures first { result ≡ slice_get self.old.split.desk.stash.requests 0 }
+        ensures none { IfNone result (self.new ≡ self.old) }
+        ensures called { IfSome result (λ _. self.new ≡ with_first_called self.old) }
+        ensures some { IfSome result (λ _. 0 < length self.old.split.desk.stash.requests) }
+    {
+        self.desk.call_first()
+    }
+
+    // Puts the request that was last called into the quota back in front of the stash.
+    fn call_off(&mut self)
+        requires called { 0 < length self.old.split.desk.stash.done }
+        requires left { 0 < self.old.split.desk.left }
+        ensures some { 0 < length self.new.split.desk.stash.requests }
+        ensures before { self.old ≡ with_first_called self.new }
+    {
+        self.desk.call_off();
     }
 
     /// How many requests of the quota are not performed.
@@ -127,6 +332,13 @@ impl<N: PhaseName> JoinedPermit<N> {
         ensures { result ≡ length self.now.split.desk.stash.requests }
     {
         self.desk.stashed()
+    }
+
+    /// The request that `perform_stashed` would perform next, with its index.
+    pub fn first_stashed(&self) -> Option<(u32, Request)>
+        ensures { result ≡ slice_get self.now.split.desk.stash.requests 0 }
+    {
+        self.desk.first_stashed()
     }
 
     /// How many calls of `perform` and `perform_stashed` were made.
@@ -146,7 +358,7 @@ impl<N: PhaseName> JoinedPermit<N> {
 }
 
 impl<N: PhaseName> JoinedReceipt<N> {
-    ghost use Rattle.phase_permits.specs.Permits.{IsWorth};
+    ghost use Rattle.phase_transactions.specs.Permits.{IsWorth};
 
     /// The journal, the stash, the key and the counters, and what they are worth.
     pub fn parts(self) -> (Journal, Stash, Key<N>, Counters)
@@ -155,6 +367,7 @@ impl<N: PhaseName> JoinedReceipt<N> {
         ensures key { result.2 ≡ self.key }
         ensures counters { result.3 ≡ self.split.desk.counters }
         ensures worth { IsWorth (length N.opening) self.split self.key }
+        ensures limit { self.split.desk.counters.commits ≤ 1000000 }
     {
         let JoinedReceipt { desk, key } = self;
         let (journal, stash, counters) = desk.open();

@@ -1,14 +1,13 @@
 //! A worker's right to perform in a split phase, and what it leaves.
-ghost use Rattle.std.specs.Prelude.{◌≡◌, ◌+◌, ◌≤◌, ◌<◌, ◌↔◌, [], length, IsNone, IfNone, IfSome};
+ghost use Rattle.std.specs.Prelude.{◌≡◌, ◌+◌, ◌≤◌, ◌<◌, ◌↔◌, [], length, true, Ok, IsNone, IfNone, IfSome, IfOk, IfErr};
 ghost use Rattle.item_shards.specs.CommitNumbers.{last_number};
 
-use crate::counters::Counters;
-use crate::slices::Slices;
-use crate::split::SplitDesk;
-use crate::stash::Stash;
-use auction_rows::{ItemId, Object, Opening, Reply, Stars};
-use shard_boxes::{Key, PhaseName};
+use auction_rows::{ItemId, Object, Opening, Reply, Request, Stars};
+use phase_desks::{Counters, Slices, SplitDesk, Stash};
+use phase_transactions::{Done, PermitFault, commit_in_split};
+use shard_boxes::{Boxes, Key, PhaseName};
 use std::marker::Model;
+use std::sync::Wait;
 use worker_journals::Journal;
 
 /// A worker's right to perform in a split phase. It must be spent by `finish`.
@@ -19,7 +18,7 @@ pub struct SplitPermit<N: PhaseName> {
 
 impl<N: PhaseName> Model for SplitPermit<N> {
     ghost use Rattle.std.specs.Prelude.{length};
-    ghost use Rattle.phase_permits.specs.Permits.{PermitState, IsWorth};
+    ghost use Rattle.phase_transactions.specs.Permits.{PermitState, IsWorth};
 
     ghost Value = { PermitState };
 
@@ -37,7 +36,7 @@ pub struct SplitReceipt<N: PhaseName> {
 
 impl<N: PhaseName> Model for SplitReceipt<N> {
     ghost use Rattle.std.specs.Prelude.{length};
-    ghost use Rattle.phase_permits.specs.Permits.{PermitState, IsWorth};
+    ghost use Rattle.phase_transactions.specs.Permits.{PermitState, IsWorth};
 
     ghost Value = { PermitState };
 
@@ -50,12 +49,17 @@ impl<N: PhaseName> SplitPermit<N> {
     ghost use Rattle.auction_rows.specs.declared.ids.Object.TheVariants.{Item, User};
     ghost use Rattle.auction_rows.specs.declared.requests.Request.TheVariants.{StoreBid, StoreComment};
     ghost use Rattle.auction_rows.specs.Footprint.{is_hot};
-    ghost use Rattle.phase_permits.specs.Slicing.{objects_of, stocks_of, slices_of};
-    ghost use Rattle.phase_permits.specs.Desks.{AreCounted, new_desk};
-    ghost use Rattle.phase_permits.specs.Splits.{IsHot, HasStored};
-    ghost use Rattle.phase_permits.specs.Permits.{IsUnused, IsWorth};
+    ghost use Rattle.phase_desks.specs.Slicing.{objects_of, stocks_of, slices_of};
+    ghost use Rattle.phase_desks.specs.Desks.{AreCounted, new_desk};
+    ghost use Rattle.phase_desks.specs.Splits.{IsHot, AreStored};
+    ghost use Rattle.phase_desks.specs.Deeds.{is_put_off};
+    ghost use Rattle.phase_transactions.specs.declared.fault.Done.TheVariants.{Stashed};
+    ghost use Rattle.phase_transactions.specs.Halves.{IsUntouched};
+    ghost use Rattle.phase_transactions.specs.Performing.{HasDealtWith, HasFailed, with_try};
+    ghost use Rattle.phase_transactions.specs.Permits.{IsUnused, IsWorth, HasCommitted};
+    ghost use Rattle.phase_transactions.specs.Single.{HaveOpening};
 
-    /// A permit to perform so many requests. It takes no memory.
+    /// A permit to perform so many requests. No hot item is one that the worker has still to store. It takes no memory.
     pub fn new(
         key: Key<N>,
         opening: Opening,
@@ -75,6 +79,7 @@ impl<N: PhaseName> SplitPermit<N> {
         requires stash_room { quota ≤ stash.room }
         requires limit { counters.commits + quota ≤ 1000000 }
         requires counted { AreCounted counters }
+        requires stored { AreStored journal.worker counters slices }
         ensures { result ≡ record {
           split = record { desk = new_desk opening counters journal stash quota clock; slices = slices };
           key = key;
@@ -100,8 +105,8 @@ impl<N: PhaseName> SplitPermit<N> {
         requires left { 0 < self.old.split.desk.left }
         ensures none { IsNone result ↔ (last_number ≤ self.old.split.desk.clock) }
         ensures unchanged { IfNone result (self.new ≡ self.old) }
-        ensures stored { IfSome result (λ reply.
-            HasStored self.old.split self.new.split (StoreBid bidder item amount time) index reply) }
+        ensures committed { IfSome result (λ reply.
+            HasCommitted N.opening self.old self.new (StoreBid bidder item amount time) index reply) }
         ensures key { self.new.key ≡ self.old.key }
     {
         self.split.bid_hot(bidder, item, amount, time, index)
@@ -122,11 +127,41 @@ impl<N: PhaseName> SplitPermit<N> {
         requires left { 0 < self.old.split.desk.left }
         ensures none { IsNone result ↔ (last_number ≤ self.old.split.desk.clock) }
         ensures unchanged { IfNone result (self.new ≡ self.old) }
-        ensures stored { IfSome result (λ reply.
-            HasStored self.old.split self.new.split (StoreComment author about item stars) index reply) }
+        ensures committed { IfSome result (λ reply.
+            HasCommitted N.opening self.old self.new (StoreComment author about item stars) index reply) }
         ensures key { self.new.key ≡ self.old.key }
     {
         self.split.comment_hot(author, about, item, stars, index)
+    }
+
+    /// Performs a request of the quota. It is put off where it can't be split and touches a hot object: then it uses no
+    /// number. Else it is committed, at 1 + the greatest of the worker's clock and those of the shards that it takes, which
+    /// are those of its objects that are not hot. After a fault all but the tries and what the key has seen is as before.
+    pub fn perform<R: Wait>(
+        &mut self,
+        rt: &R,
+        boxes: &Boxes<N>,
+        request: &Request,
+        index: u32,
+    ) -> Result<Done, PermitFault>
+        requires of { self.old.key.boxes ≡ boxes.now }
+        requires opening { HaveOpening N.opening self.old.split.desk.opening }
+        requires left { 0 < self.old.split.desk.left }
+        requires tries { self.old.split.desk.tries < 1000000000 }
+        ensures dealt { IfOk result (HasDealtWith N.opening (with_try self.old) self.new request.now index) }
+        ensures stashed { (result ≡ Ok Stashed) ↔ (is_put_off (objects_of self.old.split.slices) request.now ≡ true) }
+        ensures failed { IfErr result (HasFailed N.opening (with_try self.old) self.new request.now) }
+        ensures untouched { IsUntouched (length N.opening) self.old.split request.now self.old.key self.new.key }
+    {
+        let _worker = self.key.worker();
+        self.split.count_try();
+        if self.split.is_put_off(request) {
+            self.split.put_off(index, request);
+            return Ok(Done::Stashed);
+        }
+        let key = &mut self.key;
+        let reply = commit_in_split(rt, boxes, key, &mut self.split, request, index)?;
+        Ok(Done::Committed(reply))
     }
 
     /// How many requests of the quota are not performed.
@@ -167,7 +202,8 @@ impl<N: PhaseName> SplitPermit<N> {
 }
 
 impl<N: PhaseName> SplitReceipt<N> {
-    ghost use Rattle.phase_permits.specs.Permits.{IsWorth};
+    ghost use Rattle.phase_desks.specs.Slicing.{AreFew};
+    ghost use Rattle.phase_transactions.specs.Permits.{IsWorth};
 
     /// The journal, the slices, the stash, the key and the counters, and what they are worth.
     pub fn parts(self) -> (Journal, Slices, Stash, Key<N>, Counters)
@@ -177,6 +213,8 @@ impl<N: PhaseName> SplitReceipt<N> {
         ensures key { result.3 ≡ self.key }
         ensures counters { result.4 ≡ self.split.desk.counters }
         ensures worth { IsWorth (length N.opening) self.split self.key }
+        ensures limit { self.split.desk.counters.commits ≤ 1000000 }
+        ensures few { AreFew 1000000 self.split.slices }
     {
         let SplitReceipt { split, key } = self;
         let (desk, slices) = split.open();

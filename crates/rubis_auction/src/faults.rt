@@ -10,6 +10,7 @@ pub enum UsageFault {
     /// What the parser of options says.
     #[error("{0}")]
     Text(String),
+    /// No memory was left while the words were read.
     #[error("no memory")]
     Memory,
 }
@@ -20,6 +21,7 @@ pub enum RunFault {
     /// A worker has more than 1,000,000 rows and requests.
     #[error("more than 1000000 requests for a worker")]
     TooLong,
+    /// No memory was left for the auction or the journal.
     #[error("no memory")]
     Memory,
 }
@@ -27,14 +29,19 @@ pub enum RunFault {
 /// Why the program failed, by the part that failed.
 #[derive(Debug, Drop, Error)]
 pub enum Fault {
+    /// The options were refused.
     #[error("{0}")]
     Usage(UsageFault),
+    /// The input could not be read.
     #[error("{0}")]
     Read(ReadFault),
+    /// The rows could not be opened.
     #[error("{0}")]
     Resume(ResumeFault),
+    /// The script could not be performed.
     #[error("{0}")]
     Run(RunFault),
+    /// The text could not be written.
     #[error("{0}")]
     Write(WriteFault),
 }

@@ -40,7 +40,7 @@ fn journal_of(alloc: Global, book: &OpeningBook, script: &[Request]) -> Result<J
     let mut journal = Journal::with_room(alloc, 0, 0, script.len())?;
     for (index, request) in script.iter().enumerate() {
         let reply = auction.perform(0, *request)?;
-        journal.push(index as u64 + 1, index as u32, *request, reply);
+        journal.push(index as u64 + 1, index as u32, request, &reply);
     }
     Ok(journal)
 }

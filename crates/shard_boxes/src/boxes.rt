@@ -30,13 +30,14 @@ impl<N: PhaseName> Model for Boxes<N> {
     ghost view = { λ b. b.places.items };
 
     ghost invariant = { λ b. (vec_len b.places ≡ length N.opening) × (length N.opening ≤ 64) × (0 < N.workers)
-        × (vec_len b.answer ≡ 0) × (length N.opening ≤ vec_capacity b.answer) };
+        × (vec_len b.answer ≡ 0) × (length N.opening ≤ vec_capacity b.answer) × (0 < length N.opening) };
 }
 
 impl<N: PhaseName> Boxes<N> {
     /// How many shards there are, 1 to 64.
     pub fn shards(&self) -> u32
-        ensures { result ≡ length N.opening }
+        ensures count { result ≡ length N.opening }
+        ensures some { 0 < length N.opening }
     {
         self.places.len() as u32
     }

@@ -46,18 +46,18 @@ impl Journal {
 
     /// Adds a commit of this worker in this phase, at a number greater than the last one's, where there
     /// is room. It takes no memory.
-    pub fn push(&mut self, number: u64, index: u32, request: Request, reply: Reply)
+    pub fn push(&mut self, number: u64, index: u32, request: &Request, reply: &Reply)
         requires room { length self.old.entries < self.old.room }
         requires after { ComesAfter self.old.entries number }
-        ensures pushed { self.new ≡ with_commit self.old number index request reply }
+        ensures pushed { self.new ≡ with_commit self.old number index request.now reply.now }
     {
         self.entries.push_reserved(Entry {
             phase: self.phase,
             number,
             worker: self.worker,
             index,
-            request,
-            reply,
+            request: *request,
+            reply: *reply,
         });
     }
 

@@ -44,7 +44,7 @@ fn heads_of<'a>(alloc: Global, journals: &'a [Journal]) -> Result<BinaryHeap<Hea
 
 /// The entries of all journals by number, and those of one number by worker. The journals stand in the
 /// order of their workers, at most one for each. All memory is asked for before the first entry is
-/// moved; where it is refused, the journals are gone.
+/// moved; where it is refused, the journals are gone. A count of entries past 64 bits is want of memory.
 pub fn merge_journals(alloc: Global, journals: Vec<Journal>) -> Result<Vec<Entry>, AllocError>
     requires by_worker { AreByWorker journals.items }
     ensures ascending { IfOk result (λ merged. IsAscending entry_number entry_worker merged.items) }

@@ -51,7 +51,7 @@ pub(crate) fn journal_of(alloc: Global, worker: u32, numbers: &[u16]) -> Result<
         if !are_less(journal.entries(), entry.number) {
             return Err(Fail::from("numbers that don't ascend"));
         }
-        journal.push(entry.number, entry.index, entry.request, entry.reply);
+        journal.push(entry.number, entry.index, &entry.request, &entry.reply);
     }
     Ok(journal)
 }

@@ -15,8 +15,8 @@ fn journal_starts_empty(rt: HostRuntime) -> Result<(), Fail> {
 fn push_adds_a_commit_of_the_worker(rt: HostRuntime) -> Result<(), Fail> {
     let mut journal = Journal::with_room(rt.alloc(), PHASE, 3, 2)?;
     let (first, second) = (commit(0, 3), commit(9, 3));
-    journal.push(first.number, first.index, first.request, first.reply);
-    journal.push(second.number, second.index, second.request, second.reply);
+    journal.push(first.number, first.index, &first.request, &first.reply);
+    journal.push(second.number, second.index, &second.request, &second.reply);
     assert_eq!(rt; journal.entries(), [first, second].as_slice());
     assert_eq!(rt; journal.worker(), 3);
     Ok(())

@@ -1,0 +1,4 @@
+pub mod HeatLemmas
+pub mod RankLemmas
+pub mod ChoiceLemmas
+pub mod ChosenLemmas

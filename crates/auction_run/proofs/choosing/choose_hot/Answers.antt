@@ -1,0 +1,20 @@
+use Rattle.std.proofs.Common.{◌≡◌, List, map, take, sym, ap, subst, ◌∙◌}
+use Rattle.std.specs.List.{IsDistinct}
+use Rattle.std.proofs.lemmas.Result.{IfOk-weaker}
+use Rattle.auction_rows.specs.Choosing.{choose}
+use Rattle.auction_rows.specs.Requests.{same_object}
+use Rattle.auction_run.specs.declared.choosing.Candidate.{Candidate}
+use Rattle.auction_run.proofs.ChosenLemmas.{distinct, chosen}
+use Rattle.auction_run.proofs.choosing.choose_hot.Goals as goal
+
+pub first_of-requires : goal.first_of-requires
+first_of-requires c =
+    subst (λ (cs : List Candidate). IsDistinct same_object (map (λ c. c.object) cs)) (sym c.deref.ensures.value)
+    (distinct c.args.entries.now c.in_ok-heats.heats.entries c.args.threshold c.in_ok-candidates.candidates.items c.in_ok-heats.ensures c.in_ok-candidates.ensures)
+
+pub returns : goal.returns
+returns c =
+    let chosen_are : map (λ (c : Candidate). c.object) (take c.args.hot_max c.deref.result.now) ≡ choose c.args.entries.now c.args.threshold c.args.hot_max =
+    ap (λ (cs : List Candidate). map (λ (c : Candidate). c.object) (take c.args.hot_max cs)) c.deref.ensures.value
+    ∙ chosen c.args.entries.now c.in_ok-heats.heats.entries c.args.threshold c.in_ok-candidates.candidates.items c.in_ok-heats.ensures c.in_ok-candidates.ensures c.args.hot_max in
+    IfOk-weaker c.first_of.result _ _ (λ hot are. are ∙ chosen_are) c.first_of.ensures

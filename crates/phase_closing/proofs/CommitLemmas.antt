@@ -1,0 +1,80 @@
+-- A phase leaves a book, and a worker's commits grow by the entries of its journal.
+use Rattle.std.proofs.Common.{◌≡◌, ℕ, ◌+◌, ◌<◌, ◌≤◌, List, [], ◌∷◌, fold, length, refl, sym, ap, subst, ◌∙◌, arith}
+use Rattle.std.proofs.lemmas.List.{length-map}
+use Rattle.auction_rows.specs.declared.replies.Reply.{Reply}
+use Rattle.auction_rows.specs.declared.replies.Reply.TheVariants.{ItemStored, BidStored, CommentStored, Bought, ItemSeen, BidsSeen, CategorySeen, UserSeen, Refused}
+use Rattle.auction_rows.specs.declared.rows.Entry.{Entry}
+use Rattle.auction_rows.specs.Book.{Book}
+use Rattle.auction_rows.specs.History.{IsBook, book_after, rows_of}
+use Rattle.auction_rows.proofs.HistoryLemmas.{book_after-replays, rows_go_on, longer_book}
+use Rattle.phase_desks.specs.declared.counters.Counters.{Counters}
+use Rattle.phase_desks.specs.Deeds.{Deed, entry_of, counted, after_deed}
+use Rattle.phase_closing.specs.Phases.{Phase, HasClosed, counters_of, journal_of, receipt_at}
+use Rattle.phase_closing.specs.Standing.{StandFor, counters_at, stores}
+use Rattle.phase_closing.proofs.WorkerLemmas.{rows_star}
+use Rattle.item_shards.specs.Limits.{GivesStars, HasStars}
+use Rattle.item_shards.proofs.CanActLemmas.{all_both}
+use Rattle.std.specs.List.{AllByRecursion}
+use Rattle.phase_closing.proofs.ReceiptLemmas.{deeds_by, counts, journal_entries}
+use Rattle.phase_closing.proofs.ReplayLemmas.{entries_replay}
+
+pub book_left : (p : Phase) (closed : HasClosed p) (book : Book) → StandFor p.opening p.counters book [] → IsBook p.setting.opening book
+    → IsBook p.setting.opening (book_after p.setting.opening book p.entries)
+book_left p closed book opens is =
+    let replays = entries_replay p closed book opens in
+    subst (IsBook p.setting.opening) (sym (book_after-replays p.setting.opening book p.entries replays))
+    (longer_book p.setting.opening book (rows_of p.entries) is (rows_go_on p.setting.opening book p.entries replays))
+
+one_commit : (counters : Counters) (reply : Reply) → (counted counters reply).commits ≡ counters.commits + 1
+one_commit counters (ItemStored id) = refl
+one_commit counters (BidStored id) = refl
+one_commit counters (CommentStored id) = refl
+one_commit counters (Bought id) = refl
+one_commit counters (ItemSeen seller category name start closes highest bidder bids left) = refl
+one_commit counters (BidsSeen bids) = refl
+one_commit counters (CategorySeen items) = refl
+one_commit counters (UserSeen rating comments) = refl
+one_commit counters (Refused reason) = refl
+
+commits_after : (counters : Counters) (deeds : List Deed) → (fold after_deed counters deeds).commits ≡ counters.commits + length deeds
+commits_after counters [] = omega arith
+commits_after counters (deed ∷ deeds) =
+    let one = one_commit counters deed.0.reply in
+    omega (arith, one, commits_after (after_deed counters deed) deeds)
+
+pub commits_grow : (p : Phase) (closed : HasClosed p) (w : ℕ) → w < length p.receipts
+    → (let receipt = receipt_at p.receipts w in (counters_of receipt).commits ≡ (counters_at p.counters w).commits + length (journal_of receipt).entries)
+commits_grow p closed w known =
+    ap (λ (counters : Counters). counters.commits) (counts p closed w known)
+    ∙ commits_after (counters_at p.counters w) (deeds_by p closed w)
+    ∙ ap (λ n. (counters_at p.counters w).commits + n)
+    (sym (length-map (deeds_by p closed w) entry_of) ∙ ap (length {A = Entry}) (sym (journal_entries p closed w)))
+
+-- each commit has at most one store
+one_store : (counters : Counters) (reply : Reply) → stores (counted counters reply) ≤ stores counters + 1
+one_store counters (ItemStored id) = omega arith
+one_store counters (BidStored id) = omega arith
+one_store counters (CommentStored id) = omega arith
+one_store counters (Bought id) = omega arith
+one_store counters (ItemSeen seller category name start closes highest bidder bids left) = omega arith
+one_store counters (BidsSeen bids) = omega arith
+one_store counters (CategorySeen items) = omega arith
+one_store counters (UserSeen rating comments) = omega arith
+one_store counters (Refused reason) = omega arith
+
+stores_after : (counters : Counters) (deeds : List Deed) → stores counters ≤ counters.commits → stores (fold after_deed counters deeds) ≤ (fold after_deed counters deeds).commits
+stores_after counters [] few = few
+stores_after counters (deed ∷ deeds) few =
+    stores_after (after_deed counters deed) deeds (omega (arith, few, one_store counters deed.0.reply, one_commit counters deed.0.reply))
+
+pub stores_few : (p : Phase) (closed : HasClosed p) (w : ℕ) → w < length p.receipts
+    → (let after = counters_of (receipt_at p.receipts w) in stores (counters_at p.counters w) ≤ (counters_at p.counters w).commits → stores after ≤ after.commits)
+stores_few p closed w known few =
+    subst (λ (counters : Counters). stores counters ≤ counters.commits) (sym (counts p closed w known))
+    (stores_after (counters_at p.counters w) (deeds_by p closed w) few)
+
+pub stars_go_on : (p : Phase) (closed : HasClosed p) (book : Book) → StandFor p.opening p.counters book [] → AllByRecursion HasStars book
+    → AllByRecursion (λ entry. GivesStars entry.request) p.entries → AllByRecursion HasStars (book_after p.setting.opening book p.entries)
+stars_go_on p closed book opens stars given =
+    subst (AllByRecursion HasStars) (sym (book_after-replays p.setting.opening book p.entries (entries_replay p closed book opens)))
+    (all_both HasStars book (rows_of p.entries) stars (rows_star p.entries given))

@@ -1,0 +1,8 @@
+use Rattle.phase_closing.proofs.CommitLemmas.{book_left, stars_go_on}
+use Rattle.phase_closing.proofs.closing.books_go_on.Goals as goal
+
+pub returns-clause-books : goal.returns-clause-books
+returns-clause-books c = book_left
+
+pub returns-clause-stars : goal.returns-clause-stars
+returns-clause-stars c = stars_go_on

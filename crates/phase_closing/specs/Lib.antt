@@ -1,0 +1,5 @@
+pub mod Standing
+pub mod Phases
+pub mod Histories
+pub mod Merging
+pub mod Example

@@ -1,0 +1,52 @@
+-- The slices of the workers, merged into the shards in which their objects lie.
+use Rattle.std.specs.Prelude.{◌≡◌, ℕ, ◌+◌, ◌<◌, ◌^◌, ◌+ℤ◌, FitsSigned, IsSome, ⊤, List, fold, length, slice_set}
+use Rattle.std.specs.Int.{w64}
+use Rattle.std.specs.List.{flat_map}
+use Rattle.std.specs.List.Sorted.{IsPermutation}
+use Rattle.auction_rows.specs.declared.ids.Object.{Object}
+use Rattle.auction_rows.specs.declared.ids.Object.TheVariants.{Item, User, Category}
+use Rattle.auction_rows.specs.Requests.{shard_of}
+use Rattle.item_shards.specs.declared.slices.Slice.{Slice}
+use Rattle.item_shards.specs.declared.slices.Slice.TheVariants as slice
+use Rattle.item_shards.specs.Shelves.{changed, bids_merged, comments_merged, items_merged}
+use Rattle.item_shards.specs.Values.{Value}
+use Rattle.shard_boxes.specs.States.{ShardState, state_at}
+use Rattle.phase_transactions.specs.Permits.{PermitState}
+use Rattle.phase_desks.specs.Slicing.{slices_in}
+use Rattle.phase_closing.specs.Phases.{Phase, value_on}
+
+-- a value with a slice of its object merged
+abbrev pub merged_with : Slice → Value → Value
+merged_with (slice.Item s) value = bids_merged s value
+merged_with (slice.User s) value = comments_merged s value
+merged_with (slice.Category s) value = items_merged s value
+
+-- a shard with a slice of an object merged
+abbrev pub with_slice : ShardState → Object × Slice → ShardState
+with_slice state pair = record state { shelf = changed pair.0 (merged_with pair.1) state.shelf }
+
+-- the shards after a slice of an object is merged into the one in which it lies
+abbrev pub after_merge : List ShardState → Object × Slice → List ShardState
+after_merge states pair = let s = shard_of pair.0 (length states) in slice_set states s (with_slice (state_at states s) pair)
+
+-- the slices of all workers, each with its object
+abbrev pub slices_left : List PermitState → List (Object × Slice)
+slices_left receipts = flat_map (λ receipt. slices_in receipt.split.slices) receipts
+
+-- A slice can be merged: its object is of its kind, an item is stored, and the sums that are made fit their types.
+abbrev pub CanMerge : List ShardState → Object × Slice → Type 0
+CanMerge states (Item id, slice.Item s) =
+    IsSome (value_on states (Item id)).facts × ((value_on states (Item id)).bids.bids + s.bids < 2 ^ 64)
+CanMerge states (User user, slice.User s) =
+    FitsSigned w64 ((value_on states (User user)).comments.rating +ℤ s.rating)
+    × ((value_on states (User user)).comments.comments + s.comments < 2 ^ 64)
+CanMerge states (Category category, slice.Category s) = ⊤
+CanMerge states pair = ⊥
+
+-- What reconciliation does: into the shards that the boxes gave back all slices of all workers are merged, once each, in some
+-- order. Clocks don't matter.
+pub record IsReconciled (p : Phase) (closing : List ShardState) : Type 0 where
+  pub order : List (Object × Slice)
+  pub each : IsPermutation (slices_left p.receipts) order
+  pub count : length closing ≡ length p.given
+  pub shelves : (s : ℕ) → s < length p.given → (state_at closing s).shelf ≡ (state_at (fold after_merge p.given order) s).shelf

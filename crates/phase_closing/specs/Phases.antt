@@ -1,0 +1,99 @@
+-- A phase that has closed: with what it began, what its workers did, and what it left.
+use Rattle.std.specs.Prelude.{◌≡◌, ℕ, ◌<◌, List, [], Option, map, length, slice_index_or, ⊤}
+use Rattle.std.specs.List.{AllByRecursion, IsDistinct}
+use Rattle.phase_laws.specs.Order.{IsAscending, part}
+use Rattle.auction_rows.specs.declared.ids.Object.{Object}
+use Rattle.auction_rows.specs.declared.ids.Object.TheVariants.{Item, User, Category}
+use Rattle.auction_rows.specs.declared.requests.Facts.{Facts}
+use Rattle.auction_rows.specs.declared.rows.Entry.{Entry}
+use Rattle.auction_rows.specs.Requests.{same_object, shard_of}
+use Rattle.item_shards.specs.Values.{Value, stock}
+use Rattle.worker_journals.specs.Journals.{JournalView, entry_number, entry_worker, empty_journal}
+use Rattle.worker_journals.specs.Merged.{entries_of}
+use Rattle.shard_boxes.specs.Closed.{AreClosed}
+use Rattle.shard_boxes.specs.Keys.{KeyState, no_key}
+use Rattle.shard_boxes.specs.States.{ShardState, state_at}
+use Rattle.phase_desks.specs.declared.counters.Counters.{Counters}
+use Rattle.phase_desks.specs.Deeds.{Setting, Deed, hot_in}
+use Rattle.phase_desks.specs.Desks.{new_desk}
+use Rattle.phase_transactions.specs.Permits.{PermitState, IsWorth, joined, no_counters, first_of}
+use Rattle.phase_desks.specs.Slicing.{IsStocked}
+use Rattle.phase_desks.specs.Splits.{setting_of}
+use Rattle.phase_closing.specs.Standing.{counters_at}
+
+-- its setting; the shards and each worker's counters as it began; each worker's receipt; the shards that the boxes gave back,
+-- and the entries of all journals
+pub record Phase : Type 0 where
+  pub setting : Setting
+  pub opening : List ShardState
+  pub counters : List Counters
+  pub receipts : List PermitState
+  pub given : List ShardState
+  pub entries : List Entry
+
+-- of a worker that is none of the phase's: it has done nothing
+abbrev pub no_receipt : PermitState
+no_receipt = record {
+  split = joined
+      (new_desk (record { users = 0; categories = 0 }) no_counters (empty_journal 0 0 0) (record { requests = []; done = []; room = 0 }) 0 0);
+  key = no_key;
+}
+
+abbrev pub receipt_at : List PermitState → ℕ → PermitState
+receipt_at receipts worker = slice_index_or receipts worker no_receipt
+
+-- what a receipt has: its key, its journal, the counters after the phase, and the deeds behind them
+abbrev pub key_of : PermitState → KeyState
+key_of receipt = receipt.key
+
+abbrev pub journal_of : PermitState → JournalView
+journal_of receipt = receipt.split.desk.journal
+
+abbrev pub counters_of : PermitState → Counters
+counters_of receipt = receipt.split.desk.counters
+
+abbrev pub deeds_of : PermitState → List Deed
+deeds_of receipt = receipt.split.desk.deeds
+
+-- The value of an object on the shard in which it lies.
+abbrev pub value_on : List ShardState → Object → Value
+value_on states object = (state_at states (shard_of object (length states))).shelf object
+
+-- what is fixed of a hot item was read from its shard
+abbrev pub IsReadFrom : List ShardState → Object × Option (Facts × ℕ) → Type 0
+IsReadFrom states (Item id, fixed) = fixed ≡ stock (value_on states (Item id))
+IsReadFrom states (User user, fixed) = ⊤
+IsReadFrom states (Category category, fixed) = ⊤
+
+-- how a phase begins: it has shards, no object is hot twice, and what is fixed of hot items, which are stored, was read from
+-- the shards
+pub record IsBegun (p : Phase) : Type 0 where
+  pub some : 0 < length p.opening
+  pub shards : p.setting.shards ≡ length p.opening
+  pub workers : length p.counters ≡ length p.receipts
+  pub distinct : IsDistinct same_object (hot_in p.setting)
+  pub stocked : AllByRecursion IsStocked p.setting.stocks
+  pub read : AllByRecursion (IsReadFrom p.opening) p.setting.stocks
+
+-- a worker's receipt, in a phase that it began with these counters and with clock 0
+pub record IsReceiptOf (z : Setting) (worker : ℕ) (opened : Counters) (receipt : PermitState) : Type 0 where
+  pub worth : IsWorth z.shards receipt.split receipt.key
+  pub worker_is : receipt.key.worker ≡ worker
+  pub setting : setting_of receipt.split z.shards ≡ z
+  pub begun : first_of receipt.split.desk.begun ≡ (opened, 0)
+
+-- one such receipt for each worker, in order
+abbrev pub AreReceipts : Phase → Type 0
+AreReceipts p = (w : ℕ) → w < length p.receipts → IsReceiptOf p.setting w (counters_at p.counters w) (receipt_at p.receipts w)
+
+-- the entries are those of the journals, by number and then worker
+pub record AreMerged (p : Phase) : Type 0 where
+  pub ascending : IsAscending entry_number entry_worker p.entries
+  pub parts : (w : ℕ) → part entry_worker w p.entries ≡ entries_of w (map journal_of p.receipts)
+
+-- What permits, boxes and journals tell of a phase that has closed.
+pub record HasClosed (p : Phase) : Type 0 where
+  pub begun : IsBegun p
+  pub receipts : AreReceipts p
+  pub boxes : AreClosed p.opening (length p.receipts) (map key_of p.receipts) p.given
+  pub merged : AreMerged p

@@ -1,0 +1,32 @@
+-- Shards and counters, and the books for which they stand.
+use Rattle.std.specs.Prelude.{ℕ, ◌+◌, ◌<◌, List, length, slice_index_or}
+use Rattle.std.specs.List.{AllByRecursion}
+use Rattle.auction_rows.specs.declared.ids.Object.{Object}
+use Rattle.auction_rows.specs.Book.{Book}
+use Rattle.item_shards.specs.Counting.{worker_of}
+use Rattle.item_shards.specs.Standing.{ShelfStandsFor}
+use Rattle.shard_boxes.specs.States.{ShardState, state_at}
+use Rattle.phase_desks.specs.declared.counters.Counters.{Counters}
+use Rattle.phase_transactions.specs.Permits.{no_counters}
+use Rattle.phase_desks.specs.Splits.{CountsOf}
+
+abbrev pub counters_at : List Counters → ℕ → Counters
+counters_at counters worker = slice_index_or counters worker no_counters
+
+-- the accepted stores of all kinds that are counted
+abbrev pub stores : Counters → ℕ
+stores counters = counters.items + counters.bids + counters.comments + counters.buys
+
+-- each shard has the values that a book gives its objects, but for hot ones
+abbrev pub ShardsStandFor : List ShardState → Book → List Object → Type 0
+ShardsStandFor states book hot = (s : ℕ) → s < length states → ShelfStandsFor s (length states) (state_at states s).shelf book hot
+
+-- each worker's counters count its rows of a book, and no row is of a worker beyond these
+pub record AreCountersOf (counters : List Counters) (book : Book) : Type 0 where
+  pub each : (w : ℕ) → w < length counters → CountsOf book w (counters_at counters w)
+  pub no_others : AllByRecursion (λ row. worker_of row < length counters) book
+
+-- Shards and counters stand for a book, but for hot objects.
+pub record StandFor (states : List ShardState) (counters : List Counters) (book : Book) (hot : List Object) : Type 0 where
+  pub shards : ShardsStandFor states book hot
+  pub counts : AreCountersOf counters book

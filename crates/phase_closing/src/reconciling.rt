@@ -1,0 +1,43 @@
+//! What reconciliation leaves.
+ghost use Rattle.std.specs.Prelude.{◌≡◌, ◌≤◌, List, [], map, length, reverse};
+ghost use Rattle.std.specs.List.{AllByRecursion, flat_map};
+ghost use Rattle.std.specs.List.Sorted.{IsPermutation};
+ghost use Rattle.phase_laws.specs.Replay.{SawInTurn};
+ghost use Rattle.auction_rows.specs.declared.ids.Object.{Object};
+ghost use Rattle.auction_rows.specs.Book.{Book};
+ghost use Rattle.auction_rows.specs.History.{book_after};
+ghost use Rattle.item_shards.specs.declared.slices.Slice.{Slice};
+ghost use Rattle.shard_boxes.specs.States.{ShardState, AreOpened};
+ghost use Rattle.phase_desks.specs.Deeds.{hot_in};
+ghost use Rattle.phase_transactions.specs.Permits.{PermitState};
+ghost use Rattle.phase_desks.specs.Slicing.{AreFew, slices_in};
+ghost use Rattle.phase_closing.specs.Phases.{Phase, HasClosed, counters_of};
+ghost use Rattle.phase_closing.specs.Standing.{StandFor};
+ghost use Rattle.phase_closing.specs.Merging.{IsReconciled, CanMerge, after_merge, slices_left};
+
+/// Where all slices of all workers are merged, in any order, into the shards that the boxes gave back, these and the
+/// counters stand for the book after the entries, hot objects included. Where nothing was hot, they do so as they are.
+pub fn reconciled_shards_stand()
+    ensures split { (p : Phase) → HasClosed p → (closing : List ShardState) → IsReconciled p closing →
+        (book : Book) → StandFor p.opening p.counters book [] →
+        StandFor closing (map counters_of p.receipts) (book_after p.setting.opening book p.entries) [] }
+    ensures joined { (p : Phase) → HasClosed p → hot_in p.setting ≡ [] →
+        (book : Book) → StandFor p.opening p.counters book [] →
+        StandFor p.given (map counters_of p.receipts) (book_after p.setting.opening book p.entries) [] }
+{}
+
+/// In whatever order the slices are merged into the shards that the boxes gave back, each can be merged in its turn:
+/// its object is of its kind, an item is stored, and the sums fit. There are at most 16 workers, and each slice has at
+/// most 1,000,000 operations.
+pub fn slices_can_be_merged()
+    ensures { (p : Phase) → HasClosed p → AreOpened p.opening → length p.receipts ≤ 16 →
+        AllByRecursion (λ receipt. AreFew 1000000 receipt.split.slices) p.receipts →
+        (order : List (Object × Slice)) → IsPermutation (slices_left p.receipts) order →
+        SawInTurn CanMerge after_merge p.given order }
+{}
+
+/// Where the workers' slices are taken out one worker after the other, each from the last on, all are taken once.
+pub fn slices_may_be_popped()
+    ensures { (receipts : List PermitState) → IsPermutation (slices_left receipts)
+        (flat_map (λ receipt. reverse (slices_in receipt.split.slices)) receipts) }
+{}

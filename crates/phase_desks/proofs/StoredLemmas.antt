@@ -1,0 +1,67 @@
+-- A commit keeps what a split desk is.
+use Rattle.std.proofs.Common.{◌≡◌, ℕ, ◌+◌, ◌-◌, ◌<◌, ◌≤◌, true, List, [], ◌∷◌, refl, sym, ap, subst, ◌∙◌, arith}
+use Rattle.auction_rows.specs.declared.ids.ItemId.{ItemId}
+use Rattle.auction_rows.specs.declared.ids.Object.{Object}
+use Rattle.auction_rows.specs.declared.ids.Object.TheVariants.{Item, User, Category}
+use Rattle.auction_rows.specs.declared.replies.Reply.{Reply}
+use Rattle.auction_rows.specs.declared.replies.Reply.TheVariants.{ItemStored, BidStored, CommentStored, Bought, ItemSeen, BidsSeen, CategorySeen, UserSeen, Refused}
+use Rattle.auction_rows.specs.declared.requests.Request.{Request}
+use Rattle.auction_rows.specs.Footprint.{is_hot}
+use Rattle.item_shards.specs.declared.acts.Act.{Act}
+use Rattle.item_shards.specs.declared.acts.Act.TheVariants.{AddItem, ListItem, Bid, Comment, Buy, Look}
+use Rattle.item_shards.specs.declared.slices.Slice.{Slice}
+use Rattle.phase_desks.specs.declared.counters.Counters.{Counters}
+use Rattle.phase_desks.specs.declared.found.Found.{Found}
+use Rattle.phase_desks.specs.declared.slices.Hot.{Hot}
+use Rattle.phase_desks.specs.Slicing.{objects_of, changed, after_act, after_acts, AreFew}
+use Rattle.phase_desks.specs.Deeds.{counted}
+use Rattle.phase_desks.specs.Desks.{DeskState, after_commit, with_one_less}
+use Rattle.phase_desks.specs.Splits.{AreStored}
+use Rattle.phase_desks.proofs.DeskLemmas.{one_commit_more}
+
+-- acts leave the objects
+objects-changed : (object : Object) (change : Slice → Slice) (hots : List (Object × Hot)) → objects_of (changed object change hots) ≡ objects_of hots
+objects-changed object change [] = refl
+objects-changed object change (hot ∷ hots) = ap (λ objects. hot.0 ∷ objects) (objects-changed object change hots)
+
+objects-act : (hots : List (Object × Hot)) (act : Act) → objects_of (after_act hots act) ≡ objects_of hots
+objects-act hots (AddItem id facts) = refl
+objects-act hots (ListItem category item) = objects-changed (Category category) _ hots
+objects-act hots (Bid id bid) = objects-changed (Item id) _ hots
+objects-act hots (Comment user stars) = objects-changed (User user) _ hots
+objects-act hots (Buy id quantity) = refl
+objects-act hots (Look shown) = refl
+
+pub objects-acts : (hots : List (Object × Hot)) (acts : List Act) → objects_of (after_acts hots acts) ≡ objects_of hots
+objects-acts hots [] = refl
+objects-acts hots (act ∷ acts) = objects-acts (after_act hots act) acts ∙ objects-act hots act
+
+-- a commit counts no item back
+no_fewer_items : (counters : Counters) (reply : Reply) → counters.items ≤ (counted counters reply).items
+no_fewer_items counters (ItemStored id) = omega arith
+no_fewer_items counters (BidStored id) = omega arith
+no_fewer_items counters (CommentStored id) = omega arith
+no_fewer_items counters (Bought id) = omega arith
+no_fewer_items counters (ItemSeen seller category name start closes highest bidder bids left) = omega arith
+no_fewer_items counters (BidsSeen bids) = omega arith
+no_fewer_items counters (CategorySeen items) = omega arith
+no_fewer_items counters (UserSeen rating comments) = omega arith
+no_fewer_items counters (Refused reason) = omega arith
+
+still_stored : (worker : ℕ) (counters : Counters) (reply : Reply) (hots slices : List (Object × Hot)) → objects_of slices ≡ objects_of hots → AreStored worker counters hots → AreStored worker (counted counters reply) slices
+still_stored worker counters reply hots slices same stored item hot own =
+    let less = stored item (ap (λ objects. is_hot objects (Item item)) (sym same) ∙ hot) own in
+    let more = no_fewer_items counters reply in
+    omega (arith, less, more)
+
+-- the invariant of a split desk after a commit of the quota whose acts the slices have
+pub commit_keeps_split : (desk new : DeskState) (hots slices : List (Object × Hot)) (number index : ℕ) (request : Request) (reply : Reply) (found : Found) (acts : List Act)
+    → new ≡ with_one_less (after_commit desk number index request reply found) → slices ≡ after_acts hots acts
+    → AreFew (desk.counters.commits + 1) slices → desk.left ≤ desk.stash.room → AreStored desk.journal.worker desk.counters hots
+    → AreFew new.counters.commits slices × (new.left ≤ new.stash.room) × AreStored new.journal.worker new.counters slices
+commit_keeps_split desk new hots slices number index request reply found acts is acted few room stored =
+    subst (λ (d : DeskState). AreFew d.counters.commits slices × (d.left ≤ d.stash.room) × AreStored d.journal.worker d.counters slices) (sym is) (
+      subst (λ n. AreFew n slices) (sym (one_commit_more desk.counters reply)) few,
+      omega (arith, room),
+      still_stored desk.journal.worker desk.counters reply hots slices (ap objects_of acted ∙ objects-acts hots acts) stored,
+    )

@@ -1,0 +1,36 @@
+use Rattle.std.proofs.Common.{sym, subst, ◌∙◌}
+use Rattle.std.specs.List.{AllByRecursion}
+use Rattle.phase_desks.specs.Slicing.{stocks_of, IsStocked}
+use Rattle.auction_rows.specs.Replies.{row_of}
+use Rattle.item_shards.specs.Writing.{writes_if}
+use Rattle.phase_desks.specs.Bids.{comment_request}
+use Rattle.phase_desks.specs.Desks.{after_commit, with_one_less}
+use Rattle.phase_desks.specs.Splits.{SplitState, HasStored, IsHot, nothing}
+use Rattle.phase_desks.proofs.DeskLemmas.{next_of_own}
+use Rattle.phase_desks.proofs.AnswerLemmas.{comment_answered, comment_right, stock_known}
+use Rattle.phase_desks.proofs.StoredLemmas.{commit_keeps_split}
+use Rattle.phase_desks.proofs.split.SplitDesk.store_comment.Goals as goal
+
+pub returns-clause-stored : goal.returns-clause-stored
+returns-clause-stored c =
+    let split : SplitState = record { desk = c.self.inside.desk; slices = c.self.inside.slices } in
+    let new : SplitState = record { desk = c.commit.new.self; slices = c.answer_comment-reply.new.slices } in
+    let answer = c.answer_comment-reply.result in
+    let comment = c.args.comment.now in
+    let number = next_of_own c.self.inside.desk.clock c.in_ok-number.number c.in_ok-number.ensures.number in
+    let hot = subst (λ (s : SplitState). IsHot s (Rattle.auction_rows.specs.declared.ids.Object.TheVariants.Item comment.item)) (sym c.self.view_is) c.requires.item in
+    let stored = stock_known c.self.inside.slices comment.item (subst (λ (s : SplitState). AllByRecursion IsStocked (stocks_of s.slices)) (sym c.self.view_is) c.requires.stocked) hot in
+    subst (λ (old : SplitState). HasStored old new (comment_request comment) c.args.index answer) c.self.view_is (record {
+      desk = c.commit.ensures ∙ (λ i. with_one_less (after_commit split.desk (number i) c.args.index (c.request.ensures i) answer nothing));
+      slices = c.answer_comment-reply.ensures.slices;
+      answered = comment_answered split comment c.args.index answer hot stored c.answer_comment-reply.ensures.reply;
+      right = comment_right split comment answer hot stored c.answer_comment-reply.ensures.reply;
+    })
+
+pub invariant_of-self : goal.invariant_of-self
+invariant_of-self c =
+    let desk = c.self.inside.desk in
+    let answer = c.answer_comment-reply.result in
+    let kept = c.self.invariant in
+    commit_keeps_split desk c.commit.new.self c.self.inside.slices c.answer_comment-reply.new.slices c.in_ok-number.number c.args.index _ answer _ (writes_if (row_of desk.journal.worker (comment_request c.args.comment.now) answer)) c.commit.ensures
+    c.answer_comment-reply.ensures.slices c.answer_comment-reply.ensures.few kept.1 kept.2

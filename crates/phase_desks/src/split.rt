@@ -1,0 +1,362 @@
+//! A desk with slices: what a split permit has beside its key.
+ghost use Rattle.std.specs.Prelude.{◌≡◌, ◌≤◌, ◌<◌, ◌+◌, ◌↔◌, [], length, IsNone, IfNone, IfSome};
+ghost use Rattle.item_shards.specs.CommitNumbers.{last_number};
+
+use crate::counters::Counters;
+use crate::desk::Desk;
+use crate::found::Found;
+use crate::slices::Slices;
+use crate::stash::Stash;
+use auction_rows::{
+    BidEntry, BidId, ItemId, Object, Opening, Refusal, Reply, Request, Stars, is_splittable,
+    number_refusal, touches,
+};
+use std::marker::Model;
+use worker_journals::Journal;
+
+/// A worker's desk in a split phase, with its slices of the hot objects.
+#[derive(Drop)]
+pub struct SplitDesk {
+    pub(crate) desk: Desk,
+    pub(crate) slices: Slices,
+}
+
+impl Model for SplitDesk {
+    ghost use Rattle.std.specs.Prelude.{◌≤◌};
+    ghost use Rattle.phase_desks.specs.Slicing.{AreFew};
+    ghost use Rattle.phase_desks.specs.Splits.{SplitState, AreStored};
+
+    ghost Value = { SplitState };
+
+    ghost view = { λ s. record { desk = s.desk; slices = s.slices } };
+
+    ghost invariant = { λ s. AreFew s.desk.counters.commits s.slices × (s.desk.left ≤ s.desk.stash.room) × AreStored s.desk.journal.worker s.desk.counters s.slices };
+}
+
+impl SplitDesk {
+    ghost use Rattle.auction_rows.specs.declared.ids.Object.TheVariants.{Item, User};
+    ghost use Rattle.auction_rows.specs.declared.requests.Request.TheVariants.{StoreBid, StoreComment};
+    ghost use Rattle.phase_desks.specs.Slicing.{AreFew, IsAt, IsStocked, objects_of, stocks_of, slices_of};
+    ghost use Rattle.auction_rows.specs.Footprint.{is_hot};
+    ghost use Rattle.std.specs.Prelude.{false};
+    ghost use Rattle.std.specs.Option.{option_map_or};
+    ghost use Rattle.auction_rows.specs.Refusals.{number_refusal};
+    ghost use Rattle.phase_desks.specs.Deeds.{is_put_off};
+    ghost use Rattle.phase_desks.specs.Desks.{AreCounted, new_desk, after_putting_off};
+    ghost use Rattle.std.specs.List.{AllByRecursion};
+    ghost use Rattle.phase_desks.specs.Bids.{bid_request, comment_request};
+    ghost use Rattle.phase_desks.specs.Splits.{IsHot, AreStored, HasStored};
+
+    /// A desk as a split phase begins, with room in the stash for the whole quota. No hot item is one that the worker has
+    /// still to store.
+    pub fn new(
+        opening: Opening,
+        counters: Counters,
+        journal: Journal,
+        stash: Stash,
+        slices: Slices,
+        quota: u32,
+        clock: u64,
+    ) -> SplitDesk
+        requires empty { journal.entries ≡ [] }
+        requires stash { stash.requests ≡ [] }
+        requires identities { slices ≡ slices_of (stocks_of slices) [] }
+        requires room { quota ≤ journal.room }
+        requires stash_room { quota ≤ stash.room }
+        requires limit { counters.commits + quota ≤ 1000000 }
+        requires counted { AreCounted counters }
+        requires stored { AreStored journal.worker counters slices }
+        ensures { result ≡ record { desk = new_desk opening counters journal stash quota clock; slices = slices } }
+    {
+        SplitDesk {
+            desk: Desk::new(opening, counters, journal, stash, quota, clock),
+            slices,
+        }
+    }
+
+    /// How many requests of the quota are not performed or put off.
+    pub fn left(&self) -> u32
+        ensures { result ≡ self.now.desk.left }
+    {
+        self.desk.left()
+    }
+
+    /// The number of the worker's last commit, or the clock that it began with.
+    pub fn clock(&self) -> u64
+        ensures { result ≡ self.now.desk.clock }
+    {
+        self.desk.clock()
+    }
+
+    /// How many requests were put off.
+    pub fn stashed(&self) -> usize
+        ensures { result ≡ length self.now.desk.stash.requests }
+    {
+        self.desk.stashed()
+    }
+
+    /// How many tries were counted.
+    pub fn tries(&self) -> u32
+        ensures { result ≡ self.now.desk.tries }
+    {
+        self.desk.tries()
+    }
+
+    /// Whether an object is one of those that the slices are of.
+    pub fn is_hot(&self, object: Object) -> bool
+        ensures { result ≡ is_hot (objects_of self.now.slices) object }
+    {
+        self.slices.place_of(object).is_some()
+    }
+
+    /// Its parts. No slice has more operations than the worker has commits.
+    pub fn open(self) -> (Desk, Slices)
+        ensures desk { result.0 ≡ self.desk }
+        ensures slices { result.1 ≡ self.slices }
+        ensures few { AreFew self.desk.counters.commits self.slices }
+    {
+        let SplitDesk { desk, slices } = self;
+        (desk, slices)
+    }
+
+    /// A bid on a hot item: None exactly where the worker's clock is at the end of numbers, and then nothing has
+    /// changed. It takes no shard and no memory.
+    pub fn bid_hot(
+        &mut self,
+        bidder: u32,
+        item: ItemId,
+        amount: u64,
+        time: u64,
+        index: u32,
+    ) -> Option<Reply>
+        requires hot { IsHot self.old (Item item) }
+        requires left { 0 < self.old.desk.left }
+        ensures none { IsNone result ↔ (last_number ≤ self.old.desk.clock) }
+        ensures unchanged { IfNone result (self.new ≡ self.old) }
+        ensures stored { IfSome result (λ reply.
+            HasStored self.old self.new (StoreBid bidder item amount time) index reply) }
+    {
+        let bid = Bid {
+            bidder,
+            item,
+            amount,
+            time,
+        };
+        let place = self.slices.place_of(Object::Item(item))?;
+        self.store_bid(place, &bid, index)
+    }
+
+    /// A comment about a hot user on the occasion of a hot item: None exactly where the worker's clock is at the end
+    /// of numbers, and then nothing has changed. It takes no shard and no memory.
+    pub fn comment_hot(
+        &mut self,
+        author: u32,
+        about: u32,
+        item: ItemId,
+        stars: Stars,
+        index: u32,
+    ) -> Option<Reply>
+        requires item { IsHot self.old (Item item) }
+        requires user { IsHot self.old (User about) }
+        requires left { 0 < self.old.desk.left }
+        ensures none { IsNone result ↔ (last_number ≤ self.old.desk.clock) }
+        ensures unchanged { IfNone result (self.new ≡ self.old) }
+        ensures stored { IfSome result (λ reply.
+            HasStored self.old self.new (StoreComment author about item stars) index reply) }
+    {
+        let comment = Comment {
+            author,
+            about,
+            item,
+            stars,
+        };
+        let place = self.slices.place_of(Object::User(about))?;
+        self.store_comment(place, &comment, index)
+    }
+
+    /// Whether a request waits for the next joined phase: it can't be split, and touches a hot object.
+    pub fn is_put_off(&self, request: &Request) -> bool
+        ensures { result ≡ is_put_off (objects_of self.now.slices) request.now }
+    {
+        let [first, second] = touches(*request);
+        !is_splittable(*request) && (self.is_hot_if_any(first) || self.is_hot_if_any(second))
+    }
+
+    fn is_hot_if_any(&self, object: Option<Object>) -> bool
+        ensures { result ≡ option_map_or (is_hot (objects_of self.now.slices)) object false }
+    {
+        match object {
+            Some(object) => self.is_hot(object),
+            None => false,
+        }
+    }
+
+    /// Puts off a request of the quota: no number is used. It takes no memory.
+    pub fn put_off(&mut self, index: u32, request: &Request)
+        requires left { 0 < self.old.desk.left }
+        ensures desk { self.new.desk ≡ after_putting_off self.old.desk index request.now }
+        ensures slices { self.new.slices ≡ self.old.slices }
+    {
+        self.desk.put_off(index, request);
+    }
+
+    /// Commits a request that the opening refuses, at the number after the worker's clock: None exactly where that is
+    /// at the end of numbers, and then nothing has changed. It takes no shard and no memory.
+    pub fn refuse(&mut self, request: &Request, reason: Refusal, index: u32) -> Option<Reply>
+        requires refused { number_refusal self.old.desk.opening request.now ≡ Some reason }
+        requires not_put_off { is_put_off (objects_of self.old.slices) request.now ≡ false }
+        requires left { 0 < self.old.desk.left }
+        ensures none { IsNone result ↔ (last_number ≤ self.old.desk.clock) }
+        ensures unchanged { IfNone result (self.new ≡ self.old) }
+        ensures stored { IfSome result (λ reply. HasStored self.old self.new request.now index reply) }
+    {
+        let number = self.desk.next_number(0)?;
+        let reply = Reply::Refused(reason);
+        self.desk
+            .commit(number, index, request, &reply, &Found::NOTHING);
+        Some(reply)
+    }
+
+    // A bid on the item at a place.
+    fn store_bid(&mut self, place: usize, bid: &Bid, index: u32) -> Option<Reply>
+        requires at { IsAt self.old.slices place (Item bid.now.item) }
+        requires hot { IsHot self.old (Item bid.now.item) }
+        requires left { 0 < self.old.desk.left }
+        ensures none { IsNone result ↔ (last_number ≤ self.old.desk.clock) }
+        ensures unchanged { IfNone result (self.new ≡ self.old) }
+        ensures stored { IfSome result (λ reply. HasStored self.old self.new (bid_request bid.now) index reply) }
+    {
+        let number = self.desk.next_number(0)?;
+        let reply = self.desk.answer_bid(&mut self.slices, place, bid);
+        self.desk
+            .commit(number, index, &bid.request(), &reply, &Found::NOTHING);
+        Some(reply)
+    }
+
+    // A comment about the user at a place.
+    fn store_comment(&mut self, place: usize, comment: &Comment, index: u32) -> Option<Reply>
+        requires at { IsAt self.old.slices place (User comment.now.about) }
+        requires item { IsHot self.old (Item comment.now.item) }
+        requires user { IsHot self.old (User comment.now.about) }
+        requires stocked { AllByRecursion IsStocked (stocks_of self.old.slices) }
+        requires left { 0 < self.old.desk.left }
+        ensures none { IsNone result ↔ (last_number ≤ self.old.desk.clock) }
+        ensures unchanged { IfNone result (self.new ≡ self.old) }
+        ensures stored { IfSome result (λ reply.
+            HasStored self.old self.new (comment_request comment.now) index reply) }
+    {
+        let number = self.desk.next_number(0)?;
+        let reply = self.desk.answer_comment(&mut self.slices, place, comment);
+        self.desk
+            .commit(number, index, &comment.request(), &reply, &Found::NOTHING);
+        Some(reply)
+    }
+}
+
+impl Desk {
+    ghost use Rattle.auction_rows.specs.declared.ids.Object.TheVariants.{Item, User};
+    ghost use Rattle.auction_rows.specs.Replies.{row_of};
+    ghost use Rattle.item_shards.specs.Writing.{writes_if};
+    ghost use Rattle.phase_desks.specs.Slicing.{IsAt, AreFew, stocks_of, stock_of, after_acts};
+    ghost use Rattle.phase_desks.specs.Bids.{bid_request, comment_request, IsBidReply, IsCommentReply};
+
+    // The reply to a bid on the item at a place, which is applied to its slice where it is accepted.
+    fn answer_bid(&self, slices: &mut Slices, place: usize, bid: &Bid) -> Reply
+        requires at { IsAt slices.old place (Item bid.now.item) }
+        requires few { AreFew self.now.counters.commits slices.old }
+        requires limit { self.now.counters.commits < 1000000 }
+        ensures reply { IsBidReply self.now (stock_of (stocks_of slices.old) (Item bid.now.item)) bid.now result }
+        ensures slices { slices.new ≡ after_acts slices.old
+            (writes_if (row_of self.now.journal.worker (bid_request bid.now) result)) }
+        ensures few { AreFew (self.now.counters.commits + 1) slices.new }
+    {
+        match self.refusal(&bid.request(), slices.stock_at(place)) {
+            Some(reason) => Reply::Refused(reason),
+            None => {
+                let id = self.next_bid();
+                slices.bid(place, bid.entry(id));
+                Reply::BidStored(id)
+            }
+        }
+    }
+
+    // The reply to a comment on a stored item about the user at a place, which is applied to the user's slice where it
+    // is accepted.
+    fn answer_comment(&self, slices: &mut Slices, place: usize, comment: &Comment) -> Reply
+        requires at { IsAt slices.old place (User comment.now.about) }
+        requires few { AreFew self.now.counters.commits slices.old }
+        requires limit { self.now.counters.commits < 1000000 }
+        ensures reply { IsCommentReply self.now comment.now result }
+        ensures slices { slices.new ≡ after_acts slices.old
+            (writes_if (row_of self.now.journal.worker (comment_request comment.now) result)) }
+        ensures few { AreFew (self.now.counters.commits + 1) slices.new }
+    {
+        match number_refusal(self.opening, comment.request()) {
+            Some(reason) => Reply::Refused(reason),
+            None => {
+                let _known = comment.stars.value();
+                slices.comment(place, comment.stars);
+                Reply::CommentStored(self.next_comment())
+            }
+        }
+    }
+}
+
+/// A bid that is asked for.
+#[derive(Clone, Copy)]
+struct Bid {
+    bidder: u32,
+    item: ItemId,
+    amount: u64,
+    time: u64,
+}
+
+impl Bid {
+    ghost use Rattle.phase_desks.specs.Bids.{bid_request, entry_with};
+
+    fn request(&self) -> Request
+        ensures { result ≡ bid_request self.now }
+    {
+        Request::StoreBid {
+            bidder: self.bidder,
+            item: self.item,
+            amount: self.amount,
+            time: self.time,
+        }
+    }
+
+    fn entry(&self, id: BidId) -> BidEntry
+        ensures { result ≡ entry_with self.now id }
+    {
+        BidEntry {
+            amount: self.amount,
+            time: self.time,
+            id,
+            bidder: self.bidder,
+        }
+    }
+}
+
+/// A comment that is asked for.
+#[derive(Clone, Copy)]
+pub struct Comment {
+    pub author: u32,
+    pub about: u32,
+    pub item: ItemId,
+    pub stars: Stars,
+}
+
+impl Comment {
+    ghost use Rattle.phase_desks.specs.Bids.{comment_request};
+
+    pub fn request(&self) -> Request
+        ensures { result ≡ comment_request self.now }
+    {
+        Request::StoreComment {
+            author: self.author,
+            about: self.about,
+            item: self.item,
+            stars: self.stars,
+        }
+    }
+}

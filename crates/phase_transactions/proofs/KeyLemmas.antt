@@ -1,0 +1,418 @@
+-- A key that took one shard or two and put them back.
+use Rattle.std.proofs.Common.{◌≡◌, ◌≢◌, ℕ, ◌<◌, ◌==◌, Bool, true, false, cond, if◌then◌else◌, List, ◌∷◌, ◌++◌, length, Option, Some, refl, sym, ap, subst, ◌∙◌, ◌⊎◌, inl, inr, arith, [], None, append-nil}
+use Rattle.std.proofs.lemmas.Bool.{eqb-true, eq-eqb, false≢true, true≢false}
+use Rattle.std.proofs.lemmas.Bool.Decides.{eqb_tells}
+use Rattle.std.proofs.lemmas.List.{get_or-set_same, get_or-set_other, length-set}
+use Rattle.shard_boxes.specs.declared.line.Line.{Line}
+use Rattle.shard_boxes.specs.Keys.{KeyState, SeatState, no_seat, seat_at, with_seat, put_seat, taking, putting, lines_at, holds_at, seen_at, added, entries, HoldsNoneFrom}
+use Rattle.shard_boxes.specs.Helds.{HeldState, taken_at}
+use Rattle.shard_boxes.specs.Lines.{after, MayFollow}
+use Rattle.shard_boxes.specs.States.{ShardState, state_at}
+use Rattle.phase_transactions.specs.Permits.{IsIdle}
+use Rattle.phase_transactions.specs.Putting.{HasPut, HasPutOne, IsPutWith}
+use Rattle.phase_transactions.specs.Pairs.{HoldsBoth, HasSameLines, LeavesOthers, HasPutBoth, HasPutTwo}
+
+-- the seat that was changed, and the others
+seat_same : (key : KeyState) (s : ℕ) (seat : SeatState) → s < length key.seats → seat_at (with_seat key s seat) s ≡ seat
+seat_same key s seat known = get_or-set_same key.seats s seat no_seat known
+
+seat_other : (key : KeyState) (s t : ℕ) (seat : SeatState) → t ≢ s → seat_at (with_seat key s seat) t ≡ seat_at key t
+seat_other key s t seat other = get_or-set_other key.seats s t seat no_seat other
+
+-- after a take and a put of one shard the key has one line more there, and no other list of it changes
+module _ (key : KeyState) (s : ℕ) (seen : List (ℕ × Line)) (line : Option Line) (known : s < length key.seats) where
+  still_known : s < length (taking key s seen).seats
+  still_known = subst (λ n. s < n) (sym (length-set key.seats s (record (seat_at key s) { holds = true; seen = seen }))) known
+
+  put_here : seat_at (putting (taking key s seen) s line) s ≡ put_seat key.worker (record (seat_at key s) { holds = true; seen = seen }) line
+  put_here =
+      seat_same (taking key s seen) s (put_seat key.worker (seat_at (taking key s seen) s) line) still_known
+      ∙ ap (λ seat. put_seat key.worker seat line) (seat_same key s (record (seat_at key s) { holds = true; seen = seen }) known)
+
+  put_there : (t : ℕ) → t ≢ s → seat_at (putting (taking key s seen) s line) t ≡ seat_at key t
+  put_there t other =
+      seat_other (taking key s seen) s t (put_seat key.worker (seat_at (taking key s seen) s) line) other
+      ∙ seat_other key s t (record (seat_at key s) { holds = true; seen = seen }) other
+
+  apart : (t : ℕ) → (t == s) ≡ false → t ≢ s
+  apart t e is = false≢true (sym e ∙ eq-eqb t s is)
+
+  pub lines_put : (t : ℕ) → lines_at (putting (taking key s seen) s line) t ≡ (if t == s then lines_at key s ++ added line else lines_at key t)
+  lines_put t = go (t == s) refl
+    where
+      go : (b : Bool) → (t == s) ≡ b → lines_at (putting (taking key s seen) s line) t ≡ cond b (lines_at key s ++ added line) (lines_at key t)
+      go true e = ap (λ n. lines_at (putting (taking key s seen) s line) n) (eqb-true t s e) ∙ ap (λ (seat : SeatState). seat.lines) put_here
+      go false e = ap (λ (seat : SeatState). seat.lines) (put_there t (apart t e))
+
+  pub idle_put : IsIdle key → IsIdle (putting (taking key s seen) s line)
+  idle_put idle t = go (t == s) refl
+    where
+      go : (b : Bool) → (t == s) ≡ b → holds_at (putting (taking key s seen) s line) t ≡ false
+      go true e = ap (λ n. holds_at (putting (taking key s seen) s line) n) (eqb-true t s e) ∙ ap (λ (seat : SeatState). seat.holds) put_here
+      go false e = ap (λ (seat : SeatState). seat.holds) (put_there t (apart t e)) ∙ idle t
+
+-- what a take and a put leave of each shard
+pub taken_here : (key : KeyState) (s : ℕ) (seen : List (ℕ × Line)) → s < length key.seats → seat_at (taking key s seen) s ≡ record (seat_at key s) { holds = true; seen = seen }
+taken_here key s seen known = seat_same key s (record (seat_at key s) { holds = true; seen = seen }) known
+
+pub taken_there : (key : KeyState) (s t : ℕ) (seen : List (ℕ × Line)) → t ≢ s → seat_at (taking key s seen) t ≡ seat_at key t
+taken_there key s t seen other = seat_other key s t (record (seat_at key s) { holds = true; seen = seen }) other
+
+pub put_back_here : (key : KeyState) (s : ℕ) (line : Option Line) → s < length key.seats → seat_at (putting key s line) s ≡ put_seat key.worker (seat_at key s) line
+put_back_here key s line known = seat_same key s (put_seat key.worker (seat_at key s) line) known
+
+pub put_back_there : (key : KeyState) (s t : ℕ) (line : Option Line) → t ≢ s → seat_at (putting key s line) t ≡ seat_at key t
+put_back_there key s t line other = seat_other key s t (put_seat key.worker (seat_at key s) line) other
+
+-- putting a shard back as it was leaves what was seen of it
+pub seen_back : (key : KeyState) (s : ℕ) → s < length key.seats → seen_at (putting key s None) s ≡ seen_at key s
+seen_back key s known = ap (λ (seat : SeatState). seat.seen) (put_back_here key s None known) ∙ append-nil (seen_at key s)
+
+pub as_many_seats : (key : KeyState) (s : ℕ) (seat : SeatState) → length (with_seat key s seat).seats ≡ length key.seats
+as_many_seats key s seat = length-set key.seats s seat
+
+as_many_put : (key : KeyState) (s : ℕ) (seen : List (ℕ × Line)) (line : Option Line) → length (putting (taking key s seen) s line).seats ≡ length key.seats
+as_many_put key s seen line =
+    as_many_seats (taking key s seen) s (put_seat key.worker (seat_at (taking key s seen) s) line) ∙ as_many_seats key s (record (seat_at key s) { holds = true; seen = seen })
+
+-- a take leaves the lines
+pub lines_taken : (key : KeyState) (s : ℕ) (seen : List (ℕ × Line)) → s < length key.seats → (t : ℕ) → lines_at (taking key s seen) t ≡ lines_at key t
+lines_taken key s seen known t = go (eqb_tells s t)
+  where
+    go : (((s == t) ≡ true) × (s ≡ t)) ⊎ (((s == t) ≡ false) × (s ≢ t)) → lines_at (taking key s seen) t ≡ lines_at key t
+    go (inl h) = subst (λ n. lines_at (taking key s seen) n ≡ lines_at key n) h.1 (ap (λ (seat : SeatState). seat.lines) (taken_here key s seen known))
+    go (inr h) = ap (λ (seat : SeatState). seat.lines) (taken_there key s t seen (λ e. h.1 (sym e)))
+
+module _ (k k1 k2 : KeyState) (a b : ℕ) (sa sb : List (ℕ × Line)) (first : k1 ≡ taking k a sa) (second : k2 ≡ taking k1 b sb) (apart : a ≢ b) (a_known : a < length k.seats) (b_known : b < length k.seats) where
+  seats_first : length k1.seats ≡ length k.seats
+  seats_first = ap (λ (j : KeyState). length j.seats) first ∙ as_many_seats k a (record (seat_at k a) { holds = true; seen = sa })
+
+  seats_both : length k2.seats ≡ length k.seats
+  seats_both = ap (λ (j : KeyState). length j.seats) second ∙ as_many_seats k1 b (record (seat_at k1 b) { holds = true; seen = sb }) ∙ seats_first
+
+  first_seat : seat_at k2 a ≡ record (seat_at k a) { holds = true; seen = sa }
+  first_seat = ap (λ j. seat_at j a) second ∙ taken_there k1 b a sb apart ∙ ap (λ j. seat_at j a) first ∙ taken_here k a sa a_known
+
+  second_seat : seat_at k2 b ≡ record (seat_at k1 b) { holds = true; seen = sb }
+  second_seat = ap (λ j. seat_at j b) second ∙ taken_here k1 b sb (subst (λ n. b < n) (sym seats_first) b_known)
+
+  -- the key that took two shards holds them and no other
+  pub holds_both : IsIdle k → HoldsBoth k2 a b
+  holds_both idle = record {
+    apart = apart;
+    one_known = subst (λ n. a < n) (sym seats_both) a_known;
+    other_known = subst (λ n. b < n) (sym seats_both) b_known;
+    has_one = ap (λ (seat : SeatState). seat.holds) first_seat;
+    has_other = ap (λ (seat : SeatState). seat.holds) second_seat;
+    no_more = λ t not_a not_b. ap (λ (seat : SeatState). seat.holds) (ap (λ j. seat_at j t) second ∙ taken_there k1 b t sb not_b ∙ ap (λ j. seat_at j t) first ∙ taken_there k a t sa not_a) ∙ idle t;
+  }
+
+  pub same_lines : HasSameLines k k2
+  same_lines = record {
+    seats = seats_both;
+    boxes = ap (λ (j : KeyState). j.boxes) second ∙ ap (λ (j : KeyState). j.boxes) first;
+    worker = ap (λ (j : KeyState). j.worker) second ∙ ap (λ (j : KeyState). j.worker) first;
+    lines = λ t. ap (λ j. lines_at j t) second ∙ lines_taken k1 b sb (subst (λ n. b < n) (sym seats_first) b_known) t ∙ ap (λ j. lines_at j t) first ∙ lines_taken k a sa a_known t;
+  }
+
+  -- and has seen of the first what it had seen before it took the second
+  pub seen_first : seen_at k2 a ≡ seen_at k1 a
+  seen_first = ap (λ (seat : SeatState). seat.seen) (ap (λ j. seat_at j a) second ∙ taken_there k1 b a sb apart)
+
+  -- it may take the second, which is greater
+  pub none_from : IsIdle k → a < b → HoldsNoneFrom k1 b
+  none_from idle less t from = ap (λ (seat : SeatState). seat.holds) (ap (λ j. seat_at j t) first ∙ taken_there k a t sa (λ e. omega (arith, less, from, e))) ∙ idle t
+
+-- the two the other way round
+pub both_turned : (key : KeyState) (a b : ℕ) → HoldsBoth key a b → HoldsBoth key b a
+both_turned key a b is = record {
+  apart = λ e. is.apart (sym e);
+  one_known = is.other_known;
+  other_known = is.one_known;
+  has_one = is.has_other;
+  has_other = is.has_one;
+  no_more = λ t not_b not_a. is.no_more t not_a not_b;
+}
+
+-- a key that puts back the two shards which it holds
+module _ (k k1 k2 : KeyState) (a b : ℕ) (x y : Option Line) (holds : HoldsBoth k a b) (first : k1 ≡ putting k a x) (second : k2 ≡ putting k1 b y) where
+  -- the second is as it was
+  pub second_kept : seat_at k1 b ≡ seat_at k b
+  second_kept = ap (λ j. seat_at j b) first ∙ put_back_there k a b x (λ e. holds.apart (sym e))
+
+  known_still : b < length k1.seats
+  known_still = subst (λ n. b < n) (sym (ap (λ (j : KeyState). length j.seats) first ∙ as_many_seats k a (put_seat k.worker (seat_at k a) x))) holds.other_known
+
+  at_first : seat_at k2 a ≡ put_seat k.worker (seat_at k a) x
+  at_first = ap (λ j. seat_at j a) second ∙ put_back_there k1 b a y holds.apart ∙ ap (λ j. seat_at j a) first ∙ put_back_here k a x holds.one_known
+
+  at_second : seat_at k2 b ≡ put_seat k1.worker (seat_at k1 b) y
+  at_second = ap (λ j. seat_at j b) second ∙ put_back_here k1 b y known_still
+
+  at_another : (t : ℕ) → t ≢ a → t ≢ b → seat_at k2 t ≡ seat_at k t
+  at_another t not_a not_b = ap (λ j. seat_at j t) second ∙ put_back_there k1 b t y not_b ∙ ap (λ j. seat_at j t) first ∙ put_back_there k a t x not_a
+
+  -- and putting both back as they were leaves what was seen of each
+  pub seen_both : x ≡ None → y ≡ None → (seen_at k2 a ≡ seen_at k a) × (seen_at k2 b ≡ seen_at k b)
+  seen_both none none' = (
+    ap (λ (seat : SeatState). seat.seen) at_first ∙ ap (λ l. seen_at k a ++ entries k.worker l) none ∙ append-nil (seen_at k a),
+    ap (λ (seat : SeatState). seat.seen) at_second ∙ ap (λ l. seen_at k1 b ++ entries k1.worker l) none' ∙ append-nil (seen_at k1 b) ∙ ap (λ (seat : SeatState). seat.seen) second_kept,
+  )
+
+  pub both_put : HasPutBoth k k2 a b x y
+  both_put = record {
+    seats = ap (λ (j : KeyState). length j.seats) second ∙ as_many_seats k1 b (put_seat k1.worker (seat_at k1 b) y)
+        ∙ ap (λ (j : KeyState). length j.seats) first ∙ as_many_seats k a (put_seat k.worker (seat_at k a) x);
+    boxes = ap (λ (j : KeyState). j.boxes) second ∙ ap (λ (j : KeyState). j.boxes) first;
+    worker = ap (λ (j : KeyState). j.worker) second ∙ ap (λ (j : KeyState). j.worker) first;
+    idle = λ t. idle_at t (eqb_tells t a) (eqb_tells t b);
+    lines = λ t. lines_are t (eqb_tells t a) (eqb_tells t b);
+    others = at_another;
+  }
+    where
+      idle_at : (t : ℕ) → (((t == a) ≡ true) × (t ≡ a)) ⊎ (((t == a) ≡ false) × (t ≢ a)) → (((t == b) ≡ true) × (t ≡ b)) ⊎ (((t == b) ≡ false) × (t ≢ b)) → holds_at k2 t ≡ false
+      idle_at t (inl h) other = ap (λ n. holds_at k2 n) h.1 ∙ ap (λ (seat : SeatState). seat.holds) at_first
+      idle_at t (inr h) (inl h') = ap (λ n. holds_at k2 n) h'.1 ∙ ap (λ (seat : SeatState). seat.holds) at_second
+      idle_at t (inr h) (inr h') = ap (λ (seat : SeatState). seat.holds) (at_another t h.1 h'.1) ∙ holds.no_more t h.1 h'.1
+
+      lines_are : (t : ℕ) → (((t == a) ≡ true) × (t ≡ a)) ⊎ (((t == a) ≡ false) × (t ≢ a)) → (((t == b) ≡ true) × (t ≡ b)) ⊎ (((t == b) ≡ false) × (t ≢ b))
+          → lines_at k2 t ≡ (if t == a then lines_at k a ++ added x else if t == b then lines_at k b ++ added y else lines_at k t)
+      lines_are t (inl h) other =
+          ap (λ n. lines_at k2 n) h.1 ∙ ap (λ (seat : SeatState). seat.lines) at_first
+          ∙ sym (ap (λ c. cond c (lines_at k a ++ added x) (if t == b then lines_at k b ++ added y else lines_at k t)) h.0)
+      lines_are t (inr h) (inl h') =
+          ap (λ n. lines_at k2 n) h'.1 ∙ ap (λ (seat : SeatState). seat.lines) at_second ∙ ap (λ (seat : SeatState). seat.lines ++ added y) second_kept
+          ∙ sym (ap (λ c. cond c (lines_at k a ++ added x) (if t == b then lines_at k b ++ added y else lines_at k t)) h.0 ∙ ap (λ c. cond c (lines_at k b ++ added y) (lines_at k t)) h'.0)
+      lines_are t (inr h) (inr h') =
+          ap (λ (seat : SeatState). seat.lines) (at_another t h.1 h'.1)
+          ∙ sym (ap (λ c. cond c (lines_at k a ++ added x) (if t == b then lines_at k b ++ added y else lines_at k t)) h.0 ∙ ap (λ c. cond c (lines_at k b ++ added y) (lines_at k t)) h'.0)
+
+-- two puts after two takes
+pub put_after : (old taken new : KeyState) (a b : ℕ) (x y : Option Line) → HasSameLines old taken → LeavesOthers old taken a b → HasPutBoth taken new a b x y → HasPutBoth old new a b x y
+put_after old taken new a b x y same others put = record {
+  boxes = put.boxes ∙ same.boxes;
+  seats = put.seats ∙ same.seats;
+  worker = put.worker ∙ same.worker;
+  idle = put.idle;
+  lines = λ t. put.lines t ∙ (λ i. if t == a then same.lines a i ++ added x else if t == b then same.lines b i ++ added y else same.lines t i);
+  others = λ t not_a not_b. put.others t not_a not_b ∙ others t not_a not_b;
+}
+
+pub put_two_after : (opening : List ShardState) (old taken new : KeyState) (a b : ℕ) (x y : Line) → HasSameLines old taken → LeavesOthers old taken a b → HasPutTwo opening taken new a b x y
+    → HasPutTwo opening old new a b x y
+put_two_after opening old taken new a b x y same others put = record { put = put_after old taken new a b (Some x) (Some y) same others put.put; put_first = put.put_first; put_second = put.put_second }
+
+-- each of two shards that the key holds was put back with a line that may follow it
+pub two_put : (opening : List ShardState) (k k1 k2 : KeyState) (one other : HeldState) (x y : Line) → HoldsBoth k one.number other.number
+    → IsPutWith opening k k1 one x → IsPutWith opening k1 k2 other y → HasPutTwo opening k k2 one.number other.number x y
+two_put opening k k1 k2 one other x y holds first second =
+    let a = one.number in
+    let b = other.number in
+    let worker' : k1.worker ≡ k2.worker = sym (ap (λ (j : KeyState). j.worker) second.put) in
+    let worker : k.worker ≡ k2.worker = sym (ap (λ (j : KeyState). j.worker) first.put) ∙ worker' in
+    record {
+      put = both_put k k1 k2 a b (Some x) (Some y) holds first.put second.put;
+      put_first = record {
+        found = seen_at k a;
+        seen = ap (λ (seat : SeatState). seat.seen) (at_first k k1 k2 a b (Some x) (Some y) holds first.put second.put) ∙ (λ i. seen_at k a ++ (worker i, x) ∷ []);
+        follows = first.follows;
+      };
+      put_second = record {
+        found = seen_at k1 b;
+        seen = ap (λ (seat : SeatState). seat.seen) (at_second k k1 k2 a b (Some x) (Some y) holds first.put second.put) ∙ (λ i. seen_at k1 b ++ (worker' i, y) ∷ []);
+        follows = second.follows;
+      };
+    }
+
+-- two shards that went back as they were leave the lines
+pub lines_back : (old new : KeyState) (a b : ℕ) → HasPutBoth old new a b None None → HasSameLines old new
+lines_back old new a b put = record {
+  boxes = put.boxes;
+  seats = put.seats;
+  worker = put.worker;
+  lines = λ t. put.lines t ∙ same t (eqb_tells t a) (eqb_tells t b);
+}
+  where
+    same : (t : ℕ) → (((t == a) ≡ true) × (t ≡ a)) ⊎ (((t == a) ≡ false) × (t ≢ a)) → (((t == b) ≡ true) × (t ≡ b)) ⊎ (((t == b) ≡ false) × (t ≢ b))
+        → (if t == a then lines_at old a ++ [] else if t == b then lines_at old b ++ [] else lines_at old t) ≡ lines_at old t
+    same t (inl h) other = ap (λ c. cond c (lines_at old a ++ []) (if t == b then lines_at old b ++ [] else lines_at old t)) h.0 ∙ append-nil (lines_at old a) ∙ ap (λ n. lines_at old n) (sym h.1)
+    same t (inr h) (inl h') =
+        ap (λ c. cond c (lines_at old a ++ []) (if t == b then lines_at old b ++ [] else lines_at old t)) h.0
+        ∙ ap (λ c. cond c (lines_at old b ++ []) (lines_at old t)) h'.0 ∙ append-nil (lines_at old b) ∙ ap (λ n. lines_at old n) (sym h'.1)
+    same t (inr h) (inr h') =
+        ap (λ c. cond c (lines_at old a ++ []) (if t == b then lines_at old b ++ [] else lines_at old t)) h.0
+        ∙ ap (λ c. cond c (lines_at old b ++ []) (lines_at old t)) h'.0
+
+-- the same, of numbers and lines by other names
+pub put_two_as : (opening : List ShardState) (old new : KeyState) (a a' b b' : ℕ) (x x' y y' : Line) → a ≡ a' → b ≡ b' → x ≡ x' → y ≡ y' → HasPutTwo opening old new a b x y
+    → HasPutTwo opening old new a' b' x' y'
+put_two_as opening old new a a' b b' x x' y y' one other first second put =
+    subst (λ (n : ℕ). HasPutTwo opening old new n b' x' y') one
+    (subst (λ (n : ℕ). HasPutTwo opening old new a n x' y') other
+    (subst (λ (l : Line). HasPutTwo opening old new a b l y') first
+    (subst (λ (l : Line). HasPutTwo opening old new a b x l) second put)))
+
+pub others_as : (old new : KeyState) (a a' b b' : ℕ) → a ≡ a' → b ≡ b' → LeavesOthers old new a b → LeavesOthers old new a' b'
+others_as old new a a' b b' one other others t not_a not_b = others t (λ e. not_a (e ∙ one)) (λ e. not_b (e ∙ other))
+
+pub put_one_as : (opening : List ShardState) (key taken back : KeyState) (held : HeldState) (s : ℕ) (line line' : Line) → taken ≡ taking key s (seen_at taken s) → held.number ≡ s → line ≡ line'
+    → IsPutWith opening taken back held line → HasPutOne opening key back s line'
+put_one_as opening key taken back held s line line' first same is put = record {
+  seen = seen_at taken s;
+  put = put.put ∙ (λ i. putting (first i) (same i) (Some (is i)));
+  follows = subst (λ (l : Line). MayFollow (taken_at opening taken s) l) is (subst (λ n. MayFollow (taken_at opening taken n) line) same put.follows);
+}
+
+-- one shard that went back as it was leaves the lines, and the key idle
+pub one_back : (key taken back : KeyState) (s n : ℕ) (seen : List (ℕ × Line)) → taken ≡ taking key s seen → back ≡ putting taken n None → n ≡ s → s < length key.seats → IsIdle key → HasSameLines key back × IsIdle back
+one_back key taken back s n seen first second same known idle =
+    let is : back ≡ putting (taking key s seen) s None = second ∙ (λ i. putting (first i) (same i) None) in (
+      record {
+        boxes = ap (λ (j : KeyState). j.boxes) is;
+        seats = ap (λ (j : KeyState). length j.seats) is ∙ as_many_put key s seen None;
+        worker = ap (λ (j : KeyState). j.worker) is;
+        lines = λ t. ap (λ j. lines_at j t) is ∙ lines_put key s seen None known t ∙ go t (eqb_tells t s);
+      },
+      subst IsIdle (sym is) (idle_put key s seen None known idle),
+    )
+  where
+    go : (t : ℕ) → (((t == s) ≡ true) × (t ≡ s)) ⊎ (((t == s) ≡ false) × (t ≢ s)) → (if t == s then lines_at key s ++ [] else lines_at key t) ≡ lines_at key t
+    go t (inl h) = ap (λ c. cond c (lines_at key s ++ []) (lines_at key t)) h.0 ∙ append-nil (lines_at key s) ∙ ap (λ n. lines_at key n) (sym h.1)
+    go t (inr h) = ap (λ c. cond c (lines_at key s ++ []) (lines_at key t)) h.0
+
+-- and what was seen of it when it was taken
+pub one_seen : (key taken back : KeyState) (s n : ℕ) (seen : List (ℕ × Line)) → taken ≡ taking key s seen → back ≡ putting taken n None → n ≡ s → s < length key.seats → seen_at back s ≡ seen_at taken s
+one_seen key taken back s n seen first second same known =
+    let many : length taken.seats ≡ length key.seats = ap (λ (j : KeyState). length j.seats) first ∙ as_many_seats key s (record (seat_at key s) { holds = true; seen = seen }) in
+    ap (λ j. seen_at j s) second ∙ (λ i. seen_at (putting taken (same i) None) s) ∙ seen_back taken s (subst (λ m. s < m) (sym many) known)
+
+-- and no other seat changes
+pub one_others : (key taken back : KeyState) (s n : ℕ) (seen : List (ℕ × Line)) → taken ≡ taking key s seen → back ≡ putting taken n None → n ≡ s → s < length key.seats → LeavesOthers key back s s
+one_others key taken back s n seen first second same known t not_s not_s' =
+    ap (λ j. seat_at j t) second ∙ (λ i. seat_at (putting (first i) (same i) None) t) ∙ put_there key s seen None known t not_s
+
+-- The shards that were taken were put back, each with the line that it was owed, and no other one was taken.
+pub record HasPutAll (opening : List ShardState) (old new : KeyState) (took : ℕ → Bool) (owed : ℕ → Line) : Type 0 where
+  pub lines : (t : ℕ) → lines_at new t ≡ (if took t then lines_at old t ++ owed t ∷ [] else lines_at old t)
+  pub puts : (t : ℕ) → took t ≡ true → HasPut opening new t (owed t)
+  pub others : (t : ℕ) → took t ≡ false → seat_at new t ≡ seat_at old t
+  pub idle : IsIdle new
+  pub worker : new.worker ≡ old.worker
+  pub boxes : new.boxes ≡ old.boxes
+  pub seats : length new.seats ≡ length old.seats
+
+-- so it is where none was taken
+pub none_put : (opening : List ShardState) (key : KeyState) (took : ℕ → Bool) (owed : ℕ → Line) → ((t : ℕ) → took t ≡ false) → IsIdle key → HasPutAll opening key key took owed
+none_put opening key took owed none idle = record {
+  lines = λ t. sym (ap (λ b. cond b (lines_at key t ++ owed t ∷ []) (lines_at key t)) (none t));
+  puts = λ t took_it. absurd (true≢false (sym took_it ∙ none t));
+  others = λ t left. refl;
+  idle = idle;
+  worker = refl;
+  boxes = refl;
+  seats = refl;
+}
+
+pub differs : (a b : ℕ) → a ≢ b → (a == b) ≡ false
+differs a b apart = go (eqb_tells a b)
+  where
+    go : (((a == b) ≡ true) × (a ≡ b)) ⊎ (((a == b) ≡ false) × (a ≢ b)) → (a == b) ≡ false
+    go (inl h) = absurd (apart h.1)
+    go (inr h) = h.0
+
+-- where one was
+module _ (opening : List ShardState) (key back : KeyState) (s : ℕ) (line : Line) (took : ℕ → Bool) (owed : ℕ → Line) (known : s < length key.seats) (idle : IsIdle key)
+    (put : HasPutOne opening key back s line) (taken : took s ≡ true) (owes : line ≡ owed s) (rest : (t : ℕ) → s ≢ t → took t ≡ false) where
+  one_here : seat_at back s ≡ put_seat key.worker (record (seat_at key s) { holds = true; seen = put.seen }) (Some line)
+  one_here = ap (λ j. seat_at j s) put.put ∙ put_here key s put.seen (Some line) known
+
+  one_there : (t : ℕ) → s ≢ t → seat_at back t ≡ seat_at key t
+  one_there t other = ap (λ j. seat_at j t) put.put ∙ put_there key s put.seen (Some line) known t (λ e. other (sym e))
+
+  one_worker : key.worker ≡ back.worker
+  one_worker = sym (ap (λ (j : KeyState). j.worker) put.put)
+
+  its_line : lines_at back s ≡ (if took s then lines_at key s ++ owed s ∷ [] else lines_at key s)
+  its_line =
+      ap (λ (seat : SeatState). seat.lines) one_here ∙ ap (λ l. lines_at key s ++ l ∷ []) owes
+      ∙ sym (ap (λ b. cond b (lines_at key s ++ owed s ∷ []) (lines_at key s)) taken)
+
+  its_put : HasPut opening back s (owed s)
+  its_put = record {
+    found = put.seen;
+    seen = ap (λ (seat : SeatState). seat.seen) one_here ∙ (λ i. put.seen ++ (one_worker i, owes i) ∷ []);
+    follows = subst (λ (l : Line). MayFollow (after (state_at opening s) put.seen) l) owes put.follows;
+  }
+
+  pub one_put : HasPutAll opening key back took owed
+  one_put = record {
+    lines = λ t. lines_are t (eqb_tells s t);
+    puts = λ t. puts_are t (eqb_tells s t);
+    others = λ t. others_are t (eqb_tells s t);
+    idle = subst IsIdle (sym put.put) (idle_put key s put.seen (Some line) known idle);
+    worker = sym one_worker;
+    boxes = ap (λ (j : KeyState). j.boxes) put.put;
+    seats = ap (λ (j : KeyState). length j.seats) put.put ∙ as_many_put key s put.seen (Some line);
+  }
+    where
+      lines_are : (t : ℕ) → (((s == t) ≡ true) × (s ≡ t)) ⊎ (((s == t) ≡ false) × (s ≢ t)) → lines_at back t ≡ (if took t then lines_at key t ++ owed t ∷ [] else lines_at key t)
+      lines_are t (inl h) = subst (λ n. lines_at back n ≡ (if took n then lines_at key n ++ owed n ∷ [] else lines_at key n)) h.1 its_line
+      lines_are t (inr h) = ap (λ (seat : SeatState). seat.lines) (one_there t h.1) ∙ sym (ap (λ b. cond b (lines_at key t ++ owed t ∷ []) (lines_at key t)) (rest t h.1))
+
+      puts_are : (t : ℕ) → (((s == t) ≡ true) × (s ≡ t)) ⊎ (((s == t) ≡ false) × (s ≢ t)) → took t ≡ true → HasPut opening back t (owed t)
+      puts_are t (inl h) took_it = subst (λ n. HasPut opening back n (owed n)) h.1 its_put
+      puts_are t (inr h) took_it = absurd (true≢false (sym took_it ∙ rest t h.1))
+
+      others_are : (t : ℕ) → (((s == t) ≡ true) × (s ≡ t)) ⊎ (((s == t) ≡ false) × (s ≢ t)) → took t ≡ false → seat_at back t ≡ seat_at key t
+      others_are t (inl h) left = absurd (true≢false (sym (subst (λ n. took n ≡ true) h.1 taken) ∙ left))
+      others_are t (inr h) left = one_there t h.1
+
+-- and where two were
+module _ (opening : List ShardState) (key back : KeyState) (a b : ℕ) (first second : Line) (took : ℕ → Bool) (owed : ℕ → Line) (apart : a ≢ b)
+    (put : HasPutTwo opening key back a b first second) (taken : took a ≡ true) (taken' : took b ≡ true) (owes : first ≡ owed a) (owes' : second ≡ owed b)
+    (rest : (t : ℕ) → a ≢ t → b ≢ t → took t ≡ false) where
+  abbrev HasLines : ℕ → Type 0
+  HasLines t = lines_at back t ≡ (if took t then lines_at key t ++ owed t ∷ [] else lines_at key t)
+
+  lines_of_first : HasLines a
+  lines_of_first =
+      put.put.lines a
+      ∙ ap (λ c. cond c (lines_at key a ++ first ∷ []) (if a == b then lines_at key b ++ second ∷ [] else lines_at key a)) (eq-eqb a a refl)
+      ∙ ap (λ l. lines_at key a ++ l ∷ []) owes ∙ sym (ap (λ c. cond c (lines_at key a ++ owed a ∷ []) (lines_at key a)) taken)
+
+  lines_of_second : HasLines b
+  lines_of_second =
+      put.put.lines b
+      ∙ ap (λ c. cond c (lines_at key a ++ first ∷ []) (if b == b then lines_at key b ++ second ∷ [] else lines_at key b)) (differs b a (λ e. apart (sym e)))
+      ∙ ap (λ c. cond c (lines_at key b ++ second ∷ []) (lines_at key b)) (eq-eqb b b refl)
+      ∙ ap (λ l. lines_at key b ++ l ∷ []) owes' ∙ sym (ap (λ c. cond c (lines_at key b ++ owed b ∷ []) (lines_at key b)) taken')
+
+  pub both_put_all : HasPutAll opening key back took owed
+  both_put_all = record {
+    lines = λ t. lines_are t (eqb_tells a t) (eqb_tells b t);
+    puts = λ t. puts_are t (eqb_tells a t) (eqb_tells b t);
+    others = λ t. others_are t (eqb_tells a t) (eqb_tells b t);
+    idle = put.put.idle;
+    worker = put.put.worker;
+    boxes = put.put.boxes;
+    seats = put.put.seats;
+  }
+    where
+      lines_are : (t : ℕ) → (((a == t) ≡ true) × (a ≡ t)) ⊎ (((a == t) ≡ false) × (a ≢ t)) → (((b == t) ≡ true) × (b ≡ t)) ⊎ (((b == t) ≡ false) × (b ≢ t)) → HasLines t
+      lines_are t (inl h) other = subst HasLines h.1 lines_of_first
+      lines_are t (inr h) (inl h') = subst HasLines h'.1 lines_of_second
+      lines_are t (inr h) (inr h') =
+          ap (λ (seat : SeatState). seat.lines) (put.put.others t (λ e. h.1 (sym e)) (λ e. h'.1 (sym e)))
+          ∙ sym (ap (λ c. cond c (lines_at key t ++ owed t ∷ []) (lines_at key t)) (rest t h.1 h'.1))
+
+      puts_are : (t : ℕ) → (((a == t) ≡ true) × (a ≡ t)) ⊎ (((a == t) ≡ false) × (a ≢ t)) → (((b == t) ≡ true) × (b ≡ t)) ⊎ (((b == t) ≡ false) × (b ≢ t)) → took t ≡ true
+          → HasPut opening back t (owed t)
+      puts_are t (inl h) other took_it = subst (λ n. HasPut opening back n (owed n)) h.1 (subst (λ (l : Line). HasPut opening back a l) owes put.put_first)
+      puts_are t (inr h) (inl h') took_it = subst (λ n. HasPut opening back n (owed n)) h'.1 (subst (λ (l : Line). HasPut opening back b l) owes' put.put_second)
+      puts_are t (inr h) (inr h') took_it = absurd (true≢false (sym took_it ∙ rest t h.1 h'.1))
+
+      others_are : (t : ℕ) → (((a == t) ≡ true) × (a ≡ t)) ⊎ (((a == t) ≡ false) × (a ≢ t)) → (((b == t) ≡ true) × (b ≡ t)) ⊎ (((b == t) ≡ false) × (b ≢ t)) → took t ≡ false
+          → seat_at back t ≡ seat_at key t
+      others_are t (inl h) other left = absurd (true≢false (sym (subst (λ n. took n ≡ true) h.1 taken) ∙ left))
+      others_are t (inr h) (inl h') left = absurd (true≢false (sym (subst (λ n. took n ≡ true) h'.1 taken') ∙ left))
+      others_are t (inr h) (inr h') left = put.put.others t (λ e. h.1 (sym e)) (λ e. h'.1 (sym e))

@@ -1,0 +1,14 @@
+pub mod Hots
+pub mod PutLemmas
+pub mod KeyLemmas
+pub mod FailLemmas
+pub mod SeeLemmas
+pub mod SingleLemmas
+pub mod RefuseLemmas
+pub mod PairLemmas
+pub mod ColdLemmas
+pub mod LookLemmas
+pub mod RightLemmas
+pub mod ItemLemmas
+pub mod HalfLemmas
+pub mod PermitLemmas

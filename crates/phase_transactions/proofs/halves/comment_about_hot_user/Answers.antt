@@ -1,0 +1,32 @@
+use Rattle.std.proofs.Common.{length}
+use Rattle.auction_rows.specs.declared.ids.Object.TheVariants.{Item}
+use Rattle.phase_transactions.proofs.ColdLemmas.{touched}
+use Rattle.phase_transactions.proofs.HalfLemmas.{seated, if_none, item_commits, item_fails, item_asked}
+use Rattle.phase_transactions.proofs.halves.comment_about_hot_user.Goals as goal
+
+pub returns-in_err-number-clause-full : goal.returns-in_err-number-clause-full
+returns-in_err-number-clause-full g c =
+    let opening = g.N.PhaseName.opening in
+    let comment = c.args.comment.now in
+    let key = c.args.key.now in
+    let known = seated (Item comment.item) c.shard_of-item.result c.shards.result (length opening) (length key.seats) c.shard_of-item.ensures.shard c.shards.ensures.count c.shard_of-item.ensures.within c.requires.seats in
+    if_none c.from_residual.result _
+    (item_fails opening c.args.split.now key c.look_over_item.new.key comment c.args.index c.desk-desk.result.now c.desk-desk.ensures c.requires.allowed c.requires.item c.requires.user
+    c.shard_of-item.result known.0 c.in_err-number.ensures.refused)
+
+pub returns-clause-committed : goal.returns-clause-committed
+returns-clause-committed g c =
+    let opening = g.N.PhaseName.opening in
+    let comment = c.args.comment.now in
+    let key = c.args.key.now in
+    let known = seated (Item comment.item) c.shard_of-item.result c.shards.result (length opening) (length key.seats) c.shard_of-item.ensures.shard c.shards.ensures.count c.shard_of-item.ensures.within c.requires.seats in
+    item_commits opening c.args.split.now key c.look_over_item.new.key comment c.args.index c.desk-desk.result.now c.desk-desk.ensures c.requires.allowed c.requires.item c.requires.user
+    c.commit_comment.new.self c.in_ok-number.number c.in_ok-number.found c.commit_comment.result c.in_ok-number.ensures.looked c.commit_comment.ensures.reply c.commit_comment.ensures.desk c.commit_comment.ensures.slices known.1 c.requires.idle
+
+pub returns-in_err-number-clause-untouched : goal.returns-in_err-number-clause-untouched
+returns-in_err-number-clause-untouched g c =
+    λ none. touched _ _ _ _ (item_asked g.N.PhaseName.opening c.args.split.now c.args.key.now c.args.key.now c.args.comment.now c.args.index c.desk-desk.result.now c.desk-desk.ensures c.requires.allowed c.requires.item c.requires.user) none
+
+pub returns-clause-untouched : goal.returns-clause-untouched
+returns-clause-untouched g c =
+    λ none. touched _ _ _ _ (item_asked g.N.PhaseName.opening c.args.split.now c.args.key.now c.args.key.now c.args.comment.now c.args.index c.desk-desk.result.now c.desk-desk.ensures c.requires.allowed c.requires.item c.requires.user) none

@@ -1,0 +1,9 @@
+pub mod Permits
+pub mod Putting
+pub mod SeenOf
+pub mod Single
+pub mod Pairs
+pub mod Performing
+pub mod Halves
+pub mod Replying
+pub mod Items

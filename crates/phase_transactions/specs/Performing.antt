@@ -1,0 +1,84 @@
+-- What is left when a request was performed, put off, or could not be performed.
+use Rattle.std.specs.Prelude.{◌≡◌, ℕ, max, ◌+◌, ◌<◌, ◌≤◌, Bool, true, false, List, length, None, ⊤}
+use Rattle.phase_laws.specs.Numbers.{greatest_by}
+use Rattle.auction_rows.specs.declared.replies.Reply.TheVariants.{ItemStored}
+use Rattle.auction_rows.specs.declared.requests.Request.{Request}
+use Rattle.auction_rows.specs.declared.requests.Request.TheVariants.{StoreItem, StoreBid, StoreComment, BuyNow, ViewItem, ViewBids, ViewCategory, ViewUser}
+use Rattle.auction_rows.specs.declared.rows.Entry.{Entry}
+use Rattle.auction_rows.specs.Footprint.{footprint, takes_shard}
+use Rattle.auction_rows.specs.Refusals.{number_refusal}
+use Rattle.item_shards.specs.CommitNumbers.{last_number}
+use Rattle.shard_boxes.specs.Keys.{KeyState, seat_at}
+use Rattle.shard_boxes.specs.States.{ShardState}
+use Rattle.phase_desks.specs.Deeds.{hot_in, is_put_off}
+use Rattle.phase_desks.specs.Desks.{next_entry, after_putting_off}
+use Rattle.phase_desks.specs.Slicing.{objects_of}
+use Rattle.phase_desks.specs.Splits.{SplitState, setting_of}
+use Rattle.phase_transactions.specs.declared.fault.Done.{Done}
+use Rattle.phase_transactions.specs.declared.fault.Done.TheVariants.{Committed, Stashed}
+use Rattle.phase_transactions.specs.declared.fault.PermitFault.{PermitFault}
+use Rattle.phase_transactions.specs.declared.fault.PermitFault.TheVariants.{Memory, NumberFull}
+use Rattle.phase_transactions.specs.Pairs.{HasSameLines}
+use Rattle.phase_transactions.specs.Permits.{PermitState, IsIdle, HasCommitted}
+use Rattle.phase_transactions.specs.Putting.{clock_seen}
+
+-- a permit with one try more
+abbrev pub with_try : PermitState → PermitState
+with_try permit = record permit { split = record permit.split { desk = record permit.split.desk { tries = permit.split.desk.tries + 1 } } }
+
+-- the entry of a request, of which the objects are looked at alone: an item to be stored has the worker's next id
+abbrev pub entry_asked : SplitState → Request → Entry
+entry_asked split request =
+    next_entry split.desk 0 0 request (ItemStored (record { worker = split.desk.journal.worker; serial = split.desk.counters.items }))
+
+-- the footprint of a request in a phase with so many shards
+abbrev pub shards_asked : ℕ → SplitState → Request → List ℕ
+shards_asked shards split request = footprint split.desk.opening shards (hot_in (setting_of split shards)) (entry_asked split request)
+
+-- whether a request's footprint has the shard
+abbrev pub asks : ℕ → SplitState → Request → ℕ → Bool
+asks shards split request shard = takes_shard split.desk.opening shards (hot_in (setting_of split shards)) (entry_asked split request) shard
+
+-- the greatest of the worker's clock and of those that the key has last seen on the shards of a request's footprint
+abbrev pub greatest_seen : List ShardState → SplitState → KeyState → Request → ℕ
+greatest_seen opening split key request =
+    max split.desk.clock (greatest_by (clock_seen opening key) (shards_asked (length opening) split request))
+
+-- whether a request stores an item
+abbrev pub StoresItem : Request → Type 0
+StoresItem (StoreItem facts time) = ⊤
+StoresItem (StoreBid bidder item amount time) = ⊥
+StoresItem (StoreComment author about item stars) = ⊥
+StoresItem (BuyNow buyer item quantity time) = ⊥
+StoresItem (ViewItem item) = ⊥
+StoresItem (ViewBids item) = ⊥
+StoresItem (ViewCategory category) = ⊥
+StoresItem (ViewUser user) = ⊥
+
+-- NumberFull exactly where the greatest clock is at the end of numbers, and Memory of an accepted store of an item alone
+abbrev pub IsCause : List ShardState → SplitState → KeyState → Request → PermitFault → Type 0
+IsCause opening split key request Memory =
+    (greatest_seen opening split key request < last_number) × StoresItem request × (number_refusal split.desk.opening request ≡ None)
+IsCause opening split key request NumberFull = last_number ≤ greatest_seen opening split key request
+
+-- The request was not performed, for its cause, and was not to be put off: nothing has changed but what the key has seen of the
+-- shards of the footprint, and it holds no shard.
+pub record HasFailed (opening : List ShardState) (old new : PermitState) (request : Request) (fault : PermitFault) : Type 0 where
+  pub split : new.split ≡ old.split
+  pub lines : HasSameLines old.key new.key
+  pub others : (shard : ℕ) → asks (length opening) old.split request shard ≡ false → seat_at new.key shard ≡ seat_at old.key shard
+  pub idle : IsIdle new.key
+  pub not_put_off : is_put_off (objects_of old.split.slices) request ≡ false
+  pub cause : IsCause opening old.split new.key request fault
+
+-- The request waits for the next joined phase: the stash gains it, one of the quota is used, and all else stays.
+pub record HasPutOff (old new : PermitState) (request : Request) (index : ℕ) : Type 0 where
+  pub put_off : is_put_off (objects_of old.split.slices) request ≡ true
+  pub desk : new.split.desk ≡ after_putting_off old.split.desk index request
+  pub slices : new.split.slices ≡ old.split.slices
+  pub key : new.key ≡ old.key
+
+-- what a split permit did with a request: it was committed, or put off
+abbrev pub HasDealtWith : List ShardState → PermitState → PermitState → Request → ℕ → Done → Type 0
+HasDealtWith opening old new request index (Committed reply) = HasCommitted opening old new request index reply
+HasDealtWith opening old new request index Stashed = HasPutOff old new request index

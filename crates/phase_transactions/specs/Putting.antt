@@ -1,0 +1,42 @@
+-- A shard that is put back with a line, and the clock that a key has seen.
+use Rattle.std.specs.Prelude.{◌≡◌, ℕ, List, [], ◌∷◌, ◌++◌, Some}
+use Rattle.phase_laws.specs.Replay.{SawInTurn}
+use Rattle.item_shards.specs.declared.acts.Act.{Act}
+use Rattle.item_shards.specs.declared.shard.Shard.{Shard}
+use Rattle.item_shards.specs.Acting.{CanActOn}
+use Rattle.item_shards.specs.Shelves.{after_act}
+use Rattle.item_shards.specs.ShardShelf.{shard_number, shard_count, shelf, opening, rooms, clock}
+use Rattle.shard_boxes.specs.declared.line.Line.{Line}
+use Rattle.shard_boxes.specs.Helds.{HeldState, taken_at}
+use Rattle.shard_boxes.specs.Keys.{KeyState, seen_at, taking, putting}
+use Rattle.shard_boxes.specs.Lines.{after, MayFollow}
+use Rattle.shard_boxes.specs.States.{ShardState, state_at}
+
+-- the acts can be done on a shard, one after the other
+abbrev pub CanDo : Shard → List Act → Type 0
+CanDo shard acts = SawInTurn (CanActOn (opening shard) (shard_number shard) (shard_count shard) (rooms shard)) after_act (shelf shard) acts
+
+-- the clock of a shard as the key has last seen it
+abbrev pub clock_seen : List ShardState → KeyState → ℕ → ℕ
+clock_seen opening key shard = (taken_at opening key shard).clock
+
+-- the line of these acts on a shard as it was taken
+abbrev pub line_of : ℕ → ℕ → List Act → Shard → Line
+line_of number index acts taken = record { number = number; before = clock taken; index = index; acts = acts }
+
+-- A shard was taken as this list left it, and put back with the line, which may follow it.
+pub record HasPut (opening : List ShardState) (new : KeyState) (shard : ℕ) (line : Line) : Type 0 where
+  pub found : List (ℕ × Line)
+  pub seen : seen_at new shard ≡ found ++ (new.worker, line) ∷ []
+  pub follows : MayFollow (after (state_at opening shard) found) line
+
+-- One shard was taken, under this list, and put back with the line, which may follow it.
+pub record HasPutOne (opening : List ShardState) (old new : KeyState) (shard : ℕ) (line : Line) : Type 0 where
+  pub seen : List (ℕ × Line)
+  pub put : new ≡ putting (taking old shard seen) shard (Some line)
+  pub follows : MayFollow (after (state_at opening shard) seen) line
+
+-- A shard that the key holds was put back with the line, which may follow it as it was taken.
+pub record IsPutWith (opening : List ShardState) (old new : KeyState) (held : HeldState) (line : Line) : Type 0 where
+  pub put : new ≡ putting old held.number (Some line)
+  pub follows : MayFollow (taken_at opening old held.number) line

@@ -1,0 +1,11 @@
+//! What transactions leave to the desk.
+use auction_rows::Reply;
+use phase_desks::Found;
+
+/// What a transaction did on its shards, for the desk to commit.
+#[derive(Clone, Copy)]
+pub(crate) struct Commit {
+    pub(crate) number: u64,
+    pub(crate) reply: Reply,
+    pub(crate) found: Found,
+}

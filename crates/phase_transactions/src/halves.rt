@@ -1,0 +1,199 @@
+//! Comments of which the item is hot and the user is not, or the other way round.
+ghost use Rattle.std.specs.Prelude.{◌≡◌, ◌<◌, ◌≤◌, ℕ, length, false, true, IfSome, IfNone, None};
+ghost use Rattle.auction_rows.specs.declared.ids.Object.TheVariants.{Item, User};
+ghost use Rattle.auction_rows.specs.Footprint.{is_hot};
+ghost use Rattle.auction_rows.specs.Refusals.{number_refusal};
+ghost use Rattle.auction_rows.specs.Requests.{shard_of};
+ghost use Rattle.item_shards.specs.CommitNumbers.{last_number};
+ghost use Rattle.item_shards.specs.ShardShelf.{clock};
+ghost use Rattle.shard_boxes.specs.Keys.{holds_at};
+ghost use Rattle.phase_desks.specs.Bids.{comment_request};
+ghost use Rattle.phase_desks.specs.Slicing.{objects_of};
+ghost use Rattle.phase_desks.specs.Splits.{IsHot};
+ghost use Rattle.phase_transactions.specs.declared.fault.PermitFault.TheVariants.{NumberFull};
+ghost use Rattle.phase_transactions.specs.Permits.{IsIdle, HasCommitted};
+ghost use Rattle.phase_transactions.specs.Pairs.{IsAsTaken, IsAsBefore};
+ghost use Rattle.phase_transactions.specs.Performing.{HasFailed};
+ghost use Rattle.phase_transactions.specs.Single.{HaveOpening};
+ghost use Rattle.phase_transactions.specs.Halves.{permit, HasPutUser, IsUntouched, HasCommentedUser, HasLooked};
+
+use crate::commit::Commit;
+use crate::pairs::{alone, answer_comment, look_and};
+use crate::putting::put_with_line;
+use auction_rows::{Facts, Object, Reply, shard_of};
+use item_shards::{Act, Shown};
+use phase_desks::{Comment, Desk, Found, SplitDesk};
+use shard_boxes::{Boxes, Held, Key, PhaseName, sums_fit};
+use std::sync::Wait;
+
+/// A comment at a number after the clock of a shard that is as it was taken, that of the user whom it is about, by what
+/// is known of its item. It gives the reply.
+fn comment_user_at<N: PhaseName, R: Wait>(
+    rt: &R,
+    boxes: &Boxes<N>,
+    key: &mut Key<N>,
+    desk: &Desk,
+    comment: &Comment,
+    stock: Option<(Facts, u32)>,
+    held: Held<N>,
+    number: u64,
+    index: u32,
+) -> Reply
+    requires of { key.old.boxes ≡ boxes.now }
+    requires holder { holds_at key.old held.number ≡ true }
+    requires taken { IsAsTaken N.opening N.workers key.old held }
+    requires user { held.number ≡ shard_of (User comment.now.about) (length N.opening) }
+    requires later { clock held.shard < number }
+    requires within { number ≤ last_number }
+    requires openings { HaveOpening N.opening desk.now.opening }
+    requires allowed { number_refusal desk.now.opening (comment_request comment.now) ≡ None }
+    ensures { HasPutUser N.opening desk.now comment.now stock number index key.old key.new held result }
+{
+    let _known = comment.stars.value();
+    sums_fit();
+    let (reply, act) = answer_comment(desk, comment, stock);
+    let acts = alone(&act);
+    put_with_line(rt, boxes, key, held, number, index, &acts);
+    reply
+}
+
+/// A comment over the shard of the user whom it is about alone, by what is known of its item. None exactly where the
+/// greater of the worker's clock and the shard's is at the end of numbers, and then nothing has changed but what the key
+/// has seen. It takes no memory.
+fn comment_over_user<N: PhaseName, R: Wait>(
+    rt: &R,
+    boxes: &Boxes<N>,
+    key: &mut Key<N>,
+    desk: &Desk,
+    comment: &Comment,
+    stock: Option<(Facts, u32)>,
+    user: u32,
+    index: u32,
+) -> Option<Commit>
+    requires of { key.old.boxes ≡ boxes.now }
+    requires seats { length key.old.seats ≡ length N.opening }
+    requires idle { IsIdle key.old }
+    requires openings { HaveOpening N.opening desk.now.opening }
+    requires allowed { number_refusal desk.now.opening (comment_request comment.now) ≡ None }
+    requires user { user ≡ shard_of (User comment.now.about) (length N.opening) }
+    requires known { user < length N.opening }
+    ensures done { IfSome result (HasCommentedUser N.opening desk.now key.old key.new comment.now stock index) }
+    ensures refused { IfNone result (IsAsBefore N.opening desk.now desk.now key.old key.new user user) }
+{
+    let held = boxes.take(rt, key, user);
+    let before = held.shard().clock();
+    let Some(number) = desk.next_number(before) else {
+        boxes.put(rt, key, held, None);
+        return None;
+    };
+    let reply = comment_user_at(rt, boxes, key, desk, comment, stock, held, number, index);
+    let found = Found {
+        stock: None,
+        clocks: [Some((user, before)), None],
+    };
+    Some(Commit {
+        number,
+        reply,
+        found,
+    })
+}
+
+/// What a comment finds of its item on the item's shard, which it takes alone, and its number. None exactly where the
+/// greater of the worker's clock and the shard's is at the end of numbers, and then nothing has changed but what the key
+/// has seen. It takes no memory.
+fn look_over_item<N: PhaseName, R: Wait>(
+    rt: &R,
+    boxes: &Boxes<N>,
+    key: &mut Key<N>,
+    desk: &Desk,
+    comment: &Comment,
+    item: u32,
+    index: u32,
+) -> Option<(u64, Found)>
+    requires of { key.old.boxes ≡ boxes.now }
+    requires seats { length key.old.seats ≡ length N.opening }
+    requires idle { IsIdle key.old }
+    requires item { item ≡ shard_of (Item comment.now.item) (length N.opening) }
+    requires known { item < length N.opening }
+    ensures looked { IfSome result (HasLooked N.opening desk.now key.old key.new comment.now index) }
+    ensures refused { IfNone result (IsAsBefore N.opening desk.now desk.now key.old key.new item item) }
+{
+    let held = boxes.take(rt, key, item);
+    let before = held.shard().clock();
+    let Some(number) = desk.next_number(before) else {
+        boxes.put(rt, key, held, None);
+        return None;
+    };
+    let stock = held.shard().stock(comment.item);
+    let acts = look_and(comment, &stock, &Act::Look(Shown::Nothing));
+    put_with_line(rt, boxes, key, held, number, index, &acts);
+    let found = Found {
+        stock,
+        clocks: [Some((item, before)), None],
+    };
+    Some((number, found))
+}
+
+/// A comment on a hot item about a user who is not hot, that the opening does not refuse: over the user's shard alone.
+/// None exactly where the greater of the worker's clock and the shard's is at the end of numbers, and then nothing has
+/// changed but what the key has seen. It takes no memory.
+pub(crate) fn comment_on_hot_item<N: PhaseName, R: Wait>(
+    rt: &R,
+    boxes: &Boxes<N>,
+    key: &mut Key<N>,
+    split: &mut SplitDesk,
+    comment: &Comment,
+    index: u32,
+) -> Option<Reply>
+    requires of { key.old.boxes ≡ boxes.now }
+    requires seats { length key.old.seats ≡ length N.opening }
+    requires idle { IsIdle key.old }
+    requires left { 0 < split.old.desk.left }
+    requires openings { HaveOpening N.opening split.old.desk.opening }
+    requires allowed { number_refusal split.old.desk.opening (comment_request comment.now) ≡ None }
+    requires item { IsHot split.old (Item comment.now.item) }
+    requires user { is_hot (objects_of split.old.slices) (User comment.now.about) ≡ false }
+    ensures committed { IfSome result (λ reply. HasCommitted N.opening
+        (permit split.old key.old) (permit split.new key.new) (comment_request comment.now) index reply) }
+    ensures full { IfNone result (HasFailed N.opening
+        (permit split.old key.old) (permit split.new key.new) (comment_request comment.now) NumberFull) }
+    ensures untouched { IsUntouched (length N.opening) split.old (comment_request comment.now) key.old key.new }
+{
+    let user = shard_of(Object::User(comment.about), boxes.shards());
+    let stock = split.stock(comment.item);
+    let desk = split.desk();
+    let done = comment_over_user(rt, boxes, key, desk, comment, stock, user, index)?;
+    let request = comment.request();
+    split.commit_cold(done.number, index, &request, &done.reply, &done.found);
+    Some(done.reply)
+}
+
+/// A comment about a hot user on an item that is not hot, that the opening does not refuse: over the item's shard alone,
+/// for the check, and on the user's slice. None exactly where the greater of the worker's clock and the shard's is at the
+/// end of numbers, and then nothing has changed but what the key has seen. It takes no memory.
+pub(crate) fn comment_about_hot_user<N: PhaseName, R: Wait>(
+    rt: &R,
+    boxes: &Boxes<N>,
+    key: &mut Key<N>,
+    split: &mut SplitDesk,
+    comment: &Comment,
+    index: u32,
+) -> Option<Reply>
+    requires of { key.old.boxes ≡ boxes.now }
+    requires seats { length key.old.seats ≡ length N.opening }
+    requires idle { IsIdle key.old }
+    requires left { 0 < split.old.desk.left }
+    requires allowed { number_refusal split.old.desk.opening (comment_request comment.now) ≡ None }
+    requires item { is_hot (objects_of split.old.slices) (Item comment.now.item) ≡ false }
+    requires user { IsHot split.old (User comment.now.about) }
+    ensures committed { IfSome result (λ reply. HasCommitted N.opening
+        (permit split.old key.old) (permit split.new key.new) (comment_request comment.now) index reply) }
+    ensures full { IfNone result (HasFailed N.opening
+        (permit split.old key.old) (permit split.new key.new) (comment_request comment.now) NumberFull) }
+    ensures untouched { IsUntouched (length N.opening) split.old (comment_request comment.now) key.old key.new }
+{
+    let item = shard_of(Object::Item(comment.item), boxes.shards());
+    let desk = split.desk();
+    let (number, found) = look_over_item(rt, boxes, key, desk, comment, item, index)?;
+    Some(split.commit_comment(number, index, comment, &found))
+}

@@ -1,0 +1,327 @@
+//! Items that are stored.
+ghost use Rattle.std.specs.Prelude.{◌≡◌, ◌≢◌, ◌<◌, ◌≤◌, length, true, None, ◌∷◌, [], IfOk, IfErr};
+ghost use Rattle.auction_rows.specs.declared.ids.Object.TheVariants.{Item, Category};
+ghost use Rattle.auction_rows.specs.Refusals.{number_refusal};
+ghost use Rattle.auction_rows.specs.Requests.{shard_of};
+ghost use Rattle.item_shards.specs.ShardShelf.{HasRoom, LiesIn};
+ghost use Rattle.shard_boxes.specs.States.{state_of, state_at};
+ghost use Rattle.phase_desks.specs.Items.{item_request, next_item};
+ghost use Rattle.phase_desks.specs.Splits.{IsHot};
+ghost use Rattle.phase_transactions.specs.declared.fault.PermitFault.TheVariants.{Memory};
+ghost use Rattle.phase_transactions.specs.Performing.{HasFailed};
+ghost use Rattle.phase_transactions.specs.Permits.{IsIdle, HasCommitted, joined};
+ghost use Rattle.phase_transactions.specs.Single.{HaveOpening};
+ghost use Rattle.phase_transactions.specs.Items.{adds, lists, nothing_else, CanAlwaysDo, HasActed, HasActedOnBoth, HasStayed, stored_at, HasStoredCold, HasFailedCold};
+
+use crate::commit::Commit;
+use crate::fault::PermitFault;
+use crate::pairs::{alone, put_both, put_both_back, take_both};
+use crate::putting::put_with_line;
+use auction_rows::{ItemId, Object, Reply, shard_of};
+use item_shards::{Act, Shown, next_number};
+use phase_desks::{Desk, Found, NewItem, SplitDesk};
+use shard_boxes::{Boxes, Held, Key, PhaseName};
+use std::sync::Wait;
+
+/// Makes room for an item on its shard, which shows nothing of it.
+fn prepare<N: PhaseName>(held: &mut Held<N>, id: ItemId) -> Result<(), PermitFault>
+    requires here { LiesIn held.old.shard (Item id) }
+    ensures number { held.new.number ≡ held.old.number }
+    ensures state { state_of held.new.shard ≡ state_of held.old.shard }
+    ensures room { IfOk result (λ _. HasRoom held.new.shard id) }
+    ensures refused { IfErr result (λ fault. fault ≡ Memory) }
+{
+    match held.shard_mut().prepare_item(id) {
+        Ok(()) => Ok(()),
+        Err(_) => Err(PermitFault::Memory),
+    }
+}
+
+/// Adds an item on its shard, and does a second act there, at 1 + the greater of the worker's clock and the shard's. It
+/// gives that number and the clock that was found.
+fn add_over_one<N: PhaseName, R: Wait>(
+    rt: &R,
+    boxes: &Boxes<N>,
+    key: &mut Key<N>,
+    clock: u64,
+    shard: u32,
+    item: &NewItem,
+    id: ItemId,
+    second: &Act,
+    index: u32,
+) -> Result<(u64, u64), PermitFault>
+    requires of { key.old.boxes ≡ boxes.now }
+    requires seats { length key.old.seats ≡ length N.opening }
+    requires idle { IsIdle key.old }
+    requires known { shard < length N.opening }
+    requires home { shard ≡ shard_of (Item id) (length N.opening) }
+    requires second { CanAlwaysDo N.opening shard second.now }
+    ensures added { IfOk result (λ at.
+        HasActed N.opening clock key.old key.new shard at.0 at.1 index (adds item.now id ∷ second.now ∷ [])) }
+    ensures stayed { IfErr result (HasStayed N.opening clock key.old key.new shard shard) }
+{
+    let mut held = boxes.take(rt, key, shard);
+    let before = held.shard().clock();
+    let Some(number) = next_number(clock, before) else {
+        boxes.put(rt, key, held, None);
+        return Err(PermitFault::NumberFull);
+    };
+    if let Err(fault) = prepare(&mut held, id) {
+        boxes.put(rt, key, held, None);
+        return Err(fault);
+    }
+    let acts = [Act::AddItem(id, item.facts), *second];
+    put_with_line(rt, boxes, key, held, number, index, &acts);
+    Ok((number, before))
+}
+
+/// Adds an item on its shard and lists it on another one, that of its category, at 1 + the greatest of the worker's clock
+/// and theirs. It gives that number and the clocks that were found.
+fn add_over_two<N: PhaseName, R: Wait>(
+    rt: &R,
+    boxes: &Boxes<N>,
+    key: &mut Key<N>,
+    clock: u64,
+    shards: (u32, u32),
+    item: &NewItem,
+    id: ItemId,
+    index: u32,
+) -> Result<(u64, u64, u64), PermitFault>
+    requires of { key.old.boxes ≡ boxes.now }
+    requires seats { length key.old.seats ≡ length N.opening }
+    requires idle { IsIdle key.old }
+    requires known { (shards.0 < length N.opening) × (shards.1 < length N.opening) }
+    requires apart { shards.0 ≢ shards.1 }
+    requires home { shards.0 ≡ shard_of (Item id) (length N.opening) }
+    requires list { CanAlwaysDo N.opening shards.1 (lists item.now id) }
+    ensures added { IfOk result (λ at. HasActedOnBoth N.opening clock key.old key.new shards.0 shards.1 at.0 at.1 at.2 index
+        (adds item.now id ∷ nothing_else ∷ []) (lists item.now id ∷ nothing_else ∷ [])) }
+    ensures stayed { IfErr result (HasStayed N.opening clock key.old key.new shards.0 shards.1) }
+{
+    let (mut on_item, on_category) = take_both(rt, boxes, key, shards.0, shards.1);
+    let first = on_item.shard().clock();
+    let second = on_category.shard().clock();
+    let Some(number) = next_number(clock, first.max(second)) else {
+        put_both_back(rt, boxes, key, on_item, on_category);
+        return Err(PermitFault::NumberFull);
+    };
+    if let Err(fault) = prepare(&mut on_item, id) {
+        put_both_back(rt, boxes, key, on_item, on_category);
+        return Err(fault);
+    }
+    let add = alone(&Act::AddItem(id, item.facts));
+    let list = alone(&Act::ListItem(item.facts.category, item.entry(id)));
+    put_both(
+        rt,
+        boxes,
+        key,
+        (on_item, on_category),
+        number,
+        index,
+        &add,
+        &list,
+    );
+    Ok((number, first, second))
+}
+
+/// Stores the worker's next item over the one shard in which it and its category lie.
+fn store_over_one<N: PhaseName, R: Wait>(
+    rt: &R,
+    boxes: &Boxes<N>,
+    key: &mut Key<N>,
+    desk: &Desk,
+    item: &NewItem,
+    shard: u32,
+    index: u32,
+) -> Result<Commit, PermitFault>
+    requires of { key.old.boxes ≡ boxes.now }
+    requires seats { length key.old.seats ≡ length N.opening }
+    requires idle { IsIdle key.old }
+    requires opening { HaveOpening N.opening desk.now.opening }
+    requires allowed { number_refusal desk.now.opening (item_request item.now) ≡ None }
+    requires home { shard ≡ shard_of (Item (next_item desk.now)) (length N.opening) }
+    requires listed { shard ≡ shard_of (Category item.now.facts.category) (length N.opening) }
+    requires known { shard < length N.opening }
+    ensures cold { IfOk result (λ done. HasStoredCold N.opening
+        desk.now (stored_at desk.now index item.now done) key.old key.new item.now index done.reply) }
+    ensures later { IfOk result (λ done. desk.now.clock < done.number) }
+    ensures failed { IfErr result (HasFailedCold N.opening desk.now key.old key.new item.now) }
+{
+    let id = desk.next_item();
+    let list = Act::ListItem(item.facts.category, item.entry(id));
+    let (number, before) = add_over_one(
+        rt,
+        boxes,
+        key,
+        desk.clock(),
+        shard,
+        item,
+        id,
+        &list,
+        index,
+    )?;
+    let found = Found {
+        stock: None,
+        clocks: [Some((shard, before)), None],
+    };
+    Ok(Commit {
+        number,
+        reply: Reply::ItemStored(id),
+        found,
+    })
+}
+
+/// Stores the worker's next item over its shard and another one, that of its category.
+fn store_over_two<N: PhaseName, R: Wait>(
+    rt: &R,
+    boxes: &Boxes<N>,
+    key: &mut Key<N>,
+    desk: &Desk,
+    item: &NewItem,
+    shards: (u32, u32),
+    index: u32,
+) -> Result<Commit, PermitFault>
+    requires of { key.old.boxes ≡ boxes.now }
+    requires seats { length key.old.seats ≡ length N.opening }
+    requires idle { IsIdle key.old }
+    requires opening { HaveOpening N.opening desk.now.opening }
+    requires allowed { number_refusal desk.now.opening (item_request item.now) ≡ None }
+    requires home { shards.0 ≡ shard_of (Item (next_item desk.now)) (length N.opening) }
+    requires listed { shards.1 ≡ shard_of (Category item.now.facts.category) (length N.opening) }
+    requires known { (shards.0 < length N.opening) × (shards.1 < length N.opening) }
+    requires apart { shards.0 ≢ shards.1 }
+    ensures cold { IfOk result (λ done. HasStoredCold N.opening
+        desk.now (stored_at desk.now index item.now done) key.old key.new item.now index done.reply) }
+    ensures later { IfOk result (λ done. desk.now.clock < done.number) }
+    ensures failed { IfErr result (HasFailedCold N.opening desk.now key.old key.new item.now) }
+{
+    let id = desk.next_item();
+    let (number, first, second) = add_over_two(
+        rt,
+        boxes,
+        key,
+        desk.clock(),
+        shards,
+        item,
+        id,
+        index,
+    )?;
+    let found = Found {
+        stock: None,
+        clocks: [Some((shards.0, first)), Some((shards.1, second))],
+    };
+    Ok(Commit {
+        number,
+        reply: Reply::ItemStored(id),
+        found,
+    })
+}
+
+/// Stores the worker's next item, which the opening does not refuse, for the desk to commit: over its shard and its
+/// category's, which are taken in ascending order, and once where they are one. Its room is the only memory that is asked
+/// for, after the number is known. After a fault nothing has changed but what the key has seen.
+pub(crate) fn store_over_shards<N: PhaseName, R: Wait>(
+    rt: &R,
+    boxes: &Boxes<N>,
+    key: &mut Key<N>,
+    desk: &Desk,
+    item: &NewItem,
+    index: u32,
+) -> Result<Commit, PermitFault>
+    requires of { key.old.boxes ≡ boxes.now }
+    requires seats { length key.old.seats ≡ length N.opening }
+    requires idle { IsIdle key.old }
+    requires opening { HaveOpening N.opening desk.now.opening }
+    requires allowed { number_refusal desk.now.opening (item_request item.now) ≡ None }
+    ensures cold { IfOk result (λ done. HasStoredCold N.opening
+        desk.now (stored_at desk.now index item.now done) key.old key.new item.now index done.reply) }
+    ensures later { IfOk result (λ done. desk.now.clock < done.number) }
+    ensures failed { IfErr result (HasFailedCold N.opening desk.now key.old key.new item.now) }
+{
+    let shards = boxes.shards();
+    let id = desk.next_item();
+    let home = shard_of(Object::Item(id), shards);
+    let listed = shard_of(Object::Category(item.facts.category), shards);
+    if home == listed {
+        store_over_one(rt, boxes, key, desk, item, home, index)
+    } else {
+        store_over_two(rt, boxes, key, desk, item, (home, listed), index)
+    }
+}
+
+/// Stores an item in a joined phase. Memory comes only where the place of the item was refused it, and the numbers are not
+/// at their end.
+pub fn store_in_joined<N: PhaseName, R: Wait>(
+    rt: &R,
+    boxes: &Boxes<N>,
+    key: &mut Key<N>,
+    desk: &mut Desk,
+    item: &NewItem,
+    index: u32,
+) -> Result<Reply, PermitFault>
+    requires of { key.old.boxes ≡ boxes.now }
+    requires seats { length key.old.seats ≡ length N.opening }
+    requires idle { IsIdle key.old }
+    requires left { 0 < desk.old.left }
+    requires opening { HaveOpening N.opening desk.old.opening }
+    requires allowed { number_refusal desk.old.opening (item_request item.now) ≡ None }
+    ensures committed { IfOk result (λ reply. HasCommitted N.opening
+        (record { split = joined desk.old; key = key.old }) (record { split = joined desk.new; key = key.new })
+        (item_request item.now) index reply) }
+    ensures failed { IfErr result (HasFailed N.opening
+        (record { split = joined desk.old; key = key.old }) (record { split = joined desk.new; key = key.new })
+        (item_request item.now)) }
+{
+    let done = store_over_shards(rt, boxes, key, desk, item, index)?;
+    desk.commit(
+        done.number,
+        index,
+        &item.request(),
+        &done.reply,
+        &done.found,
+    );
+    Ok(done.reply)
+}
+
+/// Stores an item in a hot category: over the item's own shard, and in the category's slice.
+pub(crate) fn store_in_hot_category<N: PhaseName, R: Wait>(
+    rt: &R,
+    boxes: &Boxes<N>,
+    key: &mut Key<N>,
+    split: &mut SplitDesk,
+    item: &NewItem,
+    index: u32,
+) -> Result<Reply, PermitFault>
+    requires of { key.old.boxes ≡ boxes.now }
+    requires seats { length key.old.seats ≡ length N.opening }
+    requires idle { IsIdle key.old }
+    requires left { 0 < split.old.desk.left }
+    requires allowed { number_refusal split.old.desk.opening (item_request item.now) ≡ None }
+    requires hot { IsHot split.old (Category item.now.facts.category) }
+    ensures committed { IfOk result (λ reply. HasCommitted N.opening
+        (record { split = split.old; key = key.old }) (record { split = split.new; key = key.new })
+        (item_request item.now) index reply) }
+    ensures failed { IfErr result (HasFailed N.opening
+        (record { split = split.old; key = key.old }) (record { split = split.new; key = key.new })
+        (item_request item.now)) }
+{
+    let id = split.next_item();
+    let home = shard_of(Object::Item(id), boxes.shards());
+    let nothing = Act::Look(Shown::Nothing);
+    let (number, before) = add_over_one(
+        rt,
+        boxes,
+        key,
+        split.clock(),
+        home,
+        item,
+        id,
+        &nothing,
+        index,
+    )?;
+    let found = Found {
+        stock: None,
+        clocks: [Some((home, before)), None],
+    };
+    Ok(split.store_item(number, index, item, &found))
+}

@@ -1,0 +1,369 @@
+//! Requests over the shards of two objects.
+ghost use Rattle.std.specs.Prelude.{◌≡◌, ◌≢◌, ◌<◌, ◌≤◌, ℕ, length, Option, None, IfSome, IfNone, true, ◌∷◌, []};
+ghost use Rattle.auction_rows.specs.declared.ids.Object.TheVariants.{Item, User};
+ghost use Rattle.auction_rows.specs.Refusals.{number_refusal};
+ghost use Rattle.auction_rows.specs.Requests.{shard_of};
+ghost use Rattle.item_shards.specs.CommitNumbers.{last_number};
+ghost use Rattle.item_shards.specs.ShardShelf.{clock, shelf};
+ghost use Rattle.item_shards.specs.declared.acts.Act.TheVariants.{Look};
+ghost use Rattle.item_shards.specs.declared.acts.Shown.TheVariants as shown;
+ghost use Rattle.shard_boxes.specs.Keys.{holds_at, seen_at, HoldsNoneFrom};
+ghost use Rattle.shard_boxes.specs.Lines.{AreTrueOf};
+ghost use Rattle.shard_boxes.specs.States.{state_at};
+ghost use Rattle.phase_desks.specs.Bids.{comment_request};
+ghost use Rattle.phase_transactions.specs.Putting.{CanDo, line_of};
+ghost use Rattle.phase_transactions.specs.Permits.{IsIdle, HasCommitted, joined};
+ghost use Rattle.phase_transactions.specs.Halves.{done_at};
+ghost use Rattle.phase_transactions.specs.Pairs.{HoldsBoth, HasSameLines, LeavesOthers, HasPutBoth, HasPutTwo, IsAsTaken, IsCommentAnswer, comment_look, HasPutComment, HasCommented, HasPutCommentInOne, HasCommentedInOne, HasCommittedCold, IsAsBefore};
+
+use crate::commit::Commit;
+use crate::putting::put_with_line;
+use auction_rows::{Facts, Object, Reply, shard_of};
+use item_shards::{Act, Shown};
+use phase_desks::{Comment, Desk, Found};
+use shard_boxes::{Boxes, Held, Key, PhaseName, sums_fit};
+use std::sync::Wait;
+
+/// Takes two shards, the lesser first.
+pub(crate) fn take_both<N: PhaseName, R: Wait>(
+    rt: &R,
+    boxes: &Boxes<N>,
+    key: &mut Key<N>,
+    one: u32,
+    other: u32,
+) -> (Held<N>, Held<N>)
+    requires of { key.old.boxes ≡ boxes.now }
+    requires one { one < length N.opening }
+    requires other { other < length N.opening }
+    requires apart { one ≢ other }
+    requires seats { length key.old.seats ≡ length N.opening }
+    requires idle { IsIdle key.old }
+    ensures same { HasSameLines key.old key.new }
+    ensures others { LeavesOthers key.old key.new result.0.number result.1.number }
+    ensures numbers { (result.0.number ≡ one) × (result.1.number ≡ other) }
+    ensures holds { HoldsBoth key.new result.0.number result.1.number }
+    ensures one { IsAsTaken N.opening N.workers key.new result.0 }
+    ensures other { IsAsTaken N.opening N.workers key.new result.1 }
+{
+    if one < other {
+        let lesser = boxes.take(rt, key, one);
+        let greater = boxes.take(rt, key, other);
+        (lesser, greater)
+    } else {
+        let lesser = boxes.take(rt, key, other);
+        let greater = boxes.take(rt, key, one);
+        (greater, lesser)
+    }
+}
+
+/// Puts two shards back as they were taken.
+pub(crate) fn put_both_back<N: PhaseName, R: Wait>(
+    rt: &R,
+    boxes: &Boxes<N>,
+    key: &mut Key<N>,
+    one: Held<N>,
+    other: Held<N>,
+)
+    requires of { key.old.boxes ≡ boxes.now }
+    requires holds { HoldsBoth key.old one.number other.number }
+    requires one { IsAsTaken N.opening N.workers key.old one }
+    requires other { IsAsTaken N.opening N.workers key.old other }
+    ensures put { HasPutBoth key.old key.new one.number other.number None None }
+    ensures seen_of_one { seen_at key.new one.number ≡ seen_at key.old one.number }
+    ensures seen_of_other { seen_at key.new other.number ≡ seen_at key.old other.number }
+{
+    boxes.put(rt, key, one, None);
+    boxes.put(rt, key, other, None);
+}
+
+/// Does two acts on each of two shards that are as they were taken, at a number after their clocks, and puts them back
+/// with their lines.
+pub(crate) fn put_both<N: PhaseName, R: Wait>(
+    rt: &R,
+    boxes: &Boxes<N>,
+    key: &mut Key<N>,
+    held: (Held<N>, Held<N>),
+    number: u64,
+    index: u32,
+    first: &[Act; 2],
+    second: &[Act; 2],
+)
+    requires of { key.old.boxes ≡ boxes.now }
+    requires holds { HoldsBoth key.old held.0.number held.1.number }
+    requires one { IsAsTaken N.opening N.workers key.old held.0 }
+    requires other { IsAsTaken N.opening N.workers key.old held.1 }
+    requires later { (clock held.0.shard < number) × (clock held.1.shard < number) }
+    requires within { number ≤ last_number }
+    requires can { CanDo held.0.shard first.now × CanDo held.1.shard second.now }
+    requires looks { AreTrueOf (shelf held.0.shard) first.now × AreTrueOf (shelf held.1.shard) second.now }
+    ensures { HasPutTwo N.opening key.old key.new held.0.number held.1.number
+        (line_of number index first.now held.0.shard) (line_of number index second.now held.1.shard) }
+{
+    let (one, other) = held;
+    put_with_line(rt, boxes, key, one, number, index, first);
+    put_with_line(rt, boxes, key, other, number, index, second);
+}
+
+/// The reply to a comment by what was seen of its item, and what it does to the user whom it is about.
+pub(crate) fn answer_comment(
+    desk: &Desk,
+    comment: &Comment,
+    seen: Option<(Facts, u32)>,
+) -> (Reply, Act)
+    ensures { IsCommentAnswer desk.now seen comment.now result.0 result.1 }
+{
+    match desk.refusal(&comment.request(), seen) {
+        Some(reason) => (Reply::Refused(reason), Act::Look(Shown::Nothing)),
+        None => (
+            Reply::CommentStored(desk.next_comment()),
+            Act::Comment(comment.about, comment.stars),
+        ),
+    }
+}
+
+/// What a comment looks at, and a second act.
+pub(crate) fn look_and(comment: &Comment, seen: &Option<(Facts, u32)>, second: &Act) -> [Act; 2]
+    ensures { result ≡ comment_look comment.now seen.now ∷ second.now ∷ [] }
+{
+    let facts = match seen {
+        Some((facts, _left)) => Some(*facts),
+        None => None,
+    };
+    [Act::Look(Shown::Facts(comment.item, facts)), *second]
+}
+
+/// An act alone.
+pub(crate) fn alone(act: &Act) -> [Act; 2]
+    ensures { result ≡ act.now ∷ Look shown.Nothing ∷ [] }
+{
+    [*act, Act::Look(Shown::Nothing)]
+}
+
+/// A comment at a number after the clocks of two shards that are as they were taken, that of its item and that of the
+/// user whom it is about. It gives the reply and what was seen of the item.
+fn comment_at<N: PhaseName, R: Wait>(
+    rt: &R,
+    boxes: &Boxes<N>,
+    key: &mut Key<N>,
+    desk: &Desk,
+    comment: &Comment,
+    held: (Held<N>, Held<N>),
+    number: u64,
+    index: u32,
+) -> (Reply, Option<(Facts, u32)>)
+    requires of { key.old.boxes ≡ boxes.now }
+    requires holds { HoldsBoth key.old held.0.number held.1.number }
+    requires one { IsAsTaken N.opening N.workers key.old held.0 }
+    requires other { IsAsTaken N.opening N.workers key.old held.1 }
+    requires item { held.0.number ≡ shard_of (Item comment.now.item) (length N.opening) }
+    requires user { held.1.number ≡ shard_of (User comment.now.about) (length N.opening) }
+    requires later { (clock held.0.shard < number) × (clock held.1.shard < number) }
+    requires within { number ≤ last_number }
+    requires openings { (s : ℕ) → s < length N.opening → (state_at N.opening s).opening ≡ desk.now.opening }
+    requires allowed { number_refusal desk.now.opening (comment_request comment.now) ≡ None }
+    ensures { HasPutComment N.opening desk.now comment.now number index key.old key.new held.0 held.1 result.1 result.0 }
+{
+    let (on_item, on_user) = held;
+    let _known = comment.stars.value();
+    sums_fit();
+    let seen = on_item.shard().stock(comment.item);
+    let (reply, act) = answer_comment(desk, comment, seen);
+    let looks = look_and(comment, &seen, &Act::Look(Shown::Nothing));
+    let writes = alone(&act);
+    put_both(
+        rt,
+        boxes,
+        key,
+        (on_item, on_user),
+        number,
+        index,
+        &looks,
+        &writes,
+    );
+    (reply, seen)
+}
+
+/// A comment over the shard of its item and another one, that of the user whom it is about. None exactly where the
+/// greatest of the worker's clock and theirs is at the end of numbers, and then nothing has changed but what the key has
+/// seen. It takes no memory.
+fn comment_over_two<N: PhaseName, R: Wait>(
+    rt: &R,
+    boxes: &Boxes<N>,
+    key: &mut Key<N>,
+    desk: &Desk,
+    comment: &Comment,
+    item: u32,
+    user: u32,
+    index: u32,
+) -> Option<Commit>
+    requires of { key.old.boxes ≡ boxes.now }
+    requires seats { length key.old.seats ≡ length N.opening }
+    requires idle { IsIdle key.old }
+    requires openings { (s : ℕ) → s < length N.opening → (state_at N.opening s).opening ≡ desk.now.opening }
+    requires allowed { number_refusal desk.now.opening (comment_request comment.now) ≡ None }
+    requires item { item ≡ shard_of (Item comment.now.item) (length N.opening) }
+    requires user { user ≡ shard_of (User comment.now.about) (length N.opening) }
+    requires known { (item < length N.opening) × (user < length N.opening) }
+    requires apart { item ≢ user }
+    ensures done { IfSome result (λ done. HasCommented N.opening
+        desk.now (done_at desk.now index (comment_request comment.now) done) key.old key.new comment.now index done.reply) }
+    ensures later { IfSome result (λ done. desk.now.clock < done.number) }
+    ensures refused { IfNone result (IsAsBefore N.opening desk.now desk.now key.old key.new item user) }
+{
+    let (on_item, on_user) = take_both(rt, boxes, key, item, user);
+    let first = on_item.shard().clock();
+    let second = on_user.shard().clock();
+    let Some(number) = desk.next_number(first.max(second)) else {
+        put_both_back(rt, boxes, key, on_item, on_user);
+        return None;
+    };
+    let held = (on_item, on_user);
+    let (reply, seen) = comment_at(rt, boxes, key, desk, comment, held, number, index);
+    let found = Found {
+        stock: seen,
+        clocks: [Some((item, first)), Some((user, second))],
+    };
+    Some(Commit {
+        number,
+        reply,
+        found,
+    })
+}
+
+/// A comment at a number after the clock of a shard that is as it was taken, in which its item and the user whom it is
+/// about lie. It gives the reply and what was seen of the item.
+fn comment_in_one<N: PhaseName, R: Wait>(
+    rt: &R,
+    boxes: &Boxes<N>,
+    key: &mut Key<N>,
+    desk: &Desk,
+    comment: &Comment,
+    held: Held<N>,
+    number: u64,
+    index: u32,
+) -> (Reply, Option<(Facts, u32)>)
+    requires of { key.old.boxes ≡ boxes.now }
+    requires holder { holds_at key.old held.number ≡ true }
+    requires taken { IsAsTaken N.opening N.workers key.old held }
+    requires item { held.number ≡ shard_of (Item comment.now.item) (length N.opening) }
+    requires user { held.number ≡ shard_of (User comment.now.about) (length N.opening) }
+    requires later { clock held.shard < number }
+    requires within { number ≤ last_number }
+    requires openings { (s : ℕ) → s < length N.opening → (state_at N.opening s).opening ≡ desk.now.opening }
+    requires allowed { number_refusal desk.now.opening (comment_request comment.now) ≡ None }
+    ensures { HasPutCommentInOne N.opening desk.now comment.now number index key.old key.new held result.1 result.0 }
+{
+    let _known = comment.stars.value();
+    sums_fit();
+    let seen = held.shard().stock(comment.item);
+    let (reply, act) = answer_comment(desk, comment, seen);
+    let acts = look_and(comment, &seen, &act);
+    put_with_line(rt, boxes, key, held, number, index, &acts);
+    (reply, seen)
+}
+
+/// A comment over the one shard in which its item and the user whom it is about lie. None exactly where the greater of
+/// the worker's clock and its own is at the end of numbers, and then nothing has changed but what the key has seen. It
+/// takes no memory.
+fn comment_over_one<N: PhaseName, R: Wait>(
+    rt: &R,
+    boxes: &Boxes<N>,
+    key: &mut Key<N>,
+    desk: &Desk,
+    comment: &Comment,
+    shard: u32,
+    index: u32,
+) -> Option<Commit>
+    requires of { key.old.boxes ≡ boxes.now }
+    requires seats { length key.old.seats ≡ length N.opening }
+    requires idle { IsIdle key.old }
+    requires openings { (s : ℕ) → s < length N.opening → (state_at N.opening s).opening ≡ desk.now.opening }
+    requires allowed { number_refusal desk.now.opening (comment_request comment.now) ≡ None }
+    requires item { shard ≡ shard_of (Item comment.now.item) (length N.opening) }
+    requires user { shard ≡ shard_of (User comment.now.about) (length N.opening) }
+    requires known { shard < length N.opening }
+    ensures done { IfSome result (λ done. HasCommentedInOne N.opening
+        desk.now (done_at desk.now index (comment_request comment.now) done) key.old key.new comment.now index done.reply) }
+    ensures later { IfSome result (λ done. desk.now.clock < done.number) }
+    ensures refused { IfNone result (IsAsBefore N.opening desk.now desk.now key.old key.new shard shard) }
+{
+    let held = boxes.take(rt, key, shard);
+    let before = held.shard().clock();
+    let Some(number) = desk.next_number(before) else {
+        boxes.put(rt, key, held, None);
+        return None;
+    };
+    let (reply, seen) = comment_in_one(rt, boxes, key, desk, comment, held, number, index);
+    let found = Found {
+        stock: seen,
+        clocks: [Some((shard, before)), None],
+    };
+    Some(Commit {
+        number,
+        reply,
+        found,
+    })
+}
+
+/// A comment that the opening does not refuse, for the desk to commit: over the shards of its item and of the user whom it
+/// is about, which are taken in ascending order, and once where they are one. None exactly where the greatest of the
+/// worker's clock and theirs is at the end of numbers, and then nothing has changed but what the key has seen. It takes no
+/// memory.
+pub(crate) fn comment_over_shards<N: PhaseName, R: Wait>(
+    rt: &R,
+    boxes: &Boxes<N>,
+    key: &mut Key<N>,
+    desk: &Desk,
+    comment: &Comment,
+    index: u32,
+) -> Option<Commit>
+    requires of { key.old.boxes ≡ boxes.now }
+    requires seats { length key.old.seats ≡ length N.opening }
+    requires idle { IsIdle key.old }
+    requires openings { (s : ℕ) → s < length N.opening → (state_at N.opening s).opening ≡ desk.now.opening }
+    requires allowed { number_refusal desk.now.opening (comment_request comment.now) ≡ None }
+    ensures cold { IfSome result (λ done. HasCommittedCold N.opening
+        desk.now (done_at desk.now index (comment_request comment.now) done) key.old key.new comment.now index done.reply) }
+    ensures later { IfSome result (λ done. desk.now.clock < done.number) }
+    ensures refused { IfNone result (IsAsBefore N.opening desk.now desk.now key.old key.new
+        (shard_of (Item comment.now.item) (length N.opening)) (shard_of (User comment.now.about) (length N.opening))) }
+{
+    let shards = boxes.shards();
+    let item = shard_of(Object::Item(comment.item), shards);
+    let user = shard_of(Object::User(comment.about), shards);
+    if item == user {
+        comment_over_one(rt, boxes, key, desk, comment, item, index)
+    } else {
+        comment_over_two(rt, boxes, key, desk, comment, item, user, index)
+    }
+}
+
+/// A comment of the quota in a joined phase that the opening does not refuse. None exactly where the greatest of the
+/// worker's clock and those of the shards of its item and of the user whom it is about is at the end of numbers, and then
+/// nothing has changed but what the key has seen. It takes no memory.
+pub fn comment_in_joined<N: PhaseName, R: Wait>(
+    rt: &R,
+    boxes: &Boxes<N>,
+    key: &mut Key<N>,
+    desk: &mut Desk,
+    comment: &Comment,
+    index: u32,
+) -> Option<Reply>
+    requires of { key.old.boxes ≡ boxes.now }
+    requires seats { length key.old.seats ≡ length N.opening }
+    requires idle { IsIdle key.old }
+    requires left { 0 < desk.old.left }
+    requires openings { (s : ℕ) → s < length N.opening → (state_at N.opening s).opening ≡ desk.old.opening }
+    requires allowed { number_refusal desk.old.opening (comment_request comment.now) ≡ None }
+    ensures committed { IfSome result (λ reply. HasCommitted N.opening
+        (record { split = joined desk.old; key = key.old }) (record { split = joined desk.new; key = key.new })
+        (comment_request comment.now) index reply) }
+    ensures cold { IfSome result (HasCommittedCold N.opening desk.old desk.new key.old key.new comment.now index) }
+    ensures refused { IfNone result (IsAsBefore N.opening desk.old desk.new key.old key.new
+        (shard_of (Item comment.now.item) (length N.opening)) (shard_of (User comment.now.about) (length N.opening))) }
+{
+    let done = comment_over_shards(rt, boxes, key, desk, comment, index)?;
+    let request = comment.request();
+    desk.commit(done.number, index, &request, &done.reply, &done.found);
+    Some(done.reply)
+}

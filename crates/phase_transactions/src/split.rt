@@ -1,0 +1,258 @@
+//! Transactions of a split phase.
+ghost use Rattle.std.specs.Prelude.{◌≡◌, ◌<◌, ◌≤◌, length, false, Some, None, IfSome, IfNone, IfOk, IfErr};
+ghost use Rattle.auction_rows.specs.declared.ids.Object.TheVariants.{Item, User};
+ghost use Rattle.auction_rows.specs.Footprint.{is_hot};
+ghost use Rattle.auction_rows.specs.Refusals.{number_refusal};
+ghost use Rattle.phase_desks.specs.Bids.{comment_request};
+ghost use Rattle.phase_desks.specs.Deeds.{is_put_off};
+ghost use Rattle.phase_desks.specs.Items.{item_request};
+ghost use Rattle.phase_desks.specs.Slicing.{objects_of};
+ghost use Rattle.phase_transactions.specs.declared.fault.PermitFault.TheVariants.{NumberFull};
+ghost use Rattle.phase_transactions.specs.Permits.{IsIdle, HasCommitted};
+ghost use Rattle.phase_transactions.specs.Performing.{HasFailed};
+ghost use Rattle.phase_transactions.specs.Single.{only_object, HaveOpening};
+ghost use Rattle.phase_transactions.specs.Halves.{permit, IsUntouched};
+
+use crate::fault::PermitFault;
+use crate::halves::{comment_about_hot_user, comment_on_hot_item};
+use crate::items::{store_in_hot_category, store_over_shards};
+use crate::pairs::comment_over_shards;
+use crate::single::{only_object, transact_on};
+use auction_rows::{Object, Reply, Request, number_refusal};
+use phase_desks::{Comment, NewItem, SplitDesk};
+use shard_boxes::{Boxes, Key, PhaseName};
+use std::sync::Wait;
+
+/// A request that needs one object alone, which is not hot, and that the opening does not refuse: over the object's shard.
+/// None exactly where the greater of the worker's clock and the shard's is at the end of numbers, and then nothing has
+/// changed but what the key has seen. It takes no memory.
+fn perform_cold<N: PhaseName, R: Wait>(
+    rt: &R,
+    boxes: &Boxes<N>,
+    key: &mut Key<N>,
+    split: &mut SplitDesk,
+    request: &Request,
+    object: Object,
+    index: u32,
+) -> Option<Reply>
+    requires of { key.old.boxes ≡ boxes.now }
+    requires seats { length key.old.seats ≡ length N.opening }
+    requires idle { IsIdle key.old }
+    requires left { 0 < split.old.desk.left }
+    requires opening { HaveOpening N.opening split.old.desk.opening }
+    requires allowed { number_refusal split.old.desk.opening request.now ≡ None }
+    requires only { only_object request.now ≡ Some object }
+    requires cold { is_hot (objects_of split.old.slices) object ≡ false }
+    ensures committed { IfSome result (λ reply. HasCommitted N.opening
+        (permit split.old key.old) (permit split.new key.new) request.now index reply) }
+    ensures full { IfNone result (HasFailed N.opening
+        (permit split.old key.old) (permit split.new key.new) request.now NumberFull) }
+    ensures untouched { IsUntouched (length N.opening) split.old request.now key.old key.new }
+{
+    let _shards = boxes.shards();
+    let desk = split.desk();
+    let done = transact_on(rt, boxes, key, desk, request, object, index)?;
+    split.commit_cold(done.number, index, request, &done.reply, &done.found);
+    Some(done.reply)
+}
+
+/// A comment of which neither the item nor the user is hot, and that the opening does not refuse: over their shards. None
+/// exactly where the greatest of the worker's clock and theirs is at the end of numbers, and then nothing has changed but
+/// what the key has seen. It takes no memory.
+fn comment_cold<N: PhaseName, R: Wait>(
+    rt: &R,
+    boxes: &Boxes<N>,
+    key: &mut Key<N>,
+    split: &mut SplitDesk,
+    comment: &Comment,
+    index: u32,
+) -> Option<Reply>
+    requires of { key.old.boxes ≡ boxes.now }
+    requires seats { length key.old.seats ≡ length N.opening }
+    requires idle { IsIdle key.old }
+    requires left { 0 < split.old.desk.left }
+    requires opening { HaveOpening N.opening split.old.desk.opening }
+    requires allowed { number_refusal split.old.desk.opening (comment_request comment.now) ≡ None }
+    requires item { is_hot (objects_of split.old.slices) (Item comment.now.item) ≡ false }
+    requires user { is_hot (objects_of split.old.slices) (User comment.now.about) ≡ false }
+    ensures committed { IfSome result (λ reply. HasCommitted N.opening
+        (permit split.old key.old) (permit split.new key.new) (comment_request comment.now) index reply) }
+    ensures full { IfNone result (HasFailed N.opening
+        (permit split.old key.old) (permit split.new key.new) (comment_request comment.now) NumberFull) }
+    ensures untouched { IsUntouched (length N.opening) split.old (comment_request comment.now) key.old key.new }
+{
+    let desk = split.desk();
+    let done = comment_over_shards(rt, boxes, key, desk, comment, index)?;
+    let request = comment.request();
+    split.commit_cold(done.number, index, &request, &done.reply, &done.found);
+    Some(done.reply)
+}
+
+/// A comment that the opening does not refuse: over the shards of those of its item and the user whom it is about that are
+/// not hot. None exactly where the greatest of the worker's clock and theirs is at the end of numbers, and then nothing has
+/// changed but what the key has seen. It takes no memory.
+fn comment_in_split<N: PhaseName, R: Wait>(
+    rt: &R,
+    boxes: &Boxes<N>,
+    key: &mut Key<N>,
+    split: &mut SplitDesk,
+    comment: &Comment,
+    index: u32,
+) -> Option<Reply>
+    requires of { key.old.boxes ≡ boxes.now }
+    requires seats { length key.old.seats ≡ length N.opening }
+    requires idle { IsIdle key.old }
+    requires left { 0 < split.old.desk.left }
+    requires opening { HaveOpening N.opening split.old.desk.opening }
+    requires allowed { number_refusal split.old.desk.opening (comment_request comment.now) ≡ None }
+    ensures committed { IfSome result (λ reply. HasCommitted N.opening
+        (permit split.old key.old) (permit split.new key.new) (comment_request comment.now) index reply) }
+    ensures full { IfNone result (HasFailed N.opening
+        (permit split.old key.old) (permit split.new key.new) (comment_request comment.now) NumberFull) }
+    ensures untouched { IsUntouched (length N.opening) split.old (comment_request comment.now) key.old key.new }
+{
+    let item = split.is_hot(Object::Item(comment.item));
+    let user = split.is_hot(Object::User(comment.about));
+    if item && user {
+        split.comment_hot(
+            comment.author,
+            comment.about,
+            comment.item,
+            comment.stars,
+            index,
+        )
+    } else if item {
+        comment_on_hot_item(rt, boxes, key, split, comment, index)
+    } else if user {
+        comment_about_hot_user(rt, boxes, key, split, comment, index)
+    } else {
+        comment_cold(rt, boxes, key, split, comment, index)
+    }
+}
+
+/// A request that needs one object alone, that is not put off, and that the opening does not refuse: on the slice of a hot
+/// object, and over the shard of another. None exactly where the greatest of the worker's clock and the shard's, if it is
+/// taken, is at the end of numbers, and then nothing has changed but what the key has seen. It takes no memory.
+fn perform_single<N: PhaseName, R: Wait>(
+    rt: &R,
+    boxes: &Boxes<N>,
+    key: &mut Key<N>,
+    split: &mut SplitDesk,
+    request: &Request,
+    object: Object,
+    index: u32,
+) -> Option<Reply>
+    requires of { key.old.boxes ≡ boxes.now }
+    requires seats { length key.old.seats ≡ length N.opening }
+    requires idle { IsIdle key.old }
+    requires left { 0 < split.old.desk.left }
+    requires opening { HaveOpening N.opening split.old.desk.opening }
+    requires allowed { number_refusal split.old.desk.opening request.now ≡ None }
+    requires only { only_object request.now ≡ Some object }
+    requires not_put_off { is_put_off (objects_of split.old.slices) request.now ≡ false }
+    ensures committed { IfSome result (λ reply. HasCommitted N.opening
+        (permit split.old key.old) (permit split.new key.new) request.now index reply) }
+    ensures full { IfNone result (HasFailed N.opening
+        (permit split.old key.old) (permit split.new key.new) request.now NumberFull) }
+    ensures untouched { IsUntouched (length N.opening) split.old request.now key.old key.new }
+{
+    if !split.is_hot(object) {
+        return perform_cold(rt, boxes, key, split, request, object, index);
+    }
+    match *request {
+        Request::StoreBid {
+            bidder,
+            item,
+            amount,
+            time,
+        } => split.bid_hot(bidder, item, amount, time, index),
+        _ => unreachable!(),
+    }
+}
+
+/// An item to be stored that the opening does not refuse: over its own shard and its category's, or on the slice of a hot
+/// category. After a fault nothing has changed but what the key has seen.
+fn store_in_split<N: PhaseName, R: Wait>(
+    rt: &R,
+    boxes: &Boxes<N>,
+    key: &mut Key<N>,
+    split: &mut SplitDesk,
+    item: &NewItem,
+    index: u32,
+) -> Result<Reply, PermitFault>
+    requires of { key.old.boxes ≡ boxes.now }
+    requires seats { length key.old.seats ≡ length N.opening }
+    requires idle { IsIdle key.old }
+    requires left { 0 < split.old.desk.left }
+    requires opening { HaveOpening N.opening split.old.desk.opening }
+    requires allowed { number_refusal split.old.desk.opening (item_request item.now) ≡ None }
+    ensures committed { IfOk result (λ reply. HasCommitted N.opening
+        (permit split.old key.old) (permit split.new key.new) (item_request item.now) index reply) }
+    ensures failed { IfErr result (HasFailed N.opening
+        (permit split.old key.old) (permit split.new key.new) (item_request item.now)) }
+    ensures untouched { IsUntouched (length N.opening) split.old (item_request item.now) key.old key.new }
+{
+    let _id = split.next_item();
+    if split.is_hot(Object::Category(item.facts.category)) {
+        return store_in_hot_category(rt, boxes, key, split, item, index);
+    }
+    let desk = split.desk();
+    let done = store_over_shards(rt, boxes, key, desk, item, index)?;
+    let request = item.request();
+    split.commit_cold(done.number, index, &request, &done.reply, &done.found);
+    Ok(done.reply)
+}
+
+/// A request that is not put off: without a shard where the opening refuses it, and else over the shards of those of its
+/// objects that are not hot. After a fault nothing has changed but what the key has seen.
+pub fn commit_in_split<N: PhaseName, R: Wait>(
+    rt: &R,
+    boxes: &Boxes<N>,
+    key: &mut Key<N>,
+    split: &mut SplitDesk,
+    request: &Request,
+    index: u32,
+) -> Result<Reply, PermitFault>
+    requires of { key.old.boxes ≡ boxes.now }
+    requires seats { length key.old.seats ≡ length N.opening }
+    requires idle { IsIdle key.old }
+    requires left { 0 < split.old.desk.left }
+    requires opening { HaveOpening N.opening split.old.desk.opening }
+    requires not_put_off { is_put_off (objects_of split.old.slices) request.now ≡ false }
+    ensures committed { IfOk result (λ reply. HasCommitted N.opening
+        (permit split.old key.old) (permit split.new key.new) request.now index reply) }
+    ensures failed { IfErr result (HasFailed N.opening
+        (permit split.old key.old) (permit split.new key.new) request.now) }
+    ensures untouched { IsUntouched (length N.opening) split.old request.now key.old key.new }
+{
+    if let Some(reason) = number_refusal(split.desk().opening(), *request) {
+        let reply = split.refuse(request, reason, index);
+        return reply.ok_or(PermitFault::NumberFull);
+    }
+    if let Some(object) = only_object(request) {
+        let reply = perform_single(rt, boxes, key, split, request, object, index);
+        return reply.ok_or(PermitFault::NumberFull);
+    }
+    match *request {
+        Request::StoreItem { facts, time } => {
+            let item = NewItem { facts, time };
+            store_in_split(rt, boxes, key, split, &item, index)
+        }
+        Request::StoreComment {
+            author,
+            about,
+            item,
+            stars,
+        } => {
+            let comment = Comment {
+                author,
+                about,
+                item,
+                stars,
+            };
+            let reply = comment_in_split(rt, boxes, key, split, &comment, index);
+            reply.ok_or(PermitFault::NumberFull)
+        }
+        _ => unreachable!(),
+    }
+}

@@ -1,0 +1,5 @@
+pub mod CommitLemmas
+pub mod StepLemmas
+pub mod EndLemmas
+pub mod ClosedLemmas
+pub mod BookLemmas

@@ -1,0 +1,29 @@
+//! What a run gives at its end.
+ghost use Rattle.std.specs.Prelude.{◌<◌, ◌≤◌, ◌+◌, ◌*◌, ℕ, List, length};
+ghost use Rattle.auction_rows.specs.declared.numbers.Opening.{Opening};
+ghost use Rattle.auction_rows.specs.declared.ids.Object.{Object};
+ghost use Rattle.auction_rows.specs.declared.requests.Request.{Request};
+ghost use Rattle.auction_rows.specs.declared.rows.Entry.{Entry};
+ghost use Rattle.run_serving.specs.declared.policy.Policy.{Policy};
+ghost use Rattle.run_serving.specs.Serving.{Serves, script_of};
+ghost use Rattle.run_serving.specs.Run.{HasRun, HasClosed, IsDone};
+
+/// Where nobody has anything left, the history serves the scripts.
+pub fn run_serves()
+    ensures { (opening : Opening) (policy : Policy) (scripts : List (List Request)) (phase : ℕ)
+        (hot : List (List Object)) (history : List Entry) (stashes : ℕ → List (ℕ × Request)) →
+        0 < policy.joined_quota + policy.split_quota →
+        HasRun policy scripts phase hot history stashes →
+        HasClosed opening policy hot history → IsDone policy scripts phase stashes →
+        Serves opening policy scripts hot history }
+{}
+
+/// A run of short scripts has few phases.
+pub fn phases_are_few()
+    ensures { (policy : Policy) (scripts : List (List Request)) (phase most : ℕ)
+        (hot : List (List Object)) (history : List Entry) (stashes : ℕ → List (ℕ × Request)) →
+        0 < policy.joined_quota + policy.split_quota →
+        HasRun policy scripts phase hot history stashes →
+        ((worker : ℕ) → length (script_of scripts worker) ≤ most) →
+        phase ≤ 2 * most + 2 }
+{}
