@@ -34,6 +34,10 @@ use Rattle.run_laws.proofs.CountLemmas.{how_many, how_many-is}
 use Rattle.auction_run.specs.declared.choosing.Candidate.{Candidate}
 use Rattle.auction_run.specs.Ranking.{heat_shown, HasHeats, candidate, candidate_cmp, hot_ones, IsRanking}
 
+-- nothing is chosen where nothing may be
+pub none_chosen : (es : List Entry) (threshold : ℕ) → choose es threshold 0 ≡ []
+none_chosen es threshold = top_first (heat_total es) 0 (filter (λ o. nat_le threshold (heat es o)) (objects_written es))
+
 same_laws : IsEquivalence same_object
 same_laws = record {
   refl = λ x. (same_objects x x).1 refl;

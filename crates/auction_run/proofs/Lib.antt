@@ -2,3 +2,10 @@ pub mod HeatLemmas
 pub mod RankLemmas
 pub mod ChoiceLemmas
 pub mod ChosenLemmas
+pub mod WorkLemmas
+pub mod ThreadLemmas
+pub mod TaskLemmas
+pub mod PhaseLemmas
+pub mod HotThere
+pub mod ScriptLemmas
+pub mod RunLemmas

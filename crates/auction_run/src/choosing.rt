@@ -22,6 +22,9 @@ pub fn choose_hot(
 ) -> Result<IndexSet<Object>, AllocError>
     ensures { IfOk result (λ hot. hot.keys ≡ choose entries.now threshold hot_max) }
 {
+    if hot_max == 0 {
+        return Ok(IndexSet::new(alloc));
+    }
     let heats = heats(alloc, entries)?;
     let candidates = candidates(alloc, &heats, threshold)?;
     first_of(alloc, &candidates, hot_max)

@@ -1,6 +1,8 @@
 //! Why a run is refused.
 ghost use Rattle.std.specs.Prelude.{◌≡◌};
 
+use phase_floor::FloorFault;
+use phase_permits::PermitFault;
 use std::alloc::{AllocError, AllocFailed};
 use thiserror::Error;
 
@@ -48,5 +50,30 @@ impl<T: Drop> From<AllocFailed<T>> for RunFault {
 
     fn from(_refused: AllocFailed<T>) -> RunFault {
         RunFault::Memory
+    }
+}
+
+impl From<PermitFault> for RunFault {
+    ghost use Rattle.auction_run.specs.Tasks.{met};
+
+    ghost from_gives = { λ fault run. run ≡ met fault };
+
+    fn from(fault: PermitFault) -> RunFault {
+        match fault {
+            PermitFault::Memory => RunFault::Memory,
+            PermitFault::NumberFull => RunFault::NumberFull,
+        }
+    }
+}
+
+impl From<FloorFault> for RunFault {
+    ghost use Rattle.auction_run.specs.declared.fault.RunFault.TheVariants.{Memory};
+
+    ghost from_gives = { λ _ fault. fault ≡ Memory };
+
+    fn from(fault: FloorFault) -> RunFault {
+        match fault {
+            FloorFault::Memory => RunFault::Memory,
+        }
     }
 }

@@ -1,13 +1,28 @@
 //! A run: workers perform their scripts in phases.
 #![tactic(auto)]
 
+mod checking;
 mod choosing;
 mod fault;
 mod gate;
+mod joined_phase;
+mod permit;
+mod phase;
+mod quotas;
+#[cfg(test)]
+mod run_tests;
+mod running;
+mod serving;
+mod split_phase;
 #[cfg(test)]
 mod tests;
+mod threads;
+#[cfg(test)]
+mod worked_tests;
+mod worker;
 
 pub use choosing::choose_hot;
 pub use fault::RunFault;
 pub use gate::{FreeGate, Gate};
 pub use run_serving::Policy;
+pub use running::{Outcome, run};

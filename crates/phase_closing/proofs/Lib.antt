@@ -12,6 +12,7 @@ pub mod SliceLemmas
 pub mod GivenLemmas
 pub mod MergeLemmas
 pub mod ReconcileLemmas
+pub mod LawfulLemmas
 pub mod WorkerLemmas
 pub mod FitLemmas
 pub mod RoomLemmas

@@ -11,4 +11,7 @@ pub use closing::{
     numbers_follow_what_entries_share,
 };
 pub use example::a_phase_closes;
-pub use reconciling::{reconciled_shards_stand, slices_can_be_merged, slices_may_be_popped};
+pub use reconciling::{
+    hot_objects_are_merged, phases_close_lawfully, reconciled_shards_stand, slices_can_be_merged,
+    slices_may_be_popped,
+};

@@ -14,6 +14,7 @@ ghost use Rattle.phase_desks.specs.Slicing.{AreFew, slices_in};
 ghost use Rattle.phase_closing.specs.Phases.{Phase, HasClosed, counters_of};
 ghost use Rattle.phase_closing.specs.Standing.{StandFor};
 ghost use Rattle.phase_closing.specs.Merging.{IsReconciled, CanMerge, after_merge, slices_left};
+ghost use Rattle.phase_closing.specs.Lawful.{AreHotMerged, AreSliced, ClosesLawfully};
 
 /// Where all slices of all workers are merged, in any order, into the shards that the boxes gave back, these and the
 /// counters stand for the book after the entries, hot objects included. Where nothing was hot, they do so as they are.
@@ -24,6 +25,22 @@ pub fn reconciled_shards_stand()
     ensures joined { (p : Phase) → HasClosed p → hot_in p.setting ≡ [] →
         (book : Book) → StandFor p.opening p.counters book [] →
         StandFor p.given (map counters_of p.receipts) (book_after p.setting.opening book p.entries) [] }
+{}
+
+/// Where all slices of all workers are merged, in any order, each hot object has what it had as the phase began, with one
+/// slice of each worker merged, and each worker's slice has the value that its journal's accepted stores give the object.
+pub fn hot_objects_are_merged()
+    ensures merged { (p : Phase) → HasClosed p → (closing : List ShardState) → IsReconciled p closing →
+        AreHotMerged p closing }
+    ensures slices { (p : Phase) → HasClosed p → AreSliced p }
+{}
+
+/// A phase closes lawfully, where all slices are merged. Where nothing was hot, it does so with the shards as they were
+/// given back.
+pub fn phases_close_lawfully()
+    ensures split { (p : Phase) → HasClosed p → (closing : List ShardState) → IsReconciled p closing →
+        ClosesLawfully p closing }
+    ensures joined { (p : Phase) → HasClosed p → hot_in p.setting ≡ [] → ClosesLawfully p p.given }
 {}
 
 /// In whatever order the slices are merged into the shards that the boxes gave back, each can be merged in its turn:

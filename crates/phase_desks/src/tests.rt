@@ -8,7 +8,7 @@ use auction_rows::{
     BidEntry, BidId, CommentId, Facts, ItemEntry, ItemId, Name, Object, Opening, Quantity, Refusal,
     Reply, Request, Stars,
 };
-use item_shards::Slice;
+use item_shards::{ItemSlice, Slice, UserSlice};
 use std::alloc::Global;
 use std::test::Fail;
 use worker_journals::Journal;
@@ -52,6 +52,25 @@ fn new_slices(alloc: Global) -> Result<Slices, Fail>
         (Object::Category(0), None),
     ];
     Ok(Slices::new(alloc, &hot)?)
+}
+
+/// The slice of the vase.
+fn vase_slice(mut slices: Slices) -> Result<ItemSlice, Fail> {
+    slices.pop().ok_or("a category")?;
+    slices.pop().ok_or("a user")?;
+    match slices.pop().ok_or("an item")?.1 {
+        Slice::Item(slice) => Ok(slice),
+        _ => Err(Fail::from("a slice of an item")),
+    }
+}
+
+/// The slice of user 3.
+fn user_slice(mut slices: Slices) -> Result<UserSlice, Fail> {
+    slices.pop().ok_or("a category")?;
+    match slices.pop().ok_or("a user")?.1 {
+        Slice::User(slice) => Ok(slice),
+        _ => Err(Fail::from("a slice of a user")),
+    }
 }
 
 /// A view of a user, and one of the vase.
@@ -121,33 +140,22 @@ fn last_slice_first(rt: HostRuntime) -> Result<(), Fail> {
 fn bid_in_a_slice(rt: HostRuntime) -> Result<(), Fail> {
     let mut slices = new_slices(rt.alloc())?;
     slices.bid(0, BID);
-    slices.pop().ok_or("a category")?;
-    slices.pop().ok_or("a user")?;
-    match slices.pop().ok_or("an item")?.1 {
-        Slice::Item(slice) => {
-            assert_eq!(rt; slice.highest.value(), Some(50));
-            assert_eq!(rt; slice.bidder.value(), Some(BID));
-            assert_eq!(rt; slice.bids.value(), 1);
-            assert_eq!(rt; slice.top.entries().len(), 1);
-            Ok(())
-        }
-        _ => Err(Fail::from("a slice of an item")),
-    }
+    let slice = vase_slice(slices)?;
+    assert_eq!(rt; slice.highest.value(), Some(50));
+    assert_eq!(rt; slice.bidder.value(), Some(BID));
+    assert_eq!(rt; slice.bids.value(), 1);
+    assert_eq!(rt; slice.top.entries().len(), 1);
+    Ok(())
 }
 
 #[test]
 fn comment_in_a_slice(rt: HostRuntime) -> Result<(), Fail> {
     let mut slices = new_slices(rt.alloc())?;
     slices.comment(1, Stars::new(-5).ok_or("stars")?);
-    slices.pop().ok_or("a category")?;
-    match slices.pop().ok_or("a user")?.1 {
-        Slice::User(slice) => {
-            assert_eq!(rt; slice.rating.value(), -5);
-            assert_eq!(rt; slice.comments.value(), 1);
-            Ok(())
-        }
-        _ => Err(Fail::from("a slice of a user")),
-    }
+    let slice = user_slice(slices)?;
+    assert_eq!(rt; slice.rating.value(), -5);
+    assert_eq!(rt; slice.comments.value(), 1);
+    Ok(())
 }
 
 #[test]
@@ -206,6 +214,11 @@ fn comment(desk: &mut SplitDesk, author: u32, index: u32) -> Result<Option<Reply
     Ok(desk.comment_hot(author, 3, FIRST, stars, index))
 }
 
+const FIRST_BID: BidId = BidId {
+    worker: 0,
+    serial: 0,
+};
+
 #[test]
 fn three_bids(rt: HostRuntime) -> Result<(), Fail> {
     let mut desk = new_desk(rt.alloc(), 0)?;
@@ -214,23 +227,23 @@ fn three_bids(rt: HostRuntime) -> Result<(), Fail> {
     let closed = bid(&mut desk, 10, 100, 1)?;
     assert_eq!(rt; closed, Some(Reply::Refused(Refusal::Closed)));
     let stored = bid(&mut desk, 10, 99, 2)?;
-    let id = BidId {
-        worker: 0,
-        serial: 0,
-    };
-    assert_eq!(rt; stored, Some(Reply::BidStored(id)));
+    assert_eq!(rt; stored, Some(Reply::BidStored(FIRST_BID)));
     assert_eq!(rt; desk.left(), 1);
-    let (desk, _) = desk.open();
+    let (desk, slices) = desk.open();
+    let slice = vase_slice(slices)?;
+    assert_eq!(rt; slice.highest.value(), Some(10));
+    assert_eq!(rt; slice.bids.value(), 1);
     let (journal, stash, counters) = desk.open();
     assert_eq!(rt; stash.len(), 0);
     assert_eq!(rt; counters.bids, 1);
     assert_eq!(rt; counters.commits, 4);
-    let mut number = 0;
-    for entry in journal.entries() {
-        assert!(rt; entry.number > number);
-        number = entry.number;
-    }
-    assert_eq!(rt; number, 3);
+    let [first, second, third] = journal.entries() else {
+        return Err(Fail::from("three entries"));
+    };
+    assert_eq!(rt; (first.number, second.number, third.number), (1, 2, 3));
+    assert_eq!(rt; first.reply, Reply::Refused(Refusal::BelowStart));
+    assert_eq!(rt; second.reply, Reply::Refused(Refusal::Closed));
+    assert_eq!(rt; third.reply, Reply::BidStored(FIRST_BID));
     Ok(())
 }
 
@@ -248,6 +261,60 @@ fn two_comments(rt: HostRuntime) -> Result<(), Fail> {
     assert_eq!(rt; desk.left(), 2);
     assert_eq!(rt; desk.tries(), 0);
     assert_eq!(rt; desk.stashed(), 0);
+    let (desk, slices) = desk.open();
+    let slice = user_slice(slices)?;
+    assert_eq!(rt; slice.rating.value(), 5);
+    assert_eq!(rt; slice.comments.value(), 1);
+    let (journal, _, _) = desk.open();
+    let [first, second] = journal.entries() else {
+        return Err(Fail::from("two entries"));
+    };
+    assert_eq!(rt; (first.number, second.number), (8, 9));
+    Ok(())
+}
+
+/// A purchase of the vase by user 1.
+fn purchase() -> Result<Request, Fail> {
+    Ok(Request::BuyNow {
+        buyer: 1,
+        item: FIRST,
+        quantity: Quantity::new(1).ok_or("a quantity")?,
+        time: 5,
+    })
+}
+
+#[test]
+fn views_and_purchases_of_hot_objects_are_put_off(rt: HostRuntime) -> Result<(), Fail> {
+    let mut desk = new_desk(rt.alloc(), 0)?;
+    let [of_user, of_vase] = views();
+    assert!(rt; desk.is_put_off(&of_user));
+    assert!(rt; desk.is_put_off(&of_vase));
+    assert!(rt; desk.is_put_off(&purchase()?));
+    assert!(rt; desk.is_put_off(&Request::ViewCategory { category: 0 }));
+    assert!(rt; !desk.is_put_off(&Request::ViewCategory { category: 1 }));
+    assert!(rt; !desk.is_put_off(&Request::ViewUser { user: 0 }));
+    if desk.left() == 0 {
+        return Err(Fail::from("a quota"));
+    }
+    desk.put_off(3, &of_vase);
+    assert_eq!(rt; (desk.left(), desk.stashed()), (3, 1));
+    let (desk, _) = desk.open();
+    let (journal, stash, _) = desk.open();
+    assert_eq!(rt; journal.entries().len(), 0);
+    assert_eq!(rt; stash.get(0), Some((3, Request::ViewItem { item: FIRST })));
+    Ok(())
+}
+
+#[test]
+fn user_of_no_number(rt: HostRuntime) -> Result<(), Fail> {
+    let mut desk = new_desk(rt.alloc(), 0)?;
+    if desk.left() == 0 || !desk.is_hot(Object::Item(FIRST)) {
+        return Err(Fail::from("no bid on a hot item"));
+    }
+    let refused = desk.bid_hot(10, FIRST, 50, 7, 0);
+    assert_eq!(rt; refused, Some(Reply::Refused(Refusal::NoSuchUser)));
+    let (_, slices) = desk.open();
+    assert_eq!(rt; vase_slice(slices)?.bids.value(), 0);
     Ok(())
 }
 

@@ -1,2 +1,4 @@
 pub mod Answering
-pub mod Performing
+pub mod OneAnswer
+pub mod ViewLemmas
+pub mod WrittenLemmas

@@ -1,90 +1,116 @@
 -- What the program answers.
-use Rattle.std.specs.Prelude.{ℕ, ◌≡◌, ◌<◌, ◌≤◌, ◌+◌, List, [], ◌∷◌, All, length, map, Option, Ok, Err, if◌then◌else◌}
-use Rattle.std.specs.List.{range_with_len}
-use Rattle.std.specs.Io.KnownBytes.{Appends}
+use Rattle.std.specs.Prelude.{ℕ, ◌≡◌, ◌⊎◌, List, [], ◌++◌, Option, Ok, Err, if◌then◌else◌}
+use Rattle.std.specs.Io.KnownBytes.{Appends, Keeps}
+use Rattle.auction_rows.specs.declared.ids.Object.{Object}
 use Rattle.auction_rows.specs.declared.numbers.Opening.{Opening}
 use Rattle.auction_rows.specs.declared.requests.Request.{Request}
 use Rattle.auction_rows.specs.declared.rows.Entry.{Entry}
 use Rattle.auction_rows.specs.Book.{Book}
-use Rattle.auction_rows.specs.History.{ReplaysFrom}
-use Rattle.item_shards.specs.OpeningRows.{AreRows, IsFirstBad, IsTooLong, opening_rows}
-use Rattle.item_shards.specs.declared.opened.Opened.{Opened}
-use Rattle.item_shards.specs.declared.opening_book.ResumeFault.{ResumeFault}
-use Rattle.item_shards.specs.declared.opening_book.ResumeFault.TheVariants as resume
+use Rattle.auction_rows.specs.History.{book_after}
 use Rattle.auction_text.specs.Reading.{IsInputFault}
 use Rattle.auction_text.specs.Replies.{replies_text, history_text}
 use Rattle.auction_text.specs.RowLines.{rows_text}
 use Rattle.auction_text.specs.Scripts.{input_of}
 use Rattle.auction_text.specs.Writing.{IsPartWritten}
+use Rattle.item_shards.specs.OpeningRows.{AreRows, IsFirstBad, IsTooLong, opening_rows}
+use Rattle.item_shards.specs.declared.opened.Opened.{Opened}
+use Rattle.item_shards.specs.declared.opening_book.ResumeFault.{ResumeFault}
+use Rattle.item_shards.specs.declared.opening_book.ResumeFault.TheVariants as resume
+use Rattle.run_serving.specs.Answers.{IsAnswer}
+use Rattle.run_serving.specs.declared.policy.Policy.{Policy}
+use Rattle.rubis_auction.specs.Options.{opening_of, policy_of}
+use Rattle.rubis_auction.specs.Report.{report_of}
+use Rattle.auction_run.specs.Beginning.{HaveWorkers, HasShards, HasQuotas, AreShort}
+use Rattle.auction_run.specs.declared.fault.RunFault.{RunFault}
+use Rattle.auction_run.specs.declared.fault.RunFault.TheVariants as run
 use Rattle.rubis_auction.specs.declared.faults.Fault.{Fault}
 use Rattle.rubis_auction.specs.declared.faults.Fault.TheVariants.{Usage, Read, Resume, Run, Write}
-use Rattle.rubis_auction.specs.declared.faults.RunFault.TheVariants.{TooLong, Memory}
 use Rattle.rubis_auction.specs.declared.options.Options.{Options}
-use Rattle.rubis_auction.specs.declared.perform.TheConstants.{MOST_REQUESTS}
 
-abbrev pub opening_of : Options → Opening
-opening_of options = record { users = options.users; categories = options.categories }
-
--- entries are the history of a script: one for each request, in index order, by worker 0 in phase 0, numbered from 1, and they
--- replay from a book
-pub record IsPerformed (start : Opening) (book : Book) (script : List Request) (entries : List Entry) : Type 0 where
-  pub requests : map (λ entry. entry.request) entries ≡ script
-  pub indexes : map (λ entry. entry.index) entries ≡ range_with_len 0 (length script)
-  pub numbers : map (λ entry. entry.number) entries ≡ range_with_len 1 (length script)
-  pub by_one_worker : All (λ entry. (entry.phase ≡ 0) × (entry.worker ≡ 0)) entries
-  pub replays : ReplaysFrom start book entries
-
--- the text that is asked for: the rows, or else the history, or else the replies
-abbrev pub text_of : Options → Book → List Entry → List ℕ
-text_of options book history =
+-- what the options ask for: the rows, or else the history, or else the replies
+abbrev pub commits_text : Options → Book → List Entry → List ℕ
+commits_text options book history =
     if options.rows then rows_text book history
     else if options.history then history_text history
     else replies_text history
 
--- the input has no fault, and this holds of the rows and of the one script that it asks for
-pub record OfInput (input : List ℕ) (Holds : List Opened → List Request → Type 0) : Type 0 where
+-- and after it the report, where they ask for it
+abbrev pub added_text : Options → Book → List Entry → List (List Object) → List ℕ
+added_text options book history hot =
+    if options.report then report_of (opening_of options) (book_after (opening_of options) book history) history hot else []
+
+-- The input has no fault and asks for these rows, each a row at its place, and for these scripts.
+pub record AsksFor (options : Options) (input : List ℕ) (rows : List Opened) (scripts : List (List Request)) : Type 0 where
+  pub reads : input_of options.workers input ≡ Ok (record { rows = rows; scripts = scripts })
+  pub are_rows : AreRows (opening_of options) rows
+
+-- Two texts answer an input: what the options ask for of a run of its scripts, from the book of its rows, and what is added.
+pub record IsAnsweredBy (options : Options) (input : List ℕ) (text added : List ℕ) : Type 0 where
   pub rows : List Opened
-  pub script : List Request
-  pub asks : input_of 1 input ≡ Ok (record { rows = rows; scripts = script ∷ [] })
-  pub holds : Holds rows script
-
--- all rows are rows at their places, and a worker may have as many rows and requests as there are
-pub record CanBePerformed (start : Opening) (rows : List Opened) (script : List Request) : Type 0 where
-  pub are_rows : AreRows start rows
-  pub short : length (opening_rows start rows) + length script ≤ MOST_REQUESTS
-
--- what is said of a text holds of the one that is asked for, of a history of the script from the book of the rows
-pub record HasText (options : Options) (Written : List ℕ → Type 0) (rows : List Opened) (script : List Request) : Type 0 where
+  pub scripts : List (List Request)
   pub history : List Entry
-  pub can : CanBePerformed (opening_of options) rows script
-  pub performed : IsPerformed (opening_of options) (opening_rows (opening_of options) rows) script history
-  pub written : Written (text_of options (opening_rows (opening_of options) rows) history)
+  pub hot : List (List Object)
+  pub asks : AsksFor options input rows scripts
+  pub runs : IsAnswer (opening_of options) (opening_rows (opening_of options) rows) (policy_of options) scripts hot history
+  pub text_is : text ≡ commits_text options (opening_rows (opening_of options) rows) history
+  pub added_is : added ≡ added_text options (opening_rows (opening_of options) rows) history hot
 
--- the whole text was written
-abbrev pub Answers : Options → List ℕ → Option (List ℕ) → Option (List ℕ) → Type 0
-Answers options input old new = OfInput input (HasText options (Appends old new))
+-- This holds of two texts that answer the input.
+pub record Answers (options : Options) (input : List ℕ) (Holds : List ℕ → List ℕ → Type 0) : Type 0 where
+  pub text : List ℕ
+  pub added : List ℕ
+  pub answered : IsAnsweredBy options input text added
+  pub holds : Holds text added
 
--- a prefix of it was written, and nothing else
-abbrev pub AnswersInPart : Options → List ℕ → Option (List ℕ) → Option (List ℕ) → Type 0
-AnswersInPart options input old new = OfInput input (HasText options (IsPartWritten old new))
+-- both were written whole
+abbrev pub AreWritten : Option (List ℕ) → Option (List ℕ) → List ℕ → List ℕ → Type 0
+AreWritten old new text added = Appends old new (text ++ added)
 
--- all rows are rows at their places, and they and the requests are too many for a worker
-pub record IsLong (start : Opening) (rows : List Opened) (script : List Request) : Type 0 where
-  pub are_rows : AreRows start rows
-  pub long : MOST_REQUESTS < length (opening_rows start rows) + length script
+-- a prefix of both was written, and nothing else
+abbrev pub ArePartWritten : Option (List ℕ) → Option (List ℕ) → List ℕ → List ℕ → Type 0
+ArePartWritten old new text added = IsPartWritten old new (text ++ added)
+
+-- nothing was written, or the first one whole
+abbrev pub IsOneWritten : Option (List ℕ) → Option (List ℕ) → List ℕ → List ℕ → Type 0
+IsOneWritten old new text added = Keeps old new ⊎ Appends old new text
+
+-- The input has no fault, and this holds of the rows and scripts that it asks for.
+pub record OfInput (options : Options) (input : List ℕ) (Holds : List Opened → List (List Request) → Type 0) : Type 0 where
+  pub rows : List Opened
+  pub scripts : List (List Request)
+  pub reads : input_of options.workers input ≡ Ok (record { rows = rows; scripts = scripts })
+  pub holds : Holds rows scripts
 
 -- why an opening book was refused, by the rows
-abbrev pub IsRefused : Opening → ResumeFault → List Opened → List Request → Type 0
-IsRefused start resume.TooLong rows script = IsTooLong rows
-IsRefused start (resume.BadRow n) rows script = IsFirstBad start rows n
-IsRefused start resume.Memory rows script = ¬ IsTooLong rows
+abbrev pub IsRefused : Opening → ResumeFault → List Opened → Type 0
+IsRefused opening resume.TooLong rows = IsTooLong rows
+IsRefused opening (resume.BadRow n) rows = (¬ IsTooLong rows) × IsFirstBad opening rows n
+IsRefused opening resume.Memory rows = ¬ IsTooLong rows
 
--- why the program failed, by the input: a fault in the input is its first one, a row that is refused is the first, and there are too
--- many rows and requests where that is answered and only there
-abbrev pub IsCausedBy : Opening → List ℕ → Fault → Type 0
-IsCausedBy start input (Usage fault) = ⊥
-IsCausedBy start input (Read fault) = IsInputFault fault → input_of 1 input ≡ Err fault
-IsCausedBy start input (Resume fault) = OfInput input (IsRefused start fault)
-IsCausedBy start input (Run TooLong) = OfInput input (IsLong start)
-IsCausedBy start input (Run Memory) = OfInput input (CanBePerformed start)
-IsCausedBy start input (Write fault) = OfInput input (CanBePerformed start)
+-- why a run of scripts from a book was refused, by the first that doesn't hold; the last three faults are met while it goes on
+abbrev pub IsNotRun : Policy → RunFault → Book → List (List Request) → Type 0
+IsNotRun policy run.Workers book scripts = ¬ HaveWorkers book scripts
+IsNotRun policy run.Shards book scripts = HaveWorkers book scripts × ¬ HasShards policy
+IsNotRun policy run.Quota book scripts = HaveWorkers book scripts × (HasShards policy × ¬ HasQuotas policy)
+IsNotRun policy run.TooLong book scripts = HaveWorkers book scripts × (HasShards policy × (HasQuotas policy × ¬ AreShort book scripts))
+IsNotRun policy run.Spawn book scripts = Unit {0}
+IsNotRun policy run.Memory book scripts = Unit {0}
+IsNotRun policy run.NumberFull book scripts = Unit {0}
+
+-- a fault that comes before anything is written
+abbrev pub IsUnwritten : Fault → Type 0
+IsUnwritten (Write fault) = ⊥
+IsUnwritten (Usage fault) = Unit {0}
+IsUnwritten (Read fault) = Unit {0}
+IsUnwritten (Resume fault) = Unit {0}
+IsUnwritten (Run fault) = Unit {0}
+
+-- Why the program failed, by the input: a fault in the input is its first one, a row that is refused is the first, and a run is refused
+-- for its first cause.
+abbrev pub IsCausedBy : Options → List ℕ → Fault → Type 0
+IsCausedBy options input (Usage fault) = ⊥
+IsCausedBy options input (Read fault) = IsInputFault fault → input_of options.workers input ≡ Err fault
+IsCausedBy options input (Resume fault) = OfInput options input (λ rows scripts. IsRefused (opening_of options) fault rows)
+IsCausedBy options input (Run fault) = OfInput options input (λ rows scripts.
+    AreRows (opening_of options) rows × IsNotRun (policy_of options) fault (opening_rows (opening_of options) rows) scripts)
+IsCausedBy options input (Write fault) = Answers options input (λ text added. Unit {0})

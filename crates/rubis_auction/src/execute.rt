@@ -1,74 +1,42 @@
-//! From the bytes of rows and a script to the bytes of the replies.
+//! From the bytes of rows and scripts to the bytes of the replies.
 ghost use Rattle.std.specs.Prelude.{◌≡◌, OnOk, IfErr, IfSome};
-ghost use Rattle.std.specs.Io.KnownBytes.{Appends};
-ghost use Rattle.auction_text.specs.Writing.{IsPartWritten};
-ghost use Rattle.rubis_auction.specs.Execution.{Answers, AnswersInPart, IsCausedBy, opening_of, text_of};
+ghost use Rattle.auction_text.specs.declared.faults.WriteFault.{WriteFault};
+ghost use Rattle.rubis_auction.specs.Execution.{Answers, ArePartWritten, AreWritten, IsCausedBy, IsOneWritten, IsUnwritten};
 
 use crate::faults::Fault;
 use crate::options::Options;
-use crate::perform::perform_script;
-use auction_rows::{Entry, Row};
-use auction_text::{WriteFault, read_scripts, write_history, write_replies, write_rows};
+use crate::writing::write_texts;
+use auction_run::{FreeGate, run};
+use auction_text::read_scripts;
 use item_shards::OpeningBook;
 use std::alloc::Global;
 use std::io::{Read, Write};
+use std::sync::Wait;
+use std::thread::Threads;
 
-// Writes the text that the options ask for.
-fn write_text<W: Write>(
-    alloc: Global,
-    writer: &mut W,
-    options: &Options,
-    rows: &[Row],
-    history: &[Entry],
-) -> Result<(), WriteFault>
-    ensures whole { OnOk result (Appends (W.contents writer.old) (W.contents writer.new) (text_of options.now rows.now history.now)) }
-    ensures part { IfErr result (λ fault. fault ≡ WriteFault.Write →
-        IsPartWritten (W.contents writer.old) (W.contents writer.new) (text_of options.now rows.now history.now)) }
-    ensures memory { IfErr result (λ fault. fault ≡ WriteFault.Memory → writer.new ≡ writer.old) }
-{
-    if options.rows {
-        write_rows(alloc, writer, rows, history)
-    } else if options.history {
-        write_history(alloc, writer, history)
-    } else {
-        write_replies(alloc, writer, history)
-    }
-}
-
-/// Opens an auction with the rows that the reader gives, performs its script, which is worker 0's, and
-/// writes the replies, the history or the rows, as the options say. The first byte is written once the
-/// whole script is performed; where the writer then fails, a prefix of the text was written, and after
+/// Opens an auction with the rows that the reader gives, performs its scripts, one thread a worker, and writes the replies,
+/// the history or the rows, and then the report, as the options say. The first byte is written once all scripts are performed.
+/// Where the writer then fails, a prefix of the text was written; where memory is refused for a text, the texts before it; and after
 /// any other fault nothing.
-pub fn execute<R: Read + Drop, W: Write>(
+pub fn execute<R: Threads + Wait + Sync, I: Read + Drop, W: Write>(
+    rt: &R,
     alloc: Global,
-    reader: R,
+    reader: I,
     writer: &mut W,
     options: &Options,
 ) -> Result<(), Fault>
-    ensures answers { OnOk result (IfSome (R.remaining reader) (λ input.
-        Answers options.now input (W.contents writer.old) (W.contents writer.new))) }
-    ensures part { result ≡ Err (Fault.Write WriteFault.Write) → IfSome (R.remaining reader) (λ input.
-        AnswersInPart options.now input (W.contents writer.old) (W.contents writer.new)) }
-    ensures unwritten { IfErr result (λ fault.
-        (fault ≡ Fault.Write WriteFault.Write → ⊥) → writer.new ≡ writer.old) }
-    ensures cause { IfErr result (λ fault. IfSome (R.remaining reader) (λ input.
-        IsCausedBy (opening_of options.now) input fault)) }
+    ensures answers { OnOk result (IfSome (I.remaining reader) (λ input.
+        Answers options.now input (AreWritten (W.contents writer.old) (W.contents writer.new)))) }
+    ensures part { result ≡ Err (Fault.Write WriteFault.Write) → IfSome (I.remaining reader) (λ input.
+        Answers options.now input (ArePartWritten (W.contents writer.old) (W.contents writer.new))) }
+    ensures memory { result ≡ Err (Fault.Write WriteFault.Memory) → IfSome (I.remaining reader) (λ input.
+        Answers options.now input (IsOneWritten (W.contents writer.old) (W.contents writer.new))) }
+    ensures unwritten { IfErr result (λ fault. IsUnwritten fault → writer.new ≡ writer.old) }
+    ensures cause { IfErr result (λ fault. IfSome (I.remaining reader) (λ input. IsCausedBy options.now input fault)) }
 {
-    let input = match read_scripts(alloc, reader, 1) {
-        Ok(input) => input,
-        Err(fault) => return Err(Fault::Read(fault)),
-    };
-    let book = match OpeningBook::new(alloc, options.opening(), input.rows) {
-        Ok(book) => book,
-        Err(fault) => return Err(Fault::Resume(fault)),
-    };
-    let script = &input.scripts[0];
-    let journal = match perform_script(alloc, &book, script.as_slice()) {
-        Ok(journal) => journal,
-        Err(fault) => return Err(Fault::Run(fault)),
-    };
-    match write_text(alloc, writer, options, book.rows(), journal.entries()) {
-        Ok(()) => Ok(()),
-        Err(fault) => Err(Fault::Write(fault)),
-    }
+    let input = read_scripts(alloc, reader, options.workers)?;
+    let book = OpeningBook::new(alloc, options.opening(), input.rows)?;
+    let outcome = run(rt, alloc, &book, input.scripts, options.policy(), &FreeGate)?;
+    write_texts(alloc, writer, options, book.rows(), &outcome)?;
+    Ok(())
 }

@@ -1,12 +1,17 @@
 use crate::execute::execute;
-use crate::faults::{Fault, RunFault, UsageFault, status, write_fault};
-use crate::tests::{FIRST_EXAMPLE, FIRST_REPLIES, REPLIES};
+use crate::faults::{Fault, UsageFault, status, write_fault};
+use crate::options::Options;
+use crate::tests::{FIRST_EXAMPLE, FIRST_REPLIES, REPLIES, answer_to};
+use auction_run::RunFault;
 use auction_text::{Cause, ReadFault, WriteFault};
 use item_shards::ResumeFault;
 use std::alloc::Global;
 use std::io;
 use std::io::{Read, Write};
+use std::process::Abort;
+use std::sync::Wait;
 use std::test::Fail;
+use std::thread::Threads;
 
 // Gives the first bytes of a text and then fails.
 #[derive(Drop)]
@@ -64,7 +69,7 @@ fn answers_a_reader_that_fails_and_a_writer_that_fails(rt: HostRuntime) {
             at: 0,
             cut,
         };
-        let answered = execute(rt.alloc(), reader, &mut text, &REPLIES);
+        let answered = execute(&rt, rt.alloc(), reader, &mut text, &REPLIES);
         assert!(rt;
             matches!(answered, Err(Fault::Read(ReadFault::Read))),
             "at {cut}"
@@ -72,14 +77,71 @@ fn answers_a_reader_that_fails_and_a_writer_that_fails(rt: HostRuntime) {
         assert!(rt; text.is_empty());
     }
     for room in 0..FIRST_REPLIES.len() {
-        let held = Vec::new(rt.alloc());
-        let mut writer = FullWriter { held, room };
-        let answered = execute(rt.alloc(), FIRST_EXAMPLE, &mut writer, &REPLIES);
-        assert!(rt;
-            matches!(answered, Err(Fault::Write(WriteFault::Write))),
-            "at {room}"
-        );
-        assert_eq!(rt; writer.held.as_slice(), &FIRST_REPLIES[..room]);
+        let written = written_in(&rt, rt.alloc(), room, &REPLIES);
+        assert_eq!(rt; written.as_slice(), &FIRST_REPLIES[..room]);
+    }
+}
+
+// The report is written after the replies.
+#[test]
+fn answers_a_writer_that_fails_at_the_report(rt: HostRuntime) -> Result<(), Fail> {
+    let reported = Options {
+        report: true,
+        ..REPLIES
+    };
+    let whole = answer_to(&rt, rt.alloc(), FIRST_EXAMPLE, &reported)?;
+    for room in [FIRST_REPLIES.len(), FIRST_REPLIES.len() + 8] {
+        let written = written_in(&rt, rt.alloc(), room, &reported);
+        assert_eq!(rt; Some(written.as_slice()), whole.get(..room));
+    }
+    Ok(())
+}
+
+// What a writer has that takes so many bytes of the answer to the first example.
+fn written_in<R: Threads + Wait + Abort + Sync>(
+    rt: &R,
+    alloc: Global,
+    room: usize,
+    options: &Options,
+) -> Vec<u8> {
+    let held = Vec::new(alloc);
+    let mut writer = FullWriter { held, room };
+    let answered = execute(rt, alloc, FIRST_EXAMPLE, &mut writer, options);
+    assert!(rt;
+        matches!(answered, Err(Fault::Write(WriteFault::Write))),
+        "at {room}"
+    );
+    writer.held
+}
+
+// The first cause in the order of faults is answered.
+#[test]
+fn refuses_a_run_that_cannot_begin(rt: HostRuntime) {
+    let table = [
+        ([0, 0, 0, 64, 1, 8], RunFault::Workers),
+        ([17, 4, 64, 64, 1, 8], RunFault::Workers),
+        ([1, 0, 64, 64, 1, 65], RunFault::Shards),
+        ([1, 65, 0, 64, 1, 8], RunFault::Shards),
+        ([1, 4, 0, 64, 1, 8], RunFault::Quota),
+        ([16, 64, 64, 0, 1, 8], RunFault::Quota),
+        ([1, 4, 64, 64, 0, 8], RunFault::Quota),
+        ([1, 4, 64, 64, 1, 65], RunFault::Quota),
+    ];
+    for ([workers, shards, joined, split, threshold, hot], wanted) in table {
+        let options = Options {
+            workers,
+            shards,
+            joined,
+            split,
+            threshold,
+            hot,
+            ..REPLIES
+        };
+        let answered = answer_to(&rt, rt.alloc(), b"", &options);
+        assert!(rt; matches!(answered, Err(Fault::Run(_))), "at {options:?}");
+        if let Err(Fault::Run(found)) = answered {
+            assert_eq!(rt; found, wanted, "at {options:?}");
+        }
     }
 }
 
@@ -91,7 +153,7 @@ fn line_of(alloc: Global, fault: &Fault) -> Result<Vec<u8>, WriteFault> {
 
 #[test]
 fn a_fault_has_its_status_and_its_line(rt: HostRuntime) -> Result<(), Fail> {
-    let table: [(Fault, u8, &[u8]); 20] = [
+    let table: [(Fault, u8, &[u8]); 25] = [
         (Fault::Usage(UsageFault::Memory), 1, b"no memory"),
         (
             Fault::Read(ReadFault::Line(7, Cause::Number)),
@@ -156,6 +218,19 @@ fn a_fault_has_its_status_and_its_line(rt: HostRuntime) -> Result<(), Fail> {
             Fault::Run(RunFault::TooLong),
             3,
             b"more than 1000000 requests for a worker",
+        ),
+        (Fault::Run(RunFault::Workers), 3, b"number of workers"),
+        (Fault::Run(RunFault::Shards), 3, b"number of shards"),
+        (
+            Fault::Run(RunFault::Quota),
+            3,
+            b"quota, threshold or hot limit",
+        ),
+        (Fault::Run(RunFault::Spawn), 3, b"thread not started"),
+        (
+            Fault::Run(RunFault::NumberFull),
+            3,
+            b"commit numbers used up",
         ),
         (Fault::Run(RunFault::Memory), 3, b"no memory"),
         (

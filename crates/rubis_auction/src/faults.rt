@@ -1,4 +1,7 @@
 //! Why the program fails, its exit statuses and its words.
+ghost use Rattle.std.specs.Prelude.{◌≡◌};
+
+use auction_run::RunFault;
 use auction_text::{ReadFault, WriteFault};
 use item_shards::ResumeFault;
 use std::io::Write;
@@ -15,17 +18,6 @@ pub enum UsageFault {
     Memory,
 }
 
-/// Why a script that was read was not performed.
-#[derive(Clone, Copy, Debug, PartialEq, Eq, Drop, Error)]
-pub enum RunFault {
-    /// A worker has more than 1,000,000 rows and requests.
-    #[error("more than 1000000 requests for a worker")]
-    TooLong,
-    /// No memory was left for the auction or the journal.
-    #[error("no memory")]
-    Memory,
-}
-
 /// Why the program failed, by the part that failed.
 #[derive(Debug, Drop, Error)]
 pub enum Fault {
@@ -38,12 +30,62 @@ pub enum Fault {
     /// The rows could not be opened.
     #[error("{0}")]
     Resume(ResumeFault),
-    /// The script could not be performed.
+    /// The scripts could not be performed.
     #[error("{0}")]
     Run(RunFault),
-    /// The text could not be written.
+    /// A text could not be written.
     #[error("{0}")]
     Write(WriteFault),
+}
+
+impl From<UsageFault> for Fault {
+    ghost use Rattle.rubis_auction.specs.declared.faults.Fault.TheVariants.{Usage};
+
+    ghost from_gives = { λ cause fault. fault ≡ Usage cause };
+
+    fn from(cause: UsageFault) -> Fault {
+        Fault::Usage(cause)
+    }
+}
+
+impl From<ReadFault> for Fault {
+    ghost use Rattle.rubis_auction.specs.declared.faults.Fault.TheVariants.{Read};
+
+    ghost from_gives = { λ cause fault. fault ≡ Read cause };
+
+    fn from(cause: ReadFault) -> Fault {
+        Fault::Read(cause)
+    }
+}
+
+impl From<ResumeFault> for Fault {
+    ghost use Rattle.rubis_auction.specs.declared.faults.Fault.TheVariants.{Resume};
+
+    ghost from_gives = { λ cause fault. fault ≡ Resume cause };
+
+    fn from(cause: ResumeFault) -> Fault {
+        Fault::Resume(cause)
+    }
+}
+
+impl From<RunFault> for Fault {
+    ghost use Rattle.rubis_auction.specs.declared.faults.Fault.TheVariants.{Run};
+
+    ghost from_gives = { λ cause fault. fault ≡ Run cause };
+
+    fn from(cause: RunFault) -> Fault {
+        Fault::Run(cause)
+    }
+}
+
+impl From<WriteFault> for Fault {
+    ghost use Rattle.rubis_auction.specs.declared.faults.Fault.TheVariants.{Write};
+
+    ghost from_gives = { λ cause fault. fault ≡ Write cause };
+
+    fn from(cause: WriteFault) -> Fault {
+        Fault::Write(cause)
+    }
 }
 
 /// The exit status of a fault: 1 for options, 2 for reading, 3 for opening and performing, 4 for writing.

@@ -1,16 +1,20 @@
-//! An auction that is opened with the rows of its input, performs its script and writes the replies.
+//! An auction that is opened with the rows of its input, performs its scripts on threads and writes the replies.
 #![tactic(auto)]
 
 mod execute;
 #[cfg(test)]
 mod failing_tests;
 mod faults;
+mod one_worker;
 #[cfg(test)]
 mod option_tests;
 mod options;
-mod perform;
+#[cfg(test)]
+mod phase_tests;
 #[cfg(test)]
 mod tests;
+mod views;
+mod writing;
 
 use crate::execute::execute;
 use crate::faults::{Fault, status, write_fault};
@@ -18,10 +22,12 @@ use crate::options::{read_options, words_fault};
 use std::alloc::Global;
 use std::process::ExitCode;
 use std::rt::Env;
+use std::sync::Wait;
+use std::thread::Threads;
 use std::{env, io};
 
 fn main(rt: HostRuntime) -> ExitCode {
-    match run(&rt) {
+    match perform(&rt) {
         Ok(()) => ExitCode::SUCCESS,
         Err(fault) => {
             // A fault that can't be written still has its status.
@@ -32,14 +38,17 @@ fn main(rt: HostRuntime) -> ExitCode {
 }
 
 // Performs standard input as the program's words say.
-fn run<R: Env + Input + Print + Alloc<A = Global>>(rt: &R) -> Result<(), Fault> {
+fn perform<R>(rt: &R) -> Result<(), Fault>
+where
+    R: Env + Input + Print + Alloc<A = Global> + Threads + Wait + Sync,
+{
     let alloc = rt.alloc();
     let words = match program_words(rt) {
         Ok(words) => words,
         Err(error) => return Err(Fault::Usage(words_fault(alloc, &error))),
     };
-    let options = read_options(alloc, words.as_slice()).map_err(Fault::Usage)?;
-    execute(alloc, rt.reader(), &mut io::writer(rt), &options)
+    let options = read_options(alloc, words.as_slice())?;
+    execute(rt, alloc, rt.reader(), &mut io::writer(rt), &options)
 }
 
 fn program_words<R: Env + Alloc<A = Global>>(rt: &R) -> io::Result<Vec<String>> {

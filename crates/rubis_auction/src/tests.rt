@@ -5,50 +5,63 @@ use auction_text::{Cause, ReadFault};
 use item_shards::ResumeFault;
 use std::alloc::Global;
 use std::process::Abort;
+use std::sync::Wait;
 use std::test::Fail;
+use std::thread::Threads;
 
 pub const FIRST_EXAMPLE: &[u8] = b"0,item,0,0,Vase,10,100,1\n0,bid,1,0.0,10,5\n0,viewitem,0.0\n";
 
 pub const FIRST_REPLIES: &[u8] =
     b"0,0,item 0.0\n0,1,bid 0.0\n0,2,viewitem seller=0 category=0 start=10 closes=100 highest=10 bidder=1 bids=1 left=1 name=Vase\n";
 
+/// The replies alone, of one worker.
 pub const REPLIES: Options = Options {
+    workers: 1,
+    shards: 4,
+    joined: 64,
+    split: 64,
+    threshold: 1,
+    hot: 8,
     users: 10,
     categories: 2,
     history: false,
     rows: false,
+    report: false,
 };
 
 const HISTORY: Options = Options {
-    users: 10,
-    categories: 2,
     history: true,
-    rows: false,
+    ..REPLIES
 };
 
 // Where both are asked for, the rows are written.
 const ROWS: Options = Options {
-    users: 10,
-    categories: 2,
     history: true,
     rows: true,
+    ..REPLIES
 };
 
-fn answer_to(alloc: Global, input: &[u8], options: &Options) -> Result<Vec<u8>, Fault> {
+/// What the program writes.
+pub fn answer_to<R: Threads + Wait + Sync>(
+    rt: &R,
+    alloc: Global,
+    input: &[u8],
+    options: &Options,
+) -> Result<Vec<u8>, Fault> {
     let mut text = Vec::new(alloc);
-    execute(alloc, input, &mut text, options)?;
+    execute(rt, alloc, input, &mut text, options)?;
     Ok(text)
 }
 
-// Each input is answered by its text.
-fn texts_are(
-    rt: &impl Abort,
+/// Each input is answered by its text.
+pub fn texts_are<R: Threads + Wait + Abort + Sync>(
+    rt: &R,
     alloc: Global,
     options: &Options,
     table: &[(&[u8], &[u8])],
 ) -> Result<(), Fail> {
     for (input, wanted) in table {
-        let text = answer_to(alloc, input, options)?;
+        let text = answer_to(rt, alloc, input, options)?;
         assert_eq!(rt; text.as_slice(), *wanted, "at {input:?}");
     }
     Ok(())
@@ -56,13 +69,17 @@ fn texts_are(
 
 #[test]
 fn performs_the_first_example(rt: HostRuntime) -> Result<(), Fail> {
-    let alloc = rt.alloc();
     let history: &[u8] =
         b"0 1 0 0 item 0.0\n0 2 0 1 bid 0.0\n0 3 0 2 viewitem seller=0 category=0 start=10 closes=100 highest=10 bidder=1 bids=1 left=1 name=Vase\n";
     let rows: &[u8] = b"0,+item,0,0,\"Vase\",10,100,1,1\n0,+bid,1,0.0,10,5\n";
-    texts_are(&rt, alloc, &REPLIES, &[(FIRST_EXAMPLE, FIRST_REPLIES)])?;
-    texts_are(&rt, alloc, &HISTORY, &[(FIRST_EXAMPLE, history)])?;
-    texts_are(&rt, alloc, &ROWS, &[(FIRST_EXAMPLE, rows), (rows, rows)])
+    texts_are(&rt, rt.alloc(), &REPLIES, &[(FIRST_EXAMPLE, FIRST_REPLIES)])?;
+    texts_are(&rt, rt.alloc(), &HISTORY, &[(FIRST_EXAMPLE, history)])?;
+    texts_are(
+        &rt,
+        rt.alloc(),
+        &ROWS,
+        &[(FIRST_EXAMPLE, rows), (rows, rows)],
+    )
 }
 
 #[test]
@@ -170,7 +187,7 @@ fn writes_nothing_of_an_input_with_a_fault(rt: HostRuntime) {
     ];
     for (input, fault) in table {
         let mut text = Vec::new(rt.alloc());
-        let answered = execute(rt.alloc(), input, &mut text, &REPLIES);
+        let answered = execute(&rt, rt.alloc(), input, &mut text, &REPLIES);
         assert!(rt; matches!(answered, Err(Fault::Read(_))), "at {input:?}");
         if let Err(Fault::Read(found)) = answered {
             assert_eq!(rt; found, fault, "at {input:?}");
@@ -194,7 +211,7 @@ fn writes_nothing_of_rows_with_a_fault(rt: HostRuntime) {
     ];
     for (input, row) in table {
         let mut text = Vec::new(rt.alloc());
-        let answered = execute(rt.alloc(), input, &mut text, &ROWS);
+        let answered = execute(&rt, rt.alloc(), input, &mut text, &ROWS);
         assert!(rt; matches!(answered, Err(Fault::Resume(_))), "at {input:?}");
         if let Err(Fault::Resume(found)) = answered {
             assert_eq!(rt; found, ResumeFault::BadRow(row), "at {input:?}");

@@ -1,3 +1,4 @@
 pub mod Serving
 pub mod Run
 pub mod Books
+pub mod Answers

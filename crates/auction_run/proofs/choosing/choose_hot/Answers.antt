@@ -4,8 +4,12 @@ use Rattle.std.proofs.lemmas.Result.{IfOk-weaker}
 use Rattle.auction_rows.specs.Choosing.{choose}
 use Rattle.auction_rows.specs.Requests.{same_object}
 use Rattle.auction_run.specs.declared.choosing.Candidate.{Candidate}
-use Rattle.auction_run.proofs.ChosenLemmas.{distinct, chosen}
+use Rattle.auction_run.proofs.ChosenLemmas.{distinct, chosen, none_chosen}
 use Rattle.auction_run.proofs.choosing.choose_hot.Goals as goal
+
+pub returns-then-hot_max-eq0 : goal.returns-then-hot_max-eq0
+returns-then-hot_max-eq0 c =
+    c.new.ensures.empty ∙ sym (ap (choose c.args.entries.now c.args.threshold) c.if-hot_max-eq0.true ∙ none_chosen c.args.entries.now c.args.threshold)
 
 pub first_of-requires : goal.first_of-requires
 first_of-requires c =

@@ -1,85 +1,116 @@
-use Rattle.std.proofs.Common.{◌≡◌, ◌+◌, Global, List, [], ◌∷◌, Vec, vec_len, get_or, length, sym, ap, subst, ◌∙◌}
-use Rattle.std.specs.Io.KnownBytes.{Appends}
-use Rattle.auction_rows.specs.declared.requests.Request.{Request}
-use Rattle.auction_rows.specs.declared.rows.Entry.{Entry}
-use Rattle.auction_rows.specs.declared.rows.Row.{Row}
-use Rattle.item_shards.specs.OpeningBooks as book
-use Rattle.auction_text.specs.Scripts.{asked_by}
-use Rattle.auction_text.specs.Writing.{IsPartWritten}
+use Rattle.std.proofs.Common.{◌≡◌, ◌+◌, List, Some, IfSome, Err, refl, sym, ap, subst, ◌∙◌}
 use Rattle.auction_text.specs.declared.faults.WriteFault.{WriteFault}
-use Rattle.auction_text.specs.declared.scripts.Input.{Input}
-use Rattle.rubis_auction.specs.Execution.{CanBePerformed, HasText, IsCausedBy, IsPerformed, IsRefused, opening_of, text_of}
-use Rattle.rubis_auction.specs.declared.faults.Fault.TheVariants.{Run}
-use Rattle.rubis_auction.proofs.Answering.{of_input, for_input, refused, not_performed, can_be, is_long, has_text, one_script, some_script}
+use Rattle.item_shards.specs.OpeningBooks as book
+use Rattle.item_shards.specs.OpeningRows.{AreRows, opening_rows}
+use Rattle.rubis_auction.specs.Execution.{Answers, ArePartWritten, AreWritten, IsCausedBy, IsNotRun, IsOneWritten, IsRefused}
+use Rattle.rubis_auction.specs.Options.{opening_of, policy_of}
+use Rattle.auction_run.specs.Phases.{hot_sets, lists}
+use Rattle.rubis_auction.specs.declared.faults.Fault.{Fault}
+use Rattle.rubis_auction.specs.declared.faults.Fault.TheVariants.{Resume, Run, Write}
+use Rattle.rubis_auction.proofs.Answering.{answered, error_is, is_error, not_run, of_input, refused}
 use Rattle.rubis_auction.proofs.execute.execute.Goals as goal
 
-pub returns-in-Err-new-clause-cause : goal.returns-in-Err-new-clause-cause
-returns-in-Err-new-clause-cause g c =
-    let start = opening_of c.args.options.now in
-    let rows = c.in-Ok.input.rows.items in
-    let script = some_script (λ (v : Vec Request Global). v.items) c.in-Ok.input.scripts.items (sym c.in-Ok.input.scripts.ok.0 ∙ c.in-Ok.ensures.count) in
-    of_input (g.R.Read.remaining c.args.reader) (asked_by c.in-Ok.input) rows script.0 (IsRefused start c.in-Err-new.fault) c.in-Ok.ensures.input (ap (λ (scripts : List (List Request)). record { rows = rows; scripts = scripts }) script.1)
-    (subst (λ o. IsRefused o c.in-Err-new.fault rows script.0) c.opening.ensures (refused c.opening.result rows script.0 c.new.result c.in-Err-new.fault c.in-Err-new.is c.new.ensures.too_long c.new.ensures.bad_row))
-
--- what the input asks, by its rows and its script
-asked_is : (input : Input) (script : Vec Request Global) (read : List Request) → vec_len input.scripts ≡ 1 → script ≡ get_or input.scripts.items 0 script → read ≡ script.items
-    → asked_by input ≡ record { rows = input.rows.items; scripts = read ∷ [] }
-asked_is input script read count first is =
-    ap (λ (scripts : List (List Request)). record { rows = input.rows.items; scripts = scripts })
-    (one_script (λ (v : Vec Request Global). v.items) input.scripts.items script (sym input.scripts.ok.0 ∙ count) first ∙ ap (λ (s : List Request). s ∷ []) (sym is))
-
-pub returns-in-Err-perform_script-clause-cause : goal.returns-in-Err-perform_script-clause-cause
-returns-in-Err-perform_script-clause-cause g c =
+pub returns-in_err-book-clause-cause : goal.returns-in_err-book-clause-cause
+returns-in_err-book-clause-cause g c =
     let options = c.args.options.now in
-    let rows = c.in-Ok.input.rows.items in
-    let opened = book.rows_of c.in-Ok-new.book in
-    let script = c.as_slice.result.now in
-    for_input (g.R.Read.remaining c.args.reader) (asked_by c.in-Ok.input) (record { rows = rows; scripts = script ∷ [] }) (λ input. IsCausedBy (opening_of options) input (Run c.in-Err-perform_script.fault)) c.in-Ok.ensures.input
-    (asked_is c.in-Ok.input c.index-script.result.now script c.in-Ok.ensures.count c.index-script.ensures c.as_slice.ensures.value)
-    (not_performed (opening_of options) rows script (length opened + length script) c.perform_script.result c.in-Err-perform_script.fault c.in-Err-perform_script.is c.perform_script.ensures.too_long
-    (is_long options rows script c.opening.result opened c.opening.ensures c.in-Ok-new.ensures.accepted c.in-Ok-new.ensures.rows)
-    (can_be options rows script c.opening.result opened c.opening.ensures c.in-Ok-new.ensures.accepted c.in-Ok-new.ensures.rows))
+    let rows = c.in_ok-input.input.rows.items in
+    let scripts = lists c.in_ok-input.input.scripts.items in
+    let fault = c.in_err-book.field-0.0 in
+    let remaining = g.I.Read.remaining c.args.reader in
+    error_is c.from_residual-in_err-book.result (Resume fault) (λ f. IfSome remaining (λ input. IsCausedBy options input f)) c.from_residual-in_err-book.ensures
+    (of_input options rows scripts remaining c.in_ok-input.ensures.input (λ rs ss. IsRefused (opening_of options) fault rs)
+    (subst (λ o. IsRefused o fault rows) c.opening.ensures (refused c.opening.result rows c.new.result fault c.in_err-book.was c.new.ensures.too_long c.new.ensures.bad_row)))
 
-pub returns-in-Ok-write_text-clause-answers : goal.returns-in-Ok-write_text-clause-answers
-returns-in-Ok-write_text-clause-answers g c =
+pub returns-in_err-outcome-clause-cause : goal.returns-in_err-outcome-clause-cause
+returns-in_err-outcome-clause-cause g c =
     let options = c.args.options.now in
-    let rows = c.in-Ok.input.rows.items in
-    let opened = book.rows_of c.in-Ok-new.book in
-    let script = c.as_slice.result.now in
-    let entries = c.in-Ok-perform_script.journal.entries in
-    let Written = Appends (g.W.Write.contents c.args.writer.now) (g.W.Write.contents c.write_text.new.writer) in
-    of_input (g.R.Read.remaining c.args.reader) (asked_by c.in-Ok.input) rows script (HasText options Written) c.in-Ok.ensures.input
-    (asked_is c.in-Ok.input c.index-script.result.now script c.in-Ok.ensures.count c.index-script.ensures c.as_slice.ensures.value)
-    (has_text options rows script c.opening.result opened c.opening.ensures c.in-Ok-new.ensures.accepted c.in-Ok-new.ensures.rows Written entries
-    (λ more. absurd (let no = sym c.in-Ok-perform_script.is ∙ c.perform_script.ensures.too_long.1 more in cc))
-    (subst (λ o. IsPerformed o opened script entries) c.in-Ok-new.ensures.opening c.in-Ok-perform_script.ensures.performed)
-    (subst (λ (r : List Row). Written (text_of options r entries)) c.rows.ensures.rows
-    (subst (λ (es : List Entry). Written (text_of options c.rows.result.now es)) c.entries.ensures.entries c.in-Ok-write_text.ensures.whole)))
+    let rows = c.in_ok-input.input.rows.items in
+    let scripts = lists c.in_ok-input.input.scripts.items in
+    let fault = c.in_err-outcome.field-0.0 in
+    let remaining = g.I.Read.remaining c.args.reader in
+    let opens : book.rows_of c.in_ok-book.book ≡ opening_rows (opening_of options) rows = c.in_ok-book.ensures.rows ∙ ap (λ o. opening_rows o rows) c.opening.ensures in
+    error_is c.from_residual-in_err-outcome.result (Run fault) (λ f. IfSome remaining (λ input. IsCausedBy options input f)) c.from_residual-in_err-outcome.ensures
+    (of_input options rows scripts remaining c.in_ok-input.ensures.input
+    (λ rs ss. AreRows (opening_of options) rs × IsNotRun (policy_of options) fault (opening_rows (opening_of options) rs) ss) (
+      subst (λ o. AreRows o rows) c.opening.ensures c.in_ok-book.ensures.accepted,
+      subst (λ p. IsNotRun p fault (opening_rows (opening_of options) rows) scripts) c.policy.ensures
+          (subst (λ b. IsNotRun c.policy.result fault b scripts) opens
+          (not_run c.policy.result (book.rows_of c.in_ok-book.book) scripts c.run.result fault c.in_err-outcome.was c.run.ensures.workers c.run.ensures.shards c.run.ensures.quota c.run.ensures.too_long)),
+    ))
 
-pub returns-clause-part : goal.returns-clause-part
-returns-clause-part g c = λ is.
+pub returns-in_err-write_texts-clause-part : goal.returns-in_err-write_texts-clause-part
+returns-in_err-write_texts-clause-part g c = λ is.
     let options = c.args.options.now in
-    let rows = c.in-Ok.input.rows.items in
-    let opened = book.rows_of c.in-Ok-new.book in
-    let script = c.as_slice.result.now in
-    let entries = c.in-Ok-perform_script.journal.entries in
-    let Written = IsPartWritten (g.W.Write.contents c.args.writer.now) (g.W.Write.contents c.write_text.new.writer) in
-    let fault : c.in-Err-write_text.fault ≡ WriteFault.Write = cc in
-    of_input (g.R.Read.remaining c.args.reader) (asked_by c.in-Ok.input) rows script (HasText options Written) c.in-Ok.ensures.input
-    (asked_is c.in-Ok.input c.index-script.result.now script c.in-Ok.ensures.count c.index-script.ensures c.as_slice.ensures.value)
-    (has_text options rows script c.opening.result opened c.opening.ensures c.in-Ok-new.ensures.accepted c.in-Ok-new.ensures.rows Written entries
-    (λ more. absurd (let no = sym c.in-Ok-perform_script.is ∙ c.perform_script.ensures.too_long.1 more in cc))
-    (subst (λ o. IsPerformed o opened script entries) c.in-Ok-new.ensures.opening c.in-Ok-perform_script.ensures.performed)
-    (subst (λ (r : List Row). Written (text_of options r entries)) c.rows.ensures.rows
-    (subst (λ (es : List Entry). Written (text_of options c.rows.result.now es)) c.entries.ensures.entries (c.in-Err-write_text.ensures.part fault))))
+    let rows = c.in_ok-input.input.rows.items in
+    let scripts = lists c.in_ok-input.input.scripts.items in
+    let outcome = c.in_ok-outcome.outcome in
+    let opening = book.opening_of c.in_ok-book.book in
+    let remaining = g.I.Read.remaining c.args.reader in
+    let old = g.W.Write.contents c.args.writer.now in
+    let new = g.W.Write.contents c.write_texts.new.writer in
+    let starts : opening ≡ opening_of options = c.in_ok-book.ensures.opening ∙ c.opening.ensures in
+    let opens : book.rows_of c.in_ok-book.book ≡ opening_rows opening rows = c.in_ok-book.ensures.rows ∙ ap (λ o. opening_rows o rows) (sym c.in_ok-book.ensures.opening) in
+    let says = answered options rows scripts remaining c.in_ok-input.ensures.input opening c.policy.result (book.rows_of c.in_ok-book.book) c.rows.result.now
+    outcome.history.items (hot_sets outcome.hot.items) starts c.policy.ensures opens c.rows.ensures.rows
+    (subst (λ o. AreRows o rows) (sym c.in_ok-book.ensures.opening) c.in_ok-book.ensures.accepted)
+    (record { serves = c.in_ok-outcome.ensures.serves; closed = c.in_ok-outcome.ensures.hot; replays = c.in_ok-outcome.ensures.replays }) in
+    let fault : c.in_err-write_texts.field-0.0 ≡ WriteFault.Write =
+    let same = is_error c.from_residual-in_err-write_texts.result (Write c.in_err-write_texts.field-0.0) (Write WriteFault.Write) c.from_residual-in_err-write_texts.ensures is in cc in
+    says (ArePartWritten old new) (c.in_err-write_texts.ensures.part fault)
 
-pub returns-clause-cause : goal.returns-clause-cause
-returns-clause-cause g c =
+pub returns-in_err-write_texts-clause-memory : goal.returns-in_err-write_texts-clause-memory
+returns-in_err-write_texts-clause-memory g c = λ is.
     let options = c.args.options.now in
-    let rows = c.in-Ok.input.rows.items in
-    let opened = book.rows_of c.in-Ok-new.book in
-    let script = c.as_slice.result.now in
-    of_input (g.R.Read.remaining c.args.reader) (asked_by c.in-Ok.input) rows script (CanBePerformed (opening_of options)) c.in-Ok.ensures.input
-    (asked_is c.in-Ok.input c.index-script.result.now script c.in-Ok.ensures.count c.index-script.ensures c.as_slice.ensures.value)
-    (can_be options rows script c.opening.result opened c.opening.ensures c.in-Ok-new.ensures.accepted c.in-Ok-new.ensures.rows
-    (λ more. absurd (let no = sym c.in-Ok-perform_script.is ∙ c.perform_script.ensures.too_long.1 more in cc)))
+    let rows = c.in_ok-input.input.rows.items in
+    let scripts = lists c.in_ok-input.input.scripts.items in
+    let outcome = c.in_ok-outcome.outcome in
+    let opening = book.opening_of c.in_ok-book.book in
+    let remaining = g.I.Read.remaining c.args.reader in
+    let old = g.W.Write.contents c.args.writer.now in
+    let new = g.W.Write.contents c.write_texts.new.writer in
+    let starts : opening ≡ opening_of options = c.in_ok-book.ensures.opening ∙ c.opening.ensures in
+    let opens : book.rows_of c.in_ok-book.book ≡ opening_rows opening rows = c.in_ok-book.ensures.rows ∙ ap (λ o. opening_rows o rows) (sym c.in_ok-book.ensures.opening) in
+    let says = answered options rows scripts remaining c.in_ok-input.ensures.input opening c.policy.result (book.rows_of c.in_ok-book.book) c.rows.result.now
+    outcome.history.items (hot_sets outcome.hot.items) starts c.policy.ensures opens c.rows.ensures.rows
+    (subst (λ o. AreRows o rows) (sym c.in_ok-book.ensures.opening) c.in_ok-book.ensures.accepted)
+    (record { serves = c.in_ok-outcome.ensures.serves; closed = c.in_ok-outcome.ensures.hot; replays = c.in_ok-outcome.ensures.replays }) in
+    let fault : c.in_err-write_texts.field-0.0 ≡ WriteFault.Memory =
+    let same = is_error c.from_residual-in_err-write_texts.result (Write c.in_err-write_texts.field-0.0) (Write WriteFault.Memory) c.from_residual-in_err-write_texts.ensures is in cc in
+    says (IsOneWritten old new) (c.in_err-write_texts.ensures.memory fault)
+
+pub returns-in_err-write_texts-clause-cause : goal.returns-in_err-write_texts-clause-cause
+returns-in_err-write_texts-clause-cause g c =
+    let options = c.args.options.now in
+    let rows = c.in_ok-input.input.rows.items in
+    let scripts = lists c.in_ok-input.input.scripts.items in
+    let outcome = c.in_ok-outcome.outcome in
+    let opening = book.opening_of c.in_ok-book.book in
+    let remaining = g.I.Read.remaining c.args.reader in
+    let old = g.W.Write.contents c.args.writer.now in
+    let new = g.W.Write.contents c.write_texts.new.writer in
+    let starts : opening ≡ opening_of options = c.in_ok-book.ensures.opening ∙ c.opening.ensures in
+    let opens : book.rows_of c.in_ok-book.book ≡ opening_rows opening rows = c.in_ok-book.ensures.rows ∙ ap (λ o. opening_rows o rows) (sym c.in_ok-book.ensures.opening) in
+    let says = answered options rows scripts remaining c.in_ok-input.ensures.input opening c.policy.result (book.rows_of c.in_ok-book.book) c.rows.result.now
+    outcome.history.items (hot_sets outcome.hot.items) starts c.policy.ensures opens c.rows.ensures.rows
+    (subst (λ o. AreRows o rows) (sym c.in_ok-book.ensures.opening) c.in_ok-book.ensures.accepted)
+    (record { serves = c.in_ok-outcome.ensures.serves; closed = c.in_ok-outcome.ensures.hot; replays = c.in_ok-outcome.ensures.replays }) in
+    error_is c.from_residual-in_err-write_texts.result (Write c.in_err-write_texts.field-0.0) (λ f. IfSome remaining (λ input. IsCausedBy options input f))
+    c.from_residual-in_err-write_texts.ensures (says (λ text added. Unit {0}) tt)
+
+pub returns-clause-answers : goal.returns-clause-answers
+returns-clause-answers g c =
+    let options = c.args.options.now in
+    let rows = c.in_ok-input.input.rows.items in
+    let scripts = lists c.in_ok-input.input.scripts.items in
+    let outcome = c.in_ok-outcome.outcome in
+    let opening = book.opening_of c.in_ok-book.book in
+    let remaining = g.I.Read.remaining c.args.reader in
+    let old = g.W.Write.contents c.args.writer.now in
+    let new = g.W.Write.contents c.write_texts.new.writer in
+    let starts : opening ≡ opening_of options = c.in_ok-book.ensures.opening ∙ c.opening.ensures in
+    let opens : book.rows_of c.in_ok-book.book ≡ opening_rows opening rows = c.in_ok-book.ensures.rows ∙ ap (λ o. opening_rows o rows) (sym c.in_ok-book.ensures.opening) in
+    let says = answered options rows scripts remaining c.in_ok-input.ensures.input opening c.policy.result (book.rows_of c.in_ok-book.book) c.rows.result.now
+    outcome.history.items (hot_sets outcome.hot.items) starts c.policy.ensures opens c.rows.ensures.rows
+    (subst (λ o. AreRows o rows) (sym c.in_ok-book.ensures.opening) c.in_ok-book.ensures.accepted)
+    (record { serves = c.in_ok-outcome.ensures.serves; closed = c.in_ok-outcome.ensures.hot; replays = c.in_ok-outcome.ensures.replays }) in
+    says (AreWritten old new) c.in_ok-write_texts.ensures.whole

@@ -1,0 +1,448 @@
+-- From the floor, the permits and the receipts of a phase to what a run knows of it.
+use Rattle.std.proofs.Common.{◌≡◌, ℕ, zero, suc, ◌+◌, ◌-◌, ◌<◌, ◌≤◌, ◌^◌, ◌==◌, ◌⊎◌, inl, inr, min, fold, Bool, true, false, cond, not, List, [], ◌∷◌, ◌++◌, map, length, take, drop, refl, sym, ap, subst, ◌∙◌, arith, eq-eqb}
+use Rattle.std.specs.Prelude.{Option, slice_index}
+use Rattle.std.specs.List.{filter, AllByRecursion, AllZip}
+use Rattle.std.proofs.Math.ListN.{get_or-map}
+use Rattle.std.proofs.lemmas.Bool.{cases_lt, false≢true}
+use Rattle.std.proofs.lemmas.List.{length-map, get_or_past}
+use Rattle.auction_rows.specs.declared.ids.Object.{Object}
+use Rattle.auction_rows.specs.declared.requests.Facts.{Facts}
+use Rattle.auction_rows.specs.declared.requests.Request.{Request}
+use Rattle.auction_rows.specs.declared.rows.Entry.{Entry}
+use Rattle.auction_rows.specs.Book.{Book}
+use Rattle.auction_rows.specs.History.{ReplaysFrom, book_after}
+use Rattle.auction_rows.specs.Phases.{IsNumbered, is_put_off}
+use Rattle.phase_laws.specs.Order.{part}
+use Rattle.run_laws.specs.Phases.{is_split, quota}
+use Rattle.run_laws.specs.Turns.{numbered}
+use Rattle.run_serving.specs.declared.policy.Policy.{Policy}
+use Rattle.run_serving.specs.Books.{ReplaysOn}
+use Rattle.run_serving.specs.Run.{first_index, calls_of, calls_given, HasPerformed}
+use Rattle.run_serving.specs.Serving.{call_of, script_of}
+use Rattle.shard_boxes.specs.Keys.{BoxId}
+use Rattle.shard_boxes.specs.States.{ShardState, state_of}
+use Rattle.phase_desks.specs.Slicing.{objects_of, stocks_of, slices_of}
+use Rattle.phase_desks.specs.Stashes.{StashState}
+use Rattle.phase_transactions.specs.Permits.{PermitState}
+use Rattle.phase_transactions.specs.Single.{HaveOpening}
+use Rattle.phase_closing.specs.Phases.{HasClosed, no_receipt, receipt_at, journal_of, counters_of}
+use Rattle.phase_closing.specs.Standing.{StandFor, counters_at}
+use Rattle.phase_closing.specs.Merging.{after_merge}
+use Rattle.phase_closing.proofs.MergeLemmas.{as_many as merged_count}
+use Rattle.phase_closing.proofs.ListLemmas.{follow_what_they_share}
+use Rattle.phase_closing.proofs.ReceiptLemmas.{entries_are, journal_entries}
+use Rattle.phase_floor.specs.declared.fault.BeginFault.{BeginFault}
+use Rattle.phase_floor.specs.declared.fault.BeginFault.TheVariants.{UnknownHot, TooLong, Memory}
+use Rattle.phase_floor.specs.Begins.{IsTooLong, empty_stash}
+use Rattle.phase_floor.specs.Closings.{AreReceiptsOf, HasSettled, HasReconciled, phase_of, stash_of, at_start}
+use Rattle.phase_floor.specs.Floors.{FloorState, IsBegun, AreBegun, no_stash, stash_at}
+use Rattle.phase_floor.specs.States.{JoinedState, states_of, StandsFor}
+use Rattle.auction_run.specs.declared.phase.Closed.{Closed}
+use Rattle.auction_run.specs.Closed.{HasClosedPhase}
+use Rattle.auction_run.specs.Phases.{MayPerform, waiting_in, quota_of}
+use Rattle.auction_run.specs.Tasks.{Task, task, tasks, calls_for, CanBeDone, IsDoneJoined, IsDoneSplit}
+use Rattle.auction_run.specs.Working.{committed, stashed, hot_for, AreOfPhase, IsSamePermit}
+
+-- ---- tasks, by worker
+
+pub tasks_all : (P : Task → Type 0) (permits : List PermitState) (scripts : List (List Request)) (first : ℕ) → length permits ≡ length scripts →
+    ((w : ℕ) → w < length permits → P (task (receipt_at permits w) (script_of scripts w) first)) → AllByRecursion P (tasks permits scripts first)
+tasks_all P [] scripts first same each = tt
+tasks_all P (p ∷ ps) [] first same each = absurd (omega (arith, same))
+tasks_all P (p ∷ ps) (s ∷ ss) first same each =
+    (each 0 (omega arith), tasks_all P ps ss first (omega (arith, same)) (λ w less. each (suc w) (omega (arith, less))))
+
+pub done_count : (P : Task → PermitState → Type 0) (permits receipts : List PermitState) (scripts : List (List Request)) (first : ℕ) → length permits ≡ length scripts →
+    AllZip P (tasks permits scripts first) receipts → length receipts ≡ length permits
+done_count P [] [] scripts first same all = refl
+done_count P [] (r ∷ rs) scripts first same all = absurd all
+done_count P (p ∷ ps) receipts [] first same all = absurd (omega (arith, same))
+done_count P (p ∷ ps) [] (s ∷ ss) first same all = absurd all
+done_count P (p ∷ ps) (r ∷ rs) (s ∷ ss) first same all = ap suc (done_count P ps rs ss first (omega (arith, same)) all.1)
+
+pub done_at : (P : Task → PermitState → Type 0) (permits receipts : List PermitState) (scripts : List (List Request)) (first : ℕ) → length permits ≡ length scripts →
+    AllZip P (tasks permits scripts first) receipts → (w : ℕ) → w < length permits → P (task (receipt_at permits w) (script_of scripts w) first) (receipt_at receipts w)
+done_at P [] receipts scripts first same all w less = absurd (omega (arith, less))
+done_at P (p ∷ ps) receipts [] first same all w less = absurd (omega (arith, same))
+done_at P (p ∷ ps) [] (s ∷ ss) first same all w less = absurd all
+done_at P (p ∷ ps) (r ∷ rs) (s ∷ ss) first same all zero less = all.0
+done_at P (p ∷ ps) (r ∷ rs) (s ∷ ss) first same all (suc w) less = done_at P ps rs ss first (omega (arith, same)) all.1 w (omega (arith, less))
+
+pub same_list : {X : Type 0} (xs : List X) → map (λ x. x) xs ≡ xs
+same_list [] = refl
+same_list (x ∷ xs) = ap (λ ys. x ∷ ys) (same_list xs)
+
+-- permits and receipts show themselves
+pub plain : (P : Task → PermitState → Type 0) (permits receipts : List PermitState) (scripts : List (List Request)) (first : ℕ) →
+    AllZip P (tasks (map (λ x. x) permits) scripts first) (map (λ x. x) receipts) → AllZip P (tasks permits scripts first) receipts
+plain P permits receipts scripts first all =
+    subst (λ ps. AllZip P (tasks ps scripts first) receipts) (same_list permits)
+    (subst (AllZip P (tasks (map (λ x. x) permits) scripts first)) (same_list receipts) all)
+
+-- ---- quotas
+
+pub only_memory : (fault : BeginFault) → (fault ≡ UnknownHot → ⊥) → (fault ≡ TooLong → ⊥) → fault ≡ Memory
+only_memory UnknownHot known short = absurd (known refl)
+only_memory TooLong known short = absurd (short refl)
+only_memory Memory known short = refl
+
+pub not_too_long : (policy : Policy) (scripts : List (List Request)) (state : JoinedState) (stashes handed : List StashState) (hot : List Object) (first : ℕ) (quotas : List ℕ) →
+    MayPerform policy scripts state stashes hot first → ((w : ℕ) → length (stash_at handed w).requests ≤ length (waiting_in stashes w)) →
+    ((w : ℕ) → w < length scripts → slice_index quotas w ≡ quota_of policy state.phase (script_of scripts w)) → IsTooLong state.counters handed quotas → ⊥
+not_too_long policy scripts state stashes handed hot first quotas may less are long =
+    let room = may.room long.0 long.1 in
+    let same = are long.0 (omega (arith, long.1, may.scripts_are)) in
+    let fewer = less long.0 in
+    let over = long.2 in
+    absurd (omega (arith, room, same, fewer, over))
+
+-- ---- small facts
+
+-- what a worker is given is its quota of the phase
+pub quota_is : (policy : Policy) (phase q len f first n : ℕ) → n ≡ min q (len - first) → cond (is_split phase) policy.split_quota policy.joined_quota ≡ q →
+    first ≡ min f (2 ^ 40) → len ≤ 1000000 → n ≡ min (cond (is_split phase) policy.split_quota policy.joined_quota) (len - f)
+quota_is policy phase q len f first n is own bound short =
+    let same : min q (len - first) ≡ min q (len - f) = omega (arith, bound, short) in
+    is ∙ same ∙ ap (λ k. min k (len - f)) (sym own)
+
+-- what holds of each worker's part holds of all
+of_parts : (P : Entry → Type 0) (entries : List Entry) → ((w : ℕ) → AllByRecursion P (part (λ e. e.worker) w entries)) → AllByRecursion P entries
+of_parts P [] each = tt
+of_parts P (e ∷ entries) each = (
+  first (part (λ d. d.worker) e.worker entries) (e.worker == e.worker) (eq-eqb e.worker e.worker refl) (each e.worker),
+  of_parts P entries (λ w. rest (part (λ d. d.worker) w entries) (e.worker == w) (each w)),
+)
+  where
+    first : (es : List Entry) (b : Bool) → b ≡ true → AllByRecursion P (cond b (e ∷ es) es) → P e
+    first es true is all = all.0
+    first es false is all = absurd (false≢true is)
+
+    rest : (es : List Entry) (b : Bool) → AllByRecursion P (cond b (e ∷ es) es) → AllByRecursion P es
+    rest es true all = all.1
+    rest es false all = all
+
+stocks_back : (stocks : List (Object × Option (Facts × ℕ))) → stocks_of (slices_of stocks []) ≡ stocks
+stocks_back [] = refl
+stocks_back (s ∷ ss) = ap (λ xs. s ∷ xs) (stocks_back ss)
+
+objects_back : (stocks : List (Object × Option (Facts × ℕ))) → objects_of (slices_of stocks []) ≡ objects_of stocks
+objects_back [] = refl
+objects_back (s ∷ ss) = ap (λ xs. s.0 ∷ xs) (objects_back ss)
+
+within : (q len f first : ℕ) → first ≡ min f (2 ^ 40) → len ≤ 1000000 → min q (len - f) ≤ len - first
+within q len f first is short = omega (arith, is, short)
+
+none_dropped : {X : Type 0} (n : ℕ) → drop {A = X} n [] ≡ []
+none_dropped zero = refl
+none_dropped (suc n) = refl
+
+none_taken : {X : Type 0} (n : ℕ) → take {A = X} n [] ≡ []
+none_taken zero = refl
+none_taken (suc n) = refl
+
+-- there is no script past the last, and nothing is given of none
+script_past : (scripts : List (List Request)) (w : ℕ) → length scripts ≤ w → script_of scripts w ≡ []
+script_past [] w beyond = refl
+script_past (s ∷ ss) zero beyond = absurd (omega (arith, beyond))
+script_past (s ∷ ss) (suc w) beyond = script_past ss w (omega (arith, beyond))
+
+given_none : (policy : Policy) (phase : ℕ) → calls_given policy phase [] ≡ []
+given_none policy phase =
+    ap (take (quota policy.joined_quota policy.split_quota phase 0)) (none_dropped (first_index policy phase))
+    ∙ none_taken (quota policy.joined_quota policy.split_quota phase 0)
+
+pub empty_at : (quotas : List ℕ) (w : ℕ) → (stash_at (map empty_stash quotas) w).requests ≡ []
+empty_at [] w = refl
+empty_at (q ∷ qs) zero = refl
+empty_at (q ∷ qs) (suc w) = empty_at qs w
+
+-- so many calls from an index on, or from the bound that no script has
+same_calls : {X : Type 0} (xs : List X) (q len f first count : ℕ) → first ≡ min f (2 ^ 40) → len ≤ 1000000 → count ≡ min q (len - f) →
+    take count (drop first xs) ≡ take (min q (len - f)) (drop f xs)
+same_calls xs q len f first count is short count_is = at (cases_lt (2 ^ 40) f)
+  where
+    at : ((2 ^ 40) < f) ⊎ (f ≤ (2 ^ 40)) → take count (drop first xs) ≡ take (min q (len - f)) (drop f xs)
+    at (inl far) =
+        let none : count ≡ 0 = omega (arith, count_is, short, far) in
+        let no : min q (len - f) ≡ 0 = omega (arith, short, far) in
+        ap (λ n. take n (drop first xs)) none ∙ sym (ap (λ n. take n (drop f xs)) no)
+    at (inr near) =
+        let e : first ≡ f = omega (arith, is, near) in
+        ap (λ n. take n (drop first xs)) count_is ∙ ap (λ n. take (min q (len - f)) (drop n xs)) e
+
+module _ (policy : Policy) (scripts : List (List Request)) (state : JoinedState) (stashes handed : List StashState) (hot : List Object) (first : ℕ)
+    (may : MayPerform policy scripts state stashes hot first) (opening : List ShardState) (floor : FloorState) (quotas : List ℕ) (permits : List PermitState)
+    (named : states_of state ≡ opening) (opening_is : floor.opening ≡ state.opening) (phase_is : floor.phase ≡ state.phase) (counters_are : floor.counters ≡ state.counters)
+    (quotas_are : (w : ℕ) → w < length scripts → slice_index quotas w ≡ quota_of policy state.phase (script_of scripts w))
+    (begun : AreBegun floor quotas handed permits) where
+  workers_are : length floor.counters ≡ length scripts
+  workers_are = ap length counters_are ∙ sym may.scripts_are
+
+  pub as_many : length permits ≡ length scripts
+  as_many = begun.0 ∙ workers_are
+
+  permit : ℕ → PermitState
+  permit w = receipt_at permits w
+
+  begins : (w : ℕ) → w < length scripts → IsBegun floor w (slice_index quotas w) (stash_at handed w) (receipt_at permits w)
+  begins w less = begun.1 w no_receipt (omega (arith, less, workers_are))
+
+  left_is : (w : ℕ) → w < length scripts → (receipt_at permits w).split.desk.left ≡ quota_of policy state.phase (script_of scripts w)
+  left_is w less = ap (λ (p : PermitState). p.split.desk.left) (begins w less).new ∙ quotas_are w less
+
+  stash_is : (w : ℕ) → w < length scripts → stashed (receipt_at permits w) ≡ (stash_at handed w).requests
+  stash_is w less = ap (λ (p : PermitState). stashed p) (begins w less).new
+
+  none_committed : (w : ℕ) → w < length scripts → committed (receipt_at permits w) ≡ []
+  none_committed w less = ap (λ (p : PermitState). committed p) (begins w less).new
+
+  calls_given_are : (w : ℕ) → w < length scripts → calls_for (task (receipt_at permits w) (script_of scripts w) first) ≡ calls_given policy state.phase (script_of scripts w)
+  calls_given_are w less =
+      same_calls (numbered 0 (script_of scripts w)) (cond (is_split state.phase) policy.split_quota policy.joined_quota) (length (script_of scripts w)) (first_index policy state.phase) first
+      (receipt_at permits w).split.desk.left may.first_is (may.short w) (left_is w less)
+
+  -- each worker can do its task
+  pub can_all : (boxes : List BoxId) → boxes ≡ floor.boxes → HaveOpening opening floor.opening →
+      ((w : ℕ) → w < length scripts → length (stash_at handed w).requests + quota_of policy state.phase (script_of scripts w) ≤ 1000000) →
+      AllByRecursion (CanBeDone opening boxes) (tasks permits scripts first)
+  can_all boxes same have room = tasks_all (CanBeDone opening boxes) permits scripts first as_many (λ w below.
+      let less : w < length scripts = omega (arith, below, as_many) in
+      let left = left_is w less in
+      let waits : length (stashed (receipt_at permits w)) ≡ length (stash_at handed w).requests = ap length (stash_is w less) in
+      let tries : (receipt_at permits w).split.desk.tries ≡ 0 = ap (λ (p : PermitState). p.split.desk.tries) (begins w less).new in
+      let few = room w less in
+      let fits = within (cond (is_split state.phase) policy.split_quota policy.joined_quota) (length (script_of scripts w)) (first_index policy state.phase) first may.first_is (may.short w) in record {
+        boxes_are = (begins w less).key.boxes_are ∙ sym same;
+        opening_is = subst (HaveOpening opening) (sym (ap (λ (p : PermitState). p.split.desk.opening) (begins w less).new)) have;
+        short = may.short w;
+        given = subst (λ n. n ≤ length (script_of scripts w) - first) (sym left) fits;
+        tries = omega (arith, left, waits, tries, few);
+      })
+
+  pub replays_on : (after : JoinedState) (entries : List Entry) →
+      ((book : Book) → StandFor opening floor.counters book [] → ReplaysFrom floor.opening book entries) →
+      ((book : Book) → StandFor opening floor.counters book [] → StandsFor after (book_after floor.opening book entries)) →
+      ReplaysOn state.opening entries (StandsFor state) (StandsFor after)
+  replays_on after entries replays stands = λ book is here.
+      let stood : StandFor opening floor.counters book [] =
+      subst (λ cs. StandFor opening cs book []) (sym counters_are) (subst (λ ss. StandFor ss state.counters book []) named here) in (
+        subst (λ o. ReplaysFrom o book entries) opening_is (replays book stood),
+        subst (λ o. StandsFor after (book_after o book entries)) opening_is (stands book stood),
+      )
+
+  module _ (receipts : List PermitState) (count : length receipts ≡ length permits)
+      (same : (w : ℕ) → w < length scripts → IsSamePermit (receipt_at permits w) (receipt_at receipts w)) where
+    journal_phase : (w : ℕ) → w < length scripts → (receipt_at receipts w).split.desk.journal.phase ≡ floor.phase
+    journal_phase w less = (same w less).phase ∙ ap (λ (p : PermitState). p.split.desk.journal.phase) (begins w less).new
+
+    -- the receipts are those of the phase
+    pub are_receipts : AreReceiptsOf floor receipts
+    are_receipts = (
+      count ∙ begun.0,
+      λ w below.
+          let less : w < length scripts = omega (arith, below, workers_are) in record {
+            boxes_are = (same w less).boxes ∙ (begins w less).key.boxes_are;
+            worker_is = (same w less).worker ∙ (begins w less).key.worker_is;
+            opening_is = (same w less).opening ∙ ap (λ (p : PermitState). p.split.desk.opening) (begins w less).new;
+            phase_is = journal_phase w less;
+            stocks_are = (same w less).stocks ∙ ap (λ (p : PermitState). stocks_of p.split.slices) (begins w less).new ∙ stocks_back floor.stocks;
+            begun = (same w less).begun ∙ ap (λ (p : PermitState). p.split.desk.begun) (begins w less).new;
+          },
+    )
+
+    past : (w : ℕ) → length scripts ≤ w → receipt_at receipts w ≡ no_receipt
+    past w beyond = get_or_past receipts w no_receipt (omega (arith, beyond, count, as_many))
+
+    module _ (given : List ShardState) (entries : List Entry) (closed : HasClosed (phase_of opening floor receipts given entries)) where
+      part_is : (w : ℕ) → part (λ e. e.worker) w entries ≡ (journal_of (receipt_at receipts w)).entries
+      part_is w =
+          closed.merged.parts w ∙ entries_are (phase_of opening floor receipts given entries) closed w
+          ∙ sym (journal_entries (phase_of opening floor receipts given entries) closed w)
+
+      pub calls_are : (w : ℕ) → calls_of w entries ≡ committed (receipt_at receipts w)
+      calls_are w = ap (map call_of) (part_is w)
+
+      pub none_past : (w : ℕ) → length scripts ≤ w → calls_of w entries ≡ []
+      none_past w beyond = calls_are w ∙ ap (λ (p : PermitState). committed p) (past w beyond)
+
+      own_at : (w : ℕ) → AllByRecursion (λ (e : Entry). e.phase ≡ state.phase) (journal_of (receipt_at receipts w)).entries
+      own_at w = at (cases_lt w (length scripts))
+        where
+          at : (w < length scripts) ⊎ (length scripts ≤ w) → AllByRecursion (λ (e : Entry). e.phase ≡ state.phase) (journal_of (receipt_at receipts w)).entries
+          at (inl less) =
+              let before : AreOfPhase (receipt_at permits w) = subst AreOfPhase (sym (begins w less).new) tt in
+              subst (λ n. AllByRecursion (λ (e : Entry). e.phase ≡ n) (journal_of (receipt_at receipts w)).entries) (journal_phase w less ∙ phase_is) ((same w less).own before)
+          at (inr beyond) = subst (λ (p : PermitState). AllByRecursion (λ (e : Entry). e.phase ≡ state.phase) (journal_of p).entries) (sym (past w beyond)) tt
+
+      pub of_phase : AllByRecursion (λ (e : Entry). e.phase ≡ state.phase) entries
+      of_phase = of_parts (λ e. e.phase ≡ state.phase) entries (λ w. subst (AllByRecursion (λ (e : Entry). e.phase ≡ state.phase)) (sym (part_is w)) (own_at w))
+
+      pub are_numbered : objects_of floor.stocks ≡ hot → IsNumbered state.opening policy.shards hot entries
+      are_numbered hot_are =
+          let mapped : length (states_of state) ≡ length state.shards = simp length-map in
+          let shards : length opening ≡ policy.shards = sym (ap length named) ∙ mapped ∙ may.shards_are in
+          subst (λ h. IsNumbered state.opening policy.shards h entries) hot_are
+          (subst (λ n. IsNumbered state.opening n (objects_of floor.stocks) entries) shards
+          (subst (λ o. IsNumbered o (length opening) (objects_of floor.stocks) entries) opening_is
+          (record { ascending = closed.merged.ascending; follows = follow_what_they_share (phase_of opening floor receipts given entries) closed })))
+
+      pub commits_are : (after : ℕ → ℕ) → ((w : ℕ) → w < length receipts → after w ≡ (counters_at floor.counters w).commits + length (journal_of (receipt_at receipts w)).entries) →
+          (w : ℕ) → w < length state.counters → after w ≡ (counters_at state.counters w).commits + length (calls_of w entries)
+      commits_are after told w less =
+          let entries_count : length (calls_of w entries) ≡ length (journal_of (receipt_at receipts w)).entries =
+          ap length (calls_are w) ∙ length-map (journal_of (receipt_at receipts w)).entries call_of in
+          told w (omega (arith, less, count, as_many, may.scripts_are))
+          ∙ ap (λ cs. (counters_at cs w).commits + length (journal_of (receipt_at receipts w)).entries) counters_are
+          ∙ ap (λ n. (counters_at state.counters w).commits + n) (sym entries_count)
+
+      -- what waits after the phase is what the receipts have left
+      waits_after : (w : ℕ) → waiting_in (map stash_of receipts) w ≡ stashed (receipt_at receipts w)
+      waits_after w = ap (λ (s : StashState). s.requests) (get_or-map stash_of receipts w no_receipt)
+
+      none_given : (w : ℕ) → length scripts ≤ w → calls_given policy state.phase (script_of scripts w) ≡ []
+      none_given w beyond = ap (calls_given policy state.phase) (script_past scripts w beyond) ∙ given_none policy state.phase
+
+      module _ (joined : is_split state.phase ≡ false) (all_handed : handed ≡ stashes)
+          (done : (w : ℕ) → w < length scripts → IsDoneJoined (task (receipt_at permits w) (script_of scripts w) first) (receipt_at receipts w)) where
+        joined_calls : (w : ℕ) → calls_of w entries ≡ waiting_in stashes w ++ calls_given policy state.phase (script_of scripts w)
+        joined_calls w = at (cases_lt w (length scripts))
+          where
+            at : (w < length scripts) ⊎ (length scripts ≤ w) → calls_of w entries ≡ waiting_in stashes w ++ calls_given policy state.phase (script_of scripts w)
+            at (inl less) =
+                let t : Task = task (receipt_at permits w) (script_of scripts w) first in
+                calls_are w ∙ (done w less).calls
+                ∙ ap (λ cs. cs ++ (stashed (receipt_at permits w) ++ calls_for t)) (none_committed w less)
+                ∙ ap (λ ss. ss ++ calls_for t) (stash_is w less)
+                ∙ ap (λ ss. (stash_at ss w).requests ++ calls_for t) all_handed
+                ∙ ap (λ cs. waiting_in stashes w ++ cs) (calls_given_are w less)
+            at (inr beyond) =
+                let none : waiting_in stashes w ≡ [] = ap (λ (s : StashState). s.requests) (get_or_past stashes w no_stash (omega (arith, beyond, may.stashes_are, may.scripts_are))) in
+                none_past w beyond ∙ sym (ap (λ ss. ss ++ calls_given policy state.phase (script_of scripts w)) none ∙ none_given w beyond)
+
+        joined_stash : (w : ℕ) → waiting_in (map stash_of receipts) w ≡ []
+        joined_stash w = at (cases_lt w (length scripts))
+          where
+            at : (w < length scripts) ⊎ (length scripts ≤ w) → waiting_in (map stash_of receipts) w ≡ []
+            at (inl less) = waits_after w ∙ (done w less).stash
+            at (inr beyond) = waits_after w ∙ ap (λ (p : PermitState). stashed p) (past w beyond)
+
+        pub joined_performed : HasPerformed policy scripts state.phase hot (waiting_in stashes) (waiting_in (map stash_of receipts)) entries
+        joined_performed = record {
+          phases = of_phase;
+          joined_calls = λ is. joined_calls;
+          joined_stash = λ is. joined_stash;
+          split_calls = λ is. absurd (false≢true (sym joined ∙ is));
+          split_stash = λ is. absurd (false≢true (sym joined ∙ is));
+        }
+
+      module _ (split : is_split state.phase ≡ true) (hot_are : objects_of floor.stocks ≡ hot) (none_handed : (w : ℕ) → (stash_at handed w).requests ≡ [])
+          (done : (w : ℕ) → w < length scripts → IsDoneSplit (task (receipt_at permits w) (script_of scripts w) first) (receipt_at receipts w)) where
+        hot_is : (w : ℕ) → w < length scripts → hot_for (receipt_at permits w) ≡ hot
+        hot_is w less = ap (λ (p : PermitState). hot_for p) (begins w less).new ∙ objects_back floor.stocks ∙ hot_are
+
+        split_calls : (w : ℕ) → calls_of w entries ≡ filter (λ call. not (is_put_off hot call.1)) (calls_given policy state.phase (script_of scripts w))
+        split_calls w = at (cases_lt w (length scripts))
+          where
+            at : (w < length scripts) ⊎ (length scripts ≤ w) → calls_of w entries ≡ filter (λ call. not (is_put_off hot call.1)) (calls_given policy state.phase (script_of scripts w))
+            at (inl less) =
+                let t : Task = task (receipt_at permits w) (script_of scripts w) first in
+                calls_are w ∙ (done w less).calls
+                ∙ ap (λ cs. cs ++ filter (λ call. not (is_put_off (hot_for (receipt_at permits w)) call.1)) (calls_for t)) (none_committed w less)
+                ∙ ap (λ h. filter (λ call. not (is_put_off h call.1)) (calls_for t)) (hot_is w less)
+                ∙ ap (filter (λ (call : ℕ × Request). not (is_put_off hot call.1))) (calls_given_are w less)
+            at (inr beyond) = none_past w beyond ∙ sym (ap (filter (λ (call : ℕ × Request). not (is_put_off hot call.1))) (none_given w beyond))
+
+        split_stash : (w : ℕ) → waiting_in (map stash_of receipts) w ≡ filter (λ call. is_put_off hot call.1) (calls_given policy state.phase (script_of scripts w))
+        split_stash w = at (cases_lt w (length scripts))
+          where
+            at : (w < length scripts) ⊎ (length scripts ≤ w) → waiting_in (map stash_of receipts) w ≡ filter (λ call. is_put_off hot call.1) (calls_given policy state.phase (script_of scripts w))
+            at (inl less) =
+                let t : Task = task (receipt_at permits w) (script_of scripts w) first in
+                waits_after w ∙ (done w less).stash
+                ∙ ap (λ cs. cs ++ filter (λ call. is_put_off (hot_for (receipt_at permits w)) call.1) (calls_for t)) (stash_is w less ∙ none_handed w)
+                ∙ ap (λ h. filter (λ call. is_put_off h call.1) (calls_for t)) (hot_is w less)
+                ∙ ap (filter (λ (call : ℕ × Request). is_put_off hot call.1)) (calls_given_are w less)
+            at (inr beyond) =
+                waits_after w ∙ ap (λ (p : PermitState). stashed p) (past w beyond)
+                ∙ sym (ap (filter (λ (call : ℕ × Request). is_put_off hot call.1)) (none_given w beyond))
+
+        pub split_performed : HasPerformed policy scripts state.phase hot (waiting_in stashes) (waiting_in (map stash_of receipts)) entries
+        split_performed = record {
+          phases = of_phase;
+          joined_calls = λ is. absurd (false≢true (sym is ∙ split));
+          joined_stash = λ is. absurd (false≢true (sym is ∙ split));
+          split_calls = λ is. split_calls;
+          split_stash = λ is. split_stash;
+        }
+
+    -- all that a run knows of the phase, once it is closed
+    pub closed_phase : (after : Closed) (given : List ShardState) (closed : HasClosed (phase_of opening floor receipts given after.entries.items)) →
+        objects_of floor.stocks ≡ hot →
+        HasPerformed policy scripts state.phase hot (waiting_in stashes) (waiting_in (map stash_of receipts)) after.entries.items →
+        after.state.opening ≡ floor.opening → after.state.phase ≡ floor.phase + 1 → after.state.counters ≡ map counters_of receipts →
+        after.stashes.items ≡ map stash_of receipts → length (states_of after.state) ≡ length opening →
+        ((w : ℕ) → w < length receipts → (counters_at after.state.counters w).commits ≡ (counters_at floor.counters w).commits + length (journal_of (receipt_at receipts w)).entries) →
+        ((book : Book) → StandFor opening floor.counters book [] → ReplaysFrom floor.opening book after.entries.items) →
+        ((book : Book) → StandFor opening floor.counters book [] → StandsFor after.state (book_after floor.opening book after.entries.items)) →
+        HasClosedPhase policy scripts state stashes hot after
+    closed_phase after given closed hot_are performed opened counted counts waits shards commits replays stands = record {
+      performed = subst (λ ss. HasPerformed policy scripts state.phase hot (waiting_in stashes) (waiting_in ss) after.entries.items) (sym waits) performed;
+      numbered = are_numbered given after.entries.items closed hot_are;
+      replays = replays_on after.state after.entries.items replays stands;
+      phase_is = let next : floor.phase + 1 ≡ suc floor.phase = omega arith in counted ∙ next ∙ ap suc phase_is;
+      opening_is = opened ∙ opening_is;
+      shards_are = sym (length-map after.state.shards state_of) ∙ shards ∙ sym (ap length named) ∙ length-map state.shards state_of;
+      workers_are = ap length counts ∙ length-map receipts counters_of ∙ count ∙ begun.0 ∙ ap length counters_are;
+      stashes_are = ap length waits ∙ length-map receipts stash_of ∙ count ∙ begun.0 ∙ ap length counters_are;
+      commits = commits_are given after.entries.items closed (λ w. (counters_at after.state.counters w).commits) commits;
+    }
+
+  module _ (receipts : List PermitState) (all : AllZip IsDoneJoined (tasks permits scripts first) receipts) where
+    joined_count : length receipts ≡ length permits
+    joined_count = done_count IsDoneJoined permits receipts scripts first as_many all
+
+    joined_at : (w : ℕ) → w < length scripts → IsDoneJoined (task (receipt_at permits w) (script_of scripts w) first) (receipt_at receipts w)
+    joined_at w less = done_at IsDoneJoined permits receipts scripts first as_many all w (omega (arith, less, as_many))
+
+    pub joined_receipts : AreReceiptsOf floor receipts
+    joined_receipts = are_receipts receipts joined_count (λ w less. (joined_at w less).same)
+
+    pub joined_closed : is_split state.phase ≡ false → handed ≡ stashes → objects_of floor.stocks ≡ hot → (after : Closed) →
+        HasSettled opening floor receipts (states_of after.state) after.entries.items →
+        after.state.opening ≡ floor.opening → after.state.phase ≡ floor.phase + 1 → after.state.counters ≡ map counters_of receipts →
+        after.stashes.items ≡ map stash_of receipts →
+        ((w : ℕ) → w < length receipts → (counters_at after.state.counters w).commits ≡ (counters_at floor.counters w).commits + length (journal_of (receipt_at receipts w)).entries) →
+        ((book : Book) → StandFor opening floor.counters book [] → ReplaysFrom floor.opening book after.entries.items) →
+        ((book : Book) → StandFor opening floor.counters book [] → StandsFor after.state (book_after floor.opening book after.entries.items)) →
+        HasClosedPhase policy scripts state stashes hot after
+    joined_closed joined all_handed hot_are after settled opened counted counts waits commits replays stands =
+        let same = λ (w : ℕ) (less : w < length scripts). (joined_at w less).same in
+        closed_phase receipts joined_count same after settled.given settled.closed hot_are
+        (joined_performed receipts joined_count same settled.given after.entries.items settled.closed joined all_handed joined_at)
+        opened counted counts waits (ap length settled.states_are ∙ length-map settled.given at_start ∙ settled.closed.boxes.0) commits replays stands
+
+  module _ (receipts : List PermitState) (all : AllZip IsDoneSplit (tasks permits scripts first) receipts) where
+    split_count : length receipts ≡ length permits
+    split_count = done_count IsDoneSplit permits receipts scripts first as_many all
+
+    split_at : (w : ℕ) → w < length scripts → IsDoneSplit (task (receipt_at permits w) (script_of scripts w) first) (receipt_at receipts w)
+    split_at w less = done_at IsDoneSplit permits receipts scripts first as_many all w (omega (arith, less, as_many))
+
+    pub split_receipts : AreReceiptsOf floor receipts
+    split_receipts = are_receipts receipts split_count (λ w less. (split_at w less).same)
+
+    pub split_closed : is_split state.phase ≡ true → ((w : ℕ) → (stash_at handed w).requests ≡ []) → objects_of floor.stocks ≡ hot → (after : Closed) →
+        HasReconciled opening floor receipts (states_of after.state) after.entries.items →
+        after.state.opening ≡ floor.opening → after.state.phase ≡ floor.phase + 1 → after.state.counters ≡ map counters_of receipts →
+        after.stashes.items ≡ map stash_of receipts →
+        ((w : ℕ) → w < length receipts → (counters_at after.state.counters w).commits ≡ (counters_at floor.counters w).commits + length (journal_of (receipt_at receipts w)).entries) →
+        ((book : Book) → StandFor opening floor.counters book [] → ReplaysFrom floor.opening book after.entries.items) →
+        ((book : Book) → StandFor opening floor.counters book [] → StandsFor after.state (book_after floor.opening book after.entries.items)) →
+        HasClosedPhase policy scripts state stashes hot after
+    split_closed split none_handed hot_are after settled opened counted counts waits commits replays stands =
+        let same = λ (w : ℕ) (less : w < length scripts). (split_at w less).same in
+        closed_phase receipts split_count same after settled.given settled.closed hot_are
+        (split_performed receipts split_count same settled.given after.entries.items settled.closed split hot_are none_handed split_at)
+        opened counted counts waits
+        (ap length settled.states_are ∙ length-map (fold after_merge settled.given settled.order) at_start ∙ merged_count settled.order settled.given ∙ settled.closed.boxes.0)
+        commits replays stands

@@ -1,0 +1,262 @@
+-- Where a run begins, one phase more, and its end.
+use Rattle.std.proofs.Common.{◌≡◌, ℕ, suc, ◌+◌, ◌-◌, ◌<◌, ◌≤◌, ◌^◌, ◌⊎◌, not, min, Bool, true, false, cond, List, [], ◌∷◌, ◌++◌, length, drop, refl, subst, sym, ap, ◌∙◌, inl, inr, arith}
+use Rattle.std.specs.List.{filter}
+use Rattle.std.specs.HashSet.{HashSet}
+use Rattle.std.proofs.lemmas.Bool.{cases_Bool, cases_lt}
+use Rattle.std.proofs.lemmas.List.{length-append}
+use Rattle.auction_rows.specs.declared.numbers.Opening.{Opening}
+use Rattle.auction_rows.specs.declared.ids.Object.{Object}
+use Rattle.auction_rows.specs.declared.requests.Request.{Request}
+use Rattle.auction_rows.specs.declared.rows.Entry.{Entry}
+use Rattle.auction_rows.specs.Book.{Book}
+use Rattle.auction_rows.specs.Choosing.{choose}
+use Rattle.auction_rows.specs.History.{IsBook, ReplaysFrom, book_after}
+use Rattle.auction_rows.specs.Phases.{is_put_off, IsNumbered}
+use Rattle.item_shards.specs.OpeningRows.{rows_by}
+use Rattle.phase_closing.specs.Standing.{counters_at}
+use Rattle.phase_floor.specs.States.{states_of, StandsFor, DoAllExist}
+use Rattle.run_laws.specs.Phases.{is_split, quota}
+use Rattle.run_laws.proofs.QuotaLemmas.{given_length}
+use Rattle.run_laws.proofs.ReachLemmas.{first_next}
+use Rattle.run_serving.specs.declared.policy.Policy.{Policy}
+use Rattle.run_serving.specs.Books.{HasReplayed, ReplaysOn}
+use Rattle.run_serving.specs.Run.{first_index, calls_of, calls_given, HasRun, HasPerformed, HasLeft, HasClosed}
+use Rattle.run_serving.specs.Serving.{script_of, segment_of, Serves}
+use Rattle.run_serving.proofs.BookLemmas.{phase_replayed}
+use Rattle.run_serving.proofs.ClosedLemmas.{none_closed, phase_closed, segment_now}
+use Rattle.run_serving.proofs.EndLemmas.{run_serves, few_phases}
+use Rattle.run_serving.proofs.StepLemmas.{run_begins, phase_runs}
+use Rattle.auction_run.specs.declared.running.Running.{Running}
+use Rattle.auction_run.specs.Beginning.{AreShort}
+use Rattle.auction_run.specs.Phases.{hot_sets, waiting_in, quota_of, MayPerform}
+use Rattle.auction_run.specs.Running.{IsRunning, CanGoOn}
+use Rattle.auction_run.proofs.HotThere.{chosen_exist}
+use Rattle.auction_run.proofs.ScriptLemmas.{past_end}
+
+drop_front : {X : Type 0} (xs ys : List X) → drop (length xs) (xs ++ ys) ≡ ys
+drop_front [] ys = refl
+drop_front (x ∷ xs) ys = drop_front xs ys
+
+front_within : {X : Type 0} (xs ys : List X) → length xs ≤ length (xs ++ ys)
+front_within [] ys = omega arith
+front_within (x ∷ xs) ys = let again : length xs ≤ length (xs ++ ys) = front_within xs ys in omega arith
+
+-- those that a test puts off and the others are all
+two_parts : {X : Type 0} (p : X → Bool) (xs : List X) → length (filter (λ x. not (p x)) xs) + length (filter p xs) ≡ length xs
+two_parts p [] = refl
+two_parts p (x ∷ xs) = go (p x) (two_parts p xs)
+  where
+    go : (b : Bool) → length (filter (λ y. not (p y)) xs) + length (filter p xs) ≡ length xs →
+        length (cond (not b) (x ∷ filter (λ y. not (p y)) xs) (filter (λ y. not (p y)) xs)) + length (cond b (x ∷ filter p xs) (filter p xs)) ≡ suc (length xs)
+    go true again = omega (arith, again)
+    go false again = omega (arith, again)
+
+-- ---- what a worker committed, and what waits, after one phase more
+
+module _ (policy : Policy) (some : 0 < policy.joined_quota + policy.split_quota) (scripts : List (List Request)) (p : ℕ) (hot : List Object)
+    (waits after : ℕ → List (ℕ × Request)) (entries : List Entry) (performed : HasPerformed policy scripts p hot waits after entries) (worker : ℕ) where
+  abbrev script : List Request
+  script = script_of scripts worker
+
+  given : length (calls_given policy p script) ≡ quota_of policy p script
+  given = given_length policy.joined_quota policy.split_quota p script
+
+  -- what it did and what waits now is at most what waited and what it was given
+  pub dealt : length (calls_of worker entries) + length (after worker) ≤ length (waits worker) + quota_of policy p script
+  dealt = go (cases_Bool (is_split p))
+    where
+      go : (is_split p ≡ true) ⊎ (is_split p ≡ false) → length (calls_of worker entries) + length (after worker) ≤ length (waits worker) + quota_of policy p script
+      go (inl split) =
+          let done : length (calls_of worker entries) ≡ length (filter (λ (call : ℕ × Request). not (is_put_off hot call.1)) (calls_given policy p script)) = ap length (performed.split_calls split worker) in
+          let left : length (after worker) ≡ length (filter (λ (call : ℕ × Request). is_put_off hot call.1) (calls_given policy p script)) = ap length (performed.split_stash split worker) in
+          let all = two_parts (λ (call : ℕ × Request). is_put_off hot call.1) (calls_given policy p script) in
+          plain (length (calls_of worker entries)) (length (after worker)) (length (waits worker)) _ _ (length (calls_given policy p script)) (quota_of policy p script) done left all given
+        where
+          plain : (done left waited a b all quota : ℕ) → done ≡ a → left ≡ b → a + b ≡ all → all ≡ quota → done + left ≤ waited + quota
+          plain done left waited a b all quota e f g h = omega (arith, e, f, g, h)
+      go (inr joined) =
+          let done : length (calls_of worker entries) ≡ length (waits worker) + length (calls_given policy p script) =
+          ap length (performed.joined_calls joined worker) ∙ length-append (waits worker) (calls_given policy p script) in
+          let left : length (after worker) ≡ 0 = ap length (performed.joined_stash joined worker) in
+          plain (length (calls_of worker entries)) (length (after worker)) (length (waits worker)) (length (calls_given policy p script)) (quota_of policy p script) done left given
+        where
+          plain : (done left waited all quota : ℕ) → done ≡ waited + all → left ≡ 0 → all ≡ quota → done + left ≤ waited + quota
+          plain done left waited all quota e f g = omega (arith, e, f, g)
+
+-- what was given of a script before a phase, and in it, was given before the next
+more_given : (commits rows done left waited first next len part : ℕ) → next ≡ first + part → done + left ≤ waited + min part (len - first) →
+    commits + waited ≤ rows + min first len → (commits + done) + left ≤ rows + min next len
+more_given commits rows done left waited first next len part a b c = omega (arith, a, b, c)
+
+-- ---- one phase more
+
+module _ (policy : Policy) (some : 0 < policy.joined_quota + policy.split_quota) (scripts : List (List Request)) (p : ℕ)
+    (opening : Opening) (rows : Book) (is_book : IsBook opening rows)
+    (old new : Running) (hot_now : List Object) (entries : List Entry) (worker : ℕ)
+    (run : IsRunning opening rows policy scripts p old)
+    (left : HasLeft policy scripts p (waiting_in old.stashes.items) worker)
+    (performed : HasPerformed policy scripts old.state.phase hot_now (waiting_in old.stashes.items) (waiting_in new.stashes.items) entries)
+    (numbered : IsNumbered old.state.opening policy.shards hot_now entries)
+    (replays : ReplaysOn old.state.opening entries (StandsFor old.state) (StandsFor new.state))
+    (counted : new.state.phase ≡ suc old.state.phase)
+    (same_opening : new.state.opening ≡ old.state.opening)
+    (same_shards : length new.state.shards ≡ length old.state.shards)
+    (same_workers : length new.state.counters ≡ length old.state.counters)
+    (stashes : length new.stashes.items ≡ length old.state.counters)
+    (commits : (w : ℕ) → w < length old.state.counters →
+    (counters_at new.state.counters w).commits ≡ (counters_at old.state.counters w).commits + length (calls_of w entries))
+    (history : new.history.items ≡ old.history.items ++ entries)
+    (hot : hot_sets new.hot.items ≡ hot_sets old.hot.items ++ hot_now ∷ [])
+    (last : new.last ≡ length old.history.items)
+    (not_chosen : is_split old.state.phase ≡ false → hot_now ≡ [])
+    (chosen : is_split old.state.phase ≡ true → hot_now ≡ choose (drop old.last old.history.items) policy.threshold policy.hot_max)
+    (first : new.first ≡ min (old.first + cond (is_split old.state.phase) policy.split_quota policy.joined_quota) (2 ^ 40)) where
+  here : HasPerformed policy scripts p hot_now (waiting_in old.stashes.items) (waiting_in new.stashes.items) entries
+  here = subst (λ n. HasPerformed policy scripts n hot_now (waiting_in old.stashes.items) (waiting_in new.stashes.items) entries) run.phase_is performed
+
+  capped : (a b q : ℕ) → b ≡ min a (2 ^ 40) → min (b + q) (2 ^ 40) ≡ min (a + q) (2 ^ 40)
+  capped a b q e = omega (arith, e)
+
+  counted_next : (w : ℕ) → w < length scripts →
+      (counters_at new.state.counters w).commits + length (waiting_in new.stashes.items w)
+      ≤ rows_by rows w + min (first_index policy (suc p)) (length (script_of scripts w))
+  counted_next w known =
+      subst (λ n. n + length (waiting_in new.stashes.items w) ≤ rows_by rows w + min (first_index policy (suc p)) (length (script_of scripts w)))
+      (sym (commits w (subst (λ n. w < n) (sym run.workers_are) known)))
+      (more_given (counters_at old.state.counters w).commits (rows_by rows w) (length (calls_of w entries)) (length (waiting_in new.stashes.items w)) (length (waiting_in old.stashes.items w))
+      (first_index policy p) (first_index policy (suc p)) (length (script_of scripts w)) (cond (is_split p) policy.split_quota policy.joined_quota)
+      (first_next policy.joined_quota policy.split_quota some p)
+      (dealt policy some scripts p hot_now (waiting_in old.stashes.items) (waiting_in new.stashes.items) entries here w)
+      (run.counted w known))
+
+  pub stepped : IsRunning opening rows policy scripts (suc p) new
+  stepped = record {
+    run = subst (λ es. HasRun policy scripts (suc p) (hot_sets new.hot.items) es (waiting_in new.stashes.items)) (sym history)
+        (subst (λ hs. HasRun policy scripts (suc p) hs (old.history.items ++ entries) (waiting_in new.stashes.items)) (sym hot)
+        (phase_runs policy some scripts p (hot_sets old.hot.items) hot_now old.history.items entries (waiting_in old.stashes.items) (waiting_in new.stashes.items) run.run here worker left));
+    closed = subst (λ es. HasClosed opening policy (hot_sets new.hot.items) es) (sym history)
+        (subst (λ hs. HasClosed opening policy hs (old.history.items ++ entries)) (sym hot)
+        (phase_closed opening policy scripts p (hot_sets old.hot.items) hot_now old.history.items entries
+        (waiting_in old.stashes.items) (waiting_in new.stashes.items) run.run here run.closed
+        (λ is. not_chosen (ap is_split run.phase_is ∙ is))
+        (λ is. chosen (ap is_split run.phase_is ∙ is) ∙ ap (λ es. choose es policy.threshold policy.hot_max) run.last)
+        (subst (λ o. IsNumbered o policy.shards hot_now entries) run.opening_is numbered)));
+    replayed = subst (λ es. HasReplayed opening rows es (StandsFor new.state)) (sym history)
+        (phase_replayed opening rows old.history.items entries (StandsFor old.state) (StandsFor new.state) is_book run.replayed
+        (subst (λ o. ReplaysOn o entries (StandsFor old.state) (StandsFor new.state)) run.opening_is replays));
+    opening_is = same_opening ∙ run.opening_is;
+    phase_is = counted ∙ ap suc run.phase_is;
+    shards_are = same_shards ∙ run.shards_are;
+    workers_are = same_workers ∙ run.workers_are;
+    stashes_are = stashes ∙ run.workers_are;
+    counted = counted_next;
+    last_within = subst (λ n. n ≤ length new.history.items) (sym last) (subst (λ es. length old.history.items ≤ length es) (sym history) (front_within old.history.items entries));
+    last = ap (λ n. drop n new.history.items) last ∙ ap (drop (length old.history.items)) history ∙ drop_front old.history.items entries
+        ∙ sym (segment_now p old.history.items entries run.run.phases_before here.phases) ∙ ap (segment_of p) (sym history)
+        ∙ (let e : p ≡ suc p - 1 = omega arith in ap (λ n. segment_of n new.history.items) e);
+    first_is = first ∙ ap (λ n. min (old.first + cond (is_split n) policy.split_quota policy.joined_quota) (2 ^ 40)) run.phase_is
+        ∙ capped (first_index policy p) old.first (cond (is_split p) policy.split_quota policy.joined_quota) run.first_is
+        ∙ ap (λ n. min n (2 ^ 40)) (sym (first_next policy.joined_quota policy.split_quota some p));
+  }
+
+-- ---- what the next phase may begin with
+
+all_short : (rows : Book) (scripts : List (List Request)) → AreShort rows scripts → (worker : ℕ) → length (script_of scripts worker) ≤ 1000000
+all_short rows scripts short worker = go (cases_lt worker (length scripts))
+  where
+    go : (worker < length scripts) ⊎ (length scripts ≤ worker) → length (script_of scripts worker) ≤ 1000000
+    go (inl known) = omega (arith, short worker known)
+    go (inr past) = let e : length (script_of scripts worker) ≡ 0 = ap length (past_end scripts worker past) in omega (arith, e)
+
+room_left : (commits waits rows first len part : ℕ) → commits + waits ≤ rows + min first len → rows + len ≤ 1000000 → commits + waits + min part (len - first) ≤ 1000000
+room_left commits waits rows first len part a b = omega (arith, a, b)
+
+module _ (policy : Policy) (scripts : List (List Request)) (running : Running) (shards : 0 < policy.shards) (on : CanGoOn policy scripts running)
+    (counted : running.state.phase + 1 < 2 ^ 64) (hot_now : List Object)
+    (not_chosen : is_split running.state.phase ≡ false → hot_now ≡ [])
+    (chosen : is_split running.state.phase ≡ true → hot_now ≡ choose (drop running.last running.history.items) policy.threshold policy.hot_max) where
+  abbrev run : IsRunning on.opening on.rows policy scripts running.state.phase running
+  run = on.running_is
+
+  hot_exist : DoAllExist running.state.opening (states_of running.state) hot_now
+  hot_exist = go (cases_Bool (is_split running.state.phase))
+    where
+      go : (is_split running.state.phase ≡ true) ⊎ (is_split running.state.phase ≡ false) → DoAllExist running.state.opening (states_of running.state) hot_now
+      go (inl split) = subst (DoAllExist running.state.opening (states_of running.state)) (sym (chosen split))
+          (chosen_exist running.state on.rows running.history.items running.last policy.threshold policy.hot_max (omega (arith, shards, run.shards_are))
+          (subst (λ o. ReplaysFrom o on.rows running.history.items) (sym run.opening_is) run.replayed.replays)
+          (subst (λ o. StandsFor running.state (book_after o on.rows running.history.items)) (sym run.opening_is) run.replayed.stands))
+      go (inr joined) = subst (DoAllExist running.state.opening (states_of running.state)) (sym (not_chosen joined)) tt
+
+  pub may_perform : MayPerform policy scripts running.state running.stashes.items hot_now running.first
+  may_perform = record {
+    counted = counted;
+    scripts_are = sym run.workers_are;
+    stashes_are = run.stashes_are ∙ sym run.workers_are;
+    shards_are = run.shards_are;
+    short = all_short on.rows scripts on.short;
+    room = λ w known. let own : w < length scripts = subst (λ n. w < n) run.workers_are known in
+        room_left (counters_at running.state.counters w).commits (length (waiting_in running.stashes.items w)) (rows_by on.rows w)
+        (first_index policy running.state.phase) (length (script_of scripts w)) (cond (is_split running.state.phase) policy.split_quota policy.joined_quota)
+        (run.counted w own) (on.short w own);
+    joined = not_chosen;
+    exist = hot_exist;
+    first_is = run.first_is;
+  }
+
+-- ---- the beginning and the end
+
+pub begun : (opening : Opening) (rows : Book) (policy : Policy) (scripts : List (List Request)) (new : Running) →
+    new.state.phase ≡ 0 → new.state.opening ≡ opening → StandsFor new.state rows → length new.state.shards ≡ policy.shards → length new.state.counters ≡ length scripts →
+    ((w : ℕ) → w < length scripts → (counters_at new.state.counters w).commits ≡ rows_by rows w) →
+    new.history.items ≡ [] → new.hot.items ≡ [] → length new.stashes.items ≡ length scripts → ((w : ℕ) → waiting_in new.stashes.items w ≡ []) → new.last ≡ 0 → new.first ≡ 0 →
+    IsRunning opening rows policy scripts 0 new
+begun opening rows policy scripts new phase same stands shards workers commits history hot stashes none last first = record {
+  run = subst (λ es. HasRun policy scripts 0 (hot_sets new.hot.items) es (waiting_in new.stashes.items)) (sym history)
+      (subst (λ hs. HasRun policy scripts 0 (hot_sets hs) [] (waiting_in new.stashes.items)) (sym hot)
+      (subst (HasRun policy scripts 0 [] []) (λ i w. sym (none w) i)
+      (run_begins policy scripts)));
+  closed = subst (λ es. HasClosed opening policy (hot_sets new.hot.items) es) (sym history)
+      (subst (λ hs. HasClosed opening policy (hot_sets hs) []) (sym hot) (none_closed opening policy));
+  replayed = subst (λ es. HasReplayed opening rows es (StandsFor new.state)) (sym history) (record { replays = tt; stands = stands });
+  opening_is = same;
+  phase_is = phase;
+  shards_are = shards;
+  workers_are = workers;
+  stashes_are = stashes;
+  counted = λ w known. let e : length (waiting_in new.stashes.items w) ≡ 0 = ap length (none w) in omega (arith, e, commits w known);
+  last_within = omega (arith, last);
+  last = ap (λ n. drop n new.history.items) last ∙ ap (drop 0) history ∙ ap (segment_of (0 - 1)) (sym history);
+  first_is = omega (arith, first);
+}
+
+module _ (opening : Opening) (rows : Book) (policy : Policy) (some : 0 < policy.joined_quota + policy.split_quota) (scripts : List (List Request)) (short : AreShort rows scripts)
+    (p : ℕ) (running : Running) (run : IsRunning opening rows policy scripts p running) where
+  -- what is left by the bound is left
+  pub left_over : (worker : ℕ) → ((running.first < length (script_of scripts worker)) ⊎ (0 < length (waiting_in running.stashes.items worker))) →
+      HasLeft policy scripts p (waiting_in running.stashes.items) worker
+  left_over worker (inl more) = inl (uncapped running.first (first_index policy p) (length (script_of scripts worker)) run.first_is more (all_short rows scripts short worker))
+    where
+      uncapped : (first index len : ℕ) → first ≡ min index (2 ^ 40) → first < len → len ≤ 1000000 → index < len
+      uncapped first index len is more few = omega (arith, is, more, few)
+  left_over worker (inr waits) = inr waits
+
+  pub few_phases_so_far : p ≤ 2000002
+  few_phases_so_far =
+      let most = few_phases policy some scripts p 1000000 (hot_sets running.hot.items) running.history.items (waiting_in running.stashes.items) run.run (all_short rows scripts short) in
+      omega (arith, most)
+
+  sets_length : {S : Type 0} (sets : List (HashSet Object S)) → length (hot_sets sets) ≡ length sets
+  sets_length [] = refl
+  sets_length (set ∷ sets) = ap suc (sets_length sets)
+
+  pub phases_counted : running.state.phase ≡ length running.hot.items
+  phases_counted = run.phase_is ∙ sym run.run.phase_count ∙ sets_length running.hot.items
+
+  pub served : ((worker : ℕ) → (length (script_of scripts worker) ≤ running.first) × (length (waiting_in running.stashes.items worker) ≡ 0)) →
+      Serves opening policy scripts (hot_sets running.hot.items) running.history.items
+  served none = run_serves opening policy some scripts p (hot_sets running.hot.items) running.history.items (waiting_in running.stashes.items) run.run run.closed
+      (λ worker. (at_most running.first (first_index policy p) (length (script_of scripts worker)) run.first_is (none worker).0, (none worker).1))
+    where
+      at_most : (first index len : ℕ) → first ≡ min index (2 ^ 40) → len ≤ first → len ≤ index
+      at_most first index len is within = omega (arith, is, within)

@@ -1,0 +1,99 @@
+-- The scripts and stashes of workers.
+use Rattle.std.specs.declared.alloc.Global.{Global}
+use Rattle.std.proofs.Common.{Vec, ◌≡◌, ℕ, zero, suc, ◌+◌, ◌-◌, ◌<◌, ◌≤◌, ◌⊎◌, List, [], ◌∷◌, ◌++◌, length, get_or, refl, subst, sym, ap, ◌∙◌, inl, inr, arith}
+use Rattle.std.proofs.lemmas.Bool.{cases_lt}
+use Rattle.auction_rows.specs.declared.requests.Request.{Request}
+use Rattle.auction_rows.specs.Book.{Book}
+use Rattle.item_shards.specs.OpeningRows.{rows_by}
+use Rattle.phase_desks.specs.Stashes.{StashState}
+use Rattle.run_serving.specs.Serving.{script_of}
+use Rattle.auction_run.specs.Beginning.{AreShort}
+use Rattle.auction_run.specs.Phases.{lists, waiting_in}
+
+pub script_at : (scripts : List (Vec Request Global)) (i : ℕ) (d : Vec Request Global) → i < length scripts → script_of (lists scripts) i ≡ (get_or scripts i d).items
+script_at [] i d less = absurd (omega arith)
+script_at (x ∷ xs) zero d less = refl
+script_at (x ∷ xs) (suc i) d less = script_at xs i d (omega arith)
+
+pub past_end : (scripts : List (List Request)) (i : ℕ) → length scripts ≤ i → script_of scripts i ≡ []
+past_end [] i over = refl
+past_end (x ∷ xs) zero over = absurd (omega arith)
+past_end (x ∷ xs) (suc i) over = past_end xs i (omega arith)
+
+waits_at : (stashes : List StashState) (i : ℕ) (d : StashState) → i < length stashes → waiting_in stashes i ≡ (get_or stashes i d).requests
+waits_at [] i d less = absurd (omega arith)
+waits_at (x ∷ xs) zero d less = refl
+waits_at (x ∷ xs) (suc i) d less = waits_at xs i d (omega arith)
+
+pub past_stashes : (stashes : List StashState) (i : ℕ) → length stashes ≤ i → waiting_in stashes i ≡ []
+past_stashes [] i over = refl
+past_stashes (x ∷ xs) zero over = absurd (omega arith)
+past_stashes (x ∷ xs) (suc i) over = past_stashes xs i (omega arith)
+
+-- one stash more in which nothing waits
+pub one_stash_more : (stashes : List StashState) (x : StashState) → x.requests ≡ [] → ((worker : ℕ) → waiting_in stashes worker ≡ []) →
+    (worker : ℕ) → waiting_in (stashes ++ x ∷ []) worker ≡ []
+one_stash_more [] x empty none zero = empty
+one_stash_more [] x empty none (suc worker) = refl
+one_stash_more (s ∷ stashes) x empty none zero = none 0
+one_stash_more (s ∷ stashes) x empty none (suc worker) = one_stash_more stashes x empty (λ w. none (suc w)) worker
+
+-- what holds of the workers before one, and of that one, holds of those up to it
+pub one_worker_more : (P : ℕ → Type 0) (i : ℕ) → ((w : ℕ) → w < i → P w) → P i → (w : ℕ) → w < i + 1 → P w
+one_worker_more P i before here w less = go (cases_lt w i)
+  where
+    go : (w < i) ⊎ (i ≤ w) → P w
+    go (inl earlier) = before w earlier
+    go (inr later) = let same : i ≡ w = omega arith in subst P same here
+
+pub lists_length : (scripts : List (Vec Request Global)) → length (lists scripts) ≡ length scripts
+lists_length [] = refl
+lists_length (x ∷ xs) = ap suc (lists_length xs)
+
+-- what is left of a worker's script and stash, by what is read of them
+module _ (scripts : List (Vec Request Global)) (stashes : List StashState) (first i : ℕ) (script : Vec Request Global) (stash : StashState)
+    (within : i < length scripts) (same : length stashes ≡ length scripts) (script_is : script ≡ get_or scripts i script) (stash_is : stash ≡ get_or stashes i stash) where
+  own_script : script_of (lists scripts) i ≡ script.items
+  own_script = script_at scripts i script within ∙ ap (λ (v : Vec Request Global). v.items) (sym script_is)
+
+  own_stash : waiting_in stashes i ≡ stash.requests
+  own_stash = waits_at stashes i stash (omega (arith, within, same)) ∙ ap (λ (s : StashState). s.requests) (sym stash_is)
+
+  positive : (n : ℕ) → (n ≡ 0 → ⊥) → 0 < n
+  positive zero other = absurd (other refl)
+  positive (suc n) other = omega arith
+
+  pub request_left : first < length script.items → (first < length (script_of (lists scripts) i)) ⊎ (0 < length (waiting_in stashes i))
+  request_left more = inl (subst (λ rs. first < length rs) (sym own_script) more)
+
+  pub stash_left : (length stash.requests ≡ 0 → ⊥) → (first < length (script_of (lists scripts) i)) ⊎ (0 < length (waiting_in stashes i))
+  stash_left some = inr (subst (λ rs. 0 < length rs) (sym own_stash) (positive (length stash.requests) some))
+
+  pub nothing_left : length script.items ≤ first → length stash.requests ≡ 0 → (length (script_of (lists scripts) i) ≤ first) × (length (waiting_in stashes i) ≡ 0)
+  nothing_left requests waits = (subst (λ rs. length rs ≤ first) (sym own_script) requests, ap length own_stash ∙ waits)
+
+-- nobody has anything left where none of the workers that there are has
+pub nobody : (scripts : List (List Request)) (stashes : List StashState) (first i : ℕ) → length scripts ≤ i → length stashes ≡ length scripts →
+    ((w : ℕ) → w < i → (length (script_of scripts w) ≤ first) × (length (waiting_in stashes w) ≡ 0)) →
+    (w : ℕ) → (length (script_of scripts w) ≤ first) × (length (waiting_in stashes w) ≡ 0)
+nobody scripts stashes first i all same none w = go (cases_lt w i)
+  where
+    go : (w < i) ⊎ (i ≤ w) → (length (script_of scripts w) ≤ first) × (length (waiting_in stashes w) ≡ 0)
+    go (inl before) = none w before
+    go (inr past) =
+        let e : length (script_of scripts w) ≡ 0 = ap length (past_end scripts w (omega arith)) in
+        (omega arith, ap length (past_stashes stashes w (omega (arith, same, all, past))))
+
+-- whether a worker's rows and script are short, by their counts
+module _ (rows : Book) (scripts : List (Vec Request Global)) (i count : ℕ) (script : Vec Request Global)
+    (within : i < length scripts) (script_is : script ≡ get_or scripts i script) (counted : count ≡ rows_by rows i) (few : count ≤ 1000000) where
+  pub is_short : length script.items ≤ 1000000 - count → rows_by rows i + length (script_of (lists scripts) i) ≤ 1000000
+  is_short less =
+      let own : script_of (lists scripts) i ≡ script.items = script_at scripts i script within ∙ ap (λ (v : Vec Request Global). v.items) (sym script_is) in
+      let e : length (script_of (lists scripts) i) ≡ length script.items = ap length own in omega (arith, e, counted, few, less)
+
+  pub is_long : 1000000 - count < length script.items → AreShort rows (lists scripts) → ⊥
+  is_long more short =
+      let own : script_of (lists scripts) i ≡ script.items = script_at scripts i script within ∙ ap (λ (v : Vec Request Global). v.items) (sym script_is) in
+      let e : length (script_of (lists scripts) i) ≡ length script.items = ap length own in
+      let least = short i (omega (arith, within, lists_length scripts)) in omega (arith, e, counted, few, more, least)

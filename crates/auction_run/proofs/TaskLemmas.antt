@@ -1,0 +1,125 @@
+-- The tasks of workers, one after the other.
+use Rattle.std.specs.declared.alloc.Global.{Global}
+use Rattle.std.proofs.Common.{Vec, ◌≡◌, ℕ, zero, suc, ◌+◌, ◌<◌, ◌≤◌, List, [], ◌∷◌, ◌++◌, map, length, take, drop, get_or, refl, sym, ap, subst, ◌∙◌, append_assoc, arith}
+use Rattle.std.specs.Prelude.{OnOk, slice_index, Some, Err}
+use Rattle.std.specs.List.{AllByRecursion, AllZip}
+use Rattle.std.proofs.lemmas.List.{map-append, length-map}
+use Rattle.auction_rows.specs.declared.requests.Request.{Request}
+use Rattle.phase_transactions.specs.declared.fault.PermitFault.{PermitFault}
+use Rattle.phase_transactions.specs.Permits.{PermitState}
+use Rattle.run_serving.specs.Serving.{script_of}
+use Rattle.auction_run.specs.declared.serving.Served.{Served}
+use Rattle.auction_run.specs.Phases.{lists}
+use Rattle.auction_run.specs.Tasks.{Task, task, tasks, without_fault, fault_or, first_fault}
+
+-- the next of the scripts that are left
+pub next_script : (scripts : List (Vec Request Global)) (n m : ℕ) (script : Vec Request Global) → n < length scripts → script ≡ get_or scripts n script → m ≡ n + 1 →
+    drop n (lists scripts) ≡ script.items ∷ drop m (lists scripts)
+next_script [] n m script less is one = absurd (omega (arith, less))
+next_script (x ∷ xs) zero m script less is one =
+    let e : 1 ≡ m = omega (arith, one) in
+    ap (λ (v : Vec Request Global). v.items ∷ lists xs) (sym is) ∙ ap (λ k. script.items ∷ drop k (lists (x ∷ xs))) e
+next_script (x ∷ xs) (suc n) m script less is one =
+    let e : suc (n + 1) ≡ m = omega (arith, one) in
+    next_script xs n (n + 1) script (omega (arith, less)) is refl ∙ ap (λ k. script.items ∷ drop k (lists (x ∷ xs))) e
+
+pub next_task : {P : Type 0} (shows : P → PermitState) (first : ℕ) (left next : List P) (permit : P) (rest after : List (List Request)) (script : List Request) →
+    left ≡ permit ∷ next → rest ≡ script ∷ after → tasks (map shows left) rest first ≡ task (shows permit) script first ∷ tasks (map shows next) after first
+next_task shows first left next permit rest after script is are =
+    ap (λ ps. tasks (map shows ps) rest first) is ∙ ap (λ ss. tasks (map shows (permit ∷ next)) ss first) are
+
+all_more : {D : Type 0} (P : D → Type 0) (ds : List D) (d : D) → AllByRecursion P ds → P d → AllByRecursion P (ds ++ d ∷ [])
+all_more P [] d all more = (more, tt)
+all_more P (x ∷ ds) d all more = (all.0, all_more P ds d all.1 more)
+
+-- one duty more is made
+pub duty_more : {D : Type 0} (Can : Task → Type 0) (CanDo : D → Type 0) (of : D → Task) (duties now : List D) (duty : D) (rest next all : List Task) (t : Task) →
+    now ≡ duties ++ duty ∷ [] → of duty ≡ t → rest ≡ t ∷ next → (Can t → CanDo duty) →
+    AllByRecursion Can rest → AllByRecursion CanDo duties → map of duties ++ rest ≡ all →
+    AllByRecursion Can next × AllByRecursion CanDo now × (map of now ++ next ≡ all)
+duty_more Can CanDo of duties now duty rest next all t push is more can left made whole =
+    let split : AllByRecursion Can (t ∷ next) = subst (AllByRecursion Can) more left in (
+      split.1,
+      subst (AllByRecursion CanDo) (sym push) (all_more CanDo duties duty made (can split.0)),
+      ap (λ ds. map of ds ++ next) push
+          ∙ ap (λ ts. ts ++ next) (map-append of duties (duty ∷ []))
+          ∙ append_assoc (map of duties) (of duty ∷ []) next
+          ∙ ap (λ u. map of duties ++ u ∷ next) is
+          ∙ ap (λ ts. map of duties ++ ts) (sym more)
+          ∙ whole,
+    )
+
+done_by : {D T : Type 0} (of : D → Task) (left : T → PermitState) (IsDone : Task → PermitState → Type 0) (duties : List D) (receipts : List T) →
+    AllZip (λ duty (s : Served T). OnOk s.done (IsDone (of duty) (left s.receipt))) duties (map without_fault receipts) →
+    AllZip IsDone (map of duties) (map left receipts)
+done_by of left IsDone [] [] kept = tt
+done_by of left IsDone [] (r ∷ rs) kept = absurd kept
+done_by of left IsDone (d ∷ ds) [] kept = absurd kept
+done_by of left IsDone (d ∷ ds) (r ∷ rs) kept = (kept.0, done_by of left IsDone ds rs kept.1)
+
+-- where no worker met a fault, all tasks are done
+pub all_done : {D T : Type 0} (of : D → Task) (left : T → PermitState) (IsDone : Task → PermitState → Type 0) (duties : List D) (served : List (Served T)) (receipts : List T) (ts : List Task) →
+    AllZip (λ duty s. OnOk s.done (IsDone (of duty) (left s.receipt))) duties served → served ≡ map without_fault receipts → map of duties ≡ ts →
+    AllZip IsDone ts (map left receipts)
+all_done of left IsDone duties served receipts ts kept none are =
+    subst (λ us. AllZip IsDone us (map left receipts)) are
+    (done_by of left IsDone duties receipts (subst (AllZip (λ duty s. OnOk s.done (IsDone (of duty) (left s.receipt))) duties) none kept))
+
+pub zip_length : {A B : Type 0} (R : A → B → Type 0) (xs : List A) (ys : List B) → AllZip R xs ys → length ys ≡ length xs
+zip_length R [] [] all = refl
+zip_length R [] (y ∷ ys) all = absurd all
+zip_length R (x ∷ xs) [] all = absurd all
+zip_length R (x ∷ xs) (y ∷ ys) all = ap suc (zip_length R xs ys all.1)
+
+tasks_few : (permits : List PermitState) (scripts : List (List Request)) (first : ℕ) → length (tasks permits scripts first) ≤ length scripts
+tasks_few [] scripts first = omega arith
+tasks_few (p ∷ ps) [] first = omega arith
+tasks_few (p ∷ ps) (s ∷ ss) first = let again = tasks_few ps ss first in omega (arith, again)
+
+-- there are no more duties than scripts
+pub duties_few : {D : Type 0} (of : D → Task) (duties : List D) (permits : List PermitState) (scripts : List (Vec Request Global)) (first : ℕ) →
+    map of duties ≡ tasks permits (lists scripts) first → length duties ≤ length scripts
+duties_few of duties permits scripts first are =
+    let mapped : length (map of duties) ≡ length duties = simp length-map in
+    let of_lists : length (lists scripts) ≡ length scripts = simp length-map in
+    let few = tasks_few permits (lists scripts) first in
+    let same : length (map of duties) ≡ length (tasks permits (lists scripts) first) = ap length are in
+    omega (arith, mapped, of_lists, few, same)
+
+-- ---- quotas
+
+take_next : (scripts : List (Vec Request Global)) (n : ℕ) (script : Vec Request Global) → n < length scripts → script ≡ get_or scripts n script →
+    take (n + 1) (lists scripts) ≡ take n (lists scripts) ++ script.items ∷ []
+take_next [] n script less is = absurd (omega (arith, less))
+take_next (x ∷ xs) zero script less is = ap (λ (v : Vec Request Global). v.items ∷ []) (sym is)
+take_next (x ∷ xs) (suc n) script less is =
+    let e : suc n + 1 ≡ suc (n + 1) = omega arith in
+    ap (λ m. take m (lists (x ∷ xs))) e ∙ ap (λ ys. x.items ∷ ys) (take_next xs n script (omega (arith, less)) is)
+
+-- one script more has its quota
+pub quotas_more : (f : List Request → ℕ) (scripts : List (Vec Request Global)) (n : ℕ) (script : Vec Request Global) (old now : List ℕ) (quota : ℕ) →
+    n < length scripts → script ≡ get_or scripts n script → now ≡ old ++ quota ∷ [] → quota ≡ f script.items →
+    old ≡ map f (take n (lists scripts)) → now ≡ map f (take (n + 1) (lists scripts))
+quotas_more f scripts n script old now quota less is push value was =
+    push ∙ ap (λ qs. qs ++ quota ∷ []) was ∙ ap (λ q. map f (take n (lists scripts)) ++ q ∷ []) value
+    ∙ sym (map-append f (take n (lists scripts)) (script.items ∷ [])) ∙ ap (map f) (sym (take_next scripts n script less is))
+
+pub quota_at : (f : List Request → ℕ) (scripts : List (List Request)) (n w : ℕ) → length scripts ≤ n → w < length scripts →
+    slice_index (map f (take n scripts)) w ≡ f (script_of scripts w)
+quota_at f [] n w all less = absurd (omega (arith, less))
+quota_at f (s ∷ ss) zero w all less = absurd (omega (arith, all))
+quota_at f (s ∷ ss) (suc n) zero all less = refl
+quota_at f (s ∷ ss) (suc n) (suc w) all less = quota_at f ss n w (omega (arith, all)) (omega (arith, less))
+
+-- ---- faults
+
+fault_at : {T : Type 0} (receipts : List T) (each : Served T) (next : List (Served T)) (fault : PermitFault) → each.done ≡ Err fault →
+    first_fault (map without_fault receipts ++ each ∷ next) ≡ Some fault
+fault_at [] each next fault is = ap (λ done. fault_or done (first_fault next)) is
+fault_at (r ∷ rs) each next fault is = fault_at rs each next fault is
+
+-- where the workers before met no fault, this one's is the first
+pub fault_first : {T : Type 0} (receipts : List T) (each : Served T) (left next all : List (Served T)) (fault : PermitFault) →
+    each.done ≡ Err fault → left ≡ each ∷ next → map without_fault receipts ++ left ≡ all → first_fault all ≡ Some fault
+fault_first receipts each left next all fault is here whole =
+    ap first_fault (sym whole) ∙ ap (λ es. first_fault (map without_fault receipts ++ es)) here ∙ fault_at receipts each next fault is

@@ -1,0 +1,12 @@
+use Rattle.std.proofs.Common.{◌<◌, ◌∙◌, sym, ap, subst, refl}
+use Rattle.item_shards.specs.OpeningBooks.{opening_of, rows_of}
+use Rattle.auction_run.proofs.RunLemmas.{begun}
+use Rattle.auction_run.proofs.running.begin.Goals as goal
+
+pub returns : goal.returns
+returns c = record {
+  running = λ scripts same. begun (opening_of c.args.book.now) (rows_of c.args.book.now) c.args.policy scripts _
+      c.in_ok-state.ensures.phase c.in_ok-state.ensures.opening c.in_ok-state.ensures.stands c.in_ok-state.ensures.shards (c.in_ok-state.ensures.workers ∙ sym same)
+      (λ w known. ap (λ counters. counters.commits) (c.in_ok-state.ensures.counters w (subst (λ n. w < n) same known)))
+      c.new.ensures.items c.new-2.ensures.items (c.in_ok-no_stashes.ensures.len ∙ sym same) c.in_ok-no_stashes.ensures.empty refl refl;
+}

@@ -1,0 +1,33 @@
+use Rattle.std.proofs.Common.{◌≡◌, ◌+◌, ◌<◌, ◌++◌, ◌∷◌, [], ℕ, not, List, take, subst, arith}
+use Rattle.std.specs.List.{filter}
+use Rattle.auction_rows.specs.declared.ids.Object.{Object}
+use Rattle.auction_rows.specs.declared.requests.Request.{Request}
+use Rattle.auction_rows.specs.Phases.{is_put_off}
+use Rattle.phase_transactions.specs.Permits.{PermitState}
+use Rattle.run_laws.proofs.QuotaLemmas.{next_call}
+use Rattle.auction_run.specs.Working.{calls_from, committed, stashed, hot_for}
+use Rattle.auction_run.proofs.WorkLemmas.{same_after, kept_more}
+use Rattle.auction_run.proofs.worker.perform_split.Goals as goal
+
+pub loop-place-preserved : goal.loop-place-preserved
+loop-place-preserved g c =
+    let was = c.loop-place.invariant in
+    let step = c.in_ok-deal_with_next.ensures in
+    let old : PermitState = c.args.permit.now in
+    let mid : PermitState = c.loop-place.permit in
+    let new : PermitState = c.deal_with_next.new.permit in
+    let first : ℕ = c.args.first in
+    let k : ℕ = c.loop-place.place in
+    let request : Request = c.index-script-index.result in
+    let calls : List (ℕ × Request) = calls_from c.args.first c.args.permit.now.split.desk.left c.args.script.now in
+    let less : c.loop-place.place < c.args.permit.now.split.desk.left = omega (arith, c.loop-place-test.true, c.left-place-end.ensures) in
+    let next : take (k + 1) calls ≡ take k calls ++ (first + k, request) ∷ [] =
+    next_call first old.split.desk.left k c.args.script.now request less c.requires.given c.index-script-index.is in (
+      same_after old mid new was.0 step.same,
+      kept_more (λ call. not (is_put_off (hot_for old) call.1)) (committed mid) (take k calls) (committed new) (committed old) (take (k + 1) calls) (first + k, request)
+          (subst (λ (hot : List Object). committed new ≡ committed mid ++ filter (λ (call : ℕ × Request). not (is_put_off hot call.1)) ((first + k, request) ∷ [])) was.0.hot step.calls) was.1 next,
+      kept_more (λ call. is_put_off (hot_for old) call.1) (stashed mid) (take k calls) (stashed new) (stashed old) (take (k + 1) calls) (first + k, request)
+          (subst (λ (hot : List Object). stashed new ≡ stashed mid ++ filter (λ (call : ℕ × Request). is_put_off hot call.1) ((first + k, request) ∷ [])) was.0.hot step.stash) was.2 next,
+      omega (arith, step.left, was.3, less),
+      omega (arith, step.tries, was.4),
+    )

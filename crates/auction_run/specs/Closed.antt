@@ -1,0 +1,29 @@
+-- What a phase of a run leaves.
+use Rattle.std.specs.Prelude.{◌≡◌, ℕ, suc, ◌+◌, ◌<◌, List, length}
+use Rattle.auction_rows.specs.declared.ids.Object.{Object}
+use Rattle.auction_rows.specs.declared.requests.Request.{Request}
+use Rattle.auction_rows.specs.Phases.{IsNumbered}
+use Rattle.phase_desks.specs.Stashes.{StashState}
+use Rattle.phase_closing.specs.Standing.{counters_at}
+use Rattle.phase_floor.specs.States.{JoinedState, StandsFor}
+use Rattle.run_serving.specs.declared.policy.Policy.{Policy}
+use Rattle.run_serving.specs.Books.{ReplaysOn}
+use Rattle.run_serving.specs.Run.{HasPerformed, calls_of}
+use Rattle.auction_run.specs.declared.phase.Closed.{Closed}
+use Rattle.auction_run.specs.Phases.{waiting_in}
+
+-- The next phase of a state was performed, with these stashes and hot objects, and has closed.
+pub record HasClosedPhase (policy : Policy) (scripts : List (List Request)) (state : JoinedState) (stashes : List StashState)
+    (hot : List Object) (closed : Closed) : Type 0 where
+  pub performed : HasPerformed policy scripts state.phase hot (waiting_in stashes) (waiting_in closed.stashes.items) closed.entries.items
+  pub numbered : IsNumbered state.opening policy.shards hot closed.entries.items
+  pub replays : ReplaysOn state.opening closed.entries.items (StandsFor state) (StandsFor closed.state)
+  pub phase_is : closed.state.phase ≡ suc state.phase
+  pub opening_is : closed.state.opening ≡ state.opening
+  pub shards_are : length closed.state.shards ≡ length state.shards
+  pub workers_are : length closed.state.counters ≡ length state.counters
+  pub stashes_are : length closed.stashes.items ≡ length state.counters
+  -- each worker committed as much more as it has entries
+  pub commits : (worker : ℕ) → worker < length state.counters →
+      (counters_at closed.state.counters worker).commits
+      ≡ (counters_at state.counters worker).commits + length (calls_of worker closed.entries.items)

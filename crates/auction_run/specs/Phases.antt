@@ -1,0 +1,65 @@
+-- What a phase of a run begins with, and the faults that it meets.
+use Rattle.std.specs.declared.alloc.Global.{Global}
+use Rattle.std.specs.Prelude.{ℕ, ◌≡◌, ◌+◌, ◌<◌, ◌≤◌, ◌^◌, min, false, List, [], map, length, Vec, ⊤}
+use Rattle.std.specs.HashSet.{HashSet}
+use Rattle.auction_rows.specs.declared.ids.Object.{Object}
+use Rattle.auction_rows.specs.declared.requests.Request.{Request}
+use Rattle.phase_desks.specs.Stashes.{StashState}
+use Rattle.phase_closing.specs.Standing.{counters_at}
+use Rattle.phase_floor.specs.Floors.{stash_at}
+use Rattle.phase_floor.specs.States.{JoinedState, states_of, DoAllExist}
+use Rattle.run_laws.specs.Phases.{is_split, quota}
+use Rattle.run_serving.specs.declared.policy.Policy.{Policy}
+use Rattle.run_serving.specs.Run.{first_index}
+use Rattle.run_serving.specs.Serving.{script_of}
+use Rattle.auction_run.specs.declared.fault.RunFault.{RunFault}
+use Rattle.auction_run.specs.declared.fault.RunFault.TheVariants.{Workers, Shards, Quota, TooLong, Spawn, Memory, NumberFull}
+
+-- the lists in a list of vectors
+abbrev pub lists : {X : Type 0} → List (Vec X Global) → List (List X)
+lists vectors = map (λ v. v.items) vectors
+
+-- the objects of each hot set, in its order
+abbrev pub hot_sets : {S : Type 0} → List (HashSet Object S) → List (List Object)
+hot_sets sets = map (λ set. set.keys) sets
+
+-- the calls that wait in a worker's stash
+abbrev pub waiting_in : List StashState → ℕ → List (ℕ × Request)
+waiting_in stashes worker = (stash_at stashes worker).requests
+
+-- how many requests of its script a phase gives a worker
+abbrev pub quota_of : Policy → ℕ → List Request → ℕ
+quota_of policy phase script = quota policy.joined_quota policy.split_quota phase (length script)
+
+-- no script is so long
+abbrev pub past_scripts : ℕ
+past_scripts = 2 ^ 40
+
+-- A run may perform the next phase of a state.
+pub record MayPerform (policy : Policy) (scripts : List (List Request)) (state : JoinedState) (stashes : List StashState)
+    (hot : List Object) (first : ℕ) : Type 0 where
+  pub counted : state.phase + 1 < 2 ^ 64
+  -- there are a script and a stash for each worker, and the policy's shards
+  pub scripts_are : length scripts ≡ length state.counters
+  pub stashes_are : length stashes ≡ length state.counters
+  pub shards_are : length state.shards ≡ policy.shards
+  pub short : (worker : ℕ) → length (script_of scripts worker) ≤ 1000000
+  -- what a worker committed, what waits and its quota are no more than 1,000,000
+  pub room : (worker : ℕ) → worker < length state.counters →
+      (counters_at state.counters worker).commits + length (waiting_in stashes worker)
+      + quota_of policy state.phase (script_of scripts worker) ≤ 1000000
+  -- nothing is hot in a joined phase, and what is hot in a split one is there
+  pub joined : is_split state.phase ≡ false → hot ≡ []
+  pub exist : DoAllExist state.opening (states_of state) hot
+  -- the first index that reaches the phase, up to a bound that no script has
+  pub first_is : first ≡ min (first_index policy state.phase) past_scripts
+
+-- a fault that workers and floors meet, and none of those that are found before a run begins
+abbrev pub IsMet : RunFault → Type 0
+IsMet Workers = ⊥
+IsMet Shards = ⊥
+IsMet Quota = ⊥
+IsMet TooLong = ⊥
+IsMet Spawn = ⊤
+IsMet Memory = ⊤
+IsMet NumberFull = ⊤

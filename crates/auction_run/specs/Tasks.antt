@@ -1,0 +1,72 @@
+-- What the workers of a phase have to do, and what they have done.
+use Rattle.std.specs.Prelude.{◌≡◌, ℕ, ◌+◌, ◌-◌, ◌≤◌, not, List, [], ◌∷◌, ◌++◌, length, Result, Ok, Err, Option, Some, None}
+use Rattle.std.specs.List.{filter}
+use Rattle.auction_rows.specs.declared.requests.Request.{Request}
+use Rattle.auction_rows.specs.Phases.{is_put_off}
+use Rattle.shard_boxes.specs.Keys.{BoxId}
+use Rattle.shard_boxes.specs.States.{ShardState}
+use Rattle.phase_transactions.specs.declared.fault.PermitFault.{PermitFault}
+use Rattle.phase_transactions.specs.declared.fault.PermitFault.TheVariants as permit
+use Rattle.phase_transactions.specs.Permits.{PermitState}
+use Rattle.phase_transactions.specs.Single.{HaveOpening}
+use Rattle.auction_run.specs.declared.fault.RunFault.{RunFault}
+use Rattle.auction_run.specs.declared.fault.RunFault.TheVariants as run
+use Rattle.auction_run.specs.declared.serving.Served.{Served}
+use Rattle.auction_run.specs.Working.{calls_from, committed, stashed, hot_for, IsSamePermit}
+
+-- a worker's permit as the phase begins, its script, and the index from which on it is given requests
+pub record Task : Type 0 where
+  pub permit : PermitState
+  pub script : List Request
+  pub first : ℕ
+
+abbrev pub task : PermitState → List Request → ℕ → Task
+task permit script first = record { permit = permit; script = script; first = first }
+
+-- each worker's task, in order
+abbrev pub tasks : List PermitState → List (List Request) → ℕ → List Task
+tasks [] scripts first = []
+tasks (permit ∷ permits) [] first = []
+tasks (permit ∷ permits) (script ∷ scripts) first = task permit script first ∷ tasks permits scripts first
+
+-- the calls that the worker is given
+abbrev pub calls_for : Task → List (ℕ × Request)
+calls_for t = calls_from t.first t.permit.split.desk.left t.script
+
+-- it can be done in a phase that began with these shards, with these boxes
+pub record CanBeDone (opening : List ShardState) (boxes : List BoxId) (t : Task) : Type 0 where
+  pub boxes_are : t.permit.key.boxes ≡ boxes
+  pub opening_is : HaveOpening opening t.permit.split.desk.opening
+  pub short : length t.script ≤ 1000000
+  pub given : t.permit.split.desk.left ≤ length t.script - t.first
+  pub tries : t.permit.split.desk.tries + length (stashed t.permit) + t.permit.split.desk.left ≤ 1000000000
+
+-- it was done in a joined phase: what waited is committed, and then what was given
+pub record IsDoneJoined (t : Task) (receipt : PermitState) : Type 0 where
+  pub same : IsSamePermit t.permit receipt
+  pub calls : committed receipt ≡ committed t.permit ++ (stashed t.permit ++ calls_for t)
+  pub stash : stashed receipt ≡ []
+
+-- it was done in a split phase: what was given is committed, but for what is put off
+pub record IsDoneSplit (t : Task) (receipt : PermitState) : Type 0 where
+  pub same : IsSamePermit t.permit receipt
+  pub calls : committed receipt ≡ committed t.permit ++ filter (λ call. not (is_put_off (hot_for t.permit) call.1)) (calls_for t)
+  pub stash : stashed receipt ≡ stashed t.permit ++ filter (λ call. is_put_off (hot_for t.permit) call.1) (calls_for t)
+
+-- what a worker gives that met no fault
+abbrev pub without_fault : {T : Type 0} → T → Served T
+without_fault receipt = record { receipt = receipt; done = Ok tt }
+
+-- the fault of the least worker that met one
+abbrev pub fault_or : {T : Type 0} → Result T PermitFault → Option PermitFault → Option PermitFault
+fault_or (Ok done) later = later
+fault_or (Err fault) later = Some fault
+
+abbrev pub first_fault : {T : Type 0} → List (Served T) → Option PermitFault
+first_fault [] = None
+first_fault (served ∷ more) = fault_or served.done (first_fault more)
+
+-- what a run answers where a worker met a fault
+abbrev pub met : PermitFault → RunFault
+met permit.Memory = run.Memory
+met permit.NumberFull = run.NumberFull

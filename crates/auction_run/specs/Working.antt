@@ -1,0 +1,42 @@
+-- What a worker does in a phase: which calls its permit has committed, and which wait.
+use Rattle.std.specs.Prelude.{ℕ, ◌≡◌, List, map, take, drop}
+use Rattle.std.specs.List.{AllByRecursion}
+use Rattle.auction_rows.specs.declared.ids.Object.{Object}
+use Rattle.auction_rows.specs.declared.requests.Request.{Request}
+use Rattle.phase_desks.specs.Slicing.{objects_of, stocks_of}
+use Rattle.phase_transactions.specs.Permits.{PermitState}
+use Rattle.run_laws.specs.Turns.{numbered}
+use Rattle.run_serving.specs.Serving.{call_of}
+
+-- so many calls of a script, from an index on
+abbrev pub calls_from : ℕ → ℕ → List Request → List (ℕ × Request)
+calls_from first count script = take count (drop first (numbered 0 script))
+
+-- the calls that a permit has committed
+abbrev pub committed : PermitState → List (ℕ × Request)
+committed permit = map call_of permit.split.desk.journal.entries
+
+-- the calls that wait in its stash
+abbrev pub stashed : PermitState → List (ℕ × Request)
+stashed permit = permit.split.desk.stash.requests
+
+-- the objects that are hot for it
+abbrev pub hot_for : PermitState → List Object
+hot_for permit = objects_of permit.split.slices
+
+-- its entries are of its journal's phase
+abbrev pub AreOfPhase : PermitState → Type 0
+AreOfPhase permit = AllByRecursion (λ e. e.phase ≡ permit.split.desk.journal.phase) permit.split.desk.journal.entries
+
+-- What a permit is of (boxes, worker, phase, users and categories, hot objects) is unchanged, and entries that are added are of
+-- its phase.
+pub record IsSamePermit (old new : PermitState) : Type 0 where
+  pub boxes : new.key.boxes ≡ old.key.boxes
+  pub worker : new.key.worker ≡ old.key.worker
+  pub opening : new.split.desk.opening ≡ old.split.desk.opening
+  pub begun : new.split.desk.begun ≡ old.split.desk.begun
+  pub phase : new.split.desk.journal.phase ≡ old.split.desk.journal.phase
+  pub writer : new.split.desk.journal.worker ≡ old.split.desk.journal.worker
+  pub hot : hot_for new ≡ hot_for old
+  pub stocks : stocks_of new.split.slices ≡ stocks_of old.split.slices
+  pub own : AreOfPhase old → AreOfPhase new

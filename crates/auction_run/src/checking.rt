@@ -1,0 +1,104 @@
+//! What is checked before a run begins.
+ghost use Rattle.std.specs.Prelude.{◌≡◌, ◌↔◌, ◌<◌, ◌≤◌, ℕ, length, slice_index, IsTrue};
+ghost use Rattle.item_shards.specs.Counting.{worker_of};
+ghost use Rattle.item_shards.specs.OpeningBooks.{rows_of};
+ghost use Rattle.item_shards.specs.OpeningRows.{rows_by};
+ghost use Rattle.auction_run.specs.Beginning.{HaveWorkers, HasShards, HasQuotas, AreShort, IsFirstToFail};
+ghost use Rattle.auction_run.specs.Phases.{lists};
+
+use crate::fault::RunFault;
+use auction_rows::{Request, Row};
+use item_shards::OpeningBook;
+use run_serving::Policy;
+
+/// Checks what a run is handed: the fault is that of the first that doesn't hold.
+pub(crate) fn check(
+    book: &OpeningBook,
+    scripts: &[Vec<Request>],
+    policy: Policy,
+) -> Result<(), RunFault>
+    ensures { IsFirstToFail result (HaveWorkers (rows_of book.now) (lists scripts.now)) (HasShards policy) (HasQuotas policy)
+        (AreShort (rows_of book.now) (lists scripts.now)) }
+{
+    if !have_workers(book.rows(), scripts) {
+        return Err(RunFault::Workers);
+    }
+    if !has_shards(policy) {
+        return Err(RunFault::Shards);
+    }
+    if !has_quotas(policy) {
+        return Err(RunFault::Quota);
+    }
+    if !are_short(book, scripts) {
+        return Err(RunFault::TooLong);
+    }
+    Ok(())
+}
+
+// Whether there are 1 to 16 scripts, and each row is of a worker that has one.
+fn have_workers(rows: &[Row], scripts: &[Vec<Request>]) -> bool
+    ensures { IsTrue result ↔ HaveWorkers rows.now (lists scripts.now) }
+{
+    let workers = scripts.len();
+    if workers == 0 || workers > 16 {
+        return false;
+    }
+    rows.iter().all(|row| (worker_of(row) as usize) < workers)
+}
+
+// Whether there are 1 to 64 shards.
+fn has_shards(policy: Policy) -> bool
+    ensures { IsTrue result ↔ HasShards policy }
+{
+    policy.shards > 0 && policy.shards <= 64
+}
+
+// Whether neither quota is 0, nor is the threshold, and at most 64 objects may be hot.
+fn has_quotas(policy: Policy) -> bool
+    ensures { IsTrue result ↔ HasQuotas policy }
+{
+    policy.joined_quota > 0
+        && policy.split_quota > 0
+        && policy.threshold > 0
+        && policy.hot_max <= 64
+}
+
+// Whether no worker's rows and script have more than 1,000,000 together.
+fn are_short(book: &OpeningBook, scripts: &[Vec<Request>]) -> bool
+    requires { length scripts.now ≤ 16 }
+    ensures { IsTrue result ↔ AreShort (rows_of book.now) (lists scripts.now) }
+{
+    let counts = rows_by_each(book.rows());
+    for worker in 0..scripts.len() {
+        if scripts[worker].len() > 1_000_000 - counts[worker] {
+            return false;
+        }
+    }
+    true
+}
+
+// How many rows are of each worker below 16.
+fn rows_by_each(rows: &[Row]) -> [usize; 16]
+    ensures { (worker : ℕ) → worker < 16 → slice_index result worker ≡ rows_by rows.now worker }
+{
+    let mut counts = [0; 16];
+    for row in rows {
+        let worker = worker_of(row) as usize;
+        if worker < 16 {
+            counts[worker] += 1;
+        }
+    }
+    counts
+}
+
+// The worker whose store a row is.
+fn worker_of(row: &Row) -> u32
+    ensures { result ≡ worker_of row.now }
+{
+    match row {
+        Row::Item(row) => row.id.worker,
+        Row::Bid(row) => row.id.worker,
+        Row::Comment(row) => row.id.worker,
+        Row::Buy(row) => row.id.worker,
+    }
+}

@@ -1,0 +1,260 @@
+//! A run: its phases, one after the other.
+ghost use Rattle.std.specs.Prelude.{◌≡◌, ◌⊎◌, ◌↔◌, ℕ, suc, ◌<◌, ◌≤◌, ◌+◌, ◌^◌, true, false, List, [], All, length, drop, IfOk, IfErr, IsErrOf, IsTrue};
+ghost use Rattle.auction_rows.specs.Choosing.{choose};
+ghost use Rattle.auction_rows.specs.declared.numbers.Opening.{Opening as Numbers};
+ghost use Rattle.auction_rows.specs.declared.requests.Request.{Request as Asked};
+ghost use Rattle.auction_rows.specs.Book.{Book};
+ghost use Rattle.auction_rows.specs.History.{IsBook, ReplaysFrom, book_after};
+ghost use Rattle.item_shards.specs.Counting.{worker_of};
+ghost use Rattle.item_shards.specs.OpeningBooks.{opening_of, rows_of};
+ghost use Rattle.phase_floor.specs.States.{StandsFor};
+ghost use Rattle.run_laws.specs.Phases.{is_split};
+ghost use Rattle.run_serving.specs.Run.{HasLeft, HasClosed};
+ghost use Rattle.run_serving.specs.Serving.{script_of, Serves};
+ghost use Rattle.auction_run.specs.declared.fault.RunFault.TheVariants.{Workers, Shards, Quota, TooLong};
+ghost use Rattle.auction_run.specs.Beginning.{HaveWorkers, HasShards, HasQuotas, AreShort};
+ghost use Rattle.auction_run.specs.Phases.{lists, hot_sets, waiting_in, IsMet};
+ghost use Rattle.auction_run.specs.Running.{IsRunning, CanGoOn};
+
+use crate::checking::check;
+use crate::choosing::choose_hot;
+use crate::fault::RunFault;
+use crate::gate::Gate;
+use crate::phase::{Closed, perform_phase};
+use auction_rows::{Entry, Object, Request};
+use indexmap::IndexSet;
+use item_shards::OpeningBook;
+use phase_floor::Joined;
+use phase_permits::Stash;
+use run_serving::Policy;
+use std::alloc::{AllocError, Global};
+use std::sync::Wait;
+use std::thread::Threads;
+
+// Scripts of at most 1,000,000 requests have fewer phases.
+const MOST_PHASES: u64 = 2_000_003;
+
+/// What a run answers.
+#[derive(Drop)]
+pub struct Outcome {
+    /// All commits, phase by phase, those of a phase by number and then worker.
+    pub history: Vec<Entry>,
+    /// What was hot in each phase, the hottest first: nothing in a joined one.
+    pub hot: Vec<IndexSet<Object>>,
+    /// The auction after the last phase.
+    pub state: Joined,
+}
+
+/// Performs the scripts of 1 to 16 workers in joined and split phases by turns, from an opening book on, each worker on a
+/// thread of its own in each phase. The history serves the scripts, and replays from the book on an auction of one thread.
+/// The first four faults are found first, in their order, exactly for their causes. In a phase `Spawn` goes before the fault
+/// of the least worker, and this before that of the close; a fault gives no part of a history.
+pub fn run<R: Threads + Wait + Sync, G: Gate + Sync>(
+    rt: &R,
+    alloc: Global,
+    book: &OpeningBook,
+    scripts: Vec<Vec<Request>>,
+    policy: Policy,
+    gate: &G,
+) -> Result<Outcome, RunFault>
+    ensures serves { IfOk result (λ outcome.
+        Serves (opening_of book.now) policy (lists scripts.items) (hot_sets outcome.hot.items) outcome.history.items) }
+    ensures hot { IfOk result (λ outcome.
+        HasClosed (opening_of book.now) policy (hot_sets outcome.hot.items) outcome.history.items) }
+    ensures replays { IfOk result (λ outcome. ReplaysFrom (opening_of book.now) (rows_of book.now) outcome.history.items) }
+    ensures stands { IfOk result (λ outcome.
+        StandsFor outcome.state (book_after (opening_of book.now) (rows_of book.now) outcome.history.items)) }
+    ensures opening { IfOk result (λ outcome. outcome.state.opening ≡ opening_of book.now) }
+    ensures phases { IfOk result (λ outcome. outcome.state.phase ≡ length outcome.hot.items) }
+    ensures workers { IsErrOf result Workers ↔ ¬ HaveWorkers (rows_of book.now) (lists scripts.items) }
+    ensures shards { IsErrOf result Shards
+        ↔ (HaveWorkers (rows_of book.now) (lists scripts.items) × ¬ HasShards policy) }
+    ensures quota { IsErrOf result Quota
+        ↔ (HaveWorkers (rows_of book.now) (lists scripts.items) × (HasShards policy × ¬ HasQuotas policy)) }
+    ensures too_long { IsErrOf result TooLong
+        ↔ (HaveWorkers (rows_of book.now) (lists scripts.items) × (HasShards policy × (HasQuotas policy
+        × ¬ AreShort (rows_of book.now) (lists scripts.items)))) }
+{
+    check(book, &scripts, policy)?;
+    run_checked(rt, alloc, book, &scripts, policy, gate)
+}
+
+/// A run between two phases.
+#[derive(Drop)]
+struct Running {
+    state: Joined,
+    history: Vec<Entry>,
+    hot: Vec<IndexSet<Object>>,
+    stashes: Vec<Stash>,
+    // Where the entries of the phase before begin in the history.
+    last: usize,
+    // The first index of the phase, or 2^40 where that is less: no script is so long.
+    first: u64,
+}
+
+// A run of what was checked.
+fn run_checked<R: Threads + Wait + Sync, G: Gate + Sync>(
+    rt: &R,
+    alloc: Global,
+    book: &OpeningBook,
+    scripts: &[Vec<Request>],
+    policy: Policy,
+    gate: &G,
+) -> Result<Outcome, RunFault>
+    requires workers { HaveWorkers (rows_of book.now) (lists scripts.now) }
+    requires shards { HasShards policy }
+    requires quotas { HasQuotas policy }
+    requires short { AreShort (rows_of book.now) (lists scripts.now) }
+    ensures serves { IfOk result (λ outcome.
+        Serves (opening_of book.now) policy (lists scripts.now) (hot_sets outcome.hot.items) outcome.history.items) }
+    ensures hot { IfOk result (λ outcome.
+        HasClosed (opening_of book.now) policy (hot_sets outcome.hot.items) outcome.history.items) }
+    ensures replays { IfOk result (λ outcome. ReplaysFrom (opening_of book.now) (rows_of book.now) outcome.history.items) }
+    ensures stands { IfOk result (λ outcome.
+        StandsFor outcome.state (book_after (opening_of book.now) (rows_of book.now) outcome.history.items)) }
+    ensures opening { IfOk result (λ outcome. outcome.state.opening ≡ opening_of book.now) }
+    ensures phases { IfOk result (λ outcome. outcome.state.phase ≡ length outcome.hot.items) }
+    ensures fault { IfErr result IsMet }
+{
+    let mut running = begin(alloc, book, scripts.len(), policy)?;
+    for _phase in 0..MOST_PHASES {
+        if !is_left(scripts, &running.stashes, running.first) {
+            let Running {
+                state,
+                history,
+                hot,
+                ..
+            } = running;
+            return Ok(Outcome {
+                history,
+                hot,
+                state,
+            });
+        }
+        running = next_phase(rt, alloc, running, scripts, policy, gate)?;
+    }
+    unreachable!()
+}
+
+// A run before its first phase.
+fn begin(
+    alloc: Global,
+    book: &OpeningBook,
+    workers: usize,
+    policy: Policy,
+) -> Result<Running, AllocError>
+    requires workers { (0 < workers) × (workers ≤ 16) }
+    requires own { All (λ row. worker_of row < workers) (rows_of book.now) }
+    requires shards { HasShards policy }
+    ensures running { IfOk result (λ running. (scripts : List (List Asked)) → length scripts ≡ workers →
+        IsRunning (opening_of book.now) (rows_of book.now) policy scripts 0 running) }
+{
+    let state = Joined::resume(alloc, book, workers as u32, policy.shards)?;
+    Ok(Running {
+        state,
+        history: Vec::new(alloc),
+        hot: Vec::new(alloc),
+        stashes: no_stashes(alloc, workers)?,
+        last: 0,
+        first: 0,
+    })
+}
+
+// So many stashes in which nothing waits.
+fn no_stashes(alloc: Global, workers: usize) -> Result<Vec<Stash>, AllocError>
+    ensures len { IfOk result (λ stashes. length stashes.items ≡ workers) }
+    ensures empty { IfOk result (λ stashes. (worker : ℕ) → waiting_in stashes.items worker ≡ []) }
+{
+    let mut stashes = Vec::with_capacity(alloc, workers)?;
+    for _worker in 0..workers {
+        stashes.push(Stash::with_room(alloc, 0)?)?;
+    }
+    Ok(stashes)
+}
+
+// Whether a worker has a request or a stash left.
+fn is_left(scripts: &[Vec<Request>], stashes: &[Stash], first: u64) -> bool
+    requires { length stashes.now ≡ length scripts.now }
+    ensures some { IsTrue result → (worker : ℕ) × ((first < length (script_of (lists scripts.now) worker))
+        ⊎ (0 < length (waiting_in stashes.now worker))) }
+    ensures none { ¬ IsTrue result → (worker : ℕ) → (length (script_of (lists scripts.now) worker) ≤ first)
+        × (length (waiting_in stashes.now worker) ≡ 0) }
+{
+    for worker in 0..scripts.len() {
+        if scripts[worker].len() as u64 > first || !stashes[worker].is_empty() {
+            return true;
+        }
+    }
+    false
+}
+
+// One phase more.
+fn next_phase<R: Threads + Wait + Sync, G: Gate + Sync>(
+    rt: &R,
+    alloc: Global,
+    running: Running,
+    scripts: &[Vec<Request>],
+    policy: Policy,
+    gate: &G,
+) -> Result<Running, RunFault>
+    requires shards { HasShards policy }
+    requires quotas { 0 < policy.joined_quota + policy.split_quota }
+    requires counted { running.state.phase + 1 < 2 ^ 64 }
+    requires running { CanGoOn policy (lists scripts.now) running }
+    requires left { (worker : ℕ) × HasLeft policy (lists scripts.now) running.state.phase (waiting_in running.stashes.items) worker }
+    ensures running { IfOk result (λ next. (opening : Numbers) (rows : Book) → IsBook opening rows →
+        IsRunning opening rows policy (lists scripts.now) running.state.phase running →
+        IsRunning opening rows policy (lists scripts.now) (suc running.state.phase) next) }
+    ensures fault { IfErr result IsMet }
+{
+    let hot_now = next_hot(alloc, &running, policy)?;
+    let Running {
+        state,
+        mut history,
+        mut hot,
+        stashes,
+        first,
+        ..
+    } = running;
+    let quota = if state.phase() % 2 == 0 {
+        policy.joined_quota
+    } else {
+        policy.split_quota
+    };
+    let Closed {
+        state,
+        mut entries,
+        stashes,
+    } = perform_phase(
+        rt, alloc, state, scripts, &hot_now, stashes, policy, first, gate,
+    )?;
+    let last = history.len();
+    history.append(&mut entries)?;
+    hot.push(hot_now)?;
+    Ok(Running {
+        state,
+        history,
+        hot,
+        stashes,
+        last,
+        first: (first + u64::from(quota)).min(1 << 40),
+    })
+}
+
+// The objects that are hot in the next phase.
+fn next_hot(
+    alloc: Global,
+    running: &Running,
+    policy: Policy,
+) -> Result<IndexSet<Object>, AllocError>
+    requires { running.now.last ≤ length running.now.history.items }
+    ensures joined { is_split running.now.state.phase ≡ false → IfOk result (λ hot. hot.keys ≡ []) }
+    ensures split { is_split running.now.state.phase ≡ true → IfOk result (λ hot. hot.keys
+        ≡ choose (drop running.now.last running.now.history.items) policy.threshold policy.hot_max) }
+{
+    if running.state.phase() % 2 == 0 {
+        return Ok(IndexSet::new(alloc));
+    }
+    let entries = &running.history[running.last..];
+    choose_hot(alloc, entries, policy.threshold, policy.hot_max)
+}

@@ -1,0 +1,209 @@
+//! What a worker does in a phase of a run.
+ghost use Rattle.std.specs.Prelude.{◌≡◌, ◌+◌, ◌-◌, ◌≤◌, ◌<◌, ◌++◌, ◌∷◌, [], not, length, OnOk};
+ghost use Rattle.std.specs.List.{filter};
+ghost use Rattle.auction_rows.specs.Phases.{is_put_off};
+ghost use Rattle.phase_transactions.specs.Single.{HaveOpening};
+ghost use Rattle.auction_run.specs.Working.{calls_from, committed, stashed, hot_for, IsSamePermit};
+
+use crate::gate::Gate;
+use auction_rows::Request;
+use phase_permits::{JoinedPermit, PermitFault, SplitPermit};
+use shard_boxes::{Boxes, PhaseName};
+use std::sync::Wait;
+
+/// A worker's place in a phase, as a gate is told of it.
+#[derive(Clone, Copy)]
+pub(crate) struct Post<'a, G> {
+    pub(crate) gate: &'a G,
+    pub(crate) phase: u64,
+    pub(crate) worker: u32,
+}
+
+impl<'a, G: Gate> Post<'a, G> {
+    fn arrive(&self, index: u32) {
+        self.gate.arrive(self.phase, self.worker, index);
+    }
+
+    fn leave(&self, index: u32) {
+        self.gate.leave(self.phase, self.worker, index);
+    }
+}
+
+/// Performs all that a worker does in a joined phase: its stash, and then the permit's quota of the script, from its request
+/// `first` on, in the order of their indexes. After a fault, which is the first, the permit performs nothing more.
+pub(crate) fn perform_joined<N: PhaseName, R: Wait, G: Gate>(
+    rt: &R,
+    boxes: &Boxes<N>,
+    post: &Post<'_, G>,
+    permit: &mut JoinedPermit<N>,
+    script: &[Request],
+    first: usize,
+) -> Result<(), PermitFault>
+    requires of { permit.old.key.boxes ≡ boxes.now }
+    requires opening { HaveOpening N.opening permit.old.split.desk.opening }
+    requires short { length script.now ≤ 1000000 }
+    requires given { permit.old.split.desk.left ≤ length script.now - first }
+    requires tries { permit.old.split.desk.tries + length (stashed permit.old) + permit.old.split.desk.left ≤ 1000000000 }
+    ensures same { OnOk result (IsSamePermit permit.old permit.new) }
+    ensures calls { OnOk result (committed permit.new ≡ committed permit.old
+        ++ (stashed permit.old ++ calls_from first permit.old.split.desk.left script.now)) }
+    ensures stash { OnOk result (stashed permit.new ≡ []) }
+{
+    perform_stash(rt, boxes, post, permit)?;
+    perform_quota(rt, boxes, post, permit, script, first)
+}
+
+// The stash, the request that waits longest first.
+fn perform_stash<N: PhaseName, R: Wait, G: Gate>(
+    rt: &R,
+    boxes: &Boxes<N>,
+    post: &Post<'_, G>,
+    permit: &mut JoinedPermit<N>,
+) -> Result<(), PermitFault>
+    requires of { permit.old.key.boxes ≡ boxes.now }
+    requires opening { HaveOpening N.opening permit.old.split.desk.opening }
+    requires tries { permit.old.split.desk.tries + length (stashed permit.old) ≤ 1000000000 }
+    ensures same { OnOk result (IsSamePermit permit.old permit.new) }
+    ensures calls { OnOk result (committed permit.new ≡ committed permit.old ++ stashed permit.old) }
+    ensures stash { OnOk result (stashed permit.new ≡ []) }
+    ensures left { OnOk result (permit.new.split.desk.left ≡ permit.old.split.desk.left) }
+    ensures tries { OnOk result (permit.new.split.desk.tries ≤ permit.old.split.desk.tries + length (stashed permit.old)) }
+{
+    for _call in 0..permit.stashed() {
+        perform_first(rt, boxes, post, permit)?;
+    }
+    Ok(())
+}
+
+// The stashed request that waits longest, if any.
+fn perform_first<N: PhaseName, R: Wait, G: Gate>(
+    rt: &R,
+    boxes: &Boxes<N>,
+    post: &Post<'_, G>,
+    permit: &mut JoinedPermit<N>,
+) -> Result<(), PermitFault>
+    requires of { permit.old.key.boxes ≡ boxes.now }
+    requires opening { HaveOpening N.opening permit.old.split.desk.opening }
+    requires tries { permit.old.split.desk.tries < 1000000000 }
+    ensures same { OnOk result (IsSamePermit permit.old permit.new) }
+    ensures calls { OnOk result (committed permit.new ++ stashed permit.new ≡ committed permit.old ++ stashed permit.old) }
+    ensures fewer { OnOk result (length (stashed permit.new) ≡ length (stashed permit.old) - 1) }
+    ensures left { OnOk result (permit.new.split.desk.left ≡ permit.old.split.desk.left) }
+    ensures tries { OnOk result (permit.new.split.desk.tries ≤ permit.old.split.desk.tries + 1) }
+{
+    let Some((index, _request)) = permit.first_stashed() else {
+        return Ok(());
+    };
+    post.arrive(index);
+    let answer = permit.perform_stashed(rt, boxes);
+    post.leave(index);
+    answer?;
+    Ok(())
+}
+
+// The quota, in the order of the script.
+fn perform_quota<N: PhaseName, R: Wait, G: Gate>(
+    rt: &R,
+    boxes: &Boxes<N>,
+    post: &Post<'_, G>,
+    permit: &mut JoinedPermit<N>,
+    script: &[Request],
+    first: usize,
+) -> Result<(), PermitFault>
+    requires of { permit.old.key.boxes ≡ boxes.now }
+    requires opening { HaveOpening N.opening permit.old.split.desk.opening }
+    requires short { length script.now ≤ 1000000 }
+    requires given { permit.old.split.desk.left ≤ length script.now - first }
+    requires tries { permit.old.split.desk.tries + permit.old.split.desk.left ≤ 1000000000 }
+    ensures same { OnOk result (IsSamePermit permit.old permit.new) }
+    ensures calls { OnOk result (committed permit.new ≡ committed permit.old ++ calls_from first permit.old.split.desk.left script.now) }
+    ensures stash { OnOk result (stashed permit.new ≡ stashed permit.old) }
+{
+    for place in 0..permit.left() {
+        let index = first + place as usize;
+        perform_next(rt, boxes, post, permit, &script[index], index as u32)?;
+    }
+    Ok(())
+}
+
+// A request of the quota.
+fn perform_next<N: PhaseName, R: Wait, G: Gate>(
+    rt: &R,
+    boxes: &Boxes<N>,
+    post: &Post<'_, G>,
+    permit: &mut JoinedPermit<N>,
+    request: &Request,
+    index: u32,
+) -> Result<(), PermitFault>
+    requires of { permit.old.key.boxes ≡ boxes.now }
+    requires opening { HaveOpening N.opening permit.old.split.desk.opening }
+    requires left { 0 < permit.old.split.desk.left }
+    requires tries { permit.old.split.desk.tries < 1000000000 }
+    ensures same { OnOk result (IsSamePermit permit.old permit.new) }
+    ensures calls { OnOk result (committed permit.new ≡ committed permit.old ++ (index, request.now) ∷ []) }
+    ensures stash { OnOk result (stashed permit.new ≡ stashed permit.old) }
+    ensures left { OnOk result (permit.new.split.desk.left ≡ permit.old.split.desk.left - 1) }
+    ensures tries { OnOk result (permit.new.split.desk.tries ≡ permit.old.split.desk.tries + 1) }
+{
+    post.arrive(index);
+    let reply = permit.perform(rt, boxes, request, index);
+    post.leave(index);
+    reply?;
+    Ok(())
+}
+
+/// Performs all that a worker does in a split phase: the permit's quota of the script, from its request `first` on, in the
+/// order of their indexes. After a fault, which is the first, the permit performs nothing more.
+pub(crate) fn perform_split<N: PhaseName, R: Wait, G: Gate>(
+    rt: &R,
+    boxes: &Boxes<N>,
+    post: &Post<'_, G>,
+    permit: &mut SplitPermit<N>,
+    script: &[Request],
+    first: usize,
+) -> Result<(), PermitFault>
+    requires of { permit.old.key.boxes ≡ boxes.now }
+    requires opening { HaveOpening N.opening permit.old.split.desk.opening }
+    requires short { length script.now ≤ 1000000 }
+    requires given { permit.old.split.desk.left ≤ length script.now - first }
+    requires tries { permit.old.split.desk.tries + permit.old.split.desk.left ≤ 1000000000 }
+    ensures same { OnOk result (IsSamePermit permit.old permit.new) }
+    ensures calls { OnOk result (committed permit.new ≡ committed permit.old
+        ++ filter (λ call. not (is_put_off (hot_for permit.old) call.1)) (calls_from first permit.old.split.desk.left script.now)) }
+    ensures stash { OnOk result (stashed permit.new ≡ stashed permit.old
+        ++ filter (λ call. is_put_off (hot_for permit.old) call.1) (calls_from first permit.old.split.desk.left script.now)) }
+{
+    for place in 0..permit.left() {
+        let index = first + place as usize;
+        deal_with_next(rt, boxes, post, permit, &script[index], index as u32)?;
+    }
+    Ok(())
+}
+
+// A request of the quota in a split phase: performed, or put off.
+fn deal_with_next<N: PhaseName, R: Wait, G: Gate>(
+    rt: &R,
+    boxes: &Boxes<N>,
+    post: &Post<'_, G>,
+    permit: &mut SplitPermit<N>,
+    request: &Request,
+    index: u32,
+) -> Result<(), PermitFault>
+    requires of { permit.old.key.boxes ≡ boxes.now }
+    requires opening { HaveOpening N.opening permit.old.split.desk.opening }
+    requires left { 0 < permit.old.split.desk.left }
+    requires tries { permit.old.split.desk.tries < 1000000000 }
+    ensures same { OnOk result (IsSamePermit permit.old permit.new) }
+    ensures calls { OnOk result (committed permit.new ≡ committed permit.old
+        ++ filter (λ call. not (is_put_off (hot_for permit.old) call.1)) ((index, request.now) ∷ [])) }
+    ensures stash { OnOk result (stashed permit.new ≡ stashed permit.old
+        ++ filter (λ call. is_put_off (hot_for permit.old) call.1) ((index, request.now) ∷ [])) }
+    ensures left { OnOk result (permit.new.split.desk.left ≡ permit.old.split.desk.left - 1) }
+    ensures tries { OnOk result (permit.new.split.desk.tries ≡ permit.old.split.desk.tries + 1) }
+{
+    post.arrive(index);
+    let done = permit.perform(rt, boxes, request, index);
+    post.leave(index);
+    done?;
+    Ok(())
+}

@@ -1,0 +1,72 @@
+-- Shards in which nothing is stored.
+use Rattle.std.proofs.Common.{◌≡◌, ℕ, zero, suc, ◌+◌, ◌*◌, ◌<◌, ◌≤◌, List, [], length, map, replicate, refl, sym, ap, ◌∙◌, subst, arith, unsigned_abs}
+use Rattle.std.proofs.lemmas.Int.{ints}
+use Rattle.std.proofs.lemmas.List.{length-map}
+use Rattle.auction_rows.specs.declared.ids.Object.TheVariants.{Item, User}
+use Rattle.auction_rows.specs.declared.numbers.Opening.{Opening}
+use Rattle.item_shards.specs.declared.shard.Shard.{Shard}
+use Rattle.item_shards.specs.ShardShelf.{IsNewShard}
+use Rattle.item_shards.specs.Values.{Value}
+use Rattle.item_shards.proofs.StandingLemmas.{blank_of_none}
+use Rattle.shard_boxes.specs.States.{ShardState, state_of, state_at, IsOpened}
+use Rattle.phase_desks.specs.declared.counters.Counters.{Counters}
+use Rattle.phase_desks.specs.Splits.{CountsOf}
+use Rattle.phase_transactions.specs.Permits.{no_counters}
+use Rattle.phase_floor.specs.Making.{IsBlank, AreBlank}
+use Rattle.phase_closing.specs.Standing.{counters_at}
+use Rattle.phase_floor.specs.States.{joined_of, StandsFor, IsWithinLimit, IsKept}
+
+pub blank_of_new : (opening : Opening) (count n : ℕ) (shard : Shard) → IsNewShard n count opening shard → IsBlank opening count n (state_of shard)
+blank_of_new opening count n shard new =
+    record { number_is = new.number_is; shards_is = new.shards_is; opening_is = new.opening_is; clock_is = new.clock_is; nothing = new.nothing }
+
+-- a blank shard may open a phase
+opened_of_blank : (opening : Opening) (count n : ℕ) (state : ShardState) → IsBlank opening count n state → IsOpened count n state
+opened_of_blank opening count n state h = record {
+  number_is = h.number_is;
+  shards_is = h.shards_is;
+  clock_is = h.clock_is;
+  within = record {
+    bids = λ id. subst (λ (v : Value). v.bids.bids ≤ 16000000 + 2 * state.clock) (sym (h.nothing (Item id))) (omega arith);
+    comments = λ user. subst (λ (v : Value). v.comments.comments ≤ 16000000 + 2 * state.clock) (sym (h.nothing (User user))) (omega arith);
+    ratings = λ user. subst (λ (v : Value). unsigned_abs v.comments.rating ≤ 80000000 + 10 * state.clock) (sym (h.nothing (User user))) (omega (arith, ints));
+  };
+}
+
+none_counted : (workers w : ℕ) → counters_at (replicate workers no_counters) w ≡ no_counters
+none_counted zero w = refl
+none_counted (suc workers) zero = refl
+none_counted (suc workers) (suc w) = none_counted workers w
+
+module _ (opening : Opening) (shards : List Shard) (counters : List Counters) (count workers : ℕ) (blank : AreBlank opening count count (map state_of shards))
+    (len : length shards ≡ count) (counted : counters ≡ replicate workers no_counters) where
+  same : length (map state_of shards) ≡ length shards
+  same = simp length-map
+
+  here : (s : ℕ) → s < length (map state_of shards) → s < count
+  here s below = omega (arith, below, same, len)
+
+  nothing : (w : ℕ) → no_counters ≡ counters_at counters w
+  nothing w = sym (ap (λ cs. counters_at cs w) counted ∙ none_counted workers w)
+
+  -- what is blank stands for no rows
+  pub blank_stands : StandsFor (joined_of opening 0 shards counters) []
+  blank_stands = record {
+    shards = λ s below object lies cold. (blank s (here s below)).nothing object ∙ sym (blank_of_none object);
+    counts = record {
+      each = λ w below. subst (CountsOf [] w) (nothing w) (record { items = refl; bids = refl; comments = refl; buys = refl });
+      no_others = tt;
+    };
+  }
+
+  pub blank_kept : (0 < count) × (count ≤ 64) → (0 < workers) × (workers ≤ 16) → length counters ≡ workers → IsKept opening (map state_of shards) counters
+  blank_kept some few many = record {
+    some_shards = omega (arith, same, len, some);
+    few_shards = omega (arith, same, len, some);
+    some_workers = omega (arith, few, many);
+    few_workers = omega (arith, few, many);
+    opened = λ s below. subst (λ n. IsOpened n s (state_at (map state_of shards) s)) (sym (same ∙ len)) (opened_of_blank opening count s (state_at (map state_of shards) s) (blank s (here s below)));
+    opening_is = λ s below. (blank s (here s below)).opening_is;
+    limits = λ w below. subst IsWithinLimit (nothing w) (record { stored = omega arith; commits = omega arith });
+    of_a_book = λ none. none [] tt tt blank_stands;
+  }

@@ -1,0 +1,75 @@
+-- What the receipts, the boxes and the journals of a phase come to.
+use Rattle.std.proofs.Common.{◌≡◌, ℕ, suc, ◌+◌, ◌<◌, List, [], ◌∷◌, map, length, refl, sym, ap, ◌∙◌, subst, arith}
+use Rattle.std.specs.List.{AllByRecursion}
+use Rattle.std.proofs.lemmas.List.{length-map}
+use Rattle.std.proofs.Math.ListN.{get_or-map}
+use Rattle.auction_rows.specs.declared.rows.Entry.{Entry}
+use Rattle.phase_laws.specs.Order.{IsAscending, part}
+use Rattle.worker_journals.specs.Journals.{JournalView, entry_number, entry_worker}
+use Rattle.worker_journals.specs.Merged.{AreByWorker, entries_of}
+use Rattle.shard_boxes.specs.Closed.{AreClosed, AreSpent, IsSpent}
+use Rattle.shard_boxes.specs.States.{ShardState}
+use Rattle.phase_transactions.specs.Permits.{PermitState, IsWorth, first_of}
+use Rattle.phase_closing.specs.Phases.{receipt_at, key_of, journal_of, HasClosed}
+use Rattle.phase_floor.specs.Closings.{AreReceiptsOf, phase_of}
+use Rattle.phase_floor.specs.Floors.{FloorState, IsOpen}
+
+-- journals of workers that count up from a number stand in the order of the workers
+all_later : (n : ℕ) (receipts : List PermitState) (from : ℕ) → n < from → ((w : ℕ) → w < length receipts → (journal_of (receipt_at receipts w)).worker ≡ from + w)
+    → AllByRecursion (λ (later : JournalView). n < later.worker) (map journal_of receipts)
+all_later n [] from low h = tt
+all_later n (r ∷ receipts) from low h =
+    let first = h 0 (omega arith) in
+    (omega (arith, first, low), all_later n receipts (from + 1) (omega (arith, low)) (λ w below. let next = h (suc w) (omega (arith, below)) in omega (arith, next)))
+
+pub by_worker : (receipts : List PermitState) (from : ℕ) → ((w : ℕ) → w < length receipts → (journal_of (receipt_at receipts w)).worker ≡ from + w) → AreByWorker (map journal_of receipts)
+by_worker [] from h = tt
+by_worker (r ∷ receipts) from h =
+    let first = h 0 (omega arith) in
+    let rest = λ (w : ℕ) (below : w < length receipts). let next = h (suc w) (omega (arith, below)) in let e : (journal_of (receipt_at receipts w)).worker ≡ from + 1 + w = omega (arith, next) in e in
+    (all_later (journal_of r).worker receipts (from + 1) (omega (arith, first)) rest, by_worker receipts (from + 1) rest)
+
+module _ (opening : List ShardState) (workers : ℕ) (floor : FloorState) (is_open : IsOpen opening workers floor) (receipts : List PermitState) (are : AreReceiptsOf floor receipts)
+    (worth : (w : ℕ) → w < length receipts → IsWorth (length opening) (receipt_at receipts w).split (receipt_at receipts w).key) where
+  known : (w : ℕ) → w < length receipts → w < length floor.counters
+  known w below = omega (arith, below, are.0)
+
+  -- the journals stand in the order of the workers
+  pub in_order : AreByWorker (map journal_of receipts)
+  in_order = by_worker receipts 0 (λ w below. (worth w below).worker ∙ (are.1 w (known w below)).worker_is ∙ omega arith)
+
+  -- the keys may be given back
+  pub are_spent : AreSpent floor.boxes workers (map key_of receipts)
+  are_spent =
+      let same : length (map key_of receipts) ≡ length receipts = simp length-map in (
+        omega (arith, same, are.0, is_open.workers_are),
+        λ w low.
+            let below : w < length receipts = omega (arith, low, are.0, is_open.workers_are) in
+            let receipt = are.1 w (known w below) in
+            subst (IsSpent floor.boxes w) (sym (get_or-map key_of receipts w _))
+            (record { boxes_are = receipt.boxes_are; worker_is = receipt.worker_is; idle = (worth w below).idle }),
+      )
+
+  -- what the parts tell of the phase, once its boxes are closed and its journals merged
+  pub has_closed : (given : List ShardState) (entries : List Entry) → AreClosed opening workers (map key_of receipts) given
+      → IsAscending entry_number entry_worker entries → ((w : ℕ) → part entry_worker w entries ≡ entries_of w (map journal_of receipts))
+      → HasClosed (phase_of opening floor receipts given entries)
+  has_closed given entries boxes ascending parts = record {
+    begun = record {
+      some = is_open.kept.some_shards;
+      shards = refl;
+      workers = sym are.0;
+      distinct = is_open.stocks_are.distinct;
+      stocked = is_open.stocks_are.stocked;
+      read = is_open.stocks_are.read;
+    };
+    receipts = λ w below.
+        let receipt = are.1 w (known w below) in record {
+          worth = worth w below;
+          worker_is = receipt.worker_is;
+          setting = (λ i. record { opening = receipt.opening_is i; shards = length opening; stocks = receipt.stocks_are i });
+          begun = ap first_of receipt.begun;
+        };
+    boxes = subst (λ n. AreClosed opening n (map key_of receipts) given) (sym is_open.workers_are ∙ sym are.0) boxes;
+    merged = record { ascending = ascending; parts = parts };
+  }

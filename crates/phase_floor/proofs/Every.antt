@@ -1,0 +1,16 @@
+-- A fact of every element, by recursion and by place.
+use Rattle.std.proofs.Common.{ℕ, zero, suc, ◌<◌, List, [], ◌∷◌, length, get_or, arith}
+use Rattle.std.specs.List.{AllByRecursion}
+
+pub every : {X : Type 0} (P : X → Type 0) (xs : List X) → ((k : ℕ) (d : X) → k < length xs → P (get_or xs k d)) → AllByRecursion P xs
+every P [] h = tt
+every P (x ∷ xs) h = (h 0 x (omega arith), every P xs (λ k d low. h (suc k) d (omega arith)))
+
+pub every_from : {X : Type 0} (P : X → Type 0) (xs : List X) (d : X) → ((k : ℕ) → k < length xs → P (get_or xs k d)) → AllByRecursion P xs
+every_from P [] d h = tt
+every_from P (x ∷ xs) d h = (h 0 (omega arith), every_from P xs d (λ k low. h (suc k) (omega arith)))
+
+pub at_place : {X : Type 0} (P : X → Type 0) (xs : List X) → AllByRecursion P xs → (k : ℕ) (d : X) → k < length xs → P (get_or xs k d)
+at_place P [] h k d low = absurd (omega arith)
+at_place P (x ∷ xs) h zero d low = h.0
+at_place P (x ∷ xs) h (suc k) d low = at_place P xs h.1 k d (omega arith)

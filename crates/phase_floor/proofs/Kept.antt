@@ -1,0 +1,135 @@
+-- What is kept between phases is kept by a phase that closes.
+use Rattle.std.proofs.Common.{◌≡◌, ℕ, zero, suc, ◌<◌, ◌≤◌, ◌==◌, Bool, true, false, cond, List, [], ◌∷◌, map, length, refl, sym, ap, ◌∙◌, subst, arith, unsigned_abs}
+use Rattle.std.specs.List.{AllByRecursion}
+use Rattle.std.proofs.lemmas.Bool.{eqb-true}
+use Rattle.std.proofs.lemmas.Int.{ints}
+use Rattle.std.proofs.lemmas.List.{length-map}
+use Rattle.std.proofs.Math.ListN.{get_or-map}
+use Rattle.auction_rows.specs.declared.ids.Object.{Object}
+use Rattle.auction_rows.specs.declared.ids.Object.TheVariants.{Item, User}
+use Rattle.auction_rows.specs.declared.numbers.Opening.{Opening}
+use Rattle.auction_rows.specs.declared.rows.Entry.{Entry}
+use Rattle.auction_rows.specs.Book.{Book}
+use Rattle.auction_rows.specs.History.{book_after}
+use Rattle.auction_rows.specs.Requests.{shard_of}
+use Rattle.item_shards.specs.declared.shard.Shard.{Shard}
+use Rattle.item_shards.specs.Limits.{GivesStars, HasStars}
+use Rattle.item_shards.specs.ShardShelf.{kept}
+use Rattle.item_shards.specs.Values.{Value, blank, value}
+use Rattle.item_shards.proofs.CountLemmas.{bids_at_most, comments_at_most, rating_at_most}
+use Rattle.shard_boxes.specs.States.{ShardState, state_of, state_at, IsWithin, AreOpened}
+use Rattle.phase_desks.specs.declared.counters.Counters.{Counters}
+use Rattle.phase_transactions.specs.Permits.{PermitState}
+use Rattle.phase_transactions.specs.Single.{HaveOpening}
+use Rattle.phase_closing.specs.Phases.{HasClosed, receipt_at, counters_of}
+use Rattle.phase_closing.specs.Standing.{StandFor, counters_at}
+use Rattle.phase_closing.proofs.CommitLemmas.{book_left, stores_few, stars_go_on}
+use Rattle.phase_floor.specs.Closings.{AreReceiptsOf, phase_of}
+use Rattle.phase_floor.specs.Floors.{FloorState, IsOpen}
+use Rattle.phase_floor.specs.States.{IsKept, IsWithinLimit, AreWithinLimit, AreOfABook}
+use Rattle.phase_floor.proofs.BookSize.{size_at_most}
+
+-- A shard keeps nothing of what lies elsewhere.
+
+elsewhere : (shards : List Shard) (s : ℕ) → s < length shards → (object : Object)
+    → (shard_of object (state_at (map state_of shards) s).shards == (state_at (map state_of shards) s).number) ≡ false
+    → (state_at (map state_of shards) s).shelf object ≡ blank
+elsewhere [] s below object apart = absurd (omega arith)
+elsewhere (shard ∷ shards) zero below object apart = ap (λ b. cond b (kept shard object) blank) apart
+elsewhere (shard ∷ shards) (suc s) below object apart = elsewhere shards s (omega (arith, below)) object apart
+
+not_over : (n m : ℕ) → ¬ (m < n) → n ≤ m
+not_over n m h = omega (arith, h)
+
+-- the shards are numbered, of this opening, and at clock 0
+pub record AreNumbered (opening : Opening) (states : List ShardState) : Type 0 where
+  pub number_is : (s : ℕ) → s < length states → (state_at states s).number ≡ s
+  pub shards_is : (s : ℕ) → s < length states → (state_at states s).shards ≡ length states
+  pub opening_is : HaveOpening states opening
+  pub clock_is : (s : ℕ) → s < length states → (state_at states s).clock ≡ 0
+
+module _ (opening : Opening) (shards : List Shard) (counters : List Counters) (numbered : AreNumbered opening (map state_of shards))
+    (few : length counters ≤ 16) (limits : AreWithinLimit counters) (of_a_book : AreOfABook opening (map state_of shards) counters) where
+  -- of a book for which they stand
+  size : (book : Book) → StandFor (map state_of shards) counters book [] → length book ≤ 16000000
+  size book holds =
+      let all = size_at_most book 1000000 (length counters) holds.counts.no_others (λ w low.
+      let counts = holds.counts.each w low in let limit = limits w low in omega (arith, counts.items, counts.bids, counts.comments, counts.buys, limit.stored, limit.commits)) in
+      omega (arith, all, few)
+
+  -- what holds of blank values and of those of a book for which they stand holds of theirs
+  module _ (s : ℕ) (below : s < length (map state_of shards)) (object : Object) (measure : Value → ℕ) (most : ℕ) (none : measure blank ≤ most)
+      (some : (book : Book) → AllByRecursion HasStars book → length book ≤ 16000000 → measure (value book object) ≤ most) where
+    abbrev state : ShardState
+    state = state_at (map state_of shards) s
+
+    over : most < measure (state.shelf object) → (book : Book) → AllByRecursion HasStars book → StandFor (map state_of shards) counters book [] → ⊥
+    over more book stars holds = at (shard_of object state.shards == state.number) refl where
+      at : (b : Bool) → (shard_of object state.shards == state.number) ≡ b → ⊥
+      at true here =
+          let lies : shard_of object (length (map state_of shards)) ≡ s =
+          ap (shard_of object) (sym (numbered.shards_is s below)) ∙ eqb-true (shard_of object state.shards) state.number here ∙ numbered.number_is s below in
+          let is : measure (state.shelf object) ≡ measure (value book object) = ap measure (holds.shards s below object lies refl) in
+          let low = some book stars (size book holds) in
+          omega (arith, is, low, more)
+      at false apart =
+          let same : length (map state_of shards) ≡ length shards = simp length-map in
+          let is : measure (state.shelf object) ≡ measure blank = ap measure (elsewhere shards s (omega (arith, below, same)) object apart) in
+          omega (arith, is, none, more)
+
+    measured : measure (state.shelf object) ≤ most
+    measured = not_over (measure (state.shelf object)) most (λ more. of_a_book (λ book is stars holds. over more book stars holds))
+
+  within : (s : ℕ) → s < length (map state_of shards) → IsWithin (state_at (map state_of shards) s)
+  within s below = record {
+    bids = λ id. let m = measured s below (Item id) (λ v. v.bids.bids) 16000000 (omega arith) (λ book stars small. let most = bids_at_most book id in omega (arith, most, small)) in omega (arith, m);
+    comments = λ user. let m = measured s below (User user) (λ v. v.comments.comments) 16000000 (omega arith) (λ book stars small. let most = comments_at_most book user in omega (arith, most, small)) in omega (arith, m);
+    ratings = λ user. let m = measured s below (User user) (λ v. unsigned_abs v.comments.rating) 80000000 (omega (arith, ints)) (λ book stars small. let most = rating_at_most book user stars in omega (arith, most, small)) in omega (arith, m);
+  }
+
+  pub are_opened : AreOpened (map state_of shards)
+  are_opened = λ s below. record {
+    number_is = numbered.number_is s below;
+    shards_is = numbered.shards_is s below;
+    clock_is = numbered.clock_is s below;
+    within = within s below;
+  }
+
+module _ (opening : List ShardState) (workers : ℕ) (floor : FloorState) (is_open : IsOpen opening workers floor) (receipts : List PermitState) (are : AreReceiptsOf floor receipts)
+    (given : List ShardState) (entries : List Entry) (closed : HasClosed (phase_of opening floor receipts given entries))
+    (limit : (w : ℕ) → w < length receipts → (counters_of (receipt_at receipts w)).commits ≤ 1000000)
+    (stars : AllByRecursion (λ entry. GivesStars entry.request) entries) where
+  -- the counters of a worker after the phase
+  pub counted : (w : ℕ) → w < length receipts → counters_of (receipt_at receipts w) ≡ counters_at (map counters_of receipts) w
+  counted w below = sym (get_or-map counters_of receipts w _)
+
+  many : length (map counters_of receipts) ≡ length receipts
+  many = simp length-map
+
+  limits_after : AreWithinLimit (map counters_of receipts)
+  limits_after w low =
+      let below : w < length receipts = omega (arith, low, many) in
+      subst IsWithinLimit (counted w below) (record {
+        stored = stores_few (phase_of opening floor receipts given entries) closed w below (is_open.kept.limits w (omega (arith, below, are.0))).stored;
+        commits = limit w below;
+      })
+
+  module _ (shards : List Shard) (as_many : length (map state_of shards) ≡ length opening) (numbered : AreNumbered floor.opening (map state_of shards))
+      (stand : (book : Book) → StandFor opening floor.counters book [] → StandFor (map state_of shards) (map counters_of receipts) (book_after floor.opening book entries) []) where
+    of_a_book_after : AreOfABook floor.opening (map state_of shards) (map counters_of receipts)
+    of_a_book_after = λ none. is_open.kept.of_a_book (λ book is stars_are holds.
+        none (book_after floor.opening book entries) (book_left (phase_of opening floor receipts given entries) closed book holds is)
+        (stars_go_on (phase_of opening floor receipts given entries) closed book holds stars_are stars) (stand book holds))
+
+    pub kept_after : IsKept floor.opening (map state_of shards) (map counters_of receipts)
+    kept_after =
+        let few : length (map counters_of receipts) ≤ 16 = omega (arith, many, are.0, is_open.kept.few_workers) in record {
+          some_shards = omega (arith, as_many, is_open.kept.some_shards);
+          few_shards = omega (arith, as_many, is_open.kept.few_shards);
+          some_workers = omega (arith, many, are.0, is_open.kept.some_workers);
+          few_workers = few;
+          opened = are_opened floor.opening shards (map counters_of receipts) numbered few limits_after of_a_book_after;
+          opening_is = numbered.opening_is;
+          limits = limits_after;
+          of_a_book = of_a_book_after;
+        }

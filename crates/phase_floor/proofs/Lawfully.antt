@@ -1,0 +1,55 @@
+-- A phase of the floor closes lawfully, with the shards that it leaves.
+use Rattle.std.proofs.Common.{◌≡◌, List, [], map, fold, length, refl, sym, ap, subst, ◌∙◌}
+use Rattle.std.proofs.Math.ListN.{get_or-map}
+use Rattle.std.proofs.lemmas.List.{length-map}
+use Rattle.auction_rows.specs.declared.ids.Object.{Object}
+use Rattle.auction_rows.specs.declared.rows.Entry.{Entry}
+use Rattle.auction_rows.specs.Requests.{shard_of}
+use Rattle.shard_boxes.specs.States.{ShardState, state_at, no_shard}
+use Rattle.phase_desks.specs.Slicing.{objects_of}
+use Rattle.phase_transactions.specs.Permits.{PermitState}
+use Rattle.phase_closing.specs.Lawful.{ClosesLawfully}
+use Rattle.phase_closing.specs.Merging.{after_merge}
+use Rattle.phase_closing.specs.Phases.{Phase, value_on}
+use Rattle.phase_closing.proofs.LawfulLemmas.{joined_lawful, split_lawful}
+use Rattle.phase_closing.proofs.MergeLemmas.{as_many}
+use Rattle.phase_floor.specs.Closings.{HasSettled, HasReconciled, HasClosedLawfully, phase_of, at_start}
+use Rattle.phase_floor.specs.Floors.{FloorState}
+
+-- clocks don't matter to what shards show of an object
+same_value : (states : List ShardState) (object : Object) → value_on (map at_start states) object ≡ value_on states object
+same_value states object =
+    ap (λ n. (state_at (map at_start states) (shard_of object n)).shelf object) (length-map states at_start)
+    ∙ ap (λ (state : ShardState). state.shelf object) (get_or-map at_start states (shard_of object (length states)) no_shard)
+
+started : (p : Phase) (states : List ShardState) → ClosesLawfully p states → ClosesLawfully p (map at_start states)
+started p states lawful = record {
+  numbers = lawful.numbers;
+  parts = lawful.parts;
+  deeds = lawful.deeds;
+  entries = lawful.entries;
+  lists = lawful.lists;
+  slices = lawful.slices;
+  merged = λ object hot. same_value states object ∙ lawful.merged object hot;
+  others = λ object cold. same_value states object ∙ lawful.others object cold;
+}
+
+left : (p : Phase) (states closing : List ShardState) → closing ≡ map at_start states → ClosesLawfully p states → ClosesLawfully p closing
+left p states closing are lawful = subst (ClosesLawfully p) (sym are) (started p states lawful)
+
+module _ (opening : List ShardState) (floor : FloorState) (receipts : List PermitState) (states : List ShardState) (entries : List Entry) where
+  pub settled_lawful : HasSettled opening floor receipts states entries → floor.stocks ≡ [] → HasClosedLawfully opening floor receipts states entries
+  settled_lawful settled cold =
+      let p = phase_of opening floor receipts settled.given entries in record {
+        given = settled.given;
+        lawful = left p settled.given states settled.states_are (joined_lawful p settled.closed (ap objects_of cold));
+      }
+
+  pub reconciled_lawful : HasReconciled opening floor receipts states entries → HasClosedLawfully opening floor receipts states entries
+  reconciled_lawful reconciled =
+      let p = phase_of opening floor receipts reconciled.given entries in
+      let merged = fold after_merge reconciled.given reconciled.order in record {
+        given = reconciled.given;
+        lawful = left p merged states reconciled.states_are (split_lawful p reconciled.closed merged
+            (record { order = reconciled.order; each = reconciled.each; count = as_many reconciled.order reconciled.given; shelves = λ s below. refl }));
+      }

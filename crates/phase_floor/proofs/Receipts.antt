@@ -1,0 +1,67 @@
+-- Permits whose receipts a close takes.
+use Rattle.std.proofs.Common.{◌≡◌, ℕ, zero, suc, List, [], ◌∷◌, ◌++◌, length, take, Option, refl, ap, ◌∙◌, arith}
+use Rattle.auction_rows.specs.declared.ids.Object.{Object}
+use Rattle.auction_rows.specs.declared.replies.Reply.{Reply}
+use Rattle.auction_rows.specs.declared.requests.Facts.{Facts}
+use Rattle.auction_rows.specs.declared.requests.Request.{Request}
+use Rattle.auction_rows.specs.Book.{Book}
+use Rattle.auction_rows.specs.Replies.{row_of}
+use Rattle.item_shards.specs.Writing.{writes_if}
+use Rattle.shard_boxes.specs.States.{ShardState}
+use Rattle.phase_desks.specs.Slicing.{stocks_of, slices_of}
+use Rattle.phase_desks.specs.Stashes.{StashState}
+use Rattle.phase_transactions.proofs.Hots.{stocks-acts}
+use Rattle.phase_transactions.specs.declared.fault.Done.{Done}
+use Rattle.phase_transactions.specs.declared.fault.Done.TheVariants.{Committed, Stashed}
+use Rattle.phase_transactions.specs.Performing.{HasDealtWith, with_try}
+use Rattle.phase_transactions.specs.Permits.{PermitState, HasCommitted}
+use Rattle.phase_closing.specs.Phases.{no_receipt}
+use Rattle.phase_floor.specs.Closings.{IsReceipt, AreReceiptsOf}
+use Rattle.phase_floor.specs.Floors.{FloorState, IsBegun, AreBegun}
+
+stocks_of_slices : (stocks : List (Object × Option (Facts × ℕ))) (rows : Book) → stocks_of (slices_of stocks rows) ≡ stocks
+stocks_of_slices [] rows = refl
+stocks_of_slices (stock ∷ stocks) rows = ap (λ l. stock ∷ l) (stocks_of_slices stocks rows)
+
+begun_receipt : (floor : FloorState) (w quota : ℕ) (stash : StashState) (permit : PermitState) → IsBegun floor w quota stash permit → IsReceipt floor w permit
+begun_receipt floor w quota stash permit begun = record {
+  boxes_are = begun.key.boxes_are;
+  worker_is = begun.key.worker_is;
+  opening_is = ap (λ (p : PermitState). p.split.desk.opening) begun.new;
+  phase_is = ap (λ (p : PermitState). p.split.desk.journal.phase) begun.new;
+  stocks_are = ap (λ (p : PermitState). stocks_of p.split.slices) begun.new ∙ stocks_of_slices floor.stocks [];
+  begun = ap (λ (p : PermitState). p.split.desk.begun) begun.new;
+}
+
+-- new permits are such
+pub begun_receipts : (floor : FloorState) (quotas : List ℕ) (stashes : List StashState) (permits : List PermitState) → AreBegun floor quotas stashes permits → AreReceiptsOf floor permits
+begun_receipts floor quotas stashes permits begun = (begun.0, λ w low. begun_receipt floor w _ _ _ (begun.1 w no_receipt low))
+
+module _ (opening : List ShardState) (floor : FloorState) (w : ℕ) (old new : PermitState) (was : IsReceipt floor w old) (request : Request) (index : ℕ) where
+  pub committed : (answer : Reply) → HasCommitted opening (with_try old) new request index answer → IsReceipt floor w new
+  committed answer h = record {
+    boxes_are = h.boxes ∙ was.boxes_are;
+    worker_is = h.worker ∙ was.worker_is;
+    opening_is = ap (λ d. d.opening) h.desk ∙ was.opening_is;
+    phase_is = ap (λ d. d.journal.phase) h.desk ∙ was.phase_is;
+    stocks_are = ap stocks_of h.slices ∙ stocks-acts old.split.slices (writes_if (row_of old.split.desk.journal.worker request answer)) ∙ was.stocks_are;
+    begun = ap (λ d. d.begun) h.desk ∙ was.begun;
+  }
+
+  pub dealt : (done : Done) → HasDealtWith opening (with_try old) new request index done → IsReceipt floor w new
+  dealt (Committed answer) h = committed answer h
+  dealt Stashed h = record {
+    boxes_are = ap (λ k. k.boxes) h.key ∙ was.boxes_are;
+    worker_is = ap (λ k. k.worker) h.key ∙ was.worker_is;
+    opening_is = ap (λ d. d.opening) h.desk ∙ was.opening_is;
+    phase_is = ap (λ d. d.journal.phase) h.desk ∙ was.phase_is;
+    stocks_are = ap stocks_of h.slices ∙ was.stocks_are;
+    begun = ap (λ d. d.begun) h.desk ∙ was.begun;
+  }
+
+-- what was written through a slice of all of a list
+pub written : {X : Type 0} (n : ℕ) (xs ys : List X) → length xs ≡ n → take n (xs ++ ys) ≡ xs
+written zero [] ys len = refl
+written zero (x ∷ xs) ys len = absurd (omega (arith, len))
+written (suc n) [] ys len = absurd (omega (arith, len))
+written (suc n) (x ∷ xs) ys len = ap (λ l. x ∷ l) (written n xs ys (omega (arith, len)))

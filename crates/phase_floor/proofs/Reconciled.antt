@@ -1,0 +1,124 @@
+-- The slices of all workers, merged into the shards that the boxes of a split phase gave back.
+use Rattle.std.proofs.Common.{◌≡◌, ℕ, ◌<◌, List, [], ◌∷◌, map, fold, length, Option, refl, sym, ap, ◌∙◌, subst, arith}
+use Rattle.std.specs.List.{AllByRecursion, flat_map}
+use Rattle.std.specs.List.Sorted.{IsPermutation}
+use Rattle.std.proofs.lemmas.List.Elements.{All-from_recursion, recursion_from_All}
+use Rattle.std.proofs.lemmas.List.Sorted.{All-permutation, IsPermutation-refl, IsPermutation-append, IsPermutation-reverse}
+use Rattle.phase_laws.specs.Replay.{SawInTurn}
+use Rattle.auction_rows.specs.declared.ids.Object.{Object}
+use Rattle.auction_rows.specs.declared.ids.Object.TheVariants.{Item, User, Category}
+use Rattle.auction_rows.specs.declared.numbers.Opening.{Opening}
+use Rattle.auction_rows.specs.declared.requests.Facts.{Facts}
+use Rattle.auction_rows.specs.declared.rows.Entry.{Entry}
+use Rattle.auction_rows.specs.Book.{Book}
+use Rattle.auction_rows.specs.History.{book_after}
+use Rattle.item_shards.specs.declared.slices.Slice.{Slice}
+use Rattle.item_shards.proofs.CanActLemmas.{all_both}
+use Rattle.shard_boxes.specs.States.{ShardState, state_at}
+use Rattle.phase_desks.specs.declared.slices.Hot.{Hot}
+use Rattle.phase_desks.specs.Slicing.{objects_of, stocks_of, slices_in, AreFew}
+use Rattle.phase_transactions.specs.Permits.{PermitState}
+use Rattle.phase_closing.specs.Phases.{HasClosed, receipt_at, no_receipt, counters_of}
+use Rattle.phase_closing.specs.Standing.{StandFor}
+use Rattle.phase_closing.specs.Merging.{after_merge, slices_left, CanMerge}
+use Rattle.phase_closing.proofs.MergeLemmas.{as_many as as_many_merged}
+use Rattle.phase_closing.proofs.ReconcileLemmas.{reconciled_stand}
+use Rattle.phase_closing.proofs.RoomLemmas.{merges_can_be_done}
+use Rattle.phase_floor.specs.Closings.{AreReceiptsOf, AreOfOne, AreKnown, IsNumbered, phase_of, at_start, sliced_of, opening_in, from_the_last}
+use Rattle.phase_floor.specs.Floors.{FloorState, IsOpen}
+use Rattle.phase_floor.specs.States.{DoesExist, DoAllExist}
+use Rattle.phase_floor.proofs.Every.{every_from}
+use Rattle.phase_floor.proofs.Kept.{AreNumbered}
+use Rattle.phase_floor.proofs.Started.{same_length, started, start_stands}
+use Rattle.phase_floor.proofs.Turns.{one_after, opening_after}
+
+-- the order in which they are merged
+abbrev pub order_of : List PermitState → List (Object × Slice)
+order_of receipts = flat_map from_the_last (map sliced_of receipts)
+
+-- each stands there once
+pub all_once : (receipts : List PermitState) → IsPermutation (slices_left receipts) (order_of receipts)
+all_once [] = IsPermutation-refl []
+all_once (receipt ∷ receipts) =
+    IsPermutation-append (slices_in receipt.split.slices) (from_the_last receipt.split.slices) (slices_left receipts) (order_of receipts)
+    (IsPermutation-reverse (slices_in receipt.split.slices)) (all_once receipts)
+
+-- What exists has a number.
+
+exists_numbered : (opening : Opening) (states : List ShardState) (object : Object) → DoesExist opening states object → IsNumbered opening object
+exists_numbered opening states (Item id) exists = tt
+exists_numbered opening states (User user) exists = exists
+exists_numbered opening states (Category category) exists = exists
+
+slices_numbered : (opening : Opening) (states : List ShardState) (slices : List (Object × Hot)) → DoAllExist opening states (objects_of (stocks_of slices))
+    → AllByRecursion (λ pair. IsNumbered opening pair.0) (slices_in slices)
+slices_numbered opening states [] exist = tt
+slices_numbered opening states (hot ∷ hots) exist = (exists_numbered opening states hot.0 exist.0, slices_numbered opening states hots exist.1)
+
+all_numbered : (opening : Opening) (states : List ShardState) (stocks : List (Object × Option (Facts × ℕ))) → DoAllExist opening states (objects_of stocks)
+    → (receipts : List PermitState) → AllByRecursion (λ receipt. stocks_of receipt.split.slices ≡ stocks) receipts → AllByRecursion (λ pair. IsNumbered opening pair.0) (slices_left receipts)
+all_numbered opening states stocks exist [] are = tt
+all_numbered opening states stocks exist (receipt ∷ receipts) are =
+    all_both (λ (pair : Object × Slice). IsNumbered opening pair.0) (slices_in receipt.split.slices) (slices_left receipts)
+    (slices_numbered opening states receipt.split.slices (subst (λ s. DoAllExist opening states (objects_of s)) (sym are.0) exist))
+    (all_numbered opening states stocks exist receipts are.1)
+
+module _ (opening : List ShardState) (workers : ℕ) (floor : FloorState) (is_open : IsOpen opening workers floor) (receipts : List PermitState) (are : AreReceiptsOf floor receipts)
+    (given : List ShardState) (entries : List Entry) (closed : HasClosed (phase_of opening floor receipts given entries)) where
+  given_opening : (s : ℕ) → s < length given → (state_at given s).opening ≡ floor.opening
+  given_opening s below =
+      let inside : s < length opening = omega (arith, below, closed.boxes.0) in
+      (closed.boxes.1 s inside).history.opening_is ∙ is_open.kept.opening_is s inside
+
+  first : opening_in given ≡ floor.opening
+  first = given_opening 0 (omega (arith, closed.boxes.0, is_open.kept.some_shards))
+
+  pub given_one : AreOfOne given
+  given_one = record {
+    some = omega (arith, closed.boxes.0, is_open.kept.some_shards);
+    few = omega (arith, closed.boxes.0, is_open.kept.few_shards);
+    number_is = λ s below. (closed.boxes.1 s (omega (arith, below, closed.boxes.0))).history.number_is;
+    shards_is = λ s below. (closed.boxes.1 s (omega (arith, below, closed.boxes.0))).history.shards_is ∙ sym closed.boxes.0;
+    opening_is = λ s below. given_opening s below ∙ sym first;
+  }
+
+  pub given_known : AreKnown given (order_of receipts)
+  given_known =
+      let P : Object × Slice → Type 0 = λ pair. IsNumbered (opening_in given) pair.0 in
+      let stocks : AllByRecursion (λ receipt. stocks_of receipt.split.slices ≡ floor.stocks) receipts =
+      every_from (λ receipt. stocks_of receipt.split.slices ≡ floor.stocks) receipts no_receipt (λ w below. (are.1 w (omega (arith, below, are.0))).stocks_are) in
+      let left = subst (λ (o : Opening). AllByRecursion (λ (pair : Object × Slice). IsNumbered o pair.0) (slices_left receipts)) (sym first)
+      (all_numbered floor.opening opening floor.stocks is_open.stocks_are.exist receipts stocks) in
+      recursion_from_All P (order_of receipts) (All-permutation P (slices_left receipts) (order_of receipts) (all_once receipts) (All-from_recursion P (slices_left receipts) left))
+
+  pub given_can : ((w : ℕ) → w < length receipts → AreFew 1000000 (receipt_at receipts w).split.slices) → SawInTurn CanMerge after_merge given (order_of receipts)
+  given_can few =
+      merges_can_be_done (phase_of opening floor receipts given entries) closed is_open.kept.opened (omega (arith, are.0, is_open.kept.few_workers))
+      (every_from (λ receipt. AreFew 1000000 receipt.split.slices) receipts no_receipt few) (order_of receipts) (all_once receipts)
+
+  -- merged in any order
+  module _ (order : List (Object × Slice)) (each : IsPermutation (slices_left receipts) order) (states : List ShardState) (states_are : states ≡ map at_start (fold after_merge given order)) where
+    abbrev merged : List ShardState
+    merged = fold after_merge given order
+
+    known : (s : ℕ) → s < length states → s < length merged
+    known s below = omega (arith, below, same_length merged states states_are)
+
+    pub as_many : length states ≡ length opening
+    as_many = same_length merged states states_are ∙ as_many_merged order given ∙ closed.boxes.0
+
+    pub numbered : AreNumbered floor.opening states
+    numbered =
+        let one = one_after order given given_one in
+        let at = started merged states states_are in record {
+          number_is = λ s below. ap (λ (state : ShardState). state.number) (at s (known s below)) ∙ one.number_is s (known s below);
+          shards_is = λ s below. ap (λ (state : ShardState). state.shards) (at s (known s below)) ∙ one.shards_is s (known s below) ∙ sym (same_length merged states states_are);
+          opening_is = λ s below. ap (λ (state : ShardState). state.opening) (at s (known s below)) ∙ one.opening_is s (known s below) ∙ opening_after order given ∙ first;
+          clock_is = λ s below. ap (λ (state : ShardState). state.clock) (at s (known s below));
+        }
+
+    pub stand_after : (book : Book) → StandFor opening floor.counters book [] → StandFor states (map counters_of receipts) (book_after floor.opening book entries) []
+    stand_after book holds =
+        start_stands merged states states_are (map counters_of receipts) (book_after floor.opening book entries)
+        (reconciled_stand (phase_of opening floor receipts given entries) closed book holds merged
+        (record { order = order; each = each; count = as_many_merged order given; shelves = λ s below. refl }))

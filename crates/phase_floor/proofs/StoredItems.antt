@@ -1,0 +1,43 @@
+-- The items that are stored, between two phases.
+use Rattle.std.proofs.Common.{◌≡◌, ℕ, ◌-◌, ◌<◌, ◌≤◌, ◌%◌, List, [], Option, None, length, refl, sym, ap, ◌∙◌, subst, arith}
+use Rattle.std.specs.Prelude.{IsSome, is_some, option_map}
+use Rattle.std.proofs.lemmas.Bool.{false≢true}
+use Rattle.auction_rows.specs.declared.ids.ItemId.{ItemId}
+use Rattle.auction_rows.specs.declared.ids.Object.TheVariants.{Item}
+use Rattle.auction_rows.specs.declared.numbers.Opening.{Opening}
+use Rattle.auction_rows.specs.declared.requests.Facts.{Facts}
+use Rattle.auction_rows.specs.Book.{Book, facts_of, bought}
+use Rattle.auction_rows.specs.History.{IsBook}
+use Rattle.auction_rows.specs.Requests.{number_of, shard_of}
+use Rattle.auction_rows.proofs.FreshIdLemmas.{ids_of_book}
+use Rattle.item_shards.specs.Values.{value, stock}
+use Rattle.shard_boxes.specs.States.{ShardState}
+use Rattle.phase_desks.specs.declared.counters.Counters.{Counters}
+use Rattle.phase_closing.specs.Phases.{value_on}
+use Rattle.phase_closing.specs.Standing.{StandFor, counters_at}
+use Rattle.phase_floor.specs.States.{IsKept}
+
+-- what is not stored has no stock
+nothing_left : (book : Book) (id : ItemId) → facts_of book id ≡ None → IsSome (stock (value book (Item id))) → ⊥
+nothing_left book id none some =
+    false≢true (sym (ap (λ (o : Option Facts). is_some {T = Facts × ℕ} (option_map (λ (facts : Facts). (facts, facts.quantity - bought book id)) o)) none) ∙ some)
+
+not_from : (n m : ℕ) → ¬ (m ≤ n) → n < m
+not_from n m h = omega (arith, h)
+
+module _ (opening : Opening) (states : List ShardState) (counters : List Counters) (kept : IsKept opening states counters) where
+  within : (n count : ℕ) → 0 < count → n % count < count
+  within n count h = omega arith
+
+  -- of a book that is held, a stored item's serial is below its worker's count
+  no_later : (id : ItemId) → IsSome (stock (value_on states (Item id))) → id.worker < length counters → (counters_at counters id.worker).items ≤ id.serial
+      → (book : Book) → IsBook opening book → StandFor states counters book [] → ⊥
+  no_later id some below from book is holds =
+      let place = shard_of (Item id) (length states) in
+      let seen : value_on states (Item id) ≡ value book (Item id) = holds.shards place (within (number_of (Item id)) (length states) kept.some_shards) (Item id) refl refl in
+      let fresh = (ids_of_book opening book is).0.items id.worker id.serial (omega (arith, from, (holds.counts.each id.worker below).items)) in
+      nothing_left book id (ap (option_map (λ row. row.facts)) fresh) (subst (λ v. IsSome (stock v)) seen some)
+
+  -- a stored item's serial is below its worker's count
+  pub stored_before : (id : ItemId) → IsSome (stock (value_on states (Item id))) → id.worker < length counters → id.serial < (counters_at counters id.worker).items
+  stored_before id some below = not_from id.serial _ (λ from. kept.of_a_book (λ book is stars holds. no_later id some below from book is holds))

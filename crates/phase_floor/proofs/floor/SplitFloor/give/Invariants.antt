@@ -1,0 +1,17 @@
+use Rattle.std.proofs.Common.{◌≡◌, ℕ, ◌+◌, ◌<◌, ◌≤◌, get_or, drop, map, vec_len, vec_capacity}
+use Rattle.std.specs.Vec.Iter.{into_iter_items, into_iter_len}
+use Rattle.phase_transactions.specs.Permits.{PermitState}
+use Rattle.phase_floor.specs.Begins.{empty_stash}
+use Rattle.phase_floor.specs.Floors.{stash_at, IsBegun}
+use Rattle.phase_floor.proofs.floor.SplitFloor.give.Given as goal
+
+abbrev pub invariant-loop-key : goal.invariant-loop-key
+invariant-loop-key g l = let workers = g.N.PhaseName.workers in record {
+  len : vec_len l.permits ≡ l.w;
+  room : workers ≤ vec_capacity l.permits;
+  keys_left : l.w + into_iter_len l.key-iterator ≡ workers;
+  kits_left : l.w + into_iter_len l.kits ≡ workers;
+  keys : into_iter_items l.key-iterator ≡ drop l.w l.fn.keys.items;
+  kits : into_iter_items l.kits ≡ drop l.w l.fn.kits.items;
+  each : (w : ℕ) (d : PermitState) → w < l.w → IsBegun l.self w (get_or l.quotas w 0) (stash_at (map empty_stash l.quotas) w) (get_or l.permits.items w d);
+}

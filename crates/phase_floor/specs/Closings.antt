@@ -1,0 +1,104 @@
+-- How a phase closes.
+use Rattle.std.specs.Prelude.{◌≡◌, ℕ, ◌<◌, ◌≤◌, List, [], ◌∷◌, map, fold, length, reverse, ⊤}
+use Rattle.std.specs.List.{AllByRecursion}
+use Rattle.std.specs.List.Sorted.{IsPermutation}
+use Rattle.auction_rows.specs.declared.numbers.Opening.{Opening}
+use Rattle.auction_rows.specs.declared.rows.Entry.{Entry}
+use Rattle.shard_boxes.specs.States.{ShardState, state_at}
+use Rattle.auction_rows.specs.declared.ids.Object.{Object}
+use Rattle.auction_rows.specs.declared.ids.Object.TheVariants.{Item, User, Category}
+use Rattle.item_shards.specs.declared.slices.Slice.{Slice}
+use Rattle.phase_desks.specs.declared.slices.Hot.{Hot}
+use Rattle.phase_desks.specs.Slicing.{stocks_of, slices_in}
+use Rattle.phase_desks.specs.Stashes.{StashState}
+use Rattle.phase_transactions.specs.Permits.{PermitState}
+use Rattle.phase_transactions.specs.Single.{HaveOpening}
+use Rattle.phase_closing.specs.Phases.{Phase, HasClosed, receipt_at}
+use Rattle.phase_closing.specs.Lawful.{ClosesLawfully}
+use Rattle.phase_closing.specs.Merging.{after_merge, slices_left}
+use Rattle.phase_closing.specs.Standing.{counters_at}
+use Rattle.phase_floor.specs.Floors.{FloorState}
+
+-- the worker's receipt of the phase: its key is to the phase's boxes, and it began with the floor's counters, at clock 0
+pub record IsReceipt (floor : FloorState) (worker : ℕ) (receipt : PermitState) : Type 0 where
+  pub boxes_are : receipt.key.boxes ≡ floor.boxes
+  pub worker_is : receipt.key.worker ≡ worker
+  pub opening_is : receipt.split.desk.opening ≡ floor.opening
+  pub phase_is : receipt.split.desk.journal.phase ≡ floor.phase
+  pub stocks_are : stocks_of receipt.split.slices ≡ floor.stocks
+  pub begun : receipt.split.desk.begun ≡ (counters_at floor.counters worker, 0) ∷ []
+
+-- each worker's receipt of the phase, in order
+abbrev pub AreReceiptsOf : FloorState → List PermitState → Type 0
+AreReceiptsOf floor receipts =
+    (length receipts ≡ length floor.counters) × ((w : ℕ) → w < length floor.counters → IsReceipt floor w (receipt_at receipts w))
+
+abbrev pub stash_of : PermitState → StashState
+stash_of receipt = receipt.split.desk.stash
+
+abbrev pub sliced_of : PermitState → List (Object × Hot)
+sliced_of receipt = receipt.split.slices
+
+-- the phase that began with these shards, ended with these receipts, and left these shards and entries
+abbrev pub phase_of : List ShardState → FloorState → List PermitState → List ShardState → List Entry → Phase
+phase_of opening floor receipts given entries = record {
+  setting = record { opening = floor.opening; shards = length opening; stocks = floor.stocks };
+  opening = opening;
+  counters = floor.counters;
+  receipts = receipts;
+  given = given;
+  entries = entries;
+}
+
+-- a shard with its clock at 0
+abbrev pub at_start : ShardState → ShardState
+at_start state = record state { clock = 0 }
+
+-- The phase has closed: the boxes gave back shards, and the states left are these with their clocks at 0.
+pub record HasSettled (opening : List ShardState) (floor : FloorState) (receipts : List PermitState) (states : List ShardState)
+    (entries : List Entry) : Type 0 where
+  pub given : List ShardState
+  pub closed : HasClosed (phase_of opening floor receipts given entries)
+  pub states_are : states ≡ map at_start given
+
+-- The phase has closed: the boxes gave back shards, into these the slices of all workers were merged, each once, in some order,
+-- and the states left are what came of it, with their clocks at 0.
+pub record HasReconciled (opening : List ShardState) (floor : FloorState) (receipts : List PermitState) (states : List ShardState)
+    (entries : List Entry) : Type 0 where
+  pub given : List ShardState
+  pub closed : HasClosed (phase_of opening floor receipts given entries)
+  pub order : List (Object × Slice)
+  pub each : IsPermutation (slices_left receipts) order
+  pub states_are : states ≡ map at_start (fold after_merge given order)
+
+-- The phase closes lawfully with these receipts and entries, by the shards that its boxes gave back, and leaves these states.
+pub record HasClosedLawfully (opening : List ShardState) (floor : FloorState) (receipts : List PermitState) (states : List ShardState)
+    (entries : List Entry) : Type 0 where
+  pub given : List ShardState
+  pub lawful : ClosesLawfully (phase_of opening floor receipts given entries) states
+
+-- the users and categories of shards
+abbrev pub opening_in : List ShardState → Opening
+opening_in states = (state_at states 0).opening
+
+-- a user or category of the opening, or any item
+abbrev pub IsNumbered : Opening → Object → Type 0
+IsNumbered opening (Item id) = ⊤
+IsNumbered opening (User user) = user < opening.users
+IsNumbered opening (Category category) = category < opening.categories
+
+-- each slice is of an item, or of a user or category of the shards' opening
+abbrev pub AreKnown : List ShardState → List (Object × Slice) → Type 0
+AreKnown states pairs = AllByRecursion (λ pair. IsNumbered (opening_in states) pair.0) pairs
+
+-- a worker's slices, the last first
+abbrev pub from_the_last : List (Object × Hot) → List (Object × Slice)
+from_the_last slices = reverse (slices_in slices)
+
+-- shards of one auction, numbered from 0
+pub record AreOfOne (states : List ShardState) : Type 0 where
+  pub some : 0 < length states
+  pub few : length states ≤ 64
+  pub number_is : (s : ℕ) → s < length states → (state_at states s).number ≡ s
+  pub shards_is : (s : ℕ) → s < length states → (state_at states s).shards ≡ length states
+  pub opening_is : HaveOpening states (opening_in states)

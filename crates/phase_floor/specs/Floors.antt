@@ -1,0 +1,71 @@
+-- A phase that is open, and what it begins with.
+use Rattle.std.specs.Prelude.{◌≡◌, ℕ, ◌+◌, ◌<◌, ◌^◌, List, [], Option, length, slice_index, slice_index_or}
+use Rattle.std.specs.List.{AllByRecursion, IsDistinct}
+use Rattle.auction_rows.specs.declared.ids.Object.{Object}
+use Rattle.auction_rows.specs.declared.numbers.Opening.{Opening}
+use Rattle.auction_rows.specs.declared.requests.Facts.{Facts}
+use Rattle.auction_rows.specs.Requests.{same_object}
+use Rattle.shard_boxes.specs.Keys.{BoxId, KeyState, IsNewKey}
+use Rattle.shard_boxes.specs.States.{ShardState}
+use Rattle.worker_journals.specs.Journals.{empty_journal}
+use Rattle.phase_desks.specs.declared.counters.Counters.{Counters}
+use Rattle.phase_desks.specs.Desks.{new_desk}
+use Rattle.phase_desks.specs.Slicing.{objects_of, slices_of, IsStocked}
+use Rattle.phase_desks.specs.Stashes.{StashState}
+use Rattle.phase_transactions.specs.Permits.{PermitState}
+use Rattle.phase_closing.specs.Phases.{IsReadFrom}
+use Rattle.phase_closing.specs.Standing.{counters_at}
+use Rattle.phase_floor.specs.States.{DoAllExist, IsKept}
+
+-- the users and categories, the phase's number, the counters with which each worker begins, what is fixed of each hot object
+-- (there is none in a joined phase), and the boxes
+pub record FloorState : Type 0 where
+  pub opening : Opening
+  pub phase : ℕ
+  pub counters : List Counters
+  pub stocks : List (Object × Option (Facts × ℕ))
+  pub boxes : List BoxId
+
+-- the hot objects exist, none is named twice, and what is fixed of each is what the shards show
+pub record AreStocksOf (opening : Opening) (states : List ShardState) (stocks : List (Object × Option (Facts × ℕ))) : Type 0 where
+  pub exist : DoAllExist opening states (objects_of stocks)
+  pub distinct : IsDistinct same_object (objects_of stocks)
+  pub stocked : AllByRecursion IsStocked stocks
+  pub read : AllByRecursion (IsReadFrom states) stocks
+
+-- an open phase keeps what was kept before it, and has a box for each shard
+pub record IsOpen (states : List ShardState) (workers : ℕ) (floor : FloorState) : Type 0 where
+  pub kept : IsKept floor.opening states floor.counters
+  pub boxes_are : length floor.boxes ≡ length states
+  pub workers_are : length floor.counters ≡ workers
+  pub stocks_are : AreStocksOf floor.opening states floor.stocks
+  pub not_last : floor.phase + 1 < 2 ^ 64
+
+-- the permit of a worker who has done nothing in the phase, with this quota, stash and key
+abbrev pub new_permit : FloorState → ℕ → ℕ → StashState → KeyState → PermitState
+new_permit floor worker quota stash key = record {
+  split = record {
+    desk = new_desk floor.opening (counters_at floor.counters worker) (empty_journal floor.phase worker (length stash.requests + quota))
+        stash quota 0;
+    slices = slices_of floor.stocks [];
+  };
+  key = key;
+}
+
+-- the worker's permit is such a new one, with a new key to the phase's boxes
+pub record IsBegun (floor : FloorState) (worker quota : ℕ) (stash : StashState) (permit : PermitState) : Type 0 where
+  pub new : permit ≡ new_permit floor worker quota stash permit.key
+  pub key : IsNewKey floor.boxes worker permit.key
+
+abbrev pub no_stash : StashState
+no_stash = record { requests = []; done = []; room = 0 }
+
+abbrev pub stash_at : List StashState → ℕ → StashState
+stash_at stashes worker = slice_index_or stashes worker no_stash
+
+-- each worker's permit is newly begun, in order
+abbrev pub AreBegun : FloorState → List ℕ → List StashState → List PermitState → Type 0
+AreBegun floor quotas stashes permits =
+    (length permits ≡ length floor.counters)
+    × ((w : ℕ) (d : PermitState) → w < length floor.counters →
+    IsBegun floor w (slice_index quotas w) (stash_at stashes w) (slice_index_or permits w d))

@@ -1,0 +1,6 @@
+pub mod States
+pub mod Making
+pub mod Floors
+pub mod Begins
+pub mod Closings
+pub mod Resuming

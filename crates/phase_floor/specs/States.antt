@@ -1,0 +1,66 @@
+-- The state between two phases, and the books for which it stands.
+use Rattle.std.specs.Prelude.{ℕ, ◌<◌, ◌≤◌, List, [], IsSome, length, map}
+use Rattle.std.specs.List.{AllByRecursion}
+use Rattle.auction_rows.specs.declared.ids.Object.{Object}
+use Rattle.auction_rows.specs.declared.ids.Object.TheVariants.{Item, User, Category}
+use Rattle.auction_rows.specs.declared.numbers.Opening.{Opening}
+use Rattle.auction_rows.specs.Book.{Book}
+use Rattle.auction_rows.specs.History.{IsBook}
+use Rattle.item_shards.specs.declared.shard.Shard.{Shard}
+use Rattle.item_shards.specs.Limits.{HasStars}
+use Rattle.item_shards.specs.Values.{stock}
+use Rattle.shard_boxes.specs.States.{ShardState, state_of, AreOpened}
+use Rattle.phase_desks.specs.declared.counters.Counters.{Counters}
+use Rattle.phase_transactions.specs.Single.{HaveOpening}
+use Rattle.phase_closing.specs.Phases.{value_on}
+use Rattle.phase_closing.specs.Standing.{StandFor, counters_at, stores}
+
+-- the users and categories, the number of the next phase, the shards, and the counters of each worker
+pub record JoinedState : Type 0 where
+  pub opening : Opening
+  pub phase : ℕ
+  pub shards : List Shard
+  pub counters : List Counters
+
+abbrev pub joined_of : Opening → ℕ → List Shard → List Counters → JoinedState
+joined_of opening phase shards counters = record { opening = opening; phase = phase; shards = shards; counters = counters }
+
+-- what the shards show
+abbrev pub states_of : JoinedState → List ShardState
+states_of state = map state_of state.shards
+
+abbrev pub StandsFor : JoinedState → Book → Type 0
+StandsFor state book = StandFor (states_of state) state.counters book []
+
+-- the object is one of the auction: an item that is stored, or a user or category of the opening
+abbrev pub DoesExist : Opening → List ShardState → Object → Type 0
+DoesExist opening states (Item id) = IsSome (stock (value_on states (Item id)))
+DoesExist opening states (User user) = user < opening.users
+DoesExist opening states (Category category) = category < opening.categories
+
+abbrev pub DoAllExist : Opening → List ShardState → List Object → Type 0
+DoAllExist opening states objects = AllByRecursion (DoesExist opening states) objects
+
+-- no more stores of a worker than commits, and at most 1,000,000 of these
+pub record IsWithinLimit (counters : Counters) : Type 0 where
+  pub stored : stores counters ≤ counters.commits
+  pub commits : counters.commits ≤ 1000000
+
+abbrev pub AreWithinLimit : List Counters → Type 0
+AreWithinLimit counters = (w : ℕ) → w < length counters → IsWithinLimit (counters_at counters w)
+
+-- It is not so that they stand for no book. Whatever can be tested of them, and holds where they stand for a book, holds here.
+abbrev pub AreOfABook : Opening → List ShardState → List Counters → Type 0
+AreOfABook opening states counters = ¬ ((book : Book) → IsBook opening book → AllByRecursion HasStars book → StandFor states counters book [] → ⊥)
+
+-- what is kept between phases: 1 to 64 shards with which a phase may open, 1 to 16 workers within limits, and that they are of
+-- a book
+pub record IsKept (opening : Opening) (states : List ShardState) (counters : List Counters) : Type 0 where
+  pub some_shards : 0 < length states
+  pub few_shards : length states ≤ 64
+  pub some_workers : 0 < length counters
+  pub few_workers : length counters ≤ 16
+  pub opened : AreOpened states
+  pub opening_is : HaveOpening states opening
+  pub limits : AreWithinLimit counters
+  pub of_a_book : AreOfABook opening states counters

@@ -1,0 +1,83 @@
+//! How a joined phase closes.
+ghost use Rattle.std.specs.Prelude.{◌≡◌, ◌+◌, ◌<◌, ℕ, [], length, map, IfOk};
+ghost use Rattle.std.specs.List.{AllByRecursion};
+ghost use Rattle.auction_rows.specs.Book.{Book};
+ghost use Rattle.auction_rows.specs.History.{ReplaysFrom, book_after};
+ghost use Rattle.item_shards.specs.Limits.{GivesStars};
+ghost use Rattle.phase_closing.specs.Phases.{receipt_at, journal_of, counters_of};
+ghost use Rattle.phase_closing.specs.Standing.{StandFor, counters_at};
+ghost use Rattle.phase_floor.specs.Closings.{AreReceiptsOf, HasSettled, HasClosedLawfully, stash_of};
+ghost use Rattle.phase_floor.specs.States.{StandsFor, states_of};
+
+use crate::fault::FloorFault;
+use crate::floor::JoinedFloor;
+use crate::joined::Joined;
+use crate::settle::Settled;
+use auction_rows::{Entry, Request};
+use phase_permits::{JoinedReceipt, Stash};
+use shard_boxes::PhaseName;
+use std::alloc::Global;
+use std::sync::Wait;
+
+impl<N: PhaseName> JoinedFloor<N> {
+    /// Closes the phase, by one receipt of each worker, in order: the state after it, its entries by number and then
+    /// worker, and of each stash what was not performed. All memory is asked for first; where it is refused the run is over.
+    pub fn close<R: Wait>(
+        self,
+        rt: &R,
+        alloc: Global,
+        receipts: Vec<JoinedReceipt<N>>,
+    ) -> Result<(Joined, Vec<Entry>, Vec<Stash>), FloorFault>
+        requires { AreReceiptsOf self receipts.items }
+        ensures opening { IfOk result (λ closed. closed.0.opening ≡ self.opening) }
+        ensures phase { IfOk result (λ closed. closed.0.phase ≡ self.phase + 1) }
+        ensures counters { IfOk result (λ closed. closed.0.counters ≡ map counters_of receipts.items) }
+        ensures stashes { IfOk result (λ closed. closed.2.items ≡ map stash_of receipts.items) }
+        ensures closed { IfOk result (λ closed.
+            HasSettled N.opening self receipts.items (states_of closed.0) closed.1.items) }
+        ensures lawful { IfOk result (λ closed.
+            HasClosedLawfully N.opening self receipts.items (states_of closed.0) closed.1.items) }
+        ensures commits { IfOk result (λ closed. (w : ℕ) → w < length receipts.items →
+            (counters_at closed.0.counters w).commits
+            ≡ (counters_at self.counters w).commits + length (journal_of (receipt_at receipts.items w)).entries) }
+        ensures replays { IfOk result (λ closed. (book : Book) → StandFor N.opening self.counters book [] →
+            ReplaysFrom self.opening book closed.1.items) }
+        ensures stands { IfOk result (λ closed. (book : Book) → StandFor N.opening self.counters book [] →
+            StandsFor closed.0 (book_after self.opening book closed.1.items)) }
+    {
+        let Settled {
+            opening,
+            phase,
+            shards,
+            counters,
+            entries,
+            stashes,
+        } = self.settle(rt, alloc, receipts)?;
+        know_stars(&entries);
+        let state = Joined {
+            opening,
+            phase,
+            shards,
+            counters,
+        };
+        Ok((state, entries, stashes))
+    }
+}
+
+// The stars that entries give are from -5 to 5.
+pub(crate) fn know_stars(entries: &[Entry])
+    ensures { AllByRecursion (λ entry. GivesStars entry.request) entries.now }
+{
+    for entry in entries {
+        gives_stars(&entry.request);
+    }
+}
+
+// The stars of a request are from -5 to 5: their type keeps this, and says it where it is asked for their value.
+fn gives_stars(request: &Request)
+    ensures { GivesStars request.now }
+{
+    if let Request::StoreComment { stars, .. } = request {
+        let _known = stars.value();
+    }
+}

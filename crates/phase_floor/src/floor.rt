@@ -1,0 +1,93 @@
+//! A phase that is open.
+ghost use Rattle.std.specs.Prelude.{◌≡◌};
+ghost use Rattle.phase_transactions.specs.Single.{HaveOpening};
+
+use crate::kits::Stocks;
+use auction_rows::Opening;
+use phase_permits::Counters;
+use shard_boxes::{Boxes, PhaseName};
+use std::marker::Model;
+
+/// A joined phase that is open. It ends by `close`.
+#[derive(Drop)]
+pub struct JoinedFloor<N: PhaseName> {
+    pub(crate) opening: Opening,
+    pub(crate) phase: u64,
+    pub(crate) counters: Vec<Counters>,
+    pub(crate) boxes: Boxes<N>,
+}
+
+impl<N: PhaseName> Model for JoinedFloor<N> {
+    ghost use Rattle.std.specs.Prelude.{[]};
+    ghost use Rattle.phase_floor.specs.Floors.{FloorState, IsOpen};
+
+    ghost Value = { FloorState };
+
+    ghost view = { λ f. record {
+      opening = f.opening;
+      phase = f.phase;
+      counters = f.counters.items;
+      stocks = [];
+      boxes = f.boxes;
+    } };
+
+    ghost invariant = { λ f. IsOpen N.opening N.workers (record {
+      opening = f.opening;
+      phase = f.phase;
+      counters = f.counters.items;
+      stocks = [];
+      boxes = f.boxes;
+    }) };
+}
+
+impl<N: PhaseName> JoinedFloor<N> {
+    /// The boxes to which the permits' keys are. Their shards are of the phase's auction.
+    pub fn boxes(&self) -> &Boxes<N>
+        ensures boxes { result.now ≡ self.now.boxes }
+        ensures opening { HaveOpening N.opening self.now.opening }
+    {
+        &self.boxes
+    }
+}
+
+/// A split phase that is open. It ends by `close`.
+#[derive(Drop)]
+pub struct SplitFloor<N: PhaseName> {
+    pub(crate) opening: Opening,
+    pub(crate) phase: u64,
+    pub(crate) counters: Vec<Counters>,
+    pub(crate) stocks: Stocks,
+    pub(crate) boxes: Boxes<N>,
+}
+
+impl<N: PhaseName> Model for SplitFloor<N> {
+    ghost use Rattle.phase_floor.specs.Floors.{FloorState, IsOpen};
+
+    ghost Value = { FloorState };
+
+    ghost view = { λ f. record {
+      opening = f.opening;
+      phase = f.phase;
+      counters = f.counters.items;
+      stocks = f.stocks.items;
+      boxes = f.boxes;
+    } };
+
+    ghost invariant = { λ f. IsOpen N.opening N.workers (record {
+      opening = f.opening;
+      phase = f.phase;
+      counters = f.counters.items;
+      stocks = f.stocks.items;
+      boxes = f.boxes;
+    }) };
+}
+
+impl<N: PhaseName> SplitFloor<N> {
+    /// The boxes to which the permits' keys are. Their shards are of the phase's auction.
+    pub fn boxes(&self) -> &Boxes<N>
+        ensures boxes { result.now ≡ self.now.boxes }
+        ensures opening { HaveOpening N.opening self.now.opening }
+    {
+        &self.boxes
+    }
+}

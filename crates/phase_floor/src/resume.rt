@@ -1,0 +1,155 @@
+//! How an auction is resumed.
+ghost use Rattle.std.specs.Prelude.{◌≡◌, ℕ, ◌<◌, ◌≤◌, [], All, length, map, IfOk, OnOk};
+ghost use Rattle.item_shards.specs.Counting.{worker_of};
+ghost use Rattle.item_shards.specs.Writing.{writes_of};
+ghost use Rattle.auction_rows.specs.History.{IsBook};
+ghost use Rattle.item_shards.specs.Limits.{IsWithinLimits};
+ghost use Rattle.item_shards.specs.OpeningBooks.{opening_of, rows_of};
+ghost use Rattle.shard_boxes.specs.States.{state_of};
+ghost use Rattle.phase_closing.specs.Standing.{ShardsStandFor, counters_at};
+ghost use Rattle.phase_floor.specs.Resuming.{counters_in, with_row, HaveRoom, AreNumbered, AreReady, CanWriteOn, HaveDone};
+ghost use Rattle.phase_floor.specs.States.{StandsFor};
+
+use crate::joined::Joined;
+use crate::making::{new_shards, nothing_counted};
+use auction_rows::{BidEntry, ItemEntry, Object, Opening, Row, shard_of};
+use item_shards::{Act, OpeningBook, Shard};
+use phase_permits::Counters;
+use std::alloc::{AllocError, Global};
+
+impl Joined {
+    /// The auction of 1 to 16 workers, over 1 to 64 shards, that an opening book leaves: each row was a commit of its
+    /// worker. It fails for want of memory alone.
+    pub fn resume(
+        alloc: Global,
+        book: &OpeningBook,
+        workers: u32,
+        shards: u32,
+    ) -> Result<Joined, AllocError>
+        requires workers { (0 < workers) × (workers ≤ 16) }
+        requires shards { (0 < shards) × (shards ≤ 64) }
+        requires own { All (λ row. worker_of row < workers) (rows_of book.now) }
+        ensures opening { IfOk result (λ joined. joined.opening ≡ opening_of book.now) }
+        ensures phase { IfOk result (λ joined. joined.phase ≡ 0) }
+        ensures shards { IfOk result (λ joined. length joined.shards ≡ shards) }
+        ensures workers { IfOk result (λ joined. length joined.counters ≡ workers) }
+        ensures counters { IfOk result (λ joined. (w : ℕ) → w < workers →
+            counters_at joined.counters w ≡ counters_in (rows_of book.now) w) }
+        ensures stands { IfOk result (λ joined. StandsFor joined (rows_of book.now)) }
+    {
+        let rows = book.rows();
+        let counters = count_rows(alloc, workers, rows)?;
+        let shards = write_rows(alloc, book.opening(), shards, rows)?;
+        Ok(Joined {
+            opening: book.opening(),
+            phase: 0,
+            shards,
+            counters,
+        })
+    }
+}
+
+// The counters of so many workers for the rows of a book.
+fn count_rows(alloc: Global, workers: u32, rows: &[Row]) -> Result<Vec<Counters>, AllocError>
+    requires own { All (λ row. worker_of row < workers) rows.now }
+    requires few { length rows.now ≤ 16000000 }
+    ensures len { IfOk result (λ counters. length counters.items ≡ workers) }
+    ensures each { IfOk result (λ counters. (w : ℕ) → w < workers →
+        counters_at counters.items w ≡ counters_in rows.now w) }
+{
+    let mut counters = nothing_counted(alloc, workers)?;
+    for row in rows {
+        let worker = worker_of(row) as usize;
+        count_row(&mut counters[worker], row);
+    }
+    Ok(counters)
+}
+
+// The worker whose store a row is.
+pub(crate) fn worker_of(row: &Row) -> u32
+    ensures { result ≡ worker_of row.now }
+{
+    match row {
+        Row::Item(row) => row.id.worker,
+        Row::Bid(row) => row.id.worker,
+        Row::Comment(row) => row.id.worker,
+        Row::Buy(row) => row.id.worker,
+    }
+}
+
+// Counts a row, which was one commit.
+fn count_row(counters: &mut Counters, row: &Row)
+    requires { HaveRoom counters.old }
+    ensures { counters.new ≡ with_row row.now counters.old }
+{
+    counters.commits += 1;
+    match row {
+        Row::Item(_) => counters.items += 1,
+        Row::Bid(_) => counters.bids += 1,
+        Row::Comment(_) => counters.comments += 1,
+        Row::Buy(_) => counters.buys += 1,
+    }
+}
+
+// So many shards on which the rows of a book are written.
+fn write_rows(
+    alloc: Global,
+    opening: Opening,
+    count: u32,
+    rows: &[Row],
+) -> Result<Vec<Shard>, AllocError>
+    requires some { 0 < count }
+    requires book { IsBook opening rows.now }
+    requires limits { IsWithinLimits rows.now }
+    ensures len { IfOk result (λ shards. length shards.items ≡ count) }
+    ensures ready { IfOk result (λ shards. AreReady opening (map state_of shards.items)) }
+    ensures stand { IfOk result (λ shards. ShardsStandFor (map state_of shards.items) rows.now []) }
+{
+    let mut shards = new_shards(alloc, opening, count)?;
+    for row in rows {
+        write(&mut shards, count, row)?;
+    }
+    Ok(shards)
+}
+
+// Does the acts that write a row, each on the shard where its object lies.
+fn write(shards: &mut Vec<Shard>, count: u32, row: &Row) -> Result<(), AllocError>
+    requires some { 0 < count }
+    requires count { length shards.old.items ≡ count }
+    requires numbered { AreNumbered (map state_of shards.old.items) }
+    requires can { CanWriteOn (map state_of shards.old.items) row.now }
+    ensures { OnOk result (HaveDone (map state_of shards.old.items) (map state_of shards.new.items) (writes_of row.now)) }
+{
+    match *row {
+        Row::Item(row) => {
+            let entry = ItemEntry {
+                time: row.time,
+                id: row.id,
+            };
+            let place = shard_of(Object::Item(row.id), count) as usize;
+            let listed = shard_of(Object::Category(row.facts.category), count) as usize;
+            shards[place].prepare_item(row.id)?;
+            shards[place].act(Act::AddItem(row.id, row.facts));
+            shards[listed].act(Act::ListItem(row.facts.category, entry));
+        }
+        Row::Bid(row) => {
+            let entry = BidEntry {
+                amount: row.amount,
+                time: row.time,
+                id: row.id,
+                bidder: row.bidder,
+            };
+            let place = shard_of(Object::Item(row.item), count) as usize;
+            shards[place].act(Act::Bid(row.item, entry));
+        }
+        Row::Comment(row) => {
+            let place = shard_of(Object::User(row.about), count) as usize;
+            shards[place].act(Act::Comment(row.about, row.stars));
+        }
+        Row::Buy(row) => {
+            let place = shard_of(Object::Item(row.item), count) as usize;
+            shards[place].act(Act::Buy(row.item, row.quantity));
+        }
+    }
+    Ok(())
+}

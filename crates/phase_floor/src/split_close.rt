@@ -1,0 +1,116 @@
+//! How a split phase closes.
+ghost use Rattle.std.specs.Prelude.{◌≡◌, ◌+◌, ◌<◌, ◌≤◌, ℕ, [], length, map, IfOk, OnOk};
+ghost use Rattle.auction_rows.specs.Book.{Book};
+ghost use Rattle.auction_rows.specs.History.{ReplaysFrom, book_after};
+ghost use Rattle.shard_boxes.specs.States.{state_of};
+ghost use Rattle.phase_closing.specs.Phases.{receipt_at, journal_of, counters_of};
+ghost use Rattle.phase_closing.specs.Standing.{StandFor, counters_at};
+ghost use Rattle.phase_floor.specs.Closings.{AreReceiptsOf, HasReconciled, HasClosedLawfully, stash_of};
+ghost use Rattle.phase_floor.specs.Floors.{IsOpen};
+ghost use Rattle.phase_floor.specs.States.{StandsFor, states_of};
+
+use crate::close::know_stars;
+use crate::fault::FloorFault;
+use crate::floor::SplitFloor;
+use crate::joined::Joined;
+use crate::merge::merge_all;
+use crate::parts::Parts;
+use crate::reset::reset_clocks;
+use crate::settle::Settled;
+use auction_rows::Entry;
+use phase_permits::{SplitReceipt, Stash};
+use shard_boxes::PhaseName;
+use std::alloc::Global;
+use std::sync::Wait;
+use worker_journals::merge_journals;
+
+impl<N: PhaseName> SplitFloor<N> {
+    /// Closes the phase, by one receipt of each worker, in order: the state after it, into which all slices are merged, its
+    /// entries by number and then worker, and the stashes. All memory is asked for first; where it is refused the run is over.
+    pub fn close<R: Wait>(
+        self,
+        rt: &R,
+        alloc: Global,
+        receipts: Vec<SplitReceipt<N>>,
+    ) -> Result<(Joined, Vec<Entry>, Vec<Stash>), FloorFault>
+        requires { AreReceiptsOf self receipts.items }
+        ensures opening { IfOk result (λ closed. closed.0.opening ≡ self.opening) }
+        ensures phase { IfOk result (λ closed. closed.0.phase ≡ self.phase + 1) }
+        ensures counters { IfOk result (λ closed. closed.0.counters ≡ map counters_of receipts.items) }
+        ensures stashes { IfOk result (λ closed. closed.2.items ≡ map stash_of receipts.items) }
+        ensures closed { IfOk result (λ closed.
+            HasReconciled N.opening self receipts.items (states_of closed.0) closed.1.items) }
+        ensures lawful { IfOk result (λ closed.
+            HasClosedLawfully N.opening self receipts.items (states_of closed.0) closed.1.items) }
+        ensures commits { IfOk result (λ closed. (w : ℕ) → w < length receipts.items →
+            (counters_at closed.0.counters w).commits
+            ≡ (counters_at self.counters w).commits + length (journal_of (receipt_at receipts.items w)).entries) }
+        ensures replays { IfOk result (λ closed. (book : Book) → StandFor N.opening self.counters book [] →
+            ReplaysFrom self.opening book closed.1.items) }
+        ensures stands { IfOk result (λ closed. (book : Book) → StandFor N.opening self.counters book [] →
+            StandsFor closed.0 (book_after self.opening book closed.1.items)) }
+    {
+        let Settled {
+            opening,
+            phase,
+            shards,
+            counters,
+            entries,
+            stashes,
+        } = self.settle(rt, alloc, receipts)?;
+        know_stars(&entries);
+        let state = Joined {
+            opening,
+            phase,
+            shards,
+            counters,
+        };
+        Ok((state, entries, stashes))
+    }
+
+    // Ends the phase, and merges all slices. All memory is asked for first.
+    fn settle<R: Wait>(
+        self,
+        rt: &R,
+        alloc: Global,
+        receipts: Vec<SplitReceipt<N>>,
+    ) -> Result<Settled, FloorFault>
+        requires { AreReceiptsOf self receipts.items }
+        ensures opening { IfOk result (λ settled. settled.opening ≡ self.opening) }
+        ensures phase { IfOk result (λ settled. settled.phase ≡ self.phase + 1) }
+        ensures counters { IfOk result (λ settled. settled.counters.items ≡ map counters_of receipts.items) }
+        ensures stashes { IfOk result (λ settled. settled.stashes.items ≡ map stash_of receipts.items) }
+        ensures closed { IfOk result (λ settled.
+            HasReconciled N.opening self receipts.items (map state_of settled.shards.items) settled.entries.items) }
+        ensures open { OnOk result (IsOpen N.opening N.workers self) }
+        ensures limit { OnOk result ((w : ℕ) → w < length receipts.items →
+            (counters_of (receipt_at receipts.items w)).commits ≤ 1000000) }
+    {
+        let SplitFloor {
+            opening,
+            phase,
+            counters: _,
+            stocks: _,
+            boxes,
+        } = self;
+        let Parts {
+            journals,
+            stashes,
+            keys,
+            counters,
+            slices,
+        } = Parts::of_split(alloc, receipts)?;
+        let entries = merge_journals(alloc, journals)?;
+        let mut shards = boxes.close(rt, keys);
+        merge_all(&mut shards, slices);
+        reset_clocks(&mut shards);
+        Ok(Settled {
+            opening,
+            phase: phase + 1,
+            shards,
+            counters,
+            entries,
+            stashes,
+        })
+    }
+}
