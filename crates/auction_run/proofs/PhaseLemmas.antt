@@ -1,5 +1,5 @@
 -- From the floor, the permits and the receipts of a phase to what a run knows of it.
-use Rattle.std.proofs.Common.{◌≡◌, ℕ, zero, suc, ◌+◌, ◌-◌, ◌<◌, ◌≤◌, ◌^◌, ◌==◌, ◌⊎◌, inl, inr, min, fold, Bool, true, false, cond, not, List, [], ◌∷◌, ◌++◌, map, length, take, drop, refl, sym, ap, subst, ◌∙◌, arith, eq-eqb}
+use Rattle.std.proofs.Common.{◌≡◌, ℕ, zero, suc, ◌+◌, ◌-◌, ◌<◌, ◌≤◌, ◌==◌, ◌⊎◌, inl, inr, min, fold, Bool, true, false, cond, not, List, [], ◌∷◌, ◌++◌, map, length, take, drop, refl, sym, ap, subst, ◌∙◌, arith, eq-eqb}
 use Rattle.std.specs.Prelude.{Option, slice_index}
 use Rattle.std.specs.List.{filter, AllByRecursion, AllZip}
 use Rattle.std.proofs.Math.ListN.{get_or-map}
@@ -41,7 +41,7 @@ use Rattle.auction_run.specs.declared.phase.Closed.{Closed}
 use Rattle.auction_run.specs.Closed.{HasClosedPhase}
 use Rattle.auction_run.specs.Phases.{MayPerform, waiting_in, quota_of}
 use Rattle.auction_run.specs.Tasks.{Task, task, tasks, calls_for, CanBeDone, IsDoneJoined, IsDoneSplit}
-use Rattle.auction_run.specs.Working.{committed, stashed, hot_for, AreOfPhase, IsSamePermit}
+use Rattle.auction_run.specs.Working.{committed, stashed, hot_for, AreOfPhase, IsSamePermit, IsPermitOf, ArePermitsOf}
 
 -- ---- tasks, by worker
 
@@ -86,10 +86,10 @@ only_memory UnknownHot known short = absurd (known refl)
 only_memory TooLong known short = absurd (short refl)
 only_memory Memory known short = refl
 
-pub not_too_long : (policy : Policy) (scripts : List (List Request)) (state : JoinedState) (stashes handed : List StashState) (hot : List Object) (first : ℕ) (quotas : List ℕ) →
-    MayPerform policy scripts state stashes hot first → ((w : ℕ) → length (stash_at handed w).requests ≤ length (waiting_in stashes w)) →
+pub not_too_long : (policy : Policy) (scripts : List (List Request)) (state : JoinedState) (stashes handed : List StashState) (hot : List Object) (quotas : List ℕ) →
+    MayPerform policy scripts state stashes hot → ((w : ℕ) → length (stash_at handed w).requests ≤ length (waiting_in stashes w)) →
     ((w : ℕ) → w < length scripts → slice_index quotas w ≡ quota_of policy state.phase (script_of scripts w)) → IsTooLong state.counters handed quotas → ⊥
-not_too_long policy scripts state stashes handed hot first quotas may less are long =
+not_too_long policy scripts state stashes handed hot quotas may less are long =
     let room = may.room long.0 long.1 in
     let same = are long.0 (omega (arith, long.1, may.scripts_are)) in
     let fewer = less long.0 in
@@ -100,10 +100,8 @@ not_too_long policy scripts state stashes handed hot first quotas may less are l
 
 -- what a worker is given is its quota of the phase
 pub quota_is : (policy : Policy) (phase q len f first n : ℕ) → n ≡ min q (len - first) → cond (is_split phase) policy.split_quota policy.joined_quota ≡ q →
-    first ≡ min f (2 ^ 40) → len ≤ 1000000 → n ≡ min (cond (is_split phase) policy.split_quota policy.joined_quota) (len - f)
-quota_is policy phase q len f first n is own bound short =
-    let same : min q (len - first) ≡ min q (len - f) = omega (arith, bound, short) in
-    is ∙ same ∙ ap (λ k. min k (len - f)) (sym own)
+    first ≡ f → n ≡ min (cond (is_split phase) policy.split_quota policy.joined_quota) (len - f)
+quota_is policy phase q len f first n is own at = is ∙ ap (λ k. min q (len - k)) at ∙ ap (λ k. min k (len - f)) (sym own)
 
 -- what holds of each worker's part holds of all
 of_parts : (P : Entry → Type 0) (entries : List Entry) → ((w : ℕ) → AllByRecursion P (part (λ e. e.worker) w entries)) → AllByRecursion P entries
@@ -129,8 +127,8 @@ objects_back : (stocks : List (Object × Option (Facts × ℕ))) → objects_of 
 objects_back [] = refl
 objects_back (s ∷ ss) = ap (λ xs. s.0 ∷ xs) (objects_back ss)
 
-within : (q len f first : ℕ) → first ≡ min f (2 ^ 40) → len ≤ 1000000 → min q (len - f) ≤ len - first
-within q len f first is short = omega (arith, is, short)
+within : (q len f first : ℕ) → first ≡ f → min q (len - f) ≤ len - first
+within q len f first is = omega (arith, is)
 
 none_dropped : {X : Type 0} (n : ℕ) → drop {A = X} n [] ≡ []
 none_dropped zero = refl
@@ -156,22 +154,18 @@ empty_at [] w = refl
 empty_at (q ∷ qs) zero = refl
 empty_at (q ∷ qs) (suc w) = empty_at qs w
 
--- so many calls from an index on, or from the bound that no script has
-same_calls : {X : Type 0} (xs : List X) (q len f first count : ℕ) → first ≡ min f (2 ^ 40) → len ≤ 1000000 → count ≡ min q (len - f) →
-    take count (drop first xs) ≡ take (min q (len - f)) (drop f xs)
-same_calls xs q len f first count is short count_is = at (cases_lt (2 ^ 40) f)
-  where
-    at : ((2 ^ 40) < f) ⊎ (f ≤ (2 ^ 40)) → take count (drop first xs) ≡ take (min q (len - f)) (drop f xs)
-    at (inl far) =
-        let none : count ≡ 0 = omega (arith, count_is, short, far) in
-        let no : min q (len - f) ≡ 0 = omega (arith, short, far) in
-        ap (λ n. take n (drop first xs)) none ∙ sym (ap (λ n. take n (drop f xs)) no)
-    at (inr near) =
-        let e : first ≡ f = omega (arith, is, near) in
-        ap (λ n. take n (drop first xs)) count_is ∙ ap (λ n. take (min q (len - f)) (drop n xs)) e
+-- of the workers of a phase, by number
+of_workers : (phase n : ℕ) (permits : List PermitState) → ((w : ℕ) → w < length permits → IsPermitOf phase (n + w) (receipt_at permits w)) → ArePermitsOf phase n permits
+of_workers phase n [] each = tt
+of_workers phase n (p ∷ ps) each =
+    let first : n + 0 ≡ n = omega arith in (
+      subst (λ m. IsPermitOf phase m p) first (each 0 (omega arith)),
+      of_workers phase (suc n) ps (λ w less. let next : n + suc w ≡ suc n + w = omega arith in
+          subst (λ m. IsPermitOf phase m (receipt_at ps w)) next (each (suc w) (omega (arith, less)))),
+    )
 
 module _ (policy : Policy) (scripts : List (List Request)) (state : JoinedState) (stashes handed : List StashState) (hot : List Object) (first : ℕ)
-    (may : MayPerform policy scripts state stashes hot first) (opening : List ShardState) (floor : FloorState) (quotas : List ℕ) (permits : List PermitState)
+    (first_is : first ≡ first_index policy state.phase) (may : MayPerform policy scripts state stashes hot) (opening : List ShardState) (floor : FloorState) (quotas : List ℕ) (permits : List PermitState)
     (named : states_of state ≡ opening) (opening_is : floor.opening ≡ state.opening) (phase_is : floor.phase ≡ state.phase) (counters_are : floor.counters ≡ state.counters)
     (quotas_are : (w : ℕ) → w < length scripts → slice_index quotas w ≡ quota_of policy state.phase (script_of scripts w))
     (begun : AreBegun floor quotas handed permits) where
@@ -198,8 +192,16 @@ module _ (policy : Policy) (scripts : List (List Request)) (state : JoinedState)
 
   calls_given_are : (w : ℕ) → w < length scripts → calls_for (task (receipt_at permits w) (script_of scripts w) first) ≡ calls_given policy state.phase (script_of scripts w)
   calls_given_are w less =
-      same_calls (numbered 0 (script_of scripts w)) (cond (is_split state.phase) policy.split_quota policy.joined_quota) (length (script_of scripts w)) (first_index policy state.phase) first
-      (receipt_at permits w).split.desk.left may.first_is (may.short w) (left_is w less)
+      ap (λ n. take n (drop first (numbered 0 (script_of scripts w)))) (left_is w less)
+      ∙ ap (λ n. take (quota_of policy state.phase (script_of scripts w)) (drop n (numbered 0 (script_of scripts w)))) first_is
+
+  -- the permits are of the phase's workers
+  pub permits_of : ArePermitsOf state.phase 0 permits
+  permits_of = of_workers state.phase 0 permits (λ w below.
+      let less : w < length scripts = omega (arith, below, as_many) in record {
+        phase_is = ap (λ (p : PermitState). p.split.desk.journal.phase) (begins w less).new ∙ phase_is;
+        worker_is = (begins w less).key.worker_is ∙ (let e : w ≡ 0 + w = omega arith in e);
+      })
 
   -- each worker can do its task
   pub can_all : (boxes : List BoxId) → boxes ≡ floor.boxes → HaveOpening opening floor.opening →
@@ -211,7 +213,7 @@ module _ (policy : Policy) (scripts : List (List Request)) (state : JoinedState)
       let waits : length (stashed (receipt_at permits w)) ≡ length (stash_at handed w).requests = ap length (stash_is w less) in
       let tries : (receipt_at permits w).split.desk.tries ≡ 0 = ap (λ (p : PermitState). p.split.desk.tries) (begins w less).new in
       let few = room w less in
-      let fits = within (cond (is_split state.phase) policy.split_quota policy.joined_quota) (length (script_of scripts w)) (first_index policy state.phase) first may.first_is (may.short w) in record {
+      let fits = within (cond (is_split state.phase) policy.split_quota policy.joined_quota) (length (script_of scripts w)) (first_index policy state.phase) first first_is in record {
         boxes_are = (begins w less).key.boxes_are ∙ sym same;
         opening_is = subst (HaveOpening opening) (sym (ap (λ (p : PermitState). p.split.desk.opening) (begins w less).new)) have;
         short = may.short w;
@@ -376,25 +378,25 @@ module _ (policy : Policy) (scripts : List (List Request)) (state : JoinedState)
         }
 
     -- all that a run knows of the phase, once it is closed
-    pub closed_phase : (after : Closed) (given : List ShardState) (closed : HasClosed (phase_of opening floor receipts given after.entries.items)) →
+    pub closed_phase : (after : Closed) (entries : List Entry) (given : List ShardState) (closed : HasClosed (phase_of opening floor receipts given entries)) →
         objects_of floor.stocks ≡ hot →
-        HasPerformed policy scripts state.phase hot (waiting_in stashes) (waiting_in (map stash_of receipts)) after.entries.items →
+        HasPerformed policy scripts state.phase hot (waiting_in stashes) (waiting_in (map stash_of receipts)) entries →
         after.state.opening ≡ floor.opening → after.state.phase ≡ floor.phase + 1 → after.state.counters ≡ map counters_of receipts →
         after.stashes.items ≡ map stash_of receipts → length (states_of after.state) ≡ length opening →
         ((w : ℕ) → w < length receipts → (counters_at after.state.counters w).commits ≡ (counters_at floor.counters w).commits + length (journal_of (receipt_at receipts w)).entries) →
-        ((book : Book) → StandFor opening floor.counters book [] → ReplaysFrom floor.opening book after.entries.items) →
-        ((book : Book) → StandFor opening floor.counters book [] → StandsFor after.state (book_after floor.opening book after.entries.items)) →
-        HasClosedPhase policy scripts state stashes hot after
-    closed_phase after given closed hot_are performed opened counted counts waits shards commits replays stands = record {
-      performed = subst (λ ss. HasPerformed policy scripts state.phase hot (waiting_in stashes) (waiting_in ss) after.entries.items) (sym waits) performed;
-      numbered = are_numbered given after.entries.items closed hot_are;
-      replays = replays_on after.state after.entries.items replays stands;
+        ((book : Book) → StandFor opening floor.counters book [] → ReplaysFrom floor.opening book entries) →
+        ((book : Book) → StandFor opening floor.counters book [] → StandsFor after.state (book_after floor.opening book entries)) →
+        HasClosedPhase policy scripts state stashes hot entries after
+    closed_phase after entries given closed hot_are performed opened counted counts waits shards commits replays stands = record {
+      performed = subst (λ ss. HasPerformed policy scripts state.phase hot (waiting_in stashes) (waiting_in ss) entries) (sym waits) performed;
+      numbered = are_numbered given entries closed hot_are;
+      replays = replays_on after.state entries replays stands;
       phase_is = let next : floor.phase + 1 ≡ suc floor.phase = omega arith in counted ∙ next ∙ ap suc phase_is;
       opening_is = opened ∙ opening_is;
       shards_are = sym (length-map after.state.shards state_of) ∙ shards ∙ sym (ap length named) ∙ length-map state.shards state_of;
       workers_are = ap length counts ∙ length-map receipts counters_of ∙ count ∙ begun.0 ∙ ap length counters_are;
       stashes_are = ap length waits ∙ length-map receipts stash_of ∙ count ∙ begun.0 ∙ ap length counters_are;
-      commits = commits_are given after.entries.items closed (λ w. (counters_at after.state.counters w).commits) commits;
+      commits = commits_are given entries closed (λ w. (counters_at after.state.counters w).commits) commits;
     }
 
   module _ (receipts : List PermitState) (all : AllZip IsDoneJoined (tasks permits scripts first) receipts) where
@@ -407,18 +409,18 @@ module _ (policy : Policy) (scripts : List (List Request)) (state : JoinedState)
     pub joined_receipts : AreReceiptsOf floor receipts
     joined_receipts = are_receipts receipts joined_count (λ w less. (joined_at w less).same)
 
-    pub joined_closed : is_split state.phase ≡ false → handed ≡ stashes → objects_of floor.stocks ≡ hot → (after : Closed) →
-        HasSettled opening floor receipts (states_of after.state) after.entries.items →
+    pub joined_closed : is_split state.phase ≡ false → handed ≡ stashes → objects_of floor.stocks ≡ hot → (after : Closed) (entries : List Entry) →
+        HasSettled opening floor receipts (states_of after.state) entries →
         after.state.opening ≡ floor.opening → after.state.phase ≡ floor.phase + 1 → after.state.counters ≡ map counters_of receipts →
         after.stashes.items ≡ map stash_of receipts →
         ((w : ℕ) → w < length receipts → (counters_at after.state.counters w).commits ≡ (counters_at floor.counters w).commits + length (journal_of (receipt_at receipts w)).entries) →
-        ((book : Book) → StandFor opening floor.counters book [] → ReplaysFrom floor.opening book after.entries.items) →
-        ((book : Book) → StandFor opening floor.counters book [] → StandsFor after.state (book_after floor.opening book after.entries.items)) →
-        HasClosedPhase policy scripts state stashes hot after
-    joined_closed joined all_handed hot_are after settled opened counted counts waits commits replays stands =
+        ((book : Book) → StandFor opening floor.counters book [] → ReplaysFrom floor.opening book entries) →
+        ((book : Book) → StandFor opening floor.counters book [] → StandsFor after.state (book_after floor.opening book entries)) →
+        HasClosedPhase policy scripts state stashes hot entries after
+    joined_closed joined all_handed hot_are after entries settled opened counted counts waits commits replays stands =
         let same = λ (w : ℕ) (less : w < length scripts). (joined_at w less).same in
-        closed_phase receipts joined_count same after settled.given settled.closed hot_are
-        (joined_performed receipts joined_count same settled.given after.entries.items settled.closed joined all_handed joined_at)
+        closed_phase receipts joined_count same after entries settled.given settled.closed hot_are
+        (joined_performed receipts joined_count same settled.given entries settled.closed joined all_handed joined_at)
         opened counted counts waits (ap length settled.states_are ∙ length-map settled.given at_start ∙ settled.closed.boxes.0) commits replays stands
 
   module _ (receipts : List PermitState) (all : AllZip IsDoneSplit (tasks permits scripts first) receipts) where
@@ -431,18 +433,18 @@ module _ (policy : Policy) (scripts : List (List Request)) (state : JoinedState)
     pub split_receipts : AreReceiptsOf floor receipts
     split_receipts = are_receipts receipts split_count (λ w less. (split_at w less).same)
 
-    pub split_closed : is_split state.phase ≡ true → ((w : ℕ) → (stash_at handed w).requests ≡ []) → objects_of floor.stocks ≡ hot → (after : Closed) →
-        HasReconciled opening floor receipts (states_of after.state) after.entries.items →
+    pub split_closed : is_split state.phase ≡ true → ((w : ℕ) → (stash_at handed w).requests ≡ []) → objects_of floor.stocks ≡ hot → (after : Closed) (entries : List Entry) →
+        HasReconciled opening floor receipts (states_of after.state) entries →
         after.state.opening ≡ floor.opening → after.state.phase ≡ floor.phase + 1 → after.state.counters ≡ map counters_of receipts →
         after.stashes.items ≡ map stash_of receipts →
         ((w : ℕ) → w < length receipts → (counters_at after.state.counters w).commits ≡ (counters_at floor.counters w).commits + length (journal_of (receipt_at receipts w)).entries) →
-        ((book : Book) → StandFor opening floor.counters book [] → ReplaysFrom floor.opening book after.entries.items) →
-        ((book : Book) → StandFor opening floor.counters book [] → StandsFor after.state (book_after floor.opening book after.entries.items)) →
-        HasClosedPhase policy scripts state stashes hot after
-    split_closed split none_handed hot_are after settled opened counted counts waits commits replays stands =
+        ((book : Book) → StandFor opening floor.counters book [] → ReplaysFrom floor.opening book entries) →
+        ((book : Book) → StandFor opening floor.counters book [] → StandsFor after.state (book_after floor.opening book entries)) →
+        HasClosedPhase policy scripts state stashes hot entries after
+    split_closed split none_handed hot_are after entries settled opened counted counts waits commits replays stands =
         let same = λ (w : ℕ) (less : w < length scripts). (split_at w less).same in
-        closed_phase receipts split_count same after settled.given settled.closed hot_are
-        (split_performed receipts split_count same settled.given after.entries.items settled.closed split hot_are none_handed split_at)
+        closed_phase receipts split_count same after entries settled.given settled.closed hot_are
+        (split_performed receipts split_count same settled.given entries settled.closed split hot_are none_handed split_at)
         opened counted counts waits
         (ap length settled.states_are ∙ length-map (fold after_merge settled.given settled.order) at_start ∙ merged_count settled.order settled.given ∙ settled.closed.boxes.0)
         commits replays stands

@@ -1,8 +1,8 @@
 -- Where a run begins, one phase more, and its end.
-use Rattle.std.proofs.Common.{◌≡◌, ℕ, suc, ◌+◌, ◌-◌, ◌<◌, ◌≤◌, ◌^◌, ◌⊎◌, not, min, Bool, true, false, cond, List, [], ◌∷◌, ◌++◌, length, drop, refl, subst, sym, ap, ◌∙◌, inl, inr, arith}
+use Rattle.std.proofs.Common.{◌≡◌, ℕ, zero, suc, ◌+◌, ◌-◌, ◌<◌, ◌≤◌, ◌^◌, ◌⊎◌, not, min, Bool, true, false, cond, List, [], ◌∷◌, ◌++◌, length, drop, refl, subst, sym, ap, ◌∙◌, inl, inr, arith}
 use Rattle.std.specs.List.{filter}
 use Rattle.std.specs.HashSet.{HashSet}
-use Rattle.std.proofs.lemmas.Bool.{cases_Bool, cases_lt}
+use Rattle.std.proofs.lemmas.Bool.{cases_Bool, cases_lt, false≢true}
 use Rattle.std.proofs.lemmas.List.{length-append}
 use Rattle.auction_rows.specs.declared.numbers.Opening.{Opening}
 use Rattle.auction_rows.specs.declared.ids.Object.{Object}
@@ -17,17 +17,19 @@ use Rattle.phase_closing.specs.Standing.{counters_at}
 use Rattle.phase_floor.specs.States.{states_of, StandsFor, DoAllExist}
 use Rattle.run_laws.specs.Phases.{is_split, quota}
 use Rattle.run_laws.proofs.QuotaLemmas.{given_length}
-use Rattle.run_laws.proofs.ReachLemmas.{first_next}
+use Rattle.run_laws.proofs.ReachLemmas.{first_next, split_then_joined}
+use Rattle.run_laws.proofs.TurnLemmas.{waiting_none}
 use Rattle.run_serving.specs.declared.policy.Policy.{Policy}
 use Rattle.run_serving.specs.Books.{HasReplayed, ReplaysOn}
-use Rattle.run_serving.specs.Run.{first_index, calls_of, calls_given, HasRun, HasPerformed, HasLeft, HasClosed}
-use Rattle.run_serving.specs.Serving.{script_of, segment_of, Serves}
+use Rattle.run_serving.specs.Run.{first_index, calls_of, calls_given, HasRun, HasPerformed, HasLeft, AreChosen}
+use Rattle.run_serving.specs.Serving.{script_of, segment_of, hot_in, phase_reached, AreNumbered}
 use Rattle.run_serving.proofs.BookLemmas.{phase_replayed}
-use Rattle.run_serving.proofs.ClosedLemmas.{none_closed, phase_closed, segment_now}
+use Rattle.run_serving.proofs.ClosedLemmas.{none_chosen, none_numbered, phase_chosen, phase_numbered, segment_now}
 use Rattle.run_serving.proofs.EndLemmas.{run_serves, few_phases}
 use Rattle.run_serving.proofs.StepLemmas.{run_begins, phase_runs}
 use Rattle.auction_run.specs.declared.running.Running.{Running}
 use Rattle.auction_run.specs.Beginning.{AreShort}
+use Rattle.auction_run.specs.Outcomes.{IsOutcome}
 use Rattle.auction_run.specs.Phases.{hot_sets, waiting_in, quota_of, MayPerform}
 use Rattle.auction_run.specs.Running.{IsRunning, CanGoOn}
 use Rattle.auction_run.proofs.HotThere.{chosen_exist}
@@ -109,13 +111,9 @@ module _ (policy : Policy) (some : 0 < policy.joined_quota + policy.split_quota)
     (hot : hot_sets new.hot.items ≡ hot_sets old.hot.items ++ hot_now ∷ [])
     (last : new.last ≡ length old.history.items)
     (not_chosen : is_split old.state.phase ≡ false → hot_now ≡ [])
-    (chosen : is_split old.state.phase ≡ true → hot_now ≡ choose (drop old.last old.history.items) policy.threshold policy.hot_max)
-    (first : new.first ≡ min (old.first + cond (is_split old.state.phase) policy.split_quota policy.joined_quota) (2 ^ 40)) where
+    (chosen : is_split old.state.phase ≡ true → hot_now ≡ choose (drop old.last old.history.items) policy.threshold policy.hot_max) where
   here : HasPerformed policy scripts p hot_now (waiting_in old.stashes.items) (waiting_in new.stashes.items) entries
   here = subst (λ n. HasPerformed policy scripts n hot_now (waiting_in old.stashes.items) (waiting_in new.stashes.items) entries) run.phase_is performed
-
-  capped : (a b q : ℕ) → b ≡ min a (2 ^ 40) → min (b + q) (2 ^ 40) ≡ min (a + q) (2 ^ 40)
-  capped a b q e = omega (arith, e)
 
   counted_next : (w : ℕ) → w < length scripts →
       (counters_at new.state.counters w).commits + length (waiting_in new.stashes.items w)
@@ -134,12 +132,16 @@ module _ (policy : Policy) (some : 0 < policy.joined_quota + policy.split_quota)
     run = subst (λ es. HasRun policy scripts (suc p) (hot_sets new.hot.items) es (waiting_in new.stashes.items)) (sym history)
         (subst (λ hs. HasRun policy scripts (suc p) hs (old.history.items ++ entries) (waiting_in new.stashes.items)) (sym hot)
         (phase_runs policy some scripts p (hot_sets old.hot.items) hot_now old.history.items entries (waiting_in old.stashes.items) (waiting_in new.stashes.items) run.run here worker left));
-    closed = subst (λ es. HasClosed opening policy (hot_sets new.hot.items) es) (sym history)
-        (subst (λ hs. HasClosed opening policy hs (old.history.items ++ entries)) (sym hot)
-        (phase_closed opening policy scripts p (hot_sets old.hot.items) hot_now old.history.items entries
-        (waiting_in old.stashes.items) (waiting_in new.stashes.items) run.run here run.closed
+    chosen = subst (λ es. AreChosen policy (hot_sets new.hot.items) es) (sym history)
+        (subst (λ hs. AreChosen policy hs (old.history.items ++ entries)) (sym hot)
+        (phase_chosen policy scripts p (hot_sets old.hot.items) hot_now old.history.items entries
+        (waiting_in old.stashes.items) (waiting_in new.stashes.items) run.run here run.chosen
         (λ is. not_chosen (ap is_split run.phase_is ∙ is))
-        (λ is. chosen (ap is_split run.phase_is ∙ is) ∙ ap (λ es. choose es policy.threshold policy.hot_max) run.last)
+        (λ is. chosen (ap is_split run.phase_is ∙ is) ∙ ap (λ es. choose es policy.threshold policy.hot_max) run.last)));
+    numbers = subst (λ es. AreNumbered opening policy (hot_sets new.hot.items) es) (sym history)
+        (subst (λ hs. AreNumbered opening policy hs (old.history.items ++ entries)) (sym hot)
+        (phase_numbered opening policy scripts p (hot_sets old.hot.items) hot_now old.history.items entries
+        (waiting_in old.stashes.items) (waiting_in new.stashes.items) run.run here run.numbers
         (subst (λ o. IsNumbered o policy.shards hot_now entries) run.opening_is numbered)));
     replayed = subst (λ es. HasReplayed opening rows es (StandsFor new.state)) (sym history)
         (phase_replayed opening rows old.history.items entries (StandsFor old.state) (StandsFor new.state) is_book run.replayed
@@ -154,9 +156,6 @@ module _ (policy : Policy) (some : 0 < policy.joined_quota + policy.split_quota)
     last = ap (λ n. drop n new.history.items) last ∙ ap (drop (length old.history.items)) history ∙ drop_front old.history.items entries
         ∙ sym (segment_now p old.history.items entries run.run.phases_before here.phases) ∙ ap (segment_of p) (sym history)
         ∙ (let e : p ≡ suc p - 1 = omega arith in ap (λ n. segment_of n new.history.items) e);
-    first_is = first ∙ ap (λ n. min (old.first + cond (is_split n) policy.split_quota policy.joined_quota) (2 ^ 40)) run.phase_is
-        ∙ capped (first_index policy p) old.first (cond (is_split p) policy.split_quota policy.joined_quota) run.first_is
-        ∙ ap (λ n. min n (2 ^ 40)) (sym (first_next policy.joined_quota policy.split_quota some p));
   }
 
 -- ---- what the next phase may begin with
@@ -167,6 +166,17 @@ all_short rows scripts short worker = go (cases_lt worker (length scripts))
     go : (worker < length scripts) ⊎ (length scripts ≤ worker) → length (script_of scripts worker) ≤ 1000000
     go (inl known) = omega (arith, short worker known)
     go (inr past) = let e : length (script_of scripts worker) ≡ 0 = ap length (past_end scripts worker past) in omega (arith, e)
+
+-- what was put off waits for a joined phase
+nothing_waits : (policy : Policy) (scripts : List (List Request)) (p : ℕ) (hot : List (List Object)) (history : List Entry) (stashes : ℕ → List (ℕ × Request)) →
+    HasRun policy scripts p hot history stashes → is_split p ≡ true → (worker : ℕ) → stashes worker ≡ []
+nothing_waits policy scripts zero hot history stashes run split worker = absurd (false≢true split)
+nothing_waits policy scripts (suc p) hot history stashes run split worker =
+    run.stashed worker ∙ waiting_none (phase_reached policy) (λ q request. is_put_off (hot_in hot q) request) p (before (cases_Bool (is_split p))) (script_of scripts worker)
+  where
+    before : (is_split p ≡ true) ⊎ (is_split p ≡ false) → is_split p ≡ false
+    before (inl also) = absurd (false≢true (sym (split_then_joined p also) ∙ split))
+    before (inr joined) = joined
 
 room_left : (commits waits rows first len part : ℕ) → commits + waits ≤ rows + min first len → rows + len ≤ 1000000 → commits + waits + min part (len - first) ≤ 1000000
 room_left commits waits rows first len part a b = omega (arith, a, b)
@@ -188,7 +198,7 @@ module _ (policy : Policy) (scripts : List (List Request)) (running : Running) (
           (subst (λ o. StandsFor running.state (book_after o on.rows running.history.items)) (sym run.opening_is) run.replayed.stands))
       go (inr joined) = subst (DoAllExist running.state.opening (states_of running.state)) (sym (not_chosen joined)) tt
 
-  pub may_perform : MayPerform policy scripts running.state running.stashes.items hot_now running.first
+  pub may_perform : MayPerform policy scripts running.state running.stashes.items hot_now
   may_perform = record {
     counted = counted;
     scripts_are = sym run.workers_are;
@@ -201,7 +211,7 @@ module _ (policy : Policy) (scripts : List (List Request)) (running : Running) (
         (run.counted w own) (on.short w own);
     joined = not_chosen;
     exist = hot_exist;
-    first_is = run.first_is;
+    split = λ split. nothing_waits policy scripts running.state.phase (hot_sets running.hot.items) running.history.items (waiting_in running.stashes.items) run.run split;
   }
 
 -- ---- the beginning and the end
@@ -209,15 +219,17 @@ module _ (policy : Policy) (scripts : List (List Request)) (running : Running) (
 pub begun : (opening : Opening) (rows : Book) (policy : Policy) (scripts : List (List Request)) (new : Running) →
     new.state.phase ≡ 0 → new.state.opening ≡ opening → StandsFor new.state rows → length new.state.shards ≡ policy.shards → length new.state.counters ≡ length scripts →
     ((w : ℕ) → w < length scripts → (counters_at new.state.counters w).commits ≡ rows_by rows w) →
-    new.history.items ≡ [] → new.hot.items ≡ [] → length new.stashes.items ≡ length scripts → ((w : ℕ) → waiting_in new.stashes.items w ≡ []) → new.last ≡ 0 → new.first ≡ 0 →
+    new.history.items ≡ [] → new.hot.items ≡ [] → length new.stashes.items ≡ length scripts → ((w : ℕ) → waiting_in new.stashes.items w ≡ []) → new.last ≡ 0 →
     IsRunning opening rows policy scripts 0 new
-begun opening rows policy scripts new phase same stands shards workers commits history hot stashes none last first = record {
+begun opening rows policy scripts new phase same stands shards workers commits history hot stashes none last = record {
   run = subst (λ es. HasRun policy scripts 0 (hot_sets new.hot.items) es (waiting_in new.stashes.items)) (sym history)
       (subst (λ hs. HasRun policy scripts 0 (hot_sets hs) [] (waiting_in new.stashes.items)) (sym hot)
       (subst (HasRun policy scripts 0 [] []) (λ i w. sym (none w) i)
       (run_begins policy scripts)));
-  closed = subst (λ es. HasClosed opening policy (hot_sets new.hot.items) es) (sym history)
-      (subst (λ hs. HasClosed opening policy (hot_sets hs) []) (sym hot) (none_closed opening policy));
+  chosen = subst (λ es. AreChosen policy (hot_sets new.hot.items) es) (sym history)
+      (subst (λ hs. AreChosen policy (hot_sets hs) []) (sym hot) (none_chosen policy));
+  numbers = subst (λ es. AreNumbered opening policy (hot_sets new.hot.items) es) (sym history)
+      (subst (λ hs. AreNumbered opening policy (hot_sets hs) []) (sym hot) (none_numbered opening policy));
   replayed = subst (λ es. HasReplayed opening rows es (StandsFor new.state)) (sym history) (record { replays = tt; stands = stands });
   opening_is = same;
   phase_is = phase;
@@ -227,19 +239,15 @@ begun opening rows policy scripts new phase same stands shards workers commits h
   counted = λ w known. let e : length (waiting_in new.stashes.items w) ≡ 0 = ap length (none w) in omega (arith, e, commits w known);
   last_within = omega (arith, last);
   last = ap (λ n. drop n new.history.items) last ∙ ap (drop 0) history ∙ ap (segment_of (0 - 1)) (sym history);
-  first_is = omega (arith, first);
 }
 
 module _ (opening : Opening) (rows : Book) (policy : Policy) (some : 0 < policy.joined_quota + policy.split_quota) (scripts : List (List Request)) (short : AreShort rows scripts)
     (p : ℕ) (running : Running) (run : IsRunning opening rows policy scripts p running) where
-  -- what is left by the bound is left
-  pub left_over : (worker : ℕ) → ((running.first < length (script_of scripts worker)) ⊎ (0 < length (waiting_in running.stashes.items worker))) →
-      HasLeft policy scripts p (waiting_in running.stashes.items) worker
-  left_over worker (inl more) = inl (uncapped running.first (first_index policy p) (length (script_of scripts worker)) run.first_is more (all_short rows scripts short worker))
-    where
-      uncapped : (first index len : ℕ) → first ≡ min index (2 ^ 40) → first < len → len ≤ 1000000 → index < len
-      uncapped first index len is more few = omega (arith, is, more, few)
-  left_over worker (inr waits) = inr waits
+  -- what is left from the first index on is left
+  pub left_over : (first worker : ℕ) → first ≡ first_index policy p →
+      ((first < length (script_of scripts worker)) ⊎ (0 < length (waiting_in running.stashes.items worker))) → HasLeft policy scripts p (waiting_in running.stashes.items) worker
+  left_over first worker is (inl more) = inl (omega (arith, is, more))
+  left_over first worker is (inr waits) = inr waits
 
   pub few_phases_so_far : p ≤ 2000002
   few_phases_so_far =
@@ -253,10 +261,16 @@ module _ (opening : Opening) (rows : Book) (policy : Policy) (some : 0 < policy.
   pub phases_counted : running.state.phase ≡ length running.hot.items
   phases_counted = run.phase_is ∙ sym run.run.phase_count ∙ sets_length running.hot.items
 
-  pub served : ((worker : ℕ) → (length (script_of scripts worker) ≤ running.first) × (length (waiting_in running.stashes.items worker) ≡ 0)) →
-      Serves opening policy scripts (hot_sets running.hot.items) running.history.items
-  served none = run_serves opening policy some scripts p (hot_sets running.hot.items) running.history.items (waiting_in running.stashes.items) run.run run.closed
-      (λ worker. (at_most running.first (first_index policy p) (length (script_of scripts worker)) run.first_is (none worker).0, (none worker).1))
-    where
-      at_most : (first index len : ℕ) → first ≡ min index (2 ^ 40) → len ≤ first → len ≤ index
-      at_most first index len is within = omega (arith, is, within)
+  -- where nothing is left, the outcome is that of a run
+  pub ended : (first : ℕ) → first ≡ first_index policy p →
+      ((worker : ℕ) → (length (script_of scripts worker) ≤ first) × (length (waiting_in running.stashes.items worker) ≡ 0)) →
+      IsOutcome opening rows policy scripts (record { history = running.history; hot = running.hot; state = running.state })
+  ended first is none = record {
+    serves = run_serves opening policy some scripts p (hot_sets running.hot.items) running.history.items (waiting_in running.stashes.items) run.run run.numbers
+        (λ worker. (subst (λ n. length (script_of scripts worker) ≤ n) is (none worker).0, (none worker).1));
+    chosen = run.chosen;
+    replays = run.replayed.replays;
+    stands = run.replayed.stands;
+    opening_is = run.opening_is;
+    phases = phases_counted;
+  }

@@ -50,6 +50,18 @@ pub lists_length : (scripts : List (Vec Request Global)) → length (lists scrip
 lists_length [] = refl
 lists_length (x ∷ xs) = ap suc (lists_length xs)
 
+-- where neither a request nor a stash is left, nothing is
+pub neither : (first len waits : ℕ) → ((first < len) ⊎ (0 < waits) → ⊥) → (len ≤ first) × (waits ≡ 0)
+neither first len waits none = (go (cases_lt first len), at waits (λ some. none (inr some)))
+  where
+    go : (first < len) ⊎ (len ≤ first) → len ≤ first
+    go (inl more) = absurd (none (inl more))
+    go (inr within) = within
+
+    at : (n : ℕ) → (0 < n → ⊥) → n ≡ 0
+    at zero never = refl
+    at (suc n) never = absurd (never (omega arith))
+
 -- what is left of a worker's script and stash, by what is read of them
 module _ (scripts : List (Vec Request Global)) (stashes : List StashState) (first i : ℕ) (script : Vec Request Global) (stash : StashState)
     (within : i < length scripts) (same : length stashes ≡ length scripts) (script_is : script ≡ get_or scripts i script) (stash_is : stash ≡ get_or stashes i stash) where
@@ -59,18 +71,13 @@ module _ (scripts : List (Vec Request Global)) (stashes : List StashState) (firs
   own_stash : waiting_in stashes i ≡ stash.requests
   own_stash = waits_at stashes i stash (omega (arith, within, same)) ∙ ap (λ (s : StashState). s.requests) (sym stash_is)
 
-  positive : (n : ℕ) → (n ≡ 0 → ⊥) → 0 < n
-  positive zero other = absurd (other refl)
-  positive (suc n) other = omega arith
+  pub something_left : (first < length script.items) ⊎ (0 < length stash.requests) → (first < length (script_of (lists scripts) i)) ⊎ (0 < length (waiting_in stashes i))
+  something_left (inl more) = inl (subst (λ rs. first < length rs) (sym own_script) more)
+  something_left (inr some) = inr (subst (λ rs. 0 < length rs) (sym own_stash) some)
 
-  pub request_left : first < length script.items → (first < length (script_of (lists scripts) i)) ⊎ (0 < length (waiting_in stashes i))
-  request_left more = inl (subst (λ rs. first < length rs) (sym own_script) more)
-
-  pub stash_left : (length stash.requests ≡ 0 → ⊥) → (first < length (script_of (lists scripts) i)) ⊎ (0 < length (waiting_in stashes i))
-  stash_left some = inr (subst (λ rs. 0 < length rs) (sym own_stash) (positive (length stash.requests) some))
-
-  pub nothing_left : length script.items ≤ first → length stash.requests ≡ 0 → (length (script_of (lists scripts) i) ≤ first) × (length (waiting_in stashes i) ≡ 0)
-  nothing_left requests waits = (subst (λ rs. length rs ≤ first) (sym own_script) requests, ap length own_stash ∙ waits)
+  pub nothing_left : ((first < length script.items) ⊎ (0 < length stash.requests) → ⊥) → (length (script_of (lists scripts) i) ≤ first) × (length (waiting_in stashes i) ≡ 0)
+  nothing_left none = let both = neither first (length script.items) (length stash.requests) none in
+      (subst (λ rs. length rs ≤ first) (sym own_script) both.0, ap length own_stash ∙ both.1)
 
 -- nobody has anything left where none of the workers that there are has
 pub nobody : (scripts : List (List Request)) (stashes : List StashState) (first i : ℕ) → length scripts ≤ i → length stashes ≡ length scripts →

@@ -1,16 +1,20 @@
 -- The tasks of workers, one after the other.
 use Rattle.std.specs.declared.alloc.Global.{Global}
-use Rattle.std.proofs.Common.{Vec, ◌≡◌, ℕ, zero, suc, ◌+◌, ◌<◌, ◌≤◌, List, [], ◌∷◌, ◌++◌, map, length, take, drop, get_or, refl, sym, ap, subst, ◌∙◌, append_assoc, arith}
-use Rattle.std.specs.Prelude.{OnOk, slice_index, Some, Err}
+use Rattle.std.proofs.Common.{Vec, inl, inr, ◌≡◌, ℕ, zero, suc, ◌+◌, ◌<◌, ◌≤◌, List, [], ◌∷◌, ◌++◌, map, length, take, drop, get_or, refl, sym, ap, subst, ◌∙◌, append_assoc, arith}
+use Rattle.std.specs.Prelude.{OnOk, IfErr, Result, unwrap_or, slice_index, None, Some, Ok, Err}
 use Rattle.std.specs.List.{AllByRecursion, AllZip}
 use Rattle.std.proofs.lemmas.List.{map-append, length-map}
 use Rattle.auction_rows.specs.declared.requests.Request.{Request}
 use Rattle.phase_transactions.specs.declared.fault.PermitFault.{PermitFault}
+use Rattle.phase_transactions.specs.declared.fault.PermitFault.TheVariants as permit
 use Rattle.phase_transactions.specs.Permits.{PermitState}
 use Rattle.run_serving.specs.Serving.{script_of}
-use Rattle.auction_run.specs.declared.serving.Served.{Served}
-use Rattle.auction_run.specs.Phases.{lists}
-use Rattle.auction_run.specs.Tasks.{Task, task, tasks, without_fault, fault_or, first_fault}
+use Rattle.auction_run.specs.declared.fault.RunFault.{RunFault}
+use Rattle.auction_run.specs.declared.fault.RunFault.TheVariants as run
+use Rattle.auction_run.specs.declared.serving.WorkerAnswer.{WorkerAnswer}
+use Rattle.auction_run.specs.Phases.{lists, IsMet}
+use Rattle.auction_run.specs.Tasks.{Task, task, tasks, without_fault, fault_or, first_fault, met, IsFirstFault, IsFaultBy}
+use Rattle.auction_run.specs.Threads.{IsUnstarted}
 
 -- the next of the scripts that are left
 pub next_script : (scripts : List (Vec Request Global)) (n m : ℕ) (script : Vec Request Global) → n < length scripts → script ≡ get_or scripts n script → m ≡ n + 1 →
@@ -32,38 +36,79 @@ all_more : {D : Type 0} (P : D → Type 0) (ds : List D) (d : D) → AllByRecurs
 all_more P [] d all more = (more, tt)
 all_more P (x ∷ ds) d all more = (all.0, all_more P ds d all.1 more)
 
--- one duty more is made
-pub duty_more : {D : Type 0} (Can : Task → Type 0) (CanDo : D → Type 0) (of : D → Task) (duties now : List D) (duty : D) (rest next all : List Task) (t : Task) →
-    now ≡ duties ++ duty ∷ [] → of duty ≡ t → rest ≡ t ∷ next → (Can t → CanDo duty) →
-    AllByRecursion Can rest → AllByRecursion CanDo duties → map of duties ++ rest ≡ all →
+-- one worker's task more is made
+pub own_more : {D : Type 0} (Can : Task → Type 0) (CanDo : D → Type 0) (of : D → Task) (owns now : List D) (own : D) (rest next all : List Task) (t : Task) →
+    now ≡ owns ++ own ∷ [] → of own ≡ t → rest ≡ t ∷ next → (Can t → CanDo own) →
+    AllByRecursion Can rest → AllByRecursion CanDo owns → map of owns ++ rest ≡ all →
     AllByRecursion Can next × AllByRecursion CanDo now × (map of now ++ next ≡ all)
-duty_more Can CanDo of duties now duty rest next all t push is more can left made whole =
+own_more Can CanDo of owns now own rest next all t push is more can left made whole =
     let split : AllByRecursion Can (t ∷ next) = subst (AllByRecursion Can) more left in (
       split.1,
-      subst (AllByRecursion CanDo) (sym push) (all_more CanDo duties duty made (can split.0)),
+      subst (AllByRecursion CanDo) (sym push) (all_more CanDo owns own made (can split.0)),
       ap (λ ds. map of ds ++ next) push
-          ∙ ap (λ ts. ts ++ next) (map-append of duties (duty ∷ []))
-          ∙ append_assoc (map of duties) (of duty ∷ []) next
-          ∙ ap (λ u. map of duties ++ u ∷ next) is
-          ∙ ap (λ ts. map of duties ++ ts) (sym more)
+          ∙ ap (λ ts. ts ++ next) (map-append of owns (own ∷ []))
+          ∙ append_assoc (map of owns) (of own ∷ []) next
+          ∙ ap (λ u. map of owns ++ u ∷ next) is
+          ∙ ap (λ ts. map of owns ++ ts) (sym more)
           ∙ whole,
     )
 
-done_by : {D T : Type 0} (of : D → Task) (left : T → PermitState) (IsDone : Task → PermitState → Type 0) (duties : List D) (receipts : List T) →
-    AllZip (λ duty (s : Served T). OnOk s.done (IsDone (of duty) (left s.receipt))) duties (map without_fault receipts) →
-    AllZip IsDone (map of duties) (map left receipts)
-done_by of left IsDone [] [] kept = tt
-done_by of left IsDone [] (r ∷ rs) kept = absurd kept
-done_by of left IsDone (d ∷ ds) [] kept = absurd kept
-done_by of left IsDone (d ∷ ds) (r ∷ rs) kept = (kept.0, done_by of left IsDone ds rs kept.1)
+-- what each worker's answer keeps of its task
+module _ {D T : Type 0} (of : D → Task) (left : T → PermitState) (IsDone : Task → PermitState → Type 0) (HasMet : Task → PermitState → PermitFault → Type 0) where
+  abbrev Keeps : D → WorkerAnswer T → Type 0
+  Keeps own answer = OnOk answer.done (IsDone (of own) (left answer.receipt)) × IfErr answer.done (HasMet (of own) (left answer.receipt))
 
--- where no worker met a fault, all tasks are done
-pub all_done : {D T : Type 0} (of : D → Task) (left : T → PermitState) (IsDone : Task → PermitState → Type 0) (duties : List D) (served : List (Served T)) (receipts : List T) (ts : List Task) →
-    AllZip (λ duty s. OnOk s.done (IsDone (of duty) (left s.receipt))) duties served → served ≡ map without_fault receipts → map of duties ≡ ts →
-    AllZip IsDone ts (map left receipts)
-all_done of left IsDone duties served receipts ts kept none are =
-    subst (λ us. AllZip IsDone us (map left receipts)) are
-    (done_by of left IsDone duties receipts (subst (AllZip (λ duty s. OnOk s.done (IsDone (of duty) (left s.receipt))) duties) none kept))
+  done_by : (owns : List D) (receipts : List T) → AllZip Keeps owns (map without_fault receipts) → AllZip IsDone (map of owns) (map left receipts)
+  done_by [] [] kept = tt
+  done_by [] (r ∷ rs) kept = absurd kept
+  done_by (d ∷ ds) [] kept = absurd kept
+  done_by (d ∷ ds) (r ∷ rs) kept = (kept.0.0, done_by ds rs kept.1)
+
+  -- where no worker met a fault, all tasks are done
+  pub all_done : (owns : List D) (answers : List (WorkerAnswer T)) (receipts : List T) (ts : List Task) →
+      AllZip Keeps owns answers → answers ≡ map without_fault receipts → map of owns ≡ ts → AllZip IsDone ts (map left receipts)
+  all_done owns answers receipts ts kept none are =
+      subst (λ us. AllZip IsDone us (map left receipts)) are (done_by owns receipts (subst (AllZip Keeps owns) none kept))
+
+  -- the fault of the least worker that met one is that of the first task that was not done
+  first_met : (owns : List D) (answers : List (WorkerAnswer T)) (fault : PermitFault) → AllZip Keeps owns answers → first_fault answers ≡ Some fault →
+      IsFirstFault IsDone HasMet (map of owns) fault
+  first_met [] [] fault kept is = absurd (let none : None ≡ Some fault = is in cc)
+  first_met [] (a ∷ more) fault kept is = absurd kept
+  first_met (d ∷ ds) [] fault kept is = absurd kept
+  first_met (d ∷ ds) (a ∷ more) fault kept is = at a.done kept.0.0 kept.0.1 is (λ later. first_met ds more fault kept.1 later)
+    where
+      at : {U : Type 0} (done : Result U PermitFault) → OnOk done (IsDone (of d) (left a.receipt)) → IfErr done (HasMet (of d) (left a.receipt)) →
+          fault_or done (first_fault more) ≡ Some fault → (first_fault more ≡ Some fault → IsFirstFault IsDone HasMet (map of ds) fault) →
+          IsFirstFault IsDone HasMet (map of (d ∷ ds)) fault
+      at (Ok u) ok err first again = inr ((left a.receipt, ok), again first)
+      at (Err f) ok err first again = inl (left a.receipt, subst (HasMet (of d) (left a.receipt)) (ap (λ o. unwrap_or o fault) first) err)
+
+  pub fault_met : (owns : List D) (answers : List (WorkerAnswer T)) (ts : List Task) (fault : PermitFault) → AllZip Keeps owns answers →
+      first_fault answers ≡ Some fault → map of owns ≡ ts → IsFirstFault IsDone HasMet ts fault
+  fault_met owns answers ts fault kept is are = subst (λ us. IsFirstFault IsDone HasMet us fault) are (first_met owns answers fault kept is)
+
+pub met_by : (P : PermitFault → Type 0) (fault : PermitFault) → P fault → IsFaultBy P (met fault)
+met_by P permit.Memory is = tt
+met_by P permit.NumberFull is = is
+
+pub unstarted_by : (P : PermitFault → Type 0) (fault : RunFault) → IsUnstarted fault → IsFaultBy P fault
+unstarted_by P run.Spawn is = tt
+unstarted_by P run.Memory is = tt
+unstarted_by P run.NumberFull is = absurd is
+unstarted_by P run.Workers is = absurd is
+unstarted_by P run.Shards is = absurd is
+unstarted_by P run.Quota is = absurd is
+unstarted_by P run.TooLong is = absurd is
+
+pub is_met : (P : PermitFault → Type 0) (fault : RunFault) → IsFaultBy P fault → IsMet fault
+is_met P run.Spawn is = tt
+is_met P run.Memory is = tt
+is_met P run.NumberFull is = tt
+is_met P run.Workers is = absurd is
+is_met P run.Shards is = absurd is
+is_met P run.Quota is = absurd is
+is_met P run.TooLong is = absurd is
 
 pub zip_length : {A B : Type 0} (R : A → B → Type 0) (xs : List A) (ys : List B) → AllZip R xs ys → length ys ≡ length xs
 zip_length R [] [] all = refl
@@ -76,14 +121,14 @@ tasks_few [] scripts first = omega arith
 tasks_few (p ∷ ps) [] first = omega arith
 tasks_few (p ∷ ps) (s ∷ ss) first = let again = tasks_few ps ss first in omega (arith, again)
 
--- there are no more duties than scripts
-pub duties_few : {D : Type 0} (of : D → Task) (duties : List D) (permits : List PermitState) (scripts : List (Vec Request Global)) (first : ℕ) →
-    map of duties ≡ tasks permits (lists scripts) first → length duties ≤ length scripts
-duties_few of duties permits scripts first are =
-    let mapped : length (map of duties) ≡ length duties = simp length-map in
+-- there are no more tasks than scripts
+pub tasks_of_few : {D : Type 0} (of : D → Task) (owns : List D) (permits : List PermitState) (scripts : List (Vec Request Global)) (first : ℕ) →
+    map of owns ≡ tasks permits (lists scripts) first → length owns ≤ length scripts
+tasks_of_few of owns permits scripts first are =
+    let mapped : length (map of owns) ≡ length owns = simp length-map in
     let of_lists : length (lists scripts) ≡ length scripts = simp length-map in
     let few = tasks_few permits (lists scripts) first in
-    let same : length (map of duties) ≡ length (tasks permits (lists scripts) first) = ap length are in
+    let same : length (map of owns) ≡ length (tasks permits (lists scripts) first) = ap length are in
     omega (arith, mapped, of_lists, few, same)
 
 -- ---- quotas
@@ -113,13 +158,13 @@ quota_at f (s ∷ ss) (suc n) (suc w) all less = quota_at f ss n w (omega (arith
 
 -- ---- faults
 
-fault_at : {T : Type 0} (receipts : List T) (each : Served T) (next : List (Served T)) (fault : PermitFault) → each.done ≡ Err fault →
+fault_at : {T : Type 0} (receipts : List T) (each : WorkerAnswer T) (next : List (WorkerAnswer T)) (fault : PermitFault) → each.done ≡ Err fault →
     first_fault (map without_fault receipts ++ each ∷ next) ≡ Some fault
 fault_at [] each next fault is = ap (λ done. fault_or done (first_fault next)) is
 fault_at (r ∷ rs) each next fault is = fault_at rs each next fault is
 
 -- where the workers before met no fault, this one's is the first
-pub fault_first : {T : Type 0} (receipts : List T) (each : Served T) (left next all : List (Served T)) (fault : PermitFault) →
+pub fault_first : {T : Type 0} (receipts : List T) (each : WorkerAnswer T) (left next all : List (WorkerAnswer T)) (fault : PermitFault) →
     each.done ≡ Err fault → left ≡ each ∷ next → map without_fault receipts ++ left ≡ all → first_fault all ≡ Some fault
 fault_first receipts each left next all fault is here whole =
     ap first_fault (sym whole) ∙ ap (λ es. first_fault (map without_fault receipts ++ es)) here ∙ fault_at receipts each next fault is

@@ -2,6 +2,7 @@
 use Rattle.std.specs.Prelude.{◌≡◌, ℕ, suc, ◌+◌, ◌<◌, List, length}
 use Rattle.auction_rows.specs.declared.ids.Object.{Object}
 use Rattle.auction_rows.specs.declared.requests.Request.{Request}
+use Rattle.auction_rows.specs.declared.rows.Entry.{Entry}
 use Rattle.auction_rows.specs.Phases.{IsNumbered}
 use Rattle.phase_desks.specs.Stashes.{StashState}
 use Rattle.phase_closing.specs.Standing.{counters_at}
@@ -12,12 +13,12 @@ use Rattle.run_serving.specs.Run.{HasPerformed, calls_of}
 use Rattle.auction_run.specs.declared.phase.Closed.{Closed}
 use Rattle.auction_run.specs.Phases.{waiting_in}
 
--- The next phase of a state was performed, with these stashes and hot objects, and has closed.
+-- The next phase of a state was performed, with these stashes and hot objects, and has closed with these entries.
 pub record HasClosedPhase (policy : Policy) (scripts : List (List Request)) (state : JoinedState) (stashes : List StashState)
-    (hot : List Object) (closed : Closed) : Type 0 where
-  pub performed : HasPerformed policy scripts state.phase hot (waiting_in stashes) (waiting_in closed.stashes.items) closed.entries.items
-  pub numbered : IsNumbered state.opening policy.shards hot closed.entries.items
-  pub replays : ReplaysOn state.opening closed.entries.items (StandsFor state) (StandsFor closed.state)
+    (hot : List Object) (entries : List Entry) (closed : Closed) : Type 0 where
+  pub performed : HasPerformed policy scripts state.phase hot (waiting_in stashes) (waiting_in closed.stashes.items) entries
+  pub numbered : IsNumbered state.opening policy.shards hot entries
+  pub replays : ReplaysOn state.opening entries (StandsFor state) (StandsFor closed.state)
   pub phase_is : closed.state.phase ≡ suc state.phase
   pub opening_is : closed.state.opening ≡ state.opening
   pub shards_are : length closed.state.shards ≡ length state.shards
@@ -26,4 +27,4 @@ pub record HasClosedPhase (policy : Policy) (scripts : List (List Request)) (sta
   -- each worker committed as much more as it has entries
   pub commits : (worker : ℕ) → worker < length state.counters →
       (counters_at closed.state.counters worker).commits
-      ≡ (counters_at state.counters worker).commits + length (calls_of worker closed.entries.items)
+      ≡ (counters_at state.counters worker).commits + length (calls_of worker entries)

@@ -6,3 +6,4 @@ pub mod Running
 pub mod Threads
 pub mod Tasks
 pub mod Closed
+pub mod Outcomes

@@ -1,6 +1,6 @@
 -- What a phase of a run begins with, and the faults that it meets.
 use Rattle.std.specs.declared.alloc.Global.{Global}
-use Rattle.std.specs.Prelude.{ℕ, ◌≡◌, ◌+◌, ◌<◌, ◌≤◌, ◌^◌, min, false, List, [], map, length, Vec, ⊤}
+use Rattle.std.specs.Prelude.{ℕ, ◌≡◌, ◌+◌, ◌<◌, ◌≤◌, ◌^◌, true, false, List, [], map, length, Vec, ⊤}
 use Rattle.std.specs.HashSet.{HashSet}
 use Rattle.auction_rows.specs.declared.ids.Object.{Object}
 use Rattle.auction_rows.specs.declared.requests.Request.{Request}
@@ -12,6 +12,7 @@ use Rattle.run_laws.specs.Phases.{is_split, quota}
 use Rattle.run_serving.specs.declared.policy.Policy.{Policy}
 use Rattle.run_serving.specs.Run.{first_index}
 use Rattle.run_serving.specs.Serving.{script_of}
+use Rattle.auction_run.specs.declared.round.Round.{Round}
 use Rattle.auction_run.specs.declared.fault.RunFault.{RunFault}
 use Rattle.auction_run.specs.declared.fault.RunFault.TheVariants.{Workers, Shards, Quota, TooLong, Spawn, Memory, NumberFull}
 
@@ -31,13 +32,13 @@ waiting_in stashes worker = (stash_at stashes worker).requests
 abbrev pub quota_of : Policy → ℕ → List Request → ℕ
 quota_of policy phase script = quota policy.joined_quota policy.split_quota phase (length script)
 
--- no script is so long
-abbrev pub past_scripts : ℕ
-past_scripts = 2 ^ 40
+-- the round is that of the phase, and goes on with each script at the first index that reaches it
+abbrev pub IsRoundOf : {G : Type 0} → Round G → ℕ → Type 0
+IsRoundOf round phase = (round.phase ≡ phase) × (round.first ≡ first_index round.policy phase)
 
 -- A run may perform the next phase of a state.
 pub record MayPerform (policy : Policy) (scripts : List (List Request)) (state : JoinedState) (stashes : List StashState)
-    (hot : List Object) (first : ℕ) : Type 0 where
+    (hot : List Object) : Type 0 where
   pub counted : state.phase + 1 < 2 ^ 64
   -- there are a script and a stash for each worker, and the policy's shards
   pub scripts_are : length scripts ≡ length state.counters
@@ -51,8 +52,8 @@ pub record MayPerform (policy : Policy) (scripts : List (List Request)) (state :
   -- nothing is hot in a joined phase, and what is hot in a split one is there
   pub joined : is_split state.phase ≡ false → hot ≡ []
   pub exist : DoAllExist state.opening (states_of state) hot
-  -- the first index that reaches the phase, up to a bound that no script has
-  pub first_is : first ≡ min (first_index policy state.phase) past_scripts
+  -- nothing waits in a split phase
+  pub split : is_split state.phase ≡ true → (worker : ℕ) → waiting_in stashes worker ≡ []
 
 -- a fault that workers and floors meet, and none of those that are found before a run begins
 abbrev pub IsMet : RunFault → Type 0

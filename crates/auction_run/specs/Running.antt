@@ -9,17 +9,18 @@ use Rattle.phase_closing.specs.Standing.{counters_at}
 use Rattle.phase_floor.specs.States.{StandsFor}
 use Rattle.run_serving.specs.declared.policy.Policy.{Policy}
 use Rattle.run_serving.specs.Books.{HasReplayed}
-use Rattle.run_serving.specs.Run.{HasRun, HasClosed, first_index}
-use Rattle.run_serving.specs.Serving.{script_of, segment_of}
+use Rattle.run_serving.specs.Run.{HasRun, AreChosen, first_index}
+use Rattle.run_serving.specs.Serving.{script_of, segment_of, AreNumbered}
 use Rattle.auction_run.specs.Beginning.{AreShort}
-use Rattle.auction_run.specs.Phases.{hot_sets, waiting_in, past_scripts}
+use Rattle.auction_run.specs.Phases.{hot_sets, waiting_in}
 use Rattle.auction_run.specs.declared.running.Running.{Running}
 
 -- What a run from an opening book knows before a phase.
 pub record IsRunning (opening : Opening) (rows : Book) (policy : Policy) (scripts : List (List Request)) (phase : ℕ)
     (running : Running) : Type 0 where
   pub run : HasRun policy scripts phase (hot_sets running.hot.items) running.history.items (waiting_in running.stashes.items)
-  pub closed : HasClosed opening policy (hot_sets running.hot.items) running.history.items
+  pub chosen : AreChosen policy (hot_sets running.hot.items) running.history.items
+  pub numbers : AreNumbered opening policy (hot_sets running.hot.items) running.history.items
   pub replayed : HasReplayed opening rows running.history.items (StandsFor running.state)
   pub opening_is : running.state.opening ≡ opening
   pub phase_is : running.state.phase ≡ phase
@@ -33,8 +34,6 @@ pub record IsRunning (opening : Opening) (rows : Book) (policy : Policy) (script
   -- the entries of the phase before are the last of the history
   pub last_within : running.last ≤ length running.history.items
   pub last : drop running.last running.history.items ≡ segment_of (phase - 1) running.history.items
-  -- the first index of the phase, up to a bound that no script has
-  pub first_is : running.first ≡ min (first_index policy phase) past_scripts
 
 -- A run that can go on: it runs from some book, which is short together with the scripts.
 pub record CanGoOn (policy : Policy) (scripts : List (List Request)) (running : Running) : Type 0 where

@@ -1,5 +1,5 @@
 -- What the workers of a phase have to do, and what they have done.
-use Rattle.std.specs.Prelude.{◌≡◌, ℕ, ◌+◌, ◌-◌, ◌≤◌, not, List, [], ◌∷◌, ◌++◌, length, Result, Ok, Err, Option, Some, None}
+use Rattle.std.specs.Prelude.{◌≡◌, ℕ, ◌+◌, ◌-◌, ◌≤◌, ◌⊎◌, not, List, [], ◌∷◌, ◌++◌, length, Result, Ok, Err, Option, Some, None, ⊤}
 use Rattle.std.specs.List.{filter}
 use Rattle.auction_rows.specs.declared.requests.Request.{Request}
 use Rattle.auction_rows.specs.Phases.{is_put_off}
@@ -11,7 +11,7 @@ use Rattle.phase_transactions.specs.Permits.{PermitState}
 use Rattle.phase_transactions.specs.Single.{HaveOpening}
 use Rattle.auction_run.specs.declared.fault.RunFault.{RunFault}
 use Rattle.auction_run.specs.declared.fault.RunFault.TheVariants as run
-use Rattle.auction_run.specs.declared.serving.Served.{Served}
+use Rattle.auction_run.specs.declared.serving.WorkerAnswer.{WorkerAnswer}
 use Rattle.auction_run.specs.Working.{calls_from, committed, stashed, hot_for, IsSamePermit}
 
 -- a worker's permit as the phase begins, its script, and the index from which on it is given requests
@@ -54,7 +54,7 @@ pub record IsDoneSplit (t : Task) (receipt : PermitState) : Type 0 where
   pub stash : stashed receipt ≡ stashed t.permit ++ filter (λ call. is_put_off (hot_for t.permit) call.1) (calls_for t)
 
 -- what a worker gives that met no fault
-abbrev pub without_fault : {T : Type 0} → T → Served T
+abbrev pub without_fault : {T : Type 0} → T → WorkerAnswer T
 without_fault receipt = record { receipt = receipt; done = Ok tt }
 
 -- the fault of the least worker that met one
@@ -62,11 +62,28 @@ abbrev pub fault_or : {T : Type 0} → Result T PermitFault → Option PermitFau
 fault_or (Ok done) later = later
 fault_or (Err fault) later = Some fault
 
-abbrev pub first_fault : {T : Type 0} → List (Served T) → Option PermitFault
+abbrev pub first_fault : {T : Type 0} → List (WorkerAnswer T) → Option PermitFault
 first_fault [] = None
-first_fault (served ∷ more) = fault_or served.done (first_fault more)
+first_fault (answer ∷ more) = fault_or answer.done (first_fault more)
+
+-- the first task that was not done met this fault
+abbrev pub IsFirstFault : (Task → PermitState → Type 0) → (Task → PermitState → PermitFault → Type 0) → List Task → PermitFault → Type 0
+IsFirstFault IsDone HasMet [] fault = ⊥
+IsFirstFault IsDone HasMet (t ∷ more) fault =
+    ((receipt : PermitState) × HasMet t receipt fault)
+    ⊎ (((receipt : PermitState) × IsDone t receipt) × IsFirstFault IsDone HasMet more fault)
 
 -- what a run answers where a worker met a fault
 abbrev pub met : PermitFault → RunFault
 met permit.Memory = run.Memory
 met permit.NumberFull = run.NumberFull
+
+-- a thread could not be started, or no memory was left, or a worker met this fault
+abbrev pub IsFaultBy : (PermitFault → Type 0) → RunFault → Type 0
+IsFaultBy HasMet run.Spawn = ⊤
+IsFaultBy HasMet run.Memory = ⊤
+IsFaultBy HasMet run.NumberFull = HasMet permit.NumberFull
+IsFaultBy HasMet run.Workers = ⊥
+IsFaultBy HasMet run.Shards = ⊥
+IsFaultBy HasMet run.Quota = ⊥
+IsFaultBy HasMet run.TooLong = ⊥

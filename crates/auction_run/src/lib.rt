@@ -9,6 +9,7 @@ mod joined_phase;
 mod permit;
 mod phase;
 mod quotas;
+mod round;
 #[cfg(test)]
 mod run_tests;
 mod running;

@@ -1,14 +1,15 @@
 //! What the permits of joined and of split phases have in common.
-ghost use Rattle.std.specs.Prelude.{◌≡◌, OnOk};
+ghost use Rattle.std.specs.Prelude.{◌≡◌, ◌++◌, OnOk, IfErr};
+ghost use Rattle.phase_transactions.specs.declared.fault.PermitFault.{PermitFault as Fault};
 ghost use Rattle.phase_transactions.specs.Permits.{PermitState};
-ghost use Rattle.auction_run.specs.Tasks.{Task, task, CanBeDone, IsDoneJoined, IsDoneSplit};
+ghost use Rattle.auction_run.specs.Tasks.{Task, task, calls_for, CanBeDone, IsDoneJoined, IsDoneSplit};
+ghost use Rattle.auction_run.specs.Working.{stashed, IsPermitOf, HasStopped, HasStoppedSplit};
 
 use crate::gate::Gate;
 use crate::worker::{Post, perform_joined, perform_split};
 use auction_rows::Request;
 use phase_permits::{JoinedPermit, JoinedReceipt, PermitFault, SplitPermit, SplitReceipt};
 use shard_boxes::{Boxes, PhaseName};
-use std::marker::PhantomData;
 use std::sync::Wait;
 
 /// A worker's right to perform in a phase. It must be spent.
@@ -25,7 +26,10 @@ pub(crate) trait Permit<N: PhaseName> {
     /// By the receipt the task is done.
     ghost is_done: { Task → PermitState → Type 0 };
 
-    /// Performs all that the worker has to do. After a fault, which is the first, it performs nothing more.
+    /// By the receipt it is not: a call of it met the fault.
+    ghost has_stopped: { Task → PermitState → Fault → Type 0 };
+
+    /// Does the worker's task. After a fault, which is the first, it performs nothing more.
     fn do_all<R: Wait, G: Gate>(
         &mut self,
         rt: &R,
@@ -34,8 +38,10 @@ pub(crate) trait Permit<N: PhaseName> {
         script: &[Request],
         first: usize,
     ) -> Result<(), PermitFault>
-        requires { CanBeDone N.opening boxes.now (task (shows self.old) script.now first) }
-        ensures { OnOk result (is_done (task (shows self.old) script.now first) (shows self.new)) };
+        requires can { CanBeDone N.opening boxes.now (task (shows self.old) script.now first) }
+        requires post { IsPermitOf post.now.phase post.now.worker (shows self.old) }
+        ensures done { OnOk result (is_done (task (shows self.old) script.now first) (shows self.new)) }
+        ensures stopped { IfErr result (has_stopped (task (shows self.old) script.now first) (shows self.new)) };
 
     /// Spends the permit.
     fn spend(self) -> Self::Receipt
@@ -50,6 +56,8 @@ impl<N: PhaseName> Permit<N> for JoinedPermit<N> {
     ghost left = { λ receipt. receipt };
 
     ghost is_done = { IsDoneJoined };
+
+    ghost has_stopped = { λ t. HasStopped N.opening (stashed t.permit ++ calls_for t) t.permit };
 
     fn do_all<R: Wait, G: Gate>(
         &mut self,
@@ -76,6 +84,8 @@ impl<N: PhaseName> Permit<N> for SplitPermit<N> {
 
     ghost is_done = { IsDoneSplit };
 
+    ghost has_stopped = { λ t. HasStoppedSplit N.opening (calls_for t) t.permit };
+
     fn do_all<R: Wait, G: Gate>(
         &mut self,
         rt: &R,
@@ -89,36 +99,5 @@ impl<N: PhaseName> Permit<N> for SplitPermit<N> {
 
     fn spend(self) -> SplitReceipt<N> {
         self.finish()
-    }
-}
-
-/// A permit on its way to its worker. Let go, it is spent.
-pub(crate) struct Carried<N: PhaseName, P: Permit<N>> {
-    permit: P,
-    of: PhantomData<N>,
-}
-
-impl<N: PhaseName, P: Permit<N>> Drop for Carried<N, P> {
-    fn drop(self) {
-        let Self { permit, of: _ } = self;
-        drop(permit.spend());
-    }
-}
-
-impl<N: PhaseName, P: Permit<N>> Carried<N, P> {
-    pub(crate) fn new(permit: P) -> Carried<N, P>
-        ensures { result.permit ≡ permit }
-    {
-        Carried {
-            permit,
-            of: PhantomData,
-        }
-    }
-
-    pub(crate) fn open(self) -> P
-        ensures { result ≡ self.permit }
-    {
-        let Self { permit, of: _ } = self;
-        permit
     }
 }

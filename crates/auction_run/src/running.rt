@@ -1,19 +1,18 @@
 //! A run: its phases, one after the other.
-ghost use Rattle.std.specs.Prelude.{◌≡◌, ◌⊎◌, ◌↔◌, ℕ, suc, ◌<◌, ◌≤◌, ◌+◌, ◌^◌, true, false, List, [], All, length, drop, IfOk, IfErr, IsErrOf, IsTrue};
+ghost use Rattle.std.specs.Prelude.{◌≡◌, ◌⊎◌, ◌↔◌, ℕ, suc, ◌<◌, ◌≤◌, ◌+◌, ◌^◌, true, false, [], length, drop, IfOk, OnOk, IfErr, IsErrOf, IsTrue};
 ghost use Rattle.auction_rows.specs.Choosing.{choose};
 ghost use Rattle.auction_rows.specs.declared.numbers.Opening.{Opening as Numbers};
-ghost use Rattle.auction_rows.specs.declared.requests.Request.{Request as Asked};
 ghost use Rattle.auction_rows.specs.Book.{Book};
 ghost use Rattle.auction_rows.specs.History.{IsBook, ReplaysFrom, book_after};
-ghost use Rattle.item_shards.specs.Counting.{worker_of};
 ghost use Rattle.item_shards.specs.OpeningBooks.{opening_of, rows_of};
 ghost use Rattle.phase_floor.specs.States.{StandsFor};
 ghost use Rattle.run_laws.specs.Phases.{is_split};
-ghost use Rattle.run_serving.specs.Run.{HasLeft, HasClosed};
+ghost use Rattle.run_serving.specs.Run.{HasLeft, AreChosen};
 ghost use Rattle.run_serving.specs.Serving.{script_of, Serves};
 ghost use Rattle.auction_run.specs.declared.fault.RunFault.TheVariants.{Workers, Shards, Quota, TooLong};
 ghost use Rattle.auction_run.specs.Beginning.{HaveWorkers, HasShards, HasQuotas, AreShort};
-ghost use Rattle.auction_run.specs.Phases.{lists, hot_sets, waiting_in, IsMet};
+ghost use Rattle.auction_run.specs.Outcomes.{IsOutcome};
+ghost use Rattle.auction_run.specs.Phases.{lists, hot_sets, waiting_in, IsRoundOf, IsMet};
 ghost use Rattle.auction_run.specs.Running.{IsRunning, CanGoOn};
 
 use crate::checking::check;
@@ -21,6 +20,7 @@ use crate::choosing::choose_hot;
 use crate::fault::RunFault;
 use crate::gate::Gate;
 use crate::phase::{Closed, perform_phase};
+use crate::round::Round;
 use auction_rows::{Entry, Object, Request};
 use indexmap::IndexSet;
 use item_shards::OpeningBook;
@@ -57,10 +57,12 @@ pub fn run<R: Threads + Wait + Sync, G: Gate + Sync>(
     policy: Policy,
     gate: &G,
 ) -> Result<Outcome, RunFault>
+    ensures ready { OnOk result (HaveWorkers (rows_of book.now) (lists scripts.items) × (HasShards policy
+        × (HasQuotas policy × AreShort (rows_of book.now) (lists scripts.items)))) }
     ensures serves { IfOk result (λ outcome.
         Serves (opening_of book.now) policy (lists scripts.items) (hot_sets outcome.hot.items) outcome.history.items) }
     ensures hot { IfOk result (λ outcome.
-        HasClosed (opening_of book.now) policy (hot_sets outcome.hot.items) outcome.history.items) }
+        AreChosen policy (hot_sets outcome.hot.items) outcome.history.items) }
     ensures replays { IfOk result (λ outcome. ReplaysFrom (opening_of book.now) (rows_of book.now) outcome.history.items) }
     ensures stands { IfOk result (λ outcome.
         StandsFor outcome.state (book_after (opening_of book.now) (rows_of book.now) outcome.history.items)) }
@@ -88,8 +90,6 @@ struct Running {
     stashes: Vec<Stash>,
     // Where the entries of the phase before begin in the history.
     last: usize,
-    // The first index of the phase, or 2^40 where that is less: no script is so long.
-    first: u64,
 }
 
 // A run of what was checked.
@@ -105,20 +105,13 @@ fn run_checked<R: Threads + Wait + Sync, G: Gate + Sync>(
     requires shards { HasShards policy }
     requires quotas { HasQuotas policy }
     requires short { AreShort (rows_of book.now) (lists scripts.now) }
-    ensures serves { IfOk result (λ outcome.
-        Serves (opening_of book.now) policy (lists scripts.now) (hot_sets outcome.hot.items) outcome.history.items) }
-    ensures hot { IfOk result (λ outcome.
-        HasClosed (opening_of book.now) policy (hot_sets outcome.hot.items) outcome.history.items) }
-    ensures replays { IfOk result (λ outcome. ReplaysFrom (opening_of book.now) (rows_of book.now) outcome.history.items) }
-    ensures stands { IfOk result (λ outcome.
-        StandsFor outcome.state (book_after (opening_of book.now) (rows_of book.now) outcome.history.items)) }
-    ensures opening { IfOk result (λ outcome. outcome.state.opening ≡ opening_of book.now) }
-    ensures phases { IfOk result (λ outcome. outcome.state.phase ≡ length outcome.hot.items) }
+    ensures outcome { IfOk result (IsOutcome (opening_of book.now) (rows_of book.now) policy (lists scripts.now)) }
     ensures fault { IfErr result IsMet }
 {
-    let mut running = begin(alloc, book, scripts.len(), policy)?;
+    let mut running = begin(alloc, book, scripts, policy)?;
     for _phase in 0..MOST_PHASES {
-        if !is_left(scripts, &running.stashes, running.first) {
+        let round = Round::new(scripts, policy, gate, running.state.phase());
+        if !is_left(scripts, &running.stashes, round.first) {
             let Running {
                 state,
                 history,
@@ -131,33 +124,39 @@ fn run_checked<R: Threads + Wait + Sync, G: Gate + Sync>(
                 state,
             });
         }
-        running = next_phase(rt, alloc, running, scripts, policy, gate)?;
+        running = next_phase(rt, alloc, running, round)?;
     }
     unreachable!()
 }
 
-// A run before its first phase.
+// A run before its first phase, with room for its whole history.
 fn begin(
     alloc: Global,
     book: &OpeningBook,
-    workers: usize,
+    scripts: &[Vec<Request>],
     policy: Policy,
 ) -> Result<Running, AllocError>
-    requires workers { (0 < workers) × (workers ≤ 16) }
-    requires own { All (λ row. worker_of row < workers) (rows_of book.now) }
+    requires workers { HaveWorkers (rows_of book.now) (lists scripts.now) }
     requires shards { HasShards policy }
-    ensures running { IfOk result (λ running. (scripts : List (List Asked)) → length scripts ≡ workers →
-        IsRunning (opening_of book.now) (rows_of book.now) policy scripts 0 running) }
+    ensures running { IfOk result (IsRunning (opening_of book.now) (rows_of book.now) policy (lists scripts.now) 0) }
 {
-    let state = Joined::resume(alloc, book, workers as u32, policy.shards)?;
+    let state = Joined::resume(alloc, book, scripts.len() as u32, policy.shards)?;
     Ok(Running {
         state,
-        history: Vec::new(alloc),
+        history: Vec::with_capacity(alloc, requests_in(scripts))?,
         hot: Vec::new(alloc),
-        stashes: no_stashes(alloc, workers)?,
+        stashes: no_stashes(alloc, scripts.len())?,
         last: 0,
-        first: 0,
     })
+}
+
+// How many requests the scripts have: each is one entry of the history.
+fn requests_in(scripts: &[Vec<Request>]) -> usize {
+    let mut requests = 0usize;
+    for script in scripts {
+        requests = requests.saturating_add(script.len());
+    }
+    requests
 }
 
 // So many stashes in which nothing waits.
@@ -181,11 +180,18 @@ fn is_left(scripts: &[Vec<Request>], stashes: &[Stash], first: u64) -> bool
         × (length (waiting_in stashes.now worker) ≡ 0) }
 {
     for worker in 0..scripts.len() {
-        if scripts[worker].len() as u64 > first || !stashes[worker].is_empty() {
+        if has_left(&scripts[worker], &stashes[worker], first) {
             return true;
         }
     }
     false
+}
+
+// Whether a worker has.
+fn has_left(script: &[Request], stash: &Stash, first: u64) -> bool
+    ensures { IsTrue result ↔ ((first < length script.now) ⊎ (0 < length stash.now.requests)) }
+{
+    script.len() as u64 > first || !stash.is_empty()
 }
 
 // One phase more.
@@ -193,43 +199,37 @@ fn next_phase<R: Threads + Wait + Sync, G: Gate + Sync>(
     rt: &R,
     alloc: Global,
     running: Running,
-    scripts: &[Vec<Request>],
-    policy: Policy,
-    gate: &G,
+    round: Round<'_, G>,
 ) -> Result<Running, RunFault>
-    requires shards { HasShards policy }
-    requires quotas { 0 < policy.joined_quota + policy.split_quota }
+    requires shards { HasShards round.policy }
+    requires quotas { 0 < round.policy.joined_quota + round.policy.split_quota }
     requires counted { running.state.phase + 1 < 2 ^ 64 }
-    requires running { CanGoOn policy (lists scripts.now) running }
-    requires left { (worker : ℕ) × HasLeft policy (lists scripts.now) running.state.phase (waiting_in running.stashes.items) worker }
+    requires round { IsRoundOf round running.state.phase }
+    requires running { CanGoOn round.policy (lists round.scripts.now) running }
+    requires left { (worker : ℕ) × HasLeft round.policy (lists round.scripts.now) running.state.phase (waiting_in running.stashes.items) worker }
     ensures running { IfOk result (λ next. (opening : Numbers) (rows : Book) → IsBook opening rows →
-        IsRunning opening rows policy (lists scripts.now) running.state.phase running →
-        IsRunning opening rows policy (lists scripts.now) (suc running.state.phase) next) }
+        IsRunning opening rows round.entry.policy (lists round.entry.scripts.now) running.state.phase running →
+        IsRunning opening rows round.entry.policy (lists round.entry.scripts.now) (suc running.state.phase) next) }
     ensures fault { IfErr result IsMet }
 {
-    let hot_now = next_hot(alloc, &running, policy)?;
+    let hot_now = next_hot(alloc, &running, round.policy)?;
     let Running {
         state,
         mut history,
         mut hot,
         stashes,
-        first,
         ..
     } = running;
-    let quota = if state.phase() % 2 == 0 {
-        policy.joined_quota
-    } else {
-        policy.split_quota
-    };
-    let Closed {
-        state,
-        mut entries,
-        stashes,
-    } = perform_phase(
-        rt, alloc, state, scripts, &hot_now, stashes, policy, first, gate,
-    )?;
     let last = history.len();
-    history.append(&mut entries)?;
+    let Closed { state, stashes } = perform_phase(
+        rt,
+        alloc,
+        &mut history,
+        state,
+        &hot_now,
+        stashes,
+        round,
+    )?;
     hot.push(hot_now)?;
     Ok(Running {
         state,
@@ -237,7 +237,6 @@ fn next_phase<R: Threads + Wait + Sync, G: Gate + Sync>(
         hot,
         stashes,
         last,
-        first: (first + u64::from(quota)).min(1 << 40),
     })
 }
 

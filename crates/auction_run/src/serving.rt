@@ -2,12 +2,14 @@
 ghost use Rattle.std.specs.Prelude.{◌≡◌, ◌≤◌, Some, length, map, vec_len, vec_capacity, IfOk, IfErr, OnOk};
 ghost use Rattle.std.specs.List.{AllByRecursion, AllZip};
 ghost use Rattle.std.specs.Vec.Iter.{into_iter_items, into_iter_len};
-ghost use Rattle.auction_run.specs.Phases.{lists, IsMet};
-ghost use Rattle.auction_run.specs.Tasks.{task, tasks, CanBeDone, without_fault, first_fault};
+ghost use Rattle.auction_run.specs.Phases.{lists};
+ghost use Rattle.auction_run.specs.Tasks.{task, tasks, CanBeDone, without_fault, first_fault, IsFirstFault, IsFaultBy};
+ghost use Rattle.auction_run.specs.Working.{IsPermitOf, ArePermitsOf};
 
 use crate::fault::RunFault;
 use crate::gate::Gate;
-use crate::permit::{Carried, Permit};
+use crate::permit::Permit;
+use crate::round::Round;
 use crate::threads::{Job, work_all};
 use crate::worker::Post;
 use auction_rows::Request;
@@ -20,60 +22,69 @@ use std::vec::IntoIter;
 
 /// What a worker gives at the end of a phase: the receipt of its permit, and the fault that stopped it, if any.
 #[derive(Drop)]
-pub(crate) struct Served<T> {
+pub(crate) struct WorkerAnswer<T> {
     receipt: T,
     done: Result<(), PermitFault>,
 }
 
-/// A worker's task in a phase, with all that it takes to do it.
-#[derive(Drop)]
-pub(crate) struct Duty<'a, N: PhaseName, P: Permit<N>, R, G> {
+/// A worker's task in a phase, with all that it takes to do it. Let go, its permit is spent.
+pub(crate) struct WorkerTask<'a, N: PhaseName, P: Permit<N>, R, G> {
     rt: &'a R,
     boxes: &'a Boxes<N>,
     post: Post<'a, G>,
-    carried: Carried<N, P>,
+    permit: P,
     script: &'a [Request],
     first: usize,
 }
 
-impl<'a, N: PhaseName, P: Permit<N>, R: Wait, G: Gate> Job for Duty<'a, N, P, R, G> {
-    type Answer = Served<P::Receipt>;
+impl<'a, N: PhaseName, P: Permit<N>, R, G> Drop for WorkerTask<'a, N, P, R, G> {
+    fn drop(self) {
+        let Self {
+            rt: _,
+            boxes: _,
+            post: _,
+            permit,
+            script: _,
+            first: _,
+        } = self;
+        drop(permit.spend());
+    }
+}
 
-    ghost can_work = { λ duty. CanBeDone N.opening duty.boxes.now (task (P.shows duty.carried.permit) duty.script.now duty.first) };
+impl<'a, N: PhaseName, P: Permit<N>, R: Wait, G: Gate> Job for WorkerTask<'a, N, P, R, G> {
+    type Answer = WorkerAnswer<P::Receipt>;
 
-    ghost keeps = { λ duty served. OnOk served.done
-        (P.is_done (task (P.shows duty.carried.permit) duty.script.now duty.first) (P.left served.receipt)) };
+    ghost can_work = { λ own. CanBeDone N.opening own.boxes.now (task (P.shows own.permit) own.script.now own.first)
+        × IsPermitOf own.post.phase own.post.worker (P.shows own.permit) };
 
-    fn work(self) -> Served<P::Receipt> {
-        let Duty {
+    ghost keeps = { λ own answer. OnOk answer.done (P.is_done (task (P.shows own.permit) own.script.now own.first) (P.left answer.receipt))
+        × IfErr answer.done (P.has_stopped (task (P.shows own.permit) own.script.now own.first) (P.left answer.receipt)) };
+
+    fn work(self) -> WorkerAnswer<P::Receipt> {
+        let WorkerTask {
             rt,
             boxes,
             post,
-            carried,
+            mut permit,
             script,
             first,
         } = self;
-        let mut permit = carried.open();
         let done = permit.do_all(rt, boxes, &post, script, first);
-        Served {
+        WorkerAnswer {
             receipt: permit.spend(),
             done,
         }
     }
 }
 
-/// Does each worker's task by a thread of its own, from the request `first` of its script on, and gives their receipts in
-/// order. Where a thread can't be started the fault is Spawn, else that of the least worker that met one; all threads have
-/// ended, and all permits are spent.
+/// Does each worker's task of a round by a thread of its own, and gives their receipts in order. Where a thread can't be
+/// started the fault is Spawn, else that of the least worker that met one; all threads have ended, and all permits are spent.
 pub(crate) fn serve_all<N, P, R, G>(
     rt: &R,
     alloc: Global,
     boxes: &Boxes<N>,
     permits: Vec<P>,
-    scripts: &[Vec<Request>],
-    first: usize,
-    gate: &G,
-    phase: u64,
+    round: Round<'_, G>,
 ) -> Result<Vec<P::Receipt>, RunFault>
 where
     N: PhaseName + Send + Sync,
@@ -81,63 +92,65 @@ where
     P::Receipt: Send,
     R: Threads + Wait + Sync,
     G: Gate + Sync,
-    requires workers { vec_len permits ≡ length scripts.now }
-    requires few { length scripts.now ≤ 16 }
-    requires can { AllByRecursion (CanBeDone N.opening boxes.now) (tasks (map P.shows permits.items) (lists scripts.now) first) }
+    requires workers { vec_len permits ≡ length round.scripts.now }
+    requires few { length round.scripts.now ≤ 16 }
+    requires can { AllByRecursion (CanBeDone N.opening boxes.now) (tasks (map P.shows permits.items) (lists round.scripts.now) round.first) }
+    requires of { ArePermitsOf round.phase 0 (map P.shows permits.items) }
     ensures done { IfOk result (λ receipts.
-        AllZip P.is_done (tasks (map P.shows permits.items) (lists scripts.now) first) (map P.left receipts.items)) }
-    ensures fault { IfErr result IsMet }
+        AllZip P.is_done (tasks (map P.shows permits.items) (lists round.entry.scripts.now) round.entry.first) (map P.left receipts.items)) }
+    ensures fault { IfErr result (IsFaultBy
+        (IsFirstFault P.is_done P.has_stopped (tasks (map P.shows permits.items) (lists round.entry.scripts.now) round.entry.first))) }
 {
     let permits = permits.into_iter();
-    let Ok(room) = Vec::with_capacity(alloc, scripts.len()) else {
+    let Ok(room) = Vec::with_capacity(alloc, round.scripts.len()) else {
         spend_all(permits);
         return Err(RunFault::Memory);
     };
-    let duties = duties(rt, alloc, boxes, permits, scripts, first, gate, phase)?;
-    let served = work_all(rt, alloc, duties)?;
-    Ok(receipts_of(served, room)?)
+    let own_tasks = own_tasks(rt, alloc, boxes, permits, round)?;
+    let answers = work_all(rt, alloc, own_tasks)?;
+    Ok(receipts_of(answers, room)?)
 }
 
-// The duty of each worker.
-fn duties<'a, N: PhaseName, P: Permit<N>, R, G>(
+// The task of each worker.
+fn own_tasks<'a, N: PhaseName, P: Permit<N>, R, G>(
     rt: &'a R,
     alloc: Global,
     boxes: &'a Boxes<N>,
     mut permits: IntoIter<P>,
-    scripts: &'a [Vec<Request>],
-    first: usize,
-    gate: &'a G,
-    phase: u64,
-) -> Result<Vec<Duty<'a, N, P, R, G>>, AllocError>
-    requires workers { into_iter_len permits ≡ length scripts.now }
-    requires few { length scripts.now ≤ 16 }
-    requires can { AllByRecursion (CanBeDone N.opening boxes.now) (tasks (map P.shows (into_iter_items permits)) (lists scripts.now) first) }
-    ensures can { IfOk result (λ duties. AllByRecursion (λ duty.
-        CanBeDone N.opening duty.boxes.now (task (P.shows duty.carried.permit) duty.script.now duty.first)) duties.items) }
-    ensures tasks { IfOk result (λ duties. map (λ duty. task (P.shows duty.carried.permit) duty.script.now duty.first) duties.items
-        ≡ tasks (map P.shows (into_iter_items permits)) (lists scripts.now) first) }
+    round: Round<'a, G>,
+) -> Result<Vec<WorkerTask<'a, N, P, R, G>>, AllocError>
+    requires workers { into_iter_len permits ≡ length round.scripts.now }
+    requires few { length round.scripts.now ≤ 16 }
+    requires can { AllByRecursion (CanBeDone N.opening boxes.now)
+        (tasks (map P.shows (into_iter_items permits)) (lists round.scripts.now) round.first) }
+    requires of { ArePermitsOf round.phase 0 (map P.shows (into_iter_items permits)) }
+    ensures can { IfOk result (λ made. AllByRecursion (λ own.
+        CanBeDone N.opening own.boxes.now (task (P.shows own.permit) own.script.now own.first)
+        × IsPermitOf own.post.phase own.post.worker (P.shows own.permit)) made.items) }
+    ensures tasks { IfOk result (λ made. map (λ own. task (P.shows own.permit) own.script.now own.first) made.items
+        ≡ tasks (map P.shows (into_iter_items permits)) (lists round.entry.scripts.now) round.entry.first) }
 {
-    let Ok(mut duties) = Vec::with_capacity(alloc, scripts.len()) else {
+    let Ok(mut made) = Vec::with_capacity(alloc, round.scripts.len()) else {
         spend_all(permits);
         return Err(AllocError);
     };
     while let Some(permit) = permits.next() {
-        let worker = duties.len();
-        duties.push_reserved(Duty {
+        let worker = made.len();
+        made.push_reserved(WorkerTask {
             rt,
             boxes,
             post: Post {
-                gate,
-                phase,
+                gate: round.gate,
+                phase: round.phase,
                 worker: worker as u32,
             },
-            carried: Carried::new(permit),
-            script: scripts[worker].as_slice(),
-            first,
+            permit,
+            script: round.scripts[worker].as_slice(),
+            first: round.first as usize,
         });
     }
     permits.destroy_empty();
-    Ok(duties)
+    Ok(made)
 }
 
 // Spends the permits that are left.
@@ -149,14 +162,17 @@ fn spend_all<N: PhaseName, P: Permit<N>>(mut permits: IntoIter<P>) {
 }
 
 // The receipts, in order, or the first fault.
-fn receipts_of<T: Drop>(served: Vec<Served<T>>, mut receipts: Vec<T>) -> Result<Vec<T>, PermitFault>
+fn receipts_of<T: Drop>(
+    answers: Vec<WorkerAnswer<T>>,
+    mut receipts: Vec<T>,
+) -> Result<Vec<T>, PermitFault>
     requires empty { vec_len receipts ≡ 0 }
-    requires room { vec_len served ≤ vec_capacity receipts }
-    ensures receipts { IfOk result (λ receipts. served.items ≡ map without_fault receipts.items) }
-    ensures fault { IfErr result (λ fault. first_fault served.items ≡ Some fault) }
+    requires room { vec_len answers ≤ vec_capacity receipts }
+    ensures receipts { IfOk result (λ receipts. answers.items ≡ map without_fault receipts.items) }
+    ensures fault { IfErr result (λ fault. first_fault answers.items ≡ Some fault) }
 {
-    for each in served {
-        let Served { receipt, done } = each;
+    for answer in answers {
+        let WorkerAnswer { receipt, done } = answer;
         match done {
             Ok(()) => receipts.push_reserved(receipt),
             Err(fault) => return Err(fault),

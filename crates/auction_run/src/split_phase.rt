@@ -1,21 +1,22 @@
 //! A split phase of a run.
-ghost use Rattle.std.specs.Prelude.{◌≡◌, true, length, IfOk, IfErr};
+ghost use Rattle.std.specs.Prelude.{◌≡◌, ◌++◌, ℕ, [], true, length, IfOk, OnOk, IfErr};
 ghost use Rattle.phase_floor.specs.declared.fault.BeginFault.TheVariants.{Memory};
 ghost use Rattle.phase_floor.specs.States.{states_of};
 ghost use Rattle.run_laws.specs.Phases.{is_split};
+ghost use Rattle.worker_journals.specs.Merged.{added};
 ghost use Rattle.auction_run.specs.Closed.{HasClosedPhase};
-ghost use Rattle.auction_run.specs.Phases.{lists, MayPerform, IsMet};
+ghost use Rattle.auction_run.specs.Phases.{lists, waiting_in, IsRoundOf, MayPerform, IsMet};
 
 use crate::fault::RunFault;
 use crate::gate::Gate;
-use crate::phase::{Closed, unbegun};
+use crate::phase::{Closed, begin_fault};
 use crate::quotas::quotas;
+use crate::round::Round;
 use crate::serving::serve_all;
-use auction_rows::{Object, Request};
+use auction_rows::{Entry, Object};
 use indexmap::IndexSet;
 use phase_floor::Joined;
 use phase_permits::Stash;
-use run_serving::Policy;
 use shard_boxes::PhaseName;
 use std::alloc::Global;
 use std::sync::Wait;
@@ -25,13 +26,11 @@ use std::thread::Threads;
 pub(crate) fn perform_split_phase<N, R, G>(
     rt: &R,
     alloc: Global,
+    history: &mut Vec<Entry>,
     state: Joined,
-    scripts: &[Vec<Request>],
     hot: &IndexSet<Object>,
     stashes: Vec<Stash>,
-    policy: Policy,
-    first: u64,
-    gate: &G,
+    round: Round<'_, G>,
 ) -> Result<Closed, RunFault>
 where
     N: PhaseName + Send + Sync,
@@ -40,33 +39,27 @@ where
     requires shards { states_of state ≡ N.opening }
     requires workers { length state.counters ≡ N.workers }
     requires split { is_split state.phase ≡ true }
-    requires may { MayPerform policy (lists scripts.now) state stashes.items hot.now.keys first }
-    ensures closed { IfOk result (HasClosedPhase policy (lists scripts.now) state stashes.items hot.now.keys) }
+    requires round { IsRoundOf round state.phase }
+    requires may { MayPerform round.policy (lists round.scripts.now) state stashes.items hot.now.keys }
+    ensures history { OnOk result (history.new.items ≡ history.old.items ++ added history.old.items history.new.items) }
+    ensures closed { IfOk result (HasClosedPhase round.entry.policy (lists round.entry.scripts.now) state stashes.items hot.now.keys
+        (added history.old.items history.new.items)) }
     ensures fault { IfErr result IsMet }
 {
-    // The joined phase before has left nothing in them.
-    drop(stashes);
-    let phase = state.phase();
-    let quotas = quotas(alloc, scripts, policy.split_quota, first)?;
+    let_go(stashes);
+    let quotas = quotas(alloc, round.scripts, round.policy.split_quota, round.first)?;
     let (floor, permits) = match state.begin_split::<N, R>(rt, alloc, &quotas, hot) {
         Ok(begun) => begun,
-        Err((_state, fault)) => return Err(unbegun(fault)),
+        Err((_state, fault)) => return Err(begin_fault(fault)),
     };
-    let first = first as usize;
-    let receipts = serve_all(
-        rt,
-        alloc,
-        floor.boxes(),
-        permits,
-        scripts,
-        first,
-        gate,
-        phase,
-    )?;
-    let (state, entries, stashes) = floor.close(rt, alloc, receipts)?;
-    Ok(Closed {
-        state,
-        entries,
-        stashes,
-    })
+    let receipts = serve_all(rt, alloc, floor.boxes(), permits, round)?;
+    let (state, stashes) = floor.close(rt, alloc, history, receipts)?;
+    Ok(Closed { state, stashes })
+}
+
+// Lets stashes go in which nothing waits.
+fn let_go(stashes: Vec<Stash>)
+    requires { (worker : ℕ) → waiting_in stashes.items worker ≡ [] }
+{
+    drop(stashes);
 }

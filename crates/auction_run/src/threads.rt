@@ -1,8 +1,7 @@
 //! Work done by real threads.
 ghost use Rattle.std.specs.Prelude.{◌≡◌, ◌≤◌, length, map, vec_len, vec_capacity, IfOk, IfErr};
 ghost use Rattle.std.specs.List.{AllByRecursion, AllZip};
-ghost use Rattle.auction_run.specs.Phases.{IsMet};
-ghost use Rattle.auction_run.specs.Threads.{job_of};
+ghost use Rattle.auction_run.specs.Threads.{job_of, IsUnstarted};
 
 use crate::fault::RunFault;
 use std::alloc::Global;
@@ -30,12 +29,12 @@ pub(crate) trait Job: Drop {
 
 /// A thread's promise: its answer is one of its job.
 #[derive(Drop)]
-pub(crate) struct Owes<J> {
+pub(crate) struct JobPromise<J> {
     job: Snapshot<J>,
 }
 
-impl<J: Job> Promise<J::Answer> for Owes<J> {
-    ghost kept_by = { λ owes answer. J.keeps owes.job.value answer };
+impl<J: Job> Promise<J::Answer> for JobPromise<J> {
+    ghost kept_by = { λ promise answer. J.keeps promise.job.value answer };
 }
 
 /// Does each job by a thread of its own, and waits for them all. All memory is asked for before a thread is started. Where
@@ -49,7 +48,7 @@ where
     J::Answer: Send + Drop,
     requires { AllByRecursion J.can_work jobs.items }
     ensures answers { IfOk result (λ answers. AllZip J.keeps jobs.items answers.items) }
-    ensures fault { IfErr result IsMet }
+    ensures fault { IfErr result IsUnstarted }
 {
     let room = Vec::with_capacity(alloc, jobs.len())?;
     thread::scope(
@@ -59,7 +58,7 @@ where
             requires can { AllByRecursion J.can_work jobs.items }
             requires room { (vec_len room ≡ 0) × (length jobs.items ≤ vec_capacity room) }
             ensures answers { IfOk result (λ answers. AllZip J.keeps jobs.items answers.items) }
-            ensures fault { IfErr result IsMet }
+            ensures fault { IfErr result IsUnstarted }
         {
             let handles = start_all(scope, alloc, jobs)?;
             Ok(join_all(rt, handles, room))
@@ -72,20 +71,20 @@ fn start_all<'s, E: 's, J: Job + Send + 's>(
     scope: &Scope<'s, E>,
     alloc: Global,
     jobs: Vec<J>,
-) -> Result<Vec<PromisedHandle<J::Answer, Owes<J>>>, RunFault>
+) -> Result<Vec<PromisedHandle<J::Answer, JobPromise<J>>>, RunFault>
 where
     J::Answer: Send + Drop + 's,
     requires { AllByRecursion J.can_work jobs.items }
     ensures started { IfOk result (λ handles. map job_of handles.items ≡ jobs.items) }
-    ensures fault { IfErr result IsMet }
+    ensures fault { IfErr result IsUnstarted }
 {
     let mut handles = Vec::with_capacity(alloc, jobs.len())?;
     for job in jobs {
-        let owes = Owes {
+        let promise = JobPromise {
             job: Snapshot::of(&job),
         };
         let Ok(handle) = scope.spawn_with(
-            owes,
+            promise,
             move || -> J::Answer
                 requires { J.can_work job }
                 ensures { J.keeps job result }
@@ -101,7 +100,7 @@ where
 // What each thread gives, in order.
 fn join_all<J: Job, R: Threads>(
     rt: &R,
-    handles: Vec<PromisedHandle<J::Answer, Owes<J>>>,
+    handles: Vec<PromisedHandle<J::Answer, JobPromise<J>>>,
     mut answers: Vec<J::Answer>,
 ) -> Vec<J::Answer>
 where

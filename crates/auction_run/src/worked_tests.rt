@@ -1,7 +1,8 @@
 //! Whole runs. Users 10, categories 2; the expected values are worked from the rules by hand.
 use crate::{FreeGate, Gate, Outcome, Policy, run};
 use auction_rows::{
-    BidId, Entry, Facts, ItemId, Name, Object, Opening, Quantity, Reply, Request, Stars,
+    BidId, Entry, Facts, ItemId, Name, Object, Opening, Quantity, Reply, Request, Row, Stars,
+    reply_to, row_of,
 };
 use item_shards::OpeningBook;
 use std::alloc::{AllocError, Global};
@@ -337,6 +338,65 @@ fn workers_run_side_by_side(rt: HostRuntime) -> Result<(), Fail> {
         let outcome = run_of(&rt, rt.alloc(), &scripts, 1, 1, gate)?;
         assert_eq!(rt; outcome.history.len(), 4);
         assert_eq!(rt; gate.met.load(Ordering::SeqCst), met);
+    }
+    Ok(())
+}
+
+// Whether each entry has the reply that the plain program gives from the rows of the entries before it.
+fn is_replayed(alloc: Global, history: &[Entry]) -> Result<bool, Fail> {
+    let mut rows: Vec<Row> = Vec::new(alloc);
+    for entry in history {
+        if rows.len() >= 1_000 {
+            return Err(Fail::from("more than 1,000 rows"));
+        }
+        let reply = reply_to(&rows, OPENING, entry.worker, entry.request);
+        if reply != entry.reply {
+            return Ok(false);
+        }
+        if let Some(row) = row_of(entry.worker, entry.request, reply) {
+            rows.push(row)?;
+        }
+    }
+    Ok(true)
+}
+
+#[test]
+fn histories_replay_on_the_plain_program(rt: HostRuntime) -> Result<(), Fail> {
+    let alloc = rt.alloc();
+    let buy = Request::BuyNow {
+        buyer: 4,
+        item: FIRST,
+        quantity: Quantity::new(1).ok_or("no quantity")?,
+        time: 9,
+    };
+    let first = [
+        item()?,
+        bid(0, 10, 1),
+        comment(0, 3)?,
+        VIEW,
+        bid(1, 30, 3),
+        LOOK,
+    ];
+    let second = [
+        LOOK,
+        bid(2, 25, 2),
+        item()?,
+        comment(1, -2)?,
+        bid(2, 35, 4),
+        VIEW,
+    ];
+    let third = [bid(3, 40, 5), LOOK, bid(3, 45, 5), buy, bid(3, 50, 6), VIEW];
+    for (joined, split) in [(1, 1), (2, 3), (3, 2), (6, 1), (1, 5)] {
+        let outcome = run_of(
+            &rt,
+            alloc,
+            &[&first, &second, &third],
+            joined,
+            split,
+            &FreeGate,
+        )?;
+        assert_eq!(rt; outcome.history.len(), 18);
+        assert!(rt; is_replayed(alloc, &outcome.history)?);
     }
     Ok(())
 }

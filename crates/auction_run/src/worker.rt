@@ -1,9 +1,11 @@
 //! What a worker does in a phase of a run.
-ghost use Rattle.std.specs.Prelude.{◌≡◌, ◌+◌, ◌-◌, ◌≤◌, ◌<◌, ◌++◌, ◌∷◌, [], not, length, OnOk};
+ghost use Rattle.std.specs.Prelude.{◌≡◌, ◌+◌, ◌-◌, ◌≤◌, ◌<◌, ◌++◌, ◌∷◌, [], not, length, take, drop, OnOk, IfErr};
 ghost use Rattle.std.specs.List.{filter};
 ghost use Rattle.auction_rows.specs.Phases.{is_put_off};
+ghost use Rattle.phase_permits.specs.Stashed.{HasFailedFirst};
+ghost use Rattle.phase_transactions.specs.Performing.{HasFailed, with_try};
 ghost use Rattle.phase_transactions.specs.Single.{HaveOpening};
-ghost use Rattle.auction_run.specs.Working.{calls_from, committed, stashed, hot_for, IsSamePermit};
+ghost use Rattle.auction_run.specs.Working.{calls_from, committed, stashed, hot_for, IsPermitOf, IsSamePermit, HasStopped, HasStoppedSplit};
 
 use crate::gate::Gate;
 use auction_rows::Request;
@@ -41,6 +43,7 @@ pub(crate) fn perform_joined<N: PhaseName, R: Wait, G: Gate>(
 ) -> Result<(), PermitFault>
     requires of { permit.old.key.boxes ≡ boxes.now }
     requires opening { HaveOpening N.opening permit.old.split.desk.opening }
+    requires post { IsPermitOf post.now.phase post.now.worker permit.old }
     requires short { length script.now ≤ 1000000 }
     requires given { permit.old.split.desk.left ≤ length script.now - first }
     requires tries { permit.old.split.desk.tries + length (stashed permit.old) + permit.old.split.desk.left ≤ 1000000000 }
@@ -48,6 +51,8 @@ pub(crate) fn perform_joined<N: PhaseName, R: Wait, G: Gate>(
     ensures calls { OnOk result (committed permit.new ≡ committed permit.old
         ++ (stashed permit.old ++ calls_from first permit.old.split.desk.left script.now)) }
     ensures stash { OnOk result (stashed permit.new ≡ []) }
+    ensures stopped { IfErr result (HasStopped N.opening (stashed permit.old ++ calls_from first permit.old.split.desk.left script.now)
+        permit.old permit.new) }
 {
     perform_stash(rt, boxes, post, permit)?;
     perform_quota(rt, boxes, post, permit, script, first)
@@ -68,6 +73,7 @@ fn perform_stash<N: PhaseName, R: Wait, G: Gate>(
     ensures stash { OnOk result (stashed permit.new ≡ []) }
     ensures left { OnOk result (permit.new.split.desk.left ≡ permit.old.split.desk.left) }
     ensures tries { OnOk result (permit.new.split.desk.tries ≤ permit.old.split.desk.tries + length (stashed permit.old)) }
+    ensures stopped { IfErr result (HasStopped N.opening (stashed permit.old) permit.old permit.new) }
 {
     for _call in 0..permit.stashed() {
         perform_first(rt, boxes, post, permit)?;
@@ -86,10 +92,11 @@ fn perform_first<N: PhaseName, R: Wait, G: Gate>(
     requires opening { HaveOpening N.opening permit.old.split.desk.opening }
     requires tries { permit.old.split.desk.tries < 1000000000 }
     ensures same { OnOk result (IsSamePermit permit.old permit.new) }
-    ensures calls { OnOk result (committed permit.new ++ stashed permit.new ≡ committed permit.old ++ stashed permit.old) }
-    ensures fewer { OnOk result (length (stashed permit.new) ≡ length (stashed permit.old) - 1) }
+    ensures calls { OnOk result (committed permit.new ≡ committed permit.old ++ take 1 (stashed permit.old)) }
+    ensures stash { OnOk result (stashed permit.new ≡ drop 1 (stashed permit.old)) }
     ensures left { OnOk result (permit.new.split.desk.left ≡ permit.old.split.desk.left) }
     ensures tries { OnOk result (permit.new.split.desk.tries ≤ permit.old.split.desk.tries + 1) }
+    ensures failed { IfErr result (HasFailedFirst N.opening (with_try permit.old) permit.new) }
 {
     let Some((index, _request)) = permit.first_stashed() else {
         return Ok(());
@@ -118,6 +125,7 @@ fn perform_quota<N: PhaseName, R: Wait, G: Gate>(
     ensures same { OnOk result (IsSamePermit permit.old permit.new) }
     ensures calls { OnOk result (committed permit.new ≡ committed permit.old ++ calls_from first permit.old.split.desk.left script.now) }
     ensures stash { OnOk result (stashed permit.new ≡ stashed permit.old) }
+    ensures stopped { IfErr result (HasStopped N.opening (calls_from first permit.old.split.desk.left script.now) permit.old permit.new) }
 {
     for place in 0..permit.left() {
         let index = first + place as usize;
@@ -144,6 +152,7 @@ fn perform_next<N: PhaseName, R: Wait, G: Gate>(
     ensures stash { OnOk result (stashed permit.new ≡ stashed permit.old) }
     ensures left { OnOk result (permit.new.split.desk.left ≡ permit.old.split.desk.left - 1) }
     ensures tries { OnOk result (permit.new.split.desk.tries ≡ permit.old.split.desk.tries + 1) }
+    ensures failed { IfErr result (HasFailed N.opening (with_try permit.old) permit.new request.now) }
 {
     post.arrive(index);
     let reply = permit.perform(rt, boxes, request, index);
@@ -164,6 +173,7 @@ pub(crate) fn perform_split<N: PhaseName, R: Wait, G: Gate>(
 ) -> Result<(), PermitFault>
     requires of { permit.old.key.boxes ≡ boxes.now }
     requires opening { HaveOpening N.opening permit.old.split.desk.opening }
+    requires post { IsPermitOf post.now.phase post.now.worker permit.old }
     requires short { length script.now ≤ 1000000 }
     requires given { permit.old.split.desk.left ≤ length script.now - first }
     requires tries { permit.old.split.desk.tries + permit.old.split.desk.left ≤ 1000000000 }
@@ -172,6 +182,7 @@ pub(crate) fn perform_split<N: PhaseName, R: Wait, G: Gate>(
         ++ filter (λ call. not (is_put_off (hot_for permit.old) call.1)) (calls_from first permit.old.split.desk.left script.now)) }
     ensures stash { OnOk result (stashed permit.new ≡ stashed permit.old
         ++ filter (λ call. is_put_off (hot_for permit.old) call.1) (calls_from first permit.old.split.desk.left script.now)) }
+    ensures stopped { IfErr result (HasStoppedSplit N.opening (calls_from first permit.old.split.desk.left script.now) permit.old permit.new) }
 {
     for place in 0..permit.left() {
         let index = first + place as usize;
@@ -200,6 +211,7 @@ fn deal_with_next<N: PhaseName, R: Wait, G: Gate>(
         ++ filter (λ call. is_put_off (hot_for permit.old) call.1) ((index, request.now) ∷ [])) }
     ensures left { OnOk result (permit.new.split.desk.left ≡ permit.old.split.desk.left - 1) }
     ensures tries { OnOk result (permit.new.split.desk.tries ≡ permit.old.split.desk.tries + 1) }
+    ensures failed { IfErr result (HasFailed N.opening (with_try permit.old) permit.new request.now) }
 {
     post.arrive(index);
     let done = permit.perform(rt, boxes, request, index);

@@ -1,6 +1,8 @@
--- A fact of every element, by recursion and by place.
-use Rattle.std.proofs.Common.{ℕ, zero, suc, ◌<◌, List, [], ◌∷◌, length, get_or, arith}
+-- A fact of every element, by recursion and by place; and of those that were added at the end.
+use Rattle.std.proofs.Common.{◌≡◌, ℕ, zero, suc, ◌-◌, ◌<◌, List, [], ◌∷◌, length, get_or, take, drop, ap, ◌∙◌, arith}
 use Rattle.std.specs.List.{AllByRecursion}
+use Rattle.std.proofs.lemmas.List.{take_rest}
+use Rattle.worker_journals.specs.Merged.{added}
 
 pub every : {X : Type 0} (P : X → Type 0) (xs : List X) → ((k : ℕ) (d : X) → k < length xs → P (get_or xs k d)) → AllByRecursion P xs
 every P [] h = tt
@@ -14,3 +16,7 @@ pub at_place : {X : Type 0} (P : X → Type 0) (xs : List X) → AllByRecursion 
 at_place P [] h k d low = absurd (omega arith)
 at_place P (x ∷ xs) h zero d low = h.0
 at_place P (x ∷ xs) h (suc k) d low = at_place P xs h.1 k d (omega arith)
+
+-- what a slice has from the end of an older list on
+pub from_end : {X : Type 0} (old now new : List X) (n : ℕ) → n ≡ length old → now ≡ new → take (length now - n) (drop n now) ≡ added old new
+from_end old now new n at is = take_rest now n ∙ ap (drop n) is ∙ ap (λ k. drop k new) at

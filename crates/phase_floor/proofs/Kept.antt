@@ -20,12 +20,12 @@ use Rattle.item_shards.proofs.CountLemmas.{bids_at_most, comments_at_most, ratin
 use Rattle.shard_boxes.specs.States.{ShardState, state_of, state_at, IsWithin, AreOpened}
 use Rattle.phase_desks.specs.declared.counters.Counters.{Counters}
 use Rattle.phase_transactions.specs.Permits.{PermitState}
-use Rattle.phase_transactions.specs.Single.{HaveOpening}
 use Rattle.phase_closing.specs.Phases.{HasClosed, receipt_at, counters_of}
 use Rattle.phase_closing.specs.Standing.{StandFor, counters_at}
 use Rattle.phase_closing.proofs.CommitLemmas.{book_left, stores_few, stars_go_on}
 use Rattle.phase_floor.specs.Closings.{AreReceiptsOf, phase_of}
 use Rattle.phase_floor.specs.Floors.{FloorState, IsOpen}
+use Rattle.phase_floor.specs.Resuming.{AreReady}
 use Rattle.phase_floor.specs.States.{IsKept, IsWithinLimit, AreWithinLimit, AreOfABook}
 use Rattle.phase_floor.proofs.BookSize.{size_at_most}
 
@@ -41,14 +41,7 @@ elsewhere (shard ∷ shards) (suc s) below object apart = elsewhere shards s (om
 not_over : (n m : ℕ) → ¬ (m < n) → n ≤ m
 not_over n m h = omega (arith, h)
 
--- the shards are numbered, of this opening, and at clock 0
-pub record AreNumbered (opening : Opening) (states : List ShardState) : Type 0 where
-  pub number_is : (s : ℕ) → s < length states → (state_at states s).number ≡ s
-  pub shards_is : (s : ℕ) → s < length states → (state_at states s).shards ≡ length states
-  pub opening_is : HaveOpening states opening
-  pub clock_is : (s : ℕ) → s < length states → (state_at states s).clock ≡ 0
-
-module _ (opening : Opening) (shards : List Shard) (counters : List Counters) (numbered : AreNumbered opening (map state_of shards))
+module _ (opening : Opening) (shards : List Shard) (counters : List Counters) (ready : AreReady opening (map state_of shards))
     (few : length counters ≤ 16) (limits : AreWithinLimit counters) (of_a_book : AreOfABook opening (map state_of shards) counters) where
   -- of a book for which they stand
   size : (book : Book) → StandFor (map state_of shards) counters book [] → length book ≤ 16000000
@@ -68,7 +61,7 @@ module _ (opening : Opening) (shards : List Shard) (counters : List Counters) (n
       at : (b : Bool) → (shard_of object state.shards == state.number) ≡ b → ⊥
       at true here =
           let lies : shard_of object (length (map state_of shards)) ≡ s =
-          ap (shard_of object) (sym (numbered.shards_is s below)) ∙ eqb-true (shard_of object state.shards) state.number here ∙ numbered.number_is s below in
+          ap (shard_of object) (sym (ready.numbered s below).1) ∙ eqb-true (shard_of object state.shards) state.number here ∙ (ready.numbered s below).0 in
           let is : measure (state.shelf object) ≡ measure (value book object) = ap measure (holds.shards s below object lies refl) in
           let low = some book stars (size book holds) in
           omega (arith, is, low, more)
@@ -89,9 +82,9 @@ module _ (opening : Opening) (shards : List Shard) (counters : List Counters) (n
 
   pub are_opened : AreOpened (map state_of shards)
   are_opened = λ s below. record {
-    number_is = numbered.number_is s below;
-    shards_is = numbered.shards_is s below;
-    clock_is = numbered.clock_is s below;
+    number_is = (ready.numbered s below).0;
+    shards_is = (ready.numbered s below).1;
+    clock_is = ready.clock_is s below;
     within = within s below;
   }
 
@@ -114,7 +107,7 @@ module _ (opening : List ShardState) (workers : ℕ) (floor : FloorState) (is_op
         commits = limit w below;
       })
 
-  module _ (shards : List Shard) (as_many : length (map state_of shards) ≡ length opening) (numbered : AreNumbered floor.opening (map state_of shards))
+  module _ (shards : List Shard) (as_many : length (map state_of shards) ≡ length opening) (ready : AreReady floor.opening (map state_of shards))
       (stand : (book : Book) → StandFor opening floor.counters book [] → StandFor (map state_of shards) (map counters_of receipts) (book_after floor.opening book entries) []) where
     of_a_book_after : AreOfABook floor.opening (map state_of shards) (map counters_of receipts)
     of_a_book_after = λ none. is_open.kept.of_a_book (λ book is stars_are holds.
@@ -128,8 +121,8 @@ module _ (opening : List ShardState) (workers : ℕ) (floor : FloorState) (is_op
           few_shards = omega (arith, as_many, is_open.kept.few_shards);
           some_workers = omega (arith, many, are.0, is_open.kept.some_workers);
           few_workers = few;
-          opened = are_opened floor.opening shards (map counters_of receipts) numbered few limits_after of_a_book_after;
-          opening_is = numbered.opening_is;
+          opened = are_opened floor.opening shards (map counters_of receipts) ready few limits_after of_a_book_after;
+          opening_is = ready.opening_is;
           limits = limits_after;
           of_a_book = of_a_book_after;
         }

@@ -1,5 +1,6 @@
 -- Permits whose receipts a close takes.
-use Rattle.std.proofs.Common.{◌≡◌, ℕ, zero, suc, List, [], ◌∷◌, ◌++◌, length, take, Option, refl, ap, ◌∙◌, arith}
+use Rattle.std.proofs.Common.{◌≡◌, ℕ, zero, suc, List, [], ◌∷◌, ◌++◌, length, take, Option, Some, None, refl, sym, ap, ◌∙◌, subst, arith}
+use Rattle.std.specs.Prelude.{IfSome, IfNone}
 use Rattle.auction_rows.specs.declared.ids.Object.{Object}
 use Rattle.auction_rows.specs.declared.replies.Reply.{Reply}
 use Rattle.auction_rows.specs.declared.requests.Facts.{Facts}
@@ -10,6 +11,7 @@ use Rattle.item_shards.specs.Writing.{writes_if}
 use Rattle.shard_boxes.specs.States.{ShardState}
 use Rattle.phase_desks.specs.Slicing.{stocks_of, slices_of}
 use Rattle.phase_desks.specs.Stashes.{StashState}
+use Rattle.phase_permits.specs.Stashed.{with_first_called, HasPerformedFirst}
 use Rattle.phase_transactions.proofs.Hots.{stocks-acts}
 use Rattle.phase_transactions.specs.declared.fault.Done.{Done}
 use Rattle.phase_transactions.specs.declared.fault.Done.TheVariants.{Committed, Stashed}
@@ -37,6 +39,26 @@ begun_receipt floor w quota stash permit begun = record {
 pub begun_receipts : (floor : FloorState) (quotas : List ℕ) (stashes : List StashState) (permits : List PermitState) → AreBegun floor quotas stashes permits → AreReceiptsOf floor permits
 begun_receipts floor quotas stashes permits begun = (begun.0, λ w low. begun_receipt floor w _ _ _ (begun.1 w no_receipt low))
 
+tried : (floor : FloorState) (w : ℕ) (old : PermitState) → IsReceipt floor w old → IsReceipt floor w (with_try old)
+tried floor w old was = record {
+  boxes_are = was.boxes_are;
+  worker_is = was.worker_is;
+  opening_is = was.opening_is;
+  phase_is = was.phase_is;
+  stocks_are = was.stocks_are;
+  begun = was.begun;
+}
+
+called : (floor : FloorState) (w : ℕ) (old : PermitState) → IsReceipt floor w old → IsReceipt floor w (with_first_called old)
+called floor w old was = record {
+  boxes_are = was.boxes_are;
+  worker_is = was.worker_is;
+  opening_is = was.opening_is;
+  phase_is = was.phase_is;
+  stocks_are = was.stocks_are;
+  begun = was.begun;
+}
+
 module _ (opening : List ShardState) (floor : FloorState) (w : ℕ) (old new : PermitState) (was : IsReceipt floor w old) (request : Request) (index : ℕ) where
   pub committed : (answer : Reply) → HasCommitted opening (with_try old) new request index answer → IsReceipt floor w new
   committed answer h = record {
@@ -58,6 +80,13 @@ module _ (opening : List ShardState) (floor : FloorState) (w : ℕ) (old new : P
     stocks_are = ap stocks_of h.slices ∙ was.stocks_are;
     begun = ap (λ d. d.begun) h.desk ∙ was.begun;
   }
+
+-- the permit that has performed what waited longest, if anything did
+pub performed_first : (opening : List ShardState) (floor : FloorState) (w : ℕ) (old new : PermitState) → IsReceipt floor w old → (answer : Option Reply)
+    → IfNone answer (new ≡ with_try old) → IfSome answer (HasPerformedFirst opening (with_try old) new) → IsReceipt floor w new
+performed_first opening floor w old new was None unchanged done = subst (IsReceipt floor w) (sym unchanged) (tried floor w old was)
+performed_first opening floor w old new was (Some answer) unchanged done =
+    committed opening floor w (with_first_called old) new (called floor w old was) done.request done.index answer done.committed
 
 -- what was written through a slice of all of a list
 pub written : {X : Type 0} (n : ℕ) (xs ys : List X) → length xs ≡ n → take n (xs ++ ys) ≡ xs

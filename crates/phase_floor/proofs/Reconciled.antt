@@ -26,9 +26,9 @@ use Rattle.phase_closing.proofs.ReconcileLemmas.{reconciled_stand}
 use Rattle.phase_closing.proofs.RoomLemmas.{merges_can_be_done}
 use Rattle.phase_floor.specs.Closings.{AreReceiptsOf, AreOfOne, AreKnown, IsNumbered, phase_of, at_start, sliced_of, opening_in, from_the_last}
 use Rattle.phase_floor.specs.Floors.{FloorState, IsOpen}
+use Rattle.phase_floor.specs.Resuming.{AreReady}
 use Rattle.phase_floor.specs.States.{DoesExist, DoAllExist}
 use Rattle.phase_floor.proofs.Every.{every_from}
-use Rattle.phase_floor.proofs.Kept.{AreNumbered}
 use Rattle.phase_floor.proofs.Started.{same_length, started, start_stands}
 use Rattle.phase_floor.proofs.Turns.{one_after, opening_after}
 
@@ -107,12 +107,14 @@ module _ (opening : List ShardState) (workers : ℕ) (floor : FloorState) (is_op
     pub as_many : length states ≡ length opening
     as_many = same_length merged states states_are ∙ as_many_merged order given ∙ closed.boxes.0
 
-    pub numbered : AreNumbered floor.opening states
-    numbered =
+    pub ready : AreReady floor.opening states
+    ready =
         let one = one_after order given given_one in
         let at = started merged states states_are in record {
-          number_is = λ s below. ap (λ (state : ShardState). state.number) (at s (known s below)) ∙ one.number_is s (known s below);
-          shards_is = λ s below. ap (λ (state : ShardState). state.shards) (at s (known s below)) ∙ one.shards_is s (known s below) ∙ sym (same_length merged states states_are);
+          numbered = λ s below. (
+            ap (λ (state : ShardState). state.number) (at s (known s below)) ∙ one.number_is s (known s below),
+            ap (λ (state : ShardState). state.shards) (at s (known s below)) ∙ one.shards_is s (known s below) ∙ sym (same_length merged states states_are),
+          );
           opening_is = λ s below. ap (λ (state : ShardState). state.opening) (at s (known s below)) ∙ one.opening_is s (known s below) ∙ opening_after order given ∙ first;
           clock_is = λ s below. ap (λ (state : ShardState). state.clock) (at s (known s below));
         }

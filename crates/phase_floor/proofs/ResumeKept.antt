@@ -49,12 +49,7 @@ module _ (opening : Opening) (book : Book) (shards : List Shard) (counters : Lis
         few_shards = omega (arith, same, some);
         some_workers = omega (arith, many, hands);
         few_workers = most;
-        opened = are_opened opening shards counters (record {
-          number_is = λ s low. (ready.numbered s low).0;
-          shards_is = λ s low. (ready.numbered s low).1;
-          opening_is = ready.opening_is;
-          clock_is = ready.clock_is;
-        }) most within (λ none. none book is limits.stars stand_for);
+        opened = are_opened opening shards counters ready most within (λ none. none book is limits.stars stand_for);
         opening_is = ready.opening_is;
         limits = within;
         of_a_book = λ none. none book is limits.stars stand_for;

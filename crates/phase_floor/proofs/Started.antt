@@ -14,7 +14,7 @@ use Rattle.phase_closing.specs.Standing.{StandFor}
 use Rattle.phase_closing.proofs.ReconcileLemmas.{joined_stand}
 use Rattle.phase_floor.specs.Closings.{phase_of, at_start}
 use Rattle.phase_floor.specs.Floors.{FloorState, IsOpen}
-use Rattle.phase_floor.proofs.Kept.{AreNumbered}
+use Rattle.phase_floor.specs.Resuming.{AreReady}
 
 module _ (given states : List ShardState) (states_are : states ≡ map at_start given) where
   pub same_length : length states ≡ length given
@@ -39,12 +39,14 @@ module _ (opening : List ShardState) (workers : ℕ) (floor : FloorState) (is_op
   pub as_many : length states ≡ length opening
   as_many = same_length given states states_are ∙ closed.boxes.0
 
-  pub numbered : AreNumbered floor.opening states
-  numbered =
+  pub ready : AreReady floor.opening states
+  ready =
       let known : (s : ℕ) → s < length states → s < length given = λ s below. omega (arith, below, same_length given states states_are) in
       let inside : (s : ℕ) → s < length states → s < length opening = λ s below. omega (arith, below, as_many) in record {
-        number_is = λ s below. ap (λ (state : ShardState). state.number) (started given states states_are s (known s below)) ∙ (closed.boxes.1 s (inside s below)).history.number_is;
-        shards_is = λ s below. ap (λ (state : ShardState). state.shards) (started given states states_are s (known s below)) ∙ (closed.boxes.1 s (inside s below)).history.shards_is ∙ sym as_many;
+        numbered = λ s below. (
+          ap (λ (state : ShardState). state.number) (started given states states_are s (known s below)) ∙ (closed.boxes.1 s (inside s below)).history.number_is,
+          ap (λ (state : ShardState). state.shards) (started given states states_are s (known s below)) ∙ (closed.boxes.1 s (inside s below)).history.shards_is ∙ sym as_many,
+        );
         opening_is = λ s below. ap (λ (state : ShardState). state.opening) (started given states states_are s (known s below)) ∙ (closed.boxes.1 s (inside s below)).history.opening_is
             ∙ is_open.kept.opening_is s (inside s below);
         clock_is = λ s below. ap (λ (state : ShardState). state.clock) (started given states states_are s (known s below));

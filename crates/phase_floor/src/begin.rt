@@ -9,7 +9,8 @@ ghost use Rattle.phase_floor.specs.Floors.{stash_at, AreBegun};
 use crate::fault::BeginFault;
 use crate::floor::JoinedFloor;
 use crate::joined::Joined;
-use crate::quotas::{is_too_long, new_journals};
+use crate::journals::new_journals;
+use crate::quotas::is_too_long;
 use phase_permits::{JoinedPermit, Stash};
 use shard_boxes::{Boxes, Key, PhaseName};
 use std::alloc::Global;
@@ -20,9 +21,10 @@ impl Joined {
     ghost use Rattle.phase_floor.specs.States.{states_of};
 
     /// Begins a joined phase: a permit for each worker to perform what waits in its stash and its quota. The phase is of
-    /// this state's shards and workers. Where it does not begin, the state and the stashes come back unchanged.
+    /// this state's shards and workers, and its number is below 2^64 - 1. Else the state and the stashes come back unchanged:
+    /// TooLong where some worker's commits, stash and quota are more than 1,000,000 together, Memory where none is left.
     pub fn begin_joined<N: PhaseName, R: Wait>(
-        self,
+        mut self,
         rt: &R,
         alloc: Global,
         quotas: &[u32],
@@ -48,7 +50,8 @@ impl Joined {
         if is_too_long(&self.counters, &stashes, quotas) {
             return Err((self, stashes, BeginFault::TooLong));
         }
-        let Ok(journals) = new_journals(alloc, self.phase, &stashes, quotas) else {
+        let spare = self.take_spare(alloc);
+        let Ok(journals) = new_journals(alloc, spare, self.phase, &stashes, quotas) else {
             return Err((self, stashes, BeginFault::Memory));
         };
         let Ok(permits) = Vec::with_capacity(alloc, quotas.len()) else {
@@ -59,6 +62,7 @@ impl Joined {
             phase,
             shards,
             counters,
+            spare: _,
         } = self;
         match Boxes::new(rt, alloc, shards, quotas.len() as u32) {
             Ok((boxes, keys)) => {
@@ -78,6 +82,7 @@ impl Joined {
                     phase,
                     shards,
                     counters,
+                    spare: Vec::new(alloc),
                 };
                 Err((state, stashes, BeginFault::Memory))
             }

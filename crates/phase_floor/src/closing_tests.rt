@@ -1,16 +1,19 @@
 //! Whole phases over threads, and what the auction shows after them.
 ghost use Rattle.std.specs.Prelude.{◌<◌, ◌≤◌, length};
 
-use crate::Joined;
-use crate::joined_work::joined_phase;
+use crate::joined_work::{Between, joined_phase};
 use crate::split_work::split_phase;
+use crate::testing::joined_fault;
+use crate::{BeginFault, Joined};
 use auction_rows::{
-    BidId, BidShown, Facts, ItemId, ItemShown, Name, Object, Opening, Quantity, Reply, Request,
-    Stars, Ten,
+    BidId, BidShown, BuyId, Entry, Facts, ItemId, ItemShown, Name, Object, Opening, Quantity,
+    Reply, Request, Row, Stars, Ten, reply_to, row_of,
 };
 use indexmap::IndexSet;
 use std::alloc::Global;
+use std::sync::Wait;
 use std::test::Fail;
+use std::thread::Threads;
 
 const OPENING: Opening = Opening {
     users: 16,
@@ -115,16 +118,16 @@ fn alone(alloc: Global, workers: u32, request: Request) -> Result<Vec<Vec<Reques
     Ok(scripts)
 }
 
-/// An auction of so many workers over four shards in which the vases are stored.
+/// A new auction of so many workers over four shards, and the scripts by which the vases are stored.
 fn with_vases(
     alloc: Global,
     workers: u32,
     quantity: u64,
-) -> Result<(Joined, Vec<Vec<Request>>), Fail>
+) -> Result<(Between, Vec<Vec<Request>>), Fail>
     requires { (0 < workers) × (workers ≤ 16) }
 {
-    let state = Joined::new(alloc, OPENING, workers, 4)?;
-    Ok((state, alone(alloc, workers, vases(0, quantity, 1)?)?))
+    let auction = Between::of(alloc, Joined::new(alloc, OPENING, workers, 4)?)?;
+    Ok((auction, alone(alloc, workers, vases(0, quantity, 1)?)?))
 }
 
 /// The objects that are hot.
@@ -138,18 +141,32 @@ fn hot(alloc: Global, objects: &[Object]) -> Result<IndexSet<Object>, Fail> {
     Ok(hot)
 }
 
+/// Whether each entry after the first is the one commit at its number of one of 16 workers, in the order of the workers.
+fn are_in_turn(history: &[Entry]) -> bool {
+    for place in 1..history.len() {
+        let entry = history[place];
+        let (turn, worker) = ((place as u64 - 1) / 16, (place as u64 - 1) % 16);
+        let found = (u64::from(entry.worker), u64::from(entry.index));
+        if entry.phase != 1 || entry.number != turn + 1 || found != (worker, turn) {
+            return false;
+        }
+    }
+    true
+}
+
 #[test]
 fn sixteen_workers_bid_on_a_hot_item(rt: HostRuntime) -> Result<(), Fail> {
     let alloc = rt.alloc();
-    let (state, stores) = with_vases(alloc, 16, 1)?;
-    let (state, _stores, _stashes) = joined_phase(&rt, alloc, state, &stores)?;
+    let (auction, stores) = with_vases(alloc, 16, 1)?;
+    let auction = joined_phase(&rt, alloc, auction, &stores)?;
     let mut scripts = Vec::new(alloc);
     for worker in 0..16 {
         scripts.push(vec![in alloc; bid(worker, 5); 1_000]?)?;
     }
     let hot = hot(alloc, &[Object::Item(VASE)])?;
-    let (state, history, _stashes) = split_phase(&rt, alloc, state, &hot, &scripts)?;
-    assert_eq!(rt; history.len(), 16_000);
+    let Between { state, history, .. } = split_phase(&rt, alloc, auction, &hot, &scripts)?;
+    assert_eq!(rt; history.len(), 16_001);
+    assert!(rt; are_in_turn(&history));
     assert_eq!(rt; state.phase(), 2);
     let item = state.view(&Request::ViewItem { item: VASE });
     assert_eq!(rt; item, Some(seen(Some(5), Some(15), 16_000, 1)?));
@@ -173,14 +190,14 @@ fn sixteen_workers_bid_on_a_hot_item(rt: HostRuntime) -> Result<(), Fail> {
 #[test]
 fn a_hot_user_and_a_hot_category(rt: HostRuntime) -> Result<(), Fail> {
     let alloc = rt.alloc();
-    let (state, stores) = with_vases(alloc, 4, 1)?;
-    let (state, _stores, _stashes) = joined_phase(&rt, alloc, state, &stores)?;
+    let (auction, stores) = with_vases(alloc, 4, 1)?;
+    let auction = joined_phase(&rt, alloc, auction, &stores)?;
     let mut scripts = Vec::new(alloc);
     for worker in 0..4 {
         scripts.push(vec![in alloc; comment(worker)?, vases(worker, 1, 2)?]?)?;
     }
     let hot = hot(alloc, &[Object::User(3), Object::Category(0)])?;
-    let (state, _history, _stashes) = split_phase(&rt, alloc, state, &hot, &scripts)?;
+    let Between { state, .. } = split_phase(&rt, alloc, auction, &hot, &scripts)?;
     let rated = Reply::UserSeen {
         rating: 16,
         comments: 4,
@@ -198,24 +215,142 @@ fn a_hot_user_and_a_hot_category(rt: HostRuntime) -> Result<(), Fail> {
     Ok(())
 }
 
-#[test]
-fn what_is_bought_before_a_split_phase_stays_bought(rt: HostRuntime) -> Result<(), Fail> {
-    let alloc = rt.alloc();
-    let (state, stores) = with_vases(alloc, 2, 3)?;
-    let (state, _stores, _stashes) = joined_phase(&rt, alloc, state, &stores)?;
+/// The request of worker 0 that waits longest, with its index.
+fn first_waiting(auction: &Between) -> Result<Option<(u32, Request)>, Fail> {
+    let stash = auction.stashes.first().ok_or("a stash")?;
+    Ok(stash.get(0))
+}
+
+/// An auction of two workers in which two of three vases are bought, and a purchase of the third waits after a split phase.
+fn with_a_purchase_put_off<R: Threads + Wait + Sync>(
+    rt: &R,
+    alloc: Global,
+) -> Result<Between, Fail> {
+    let (auction, stores) = with_vases(alloc, 2, 3)?;
+    let auction = joined_phase(rt, alloc, auction, &stores)?;
     let bought = alone(alloc, 2, purchase(2)?)?;
-    let (state, _history, _stashes) = joined_phase(&rt, alloc, state, &bought)?;
+    let auction = joined_phase(rt, alloc, auction, &bought)?;
     let mut scripts = Vec::new(alloc);
     scripts.push(vec![in alloc; bid(2, 9), purchase(1)?]?)?;
     scripts.push(vec![in alloc; bid(3, 8)]?)?;
     let hot = hot(alloc, &[Object::Item(VASE)])?;
-    let (state, history, stashes) = split_phase(&rt, alloc, state, &hot, &scripts)?;
-    assert_eq!(rt; history.len(), 2);
-    let Some(stash) = stashes.first() else {
-        return Err(Fail::from("a stash"));
-    };
-    assert_eq!(rt; stash.get(0), Some((1, purchase(1)?)));
-    let item = state.view(&Request::ViewItem { item: VASE });
+    split_phase(rt, alloc, auction, &hot, &scripts)
+}
+
+#[test]
+fn what_is_bought_before_a_split_phase_stays_bought(rt: HostRuntime) -> Result<(), Fail> {
+    let auction = with_a_purchase_put_off(&rt, rt.alloc())?;
+    assert_eq!(rt; auction.history.len(), 4);
+    assert_eq!(rt; first_waiting(&auction)?, Some((1, purchase(1)?)));
+    let item = auction.state.view(&Request::ViewItem { item: VASE });
     assert_eq!(rt; item, Some(seen(Some(9), Some(2), 2, 1)?));
+    Ok(())
+}
+
+#[test]
+fn what_was_put_off_is_performed_first(rt: HostRuntime) -> Result<(), Fail> {
+    let alloc = rt.alloc();
+    let auction = with_a_purchase_put_off(&rt, alloc)?;
+    let look = alone(alloc, 2, Request::ViewItem { item: VASE })?;
+    let auction = joined_phase(&rt, alloc, auction, &look)?;
+    assert_eq!(rt; first_waiting(&auction)?, None);
+    let [.., waited, looked] = auction.history.as_slice() else {
+        return Err(Fail::from("two entries"));
+    };
+    assert_eq!(rt; (waited.phase, waited.index), (3, 1));
+    let bought = BuyId {
+        worker: 0,
+        serial: 1,
+    };
+    assert_eq!(rt; waited.reply, Reply::Bought(bought));
+    assert_eq!(rt; (looked.phase, looked.index), (3, 0));
+    assert_eq!(rt; looked.reply, seen(Some(9), Some(2), 2, 0)?);
+    Ok(())
+}
+
+/// An auction of one worker in which two vases are stored, and one is refused between them.
+fn with_three_commits<R: Threads + Wait + Sync>(rt: &R, alloc: Global) -> Result<Joined, Fail> {
+    let (auction, stores) = with_vases(alloc, 1, 1)?;
+    let auction = joined_phase(rt, alloc, auction, &stores)?;
+    let mut scripts = Vec::new(alloc);
+    scripts.push(vec![in alloc; vases(99, 1, 2)?, vases(0, 1, 3)?]?)?;
+    let Between { state, .. } = joined_phase(rt, alloc, auction, &scripts)?;
+    Ok(state)
+}
+
+#[test]
+fn refused_stores_use_no_serials(rt: HostRuntime) -> Result<(), Fail> {
+    let state = with_three_commits(&rt, rt.alloc())?;
+    let items = state.view(&Request::ViewCategory { category: 0 });
+    let listed = ten_of(&[shown(3, 0, 1), shown(1, 0, 0)]);
+    assert_eq!(rt; items, Some(Reply::CategorySeen(listed)));
+    Ok(())
+}
+
+#[test]
+fn commits_count_in_later_phases(rt: HostRuntime) -> Result<(), Fail> {
+    let alloc = rt.alloc();
+    let state = with_three_commits(&rt, alloc)?;
+    assert_eq!(rt; joined_fault(&rt, alloc, state, None, 999_997)?, None);
+    let state = with_three_commits(&rt, alloc)?;
+    let fault = joined_fault(&rt, alloc, state, None, 999_998)?;
+    assert_eq!(rt; fault, Some(BeginFault::TooLong));
+    Ok(())
+}
+
+/// The rows of entries, each of which has to have the reply that the plain program gives from the rows before it.
+fn replayed(alloc: Global, history: &[Entry]) -> Result<Vec<Row>, Fail> {
+    let mut rows = Vec::new(alloc);
+    for entry in history {
+        if rows.len() >= 1_000 {
+            return Err(Fail::from("more than 1,000 rows"));
+        }
+        let reply = reply_to(&rows, OPENING, entry.worker, entry.request);
+        if reply != entry.reply {
+            return Err(Fail::from("another reply"));
+        }
+        if let Some(row) = row_of(entry.worker, entry.request, reply) {
+            rows.push(row)?;
+        }
+    }
+    Ok(rows)
+}
+
+/// What each of four workers asks for on hot objects and cold ones.
+fn mixed(alloc: Global) -> Result<Vec<Vec<Request>>, Fail> {
+    let mut scripts = Vec::new(alloc);
+    for worker in 0..4 {
+        scripts.push(vec![in alloc;
+            bid(worker, 9),
+            comment(worker)?,
+            vases(worker, 1, 2)?,
+            bid(worker, 4),
+            Request::ViewUser { user: 3 },
+        ]?)?;
+    }
+    Ok(scripts)
+}
+
+#[test]
+fn phases_replay_on_the_plain_program(rt: HostRuntime) -> Result<(), Fail> {
+    let alloc = rt.alloc();
+    let (auction, stores) = with_vases(alloc, 4, 3)?;
+    let auction = joined_phase(&rt, alloc, auction, &stores)?;
+    let auction = joined_phase(&rt, alloc, auction, &mixed(alloc)?)?;
+    let hot = hot(alloc, &[Object::Item(VASE), Object::Category(0)])?;
+    let Between { state, history, .. } = split_phase(&rt, alloc, auction, &hot, &mixed(alloc)?)?;
+    assert_eq!(rt; history.len(), 41);
+    let rows = replayed(alloc, &history)?;
+    if rows.len() > 1_000 {
+        return Err(Fail::from("more than 1,000 rows"));
+    }
+    for view in [
+        Request::ViewItem { item: VASE },
+        Request::ViewBids { item: VASE },
+        Request::ViewCategory { category: 0 },
+        Request::ViewUser { user: 3 },
+    ] {
+        assert_eq!(rt; state.view(&view), Some(reply_to(&rows, OPENING, 0, view)));
+    }
     Ok(())
 }

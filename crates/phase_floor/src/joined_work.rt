@@ -1,5 +1,5 @@
 //! What the tests do in whole joined phases: each worker performs its script on a thread of its own, and the phase closes.
-ghost use Rattle.std.specs.Prelude.{◌≡◌, ◌+◌, ◌<◌, ◌≤◌, ◌^◌, length, vec_len, vec_capacity, IfOk};
+ghost use Rattle.std.specs.Prelude.{◌≡◌, ◌+◌, ◌<◌, ◌≤◌, ◌^◌, length, vec_len, vec_capacity, IfOk, IsTrue};
 ghost use Rattle.phase_floor.specs.Closings.{IsReceipt, AreReceiptsOf};
 ghost use Rattle.phase_floor.specs.States.{states_of};
 
@@ -17,8 +17,40 @@ use std::thread::Threads;
 /// What each worker may perform in a phase.
 pub(crate) const QUOTA: u32 = 1_000;
 
-/// What a phase leaves.
-pub(crate) type Closed = (Joined, Vec<Entry>, Vec<Stash>);
+/// An auction between two phases, all that was committed, and what waits of each worker.
+#[derive(Drop)]
+pub(crate) struct Between {
+    pub(crate) state: Joined,
+    pub(crate) history: Vec<Entry>,
+    pub(crate) stashes: Vec<Stash>,
+}
+
+impl Between {
+    /// An auction of which nothing is committed yet and nothing waits.
+    pub(crate) fn of(alloc: Global, state: Joined) -> Result<Between, AllocError>
+        ensures { IfOk result (λ between. between.state ≡ state) }
+    {
+        let stashes = stashes(alloc, state.counters.len())?;
+        let history = Vec::new(alloc);
+        Ok(Between {
+            state,
+            history,
+            stashes,
+        })
+    }
+
+    /// Whether there are a stash and a script for each worker, and a next phase.
+    pub(crate) fn is_for(&self, scripts: &[Vec<Request>]) -> bool
+        ensures workers { IsTrue result → length self.now.state.counters ≡ length scripts.now }
+        ensures stashes { IsTrue result → vec_len self.now.stashes ≡ length scripts.now }
+        ensures phase { IsTrue result → self.now.state.phase + 1 < 2 ^ 64 }
+    {
+        let workers = scripts.len();
+        self.state.counters.len() == workers
+            && self.stashes.len() == workers
+            && self.state.phase() < u64::MAX
+    }
+}
 
 // An empty stash for each worker.
 fn stashes(alloc: Global, workers: usize) -> Result<Vec<Stash>, AllocError>
@@ -29,6 +61,41 @@ fn stashes(alloc: Global, workers: usize) -> Result<Vec<Stash>, AllocError>
         stashes.push(Stash::with_room(alloc, 0)?)?;
     }
     Ok(stashes)
+}
+
+// Whether the permit has performed the request that waits longest.
+fn attempt_first<N: PhaseName, R: Wait>(
+    rt: &R,
+    floor: &JoinedFloor<N>,
+    permit: &mut JoinedPermit<N>,
+) -> bool
+    requires { IsReceipt floor.now permit.old.key.worker permit.old }
+    ensures { IsReceipt floor.now permit.old.key.worker permit.new }
+{
+    if permit.tries() >= 1_000_000_000 {
+        return false;
+    }
+    match permit.perform_stashed(rt, floor.boxes()) {
+        Ok(answer) => answer.is_some(),
+        Err(_fault) => false,
+    }
+}
+
+// What waits, until a request can't be performed.
+fn perform_stash<N: PhaseName, R: Wait>(
+    rt: &R,
+    floor: &JoinedFloor<N>,
+    permit: &mut JoinedPermit<N>,
+)
+    requires { IsReceipt floor.now permit.old.key.worker permit.old }
+    ensures worker { permit.new.key.worker ≡ permit.old.key.worker }
+    ensures receipt { IsReceipt floor.now permit.old.key.worker permit.new }
+{
+    for _waiting in 0..permit.stashed() {
+        if !attempt_first(rt, floor, permit) {
+            return;
+        }
+    }
 }
 
 // Whether the permit has performed a request.
@@ -51,7 +118,7 @@ fn attempt<N: PhaseName, R: Wait>(
     }
 }
 
-// The requests in turn, from index 0 on, until one can't be performed.
+// What waits, and then the requests in turn, from index 0 on, until one can't be performed.
 fn perform<N: PhaseName, R: Wait>(
     rt: &R,
     floor: &JoinedFloor<N>,
@@ -61,6 +128,7 @@ fn perform<N: PhaseName, R: Wait>(
     requires { IsReceipt floor.now permit.old.key.worker permit.old }
     ensures { IsReceipt floor.now permit.old.key.worker permit.new }
 {
+    perform_stash(rt, floor, permit);
     let mut index = 0;
     for request in script {
         if index == QUOTA || !attempt(rt, floor, permit, request, index) {
@@ -70,7 +138,7 @@ fn perform<N: PhaseName, R: Wait>(
     }
 }
 
-// Each worker performs its script.
+// Each worker performs what waits and its script.
 fn perform_all<N: PhaseName + Send + Sync, R: Threads + Wait + Sync>(
     rt: &R,
     floor: &JoinedFloor<N>,
@@ -92,8 +160,8 @@ fn perform_all<N: PhaseName + Send + Sync, R: Threads + Wait + Sync>(
     );
 }
 
-// Spends the permits.
-fn finish_all<N: PhaseName>(
+/// Spends the permits.
+pub(crate) fn finish_all<N: PhaseName>(
     mut permits: Vec<JoinedPermit<N>>,
     mut receipts: Vec<JoinedReceipt<N>>,
 ) -> Vec<JoinedReceipt<N>>
@@ -113,16 +181,21 @@ fn finish_all<N: PhaseName>(
 fn phase<N: PhaseName + Send + Sync, R: Threads + Wait + Sync>(
     rt: &R,
     alloc: Global,
-    state: Joined,
+    between: Between,
     scripts: &[Vec<Request>],
-) -> Result<Closed, Fail>
-    requires shards { states_of state ≡ N.opening }
-    requires workers { length state.counters ≡ N.workers }
+) -> Result<Between, Fail>
+    requires shards { states_of between.state ≡ N.opening }
+    requires workers { length between.state.counters ≡ N.workers }
+    requires stashes { vec_len between.stashes ≡ N.workers }
     requires scripts { length scripts.now ≡ N.workers }
-    requires phase { state.phase + 1 < 2 ^ 64 }
+    requires phase { between.state.phase + 1 < 2 ^ 64 }
 {
+    let Between {
+        state,
+        mut history,
+        stashes,
+    } = between;
     let quotas = vec![in alloc; QUOTA; scripts.len()]?;
-    let stashes = stashes(alloc, scripts.len())?;
     let receipts = Vec::with_capacity(alloc, scripts.len())?;
     let Ok((floor, permits)) = state.begin_joined::<N, R>(rt, alloc, &quotas, stashes) else {
         return Err(Fail::from("a joined phase does not begin"));
@@ -130,18 +203,23 @@ fn phase<N: PhaseName + Send + Sync, R: Threads + Wait + Sync>(
     let mut permits = permits;
     perform_all(rt, &floor, &mut permits, scripts);
     let receipts = finish_all(permits, receipts);
-    Ok(floor.close(rt, alloc, receipts)?)
+    let (state, stashes) = floor.close(rt, alloc, &mut history, receipts)?;
+    Ok(Between {
+        state,
+        history,
+        stashes,
+    })
 }
 
-/// A joined phase in which each worker performs its script.
+/// A joined phase in which each worker performs what waits and its script.
 pub(crate) fn joined_phase<R: Threads + Wait + Sync>(
     rt: &R,
     alloc: Global,
-    state: Joined,
+    between: Between,
     scripts: &[Vec<Request>],
-) -> Result<Closed, Fail> {
-    if state.counters.len() != scripts.len() || state.phase() == u64::MAX {
+) -> Result<Between, Fail> {
+    if !between.is_for(scripts) {
         return Err(Fail::from("a script for each worker"));
     }
-    phase::<Brand, R>(rt, alloc, state, scripts)
+    phase::<Brand, R>(rt, alloc, between, scripts)
 }

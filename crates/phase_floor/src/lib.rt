@@ -10,6 +10,7 @@ mod floor;
 mod joined;
 #[cfg(test)]
 mod joined_work;
+mod journals;
 mod kits;
 mod making;
 mod merge;

@@ -34,6 +34,7 @@ impl Joined {
             phase: 0,
             shards,
             counters,
+            spare: Vec::new(alloc),
         })
     }
 }

@@ -25,7 +25,7 @@ pub(crate) fn merge(shards: &mut Vec<Shard>, object: Object, slice: Slice)
         (Object::Category(category), Slice::Category(slice)) => {
             shard.merge_category(category, slice)
         }
-        _ => {}
+        _ => unreachable!(),
     }
 }
 

@@ -22,20 +22,20 @@ impl<N: PhaseName> Parts<N> {
     ghost use Rattle.phase_desks.specs.Slicing.{AreFew};
     ghost use Rattle.phase_transactions.specs.Permits.{IsWorth};
 
-    // Room for those of so many workers.
-    fn with_room(alloc: Global, workers: usize) -> Result<Parts<N>, AllocError>
+    // Room for those of so many workers, and for the slices of so many.
+    fn with_room(alloc: Global, workers: usize, sliced: usize) -> Result<Parts<N>, AllocError>
         ensures empty { IfOk result (λ parts. (parts.journals.items ≡ []) × (parts.stashes.items ≡ [])
             × (parts.keys.items ≡ []) × (parts.counters.items ≡ []) × (parts.slices.items ≡ [])) }
         ensures room { IfOk result (λ parts. (workers ≤ vec_capacity parts.journals) × (workers ≤ vec_capacity parts.stashes)
             × (workers ≤ vec_capacity parts.keys) × (workers ≤ vec_capacity parts.counters)
-            × (workers ≤ vec_capacity parts.slices)) }
+            × (sliced ≤ vec_capacity parts.slices)) }
     {
         Ok(Parts {
             journals: Vec::with_capacity(alloc, workers)?,
             stashes: Vec::with_capacity(alloc, workers)?,
             keys: Vec::with_capacity(alloc, workers)?,
             counters: Vec::with_capacity(alloc, workers)?,
-            slices: Vec::with_capacity(alloc, workers)?,
+            slices: Vec::with_capacity(alloc, sliced)?,
         })
     }
 
@@ -54,7 +54,7 @@ impl<N: PhaseName> Parts<N> {
         ensures limit { OnOk result ((w : ℕ) → w < length receipts.items →
             (counters_of (receipt_at receipts.items w)).commits ≤ 1000000) }
     {
-        let mut parts = Parts::with_room(alloc, receipts.len())?;
+        let mut parts = Parts::with_room(alloc, receipts.len(), 0)?;
         for receipt in receipts {
             let (journal, stash, key, counters) = receipt.parts();
             parts.journals.push_reserved(journal);
@@ -81,7 +81,7 @@ impl<N: PhaseName> Parts<N> {
             (counters_of (receipt_at receipts.items w)).commits ≤ 1000000) }
         ensures few { OnOk result ((w : ℕ) → w < length receipts.items → AreFew 1000000 (receipt_at receipts.items w).split.slices) }
     {
-        let mut parts = Parts::with_room(alloc, receipts.len())?;
+        let mut parts = Parts::with_room(alloc, receipts.len(), receipts.len())?;
         for receipt in receipts {
             let (journal, slices, stash, key, counters) = receipt.parts();
             parts.journals.push_reserved(journal);

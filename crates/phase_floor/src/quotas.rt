@@ -1,12 +1,9 @@
 //! How many requests a phase may perform.
-ghost use Rattle.std.specs.Prelude.{◌≡◌, ◌+◌, ◌<◌, ◌≤◌, ℕ, length, vec_len, IsTrue, ◌↔◌, IfOk, slice_index, slice_index_or};
-ghost use Rattle.worker_journals.specs.Journals.{empty_journal, JournalView};
+ghost use Rattle.std.specs.Prelude.{◌≡◌, ◌+◌, ◌<◌, ◌≤◌, length, IsTrue, ◌↔◌};
 ghost use Rattle.phase_floor.specs.Begins.{IsTooLong, asked_in_all};
 ghost use Rattle.phase_floor.specs.Floors.{stash_at};
 
 use phase_permits::{Counters, Stash};
-use std::alloc::{AllocError, Global};
-use worker_journals::Journal;
 
 const MOST: u64 = 1_000_000;
 
@@ -29,28 +26,4 @@ pub(crate) fn is_too_long(counters: &[Counters], stashes: &[Stash], quotas: &[u3
         }
     }
     false
-}
-
-// A journal of the phase for each worker, with room for what waits and for the quota.
-pub(crate) fn new_journals(
-    alloc: Global,
-    phase: u64,
-    stashes: &[Stash],
-    quotas: &[u32],
-) -> Result<Vec<Journal>, AllocError>
-    requires stashes { length stashes.now ≡ length quotas.now }
-    requires few { length quotas.now ≤ 16 }
-    requires fit { (w : ℕ) → w < length quotas.now →
-        length (stash_at stashes.now w).requests + slice_index quotas.now w ≤ 1000000 }
-    ensures len { IfOk result (λ journals. vec_len journals ≡ length quotas.now) }
-    ensures each { IfOk result (λ journals. (w : ℕ) (d : JournalView) → w < length quotas.now →
-        slice_index_or journals.items w d
-        ≡ empty_journal phase w (length (stash_at stashes.now w).requests + slice_index quotas.now w)) }
-{
-    let mut journals = Vec::with_capacity(alloc, quotas.len())?;
-    for w in 0..quotas.len() {
-        let room = stashes[w].len() + quotas[w] as usize;
-        journals.push(Journal::with_room(alloc, phase, w as u32, room)?)?;
-    }
-    Ok(journals)
 }

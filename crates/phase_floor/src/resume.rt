@@ -18,8 +18,8 @@ use phase_permits::Counters;
 use std::alloc::{AllocError, Global};
 
 impl Joined {
-    /// The auction of 1 to 16 workers, over 1 to 64 shards, that an opening book leaves: each row was a commit of its
-    /// worker. It fails for want of memory alone.
+    /// The auction of 1 to 16 workers, over 1 to 64 shards, that an opening book leaves, whose rows are of these workers
+    /// alone: each row was a commit of its worker. It fails for want of memory alone, and leaves the book as it is.
     pub fn resume(
         alloc: Global,
         book: &OpeningBook,
@@ -45,6 +45,7 @@ impl Joined {
             phase: 0,
             shards,
             counters,
+            spare: Vec::new(alloc),
         })
     }
 }

@@ -23,9 +23,11 @@ impl Joined {
     ghost use Rattle.phase_floor.specs.States.{DoesExist, DoAllExist, states_of};
 
     /// Begins a split phase: a permit for each worker to perform its quota, with a slice of each hot object. The phase is of
-    /// this state's shards and workers. Where it does not begin, the state comes back unchanged.
+    /// this state's shards and workers, and its number is below 2^64 - 1. Else the state comes back unchanged: UnknownHot where
+    /// a hot object does not exist, then TooLong where some worker's commits and quota are more than 1,000,000 together, then
+    /// Memory where none is left.
     pub fn begin_split<N: PhaseName, R: Wait>(
-        self,
+        mut self,
         rt: &R,
         alloc: Global,
         quotas: &[u32],
@@ -59,7 +61,8 @@ impl Joined {
         let Ok(stocks) = self.stocks_of(alloc, objects) else {
             return Err((self, BeginFault::Memory));
         };
-        let Ok(kits) = new_kits(alloc, self.phase, &stocks, quotas) else {
+        let spare = self.take_spare(alloc);
+        let Ok(kits) = new_kits(alloc, spare, self.phase, &stocks, quotas) else {
             return Err((self, BeginFault::Memory));
         };
         let Ok(permits) = Vec::with_capacity(alloc, quotas.len()) else {
@@ -70,6 +73,7 @@ impl Joined {
             phase,
             shards,
             counters,
+            spare: _,
         } = self;
         match Boxes::new(rt, alloc, shards, quotas.len() as u32) {
             Ok((boxes, keys)) => {
@@ -90,6 +94,7 @@ impl Joined {
                     phase,
                     shards,
                     counters,
+                    spare: Vec::new(alloc),
                 };
                 Err((state, BeginFault::Memory))
             }

@@ -3,8 +3,8 @@ ghost use Rattle.std.specs.Prelude.{◌≡◌, ◌+◌, ◌<◌, ◌≤◌, ◌^
 ghost use Rattle.phase_floor.specs.Closings.{IsReceipt, AreReceiptsOf};
 ghost use Rattle.phase_floor.specs.States.{states_of};
 
-use crate::joined_work::{Closed, QUOTA};
-use crate::{Joined, SplitFloor};
+use crate::SplitFloor;
+use crate::joined_work::{Between, QUOTA};
 use auction_rows::{Object, Request};
 use indexmap::IndexSet;
 use phase_permits::{SplitPermit, SplitReceipt};
@@ -98,15 +98,20 @@ fn finish_all<N: PhaseName>(
 fn phase<N: PhaseName + Send + Sync, R: Threads + Wait + Sync>(
     rt: &R,
     alloc: Global,
-    state: Joined,
+    between: Between,
     hot: &IndexSet<Object>,
     scripts: &[Vec<Request>],
-) -> Result<Closed, Fail>
-    requires shards { states_of state ≡ N.opening }
-    requires workers { length state.counters ≡ N.workers }
+) -> Result<Between, Fail>
+    requires shards { states_of between.state ≡ N.opening }
+    requires workers { length between.state.counters ≡ N.workers }
     requires scripts { length scripts.now ≡ N.workers }
-    requires phase { state.phase + 1 < 2 ^ 64 }
+    requires phase { between.state.phase + 1 < 2 ^ 64 }
 {
+    let Between {
+        state,
+        mut history,
+        stashes: _,
+    } = between;
     let quotas = vec![in alloc; QUOTA; scripts.len()]?;
     let receipts = Vec::with_capacity(alloc, scripts.len())?;
     let Ok((floor, permits)) = state.begin_split::<N, R>(rt, alloc, &quotas, hot) else {
@@ -115,19 +120,24 @@ fn phase<N: PhaseName + Send + Sync, R: Threads + Wait + Sync>(
     let mut permits = permits;
     perform_all(rt, &floor, &mut permits, scripts);
     let receipts = finish_all(permits, receipts);
-    Ok(floor.close(rt, alloc, receipts)?)
+    let (state, stashes) = floor.close(rt, alloc, &mut history, receipts)?;
+    Ok(Between {
+        state,
+        history,
+        stashes,
+    })
 }
 
-/// A split phase in which each worker performs its script.
+/// A split phase in which each worker performs its script. Nothing waits when it begins.
 pub(crate) fn split_phase<R: Threads + Wait + Sync>(
     rt: &R,
     alloc: Global,
-    state: Joined,
+    between: Between,
     hot: &IndexSet<Object>,
     scripts: &[Vec<Request>],
-) -> Result<Closed, Fail> {
-    if state.counters.len() != scripts.len() || state.phase() == u64::MAX {
+) -> Result<Between, Fail> {
+    if !between.is_for(scripts) {
         return Err(Fail::from("a script for each worker"));
     }
-    phase::<Brand, R>(rt, alloc, state, hot, scripts)
+    phase::<Brand, R>(rt, alloc, between, hot, scripts)
 }

@@ -4,12 +4,13 @@ ghost use Rattle.item_shards.specs.Counting.{worker_of};
 ghost use Rattle.item_shards.specs.OpeningBooks.{rows_of};
 ghost use Rattle.phase_floor.specs.States.{states_of};
 
+use crate::joined_work::finish_all;
 use crate::resume::worker_of;
 use crate::{BeginFault, Joined};
 use auction_rows::{Facts, ItemId, Name, Object, Opening, Quantity, Request, Stars};
 use indexmap::IndexSet;
 use item_shards::{Opened, OpeningBook};
-use phase_permits::{JoinedPermit, SplitPermit, Stash};
+use phase_permits::{SplitPermit, Stash};
 use shard_boxes::PhaseName;
 use std::alloc::Global;
 use std::marker::Brand;
@@ -95,13 +96,6 @@ fn new_stash(alloc: Global, waiting: Option<Request>) -> Result<Stash, Fail> {
 }
 
 // A permit is spent by `finish` alone.
-fn spend_joined<N: PhaseName>(mut permits: Vec<JoinedPermit<N>>) {
-    while let Some(permit) = permits.pop() {
-        permit.finish();
-    }
-    permits.destroy_empty();
-}
-
 fn spend_split<N: PhaseName>(mut permits: Vec<SplitPermit<N>>) {
     while let Some(permit) = permits.pop() {
         permit.finish();
@@ -109,7 +103,8 @@ fn spend_split<N: PhaseName>(mut permits: Vec<SplitPermit<N>>) {
     permits.destroy_empty();
 }
 
-// Why a joined phase of one worker with this stash and quota does not begin: None where it does.
+// Why a joined phase of one worker with this stash and quota does not begin: None where it does, and closes with nothing
+// performed.
 fn begin_joined<N: PhaseName, R: Wait>(
     rt: &R,
     alloc: Global,
@@ -125,22 +120,26 @@ fn begin_joined<N: PhaseName, R: Wait>(
     let seen = state.view(&LOOK);
     let mut stashes = Vec::new(alloc);
     stashes.push(new_stash(alloc, waiting)?)?;
-    match state.begin_joined::<N, R>(rt, alloc, &[quota], stashes) {
-        Ok((_floor, permits)) => {
-            spend_joined(permits);
-            Ok(None)
-        }
-        Err((state, stashes, fault)) => {
-            let waits = waiting.map(|request| (0, request));
-            if stashes.len() != 1 || stashes[0].get(0) != waits {
-                return Err(Fail::from("the stash comes back"));
+    let receipts = Vec::with_capacity(alloc, 1)?;
+    let (state, stashes, fault) = match state.begin_joined::<N, R>(rt, alloc, &[quota], stashes) {
+        Ok((floor, permits)) => {
+            let receipts = finish_all(permits, receipts);
+            let (state, stashes) = floor.close(rt, alloc, &mut Vec::new(alloc), receipts)?;
+            if state.spare.is_empty() != (quota > 16_384) {
+                return Err(Fail::from("a journal is kept, but not a long one"));
             }
-            if state.view(&LOOK) != seen {
-                return Err(Fail::from("the state comes back"));
-            }
-            Ok(Some(fault))
+            (state, stashes, None)
         }
+        Err((state, stashes, fault)) => (state, stashes, Some(fault)),
+    };
+    let waits = waiting.map(|request| (0, request));
+    if stashes.len() != 1 || stashes[0].get(0) != waits {
+        return Err(Fail::from("the stash comes back"));
     }
+    if state.view(&LOOK) != seen {
+        return Err(Fail::from("the state comes back"));
+    }
+    Ok(fault)
 }
 
 // Why a split phase of one worker with this quota and hot object does not begin: None where it does.
@@ -182,10 +181,10 @@ pub(crate) fn joined_fault<R: Wait>(
     state: Joined,
     waiting: Option<Request>,
     quota: u32,
-) -> Result<Option<BeginFault>, Fail>
-    requires one { length state.counters ≡ 1 }
-    requires first { state.phase ≡ 0 }
-{
+) -> Result<Option<BeginFault>, Fail> {
+    if state.counters.len() != 1 || state.phase() == u64::MAX {
+        return Err(Fail::from("a state of one worker"));
+    }
     begin_joined::<Brand, R>(rt, alloc, state, waiting, quota)
 }
 

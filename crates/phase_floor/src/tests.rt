@@ -19,6 +19,8 @@ const UNKNOWN_HOT: Option<BeginFault> = Some(BeginFault::UnknownHot);
 fn longest_phases_of_a_new_auction(rt: HostRuntime) -> Result<(), Fail> {
     let alloc = rt.alloc();
     for (quota, want) in [
+        (16_384, None),
+        (16_385, None),
         (1_000_000, None),
         (1_000_001, TOO_LONG),
         (u32::MAX, TOO_LONG),

@@ -8,7 +8,7 @@ use Rattle.auction_rows.specs.declared.requests.Request.{Request}
 use Rattle.auction_rows.specs.declared.rows.Entry.{Entry}
 use Rattle.auction_rows.specs.Book.{Book}
 use Rattle.auction_text.specs.Records.{and_then}
-use Rattle.auction_text.specs.Scripts.{Asked, asked_in, input_of, read_records, records_of, script}
+use Rattle.auction_text.specs.Scripts.{Asked, asked_in, read_records, records_of, script}
 use Rattle.auction_text.specs.declared.faults.ReadFault.{ReadFault}
 use Rattle.auction_text.specs.declared.record.Record.{Record}
 use Rattle.item_shards.specs.OpeningRows.{opening_rows}

@@ -1,5 +1,7 @@
 //! Why the program fails, its exit statuses and its words.
-ghost use Rattle.std.specs.Prelude.{◌≡◌};
+ghost use Rattle.std.specs.Prelude.{◌≡◌, IfErr};
+ghost use Rattle.auction_text.specs.declared.faults.WriteFault.{WriteFault};
+ghost use Rattle.rubis_auction.specs.Faults.{status};
 
 use auction_run::RunFault;
 use auction_text::{ReadFault, WriteFault};
@@ -89,7 +91,9 @@ impl From<WriteFault> for Fault {
 }
 
 /// The exit status of a fault: 1 for options, 2 for reading, 3 for opening and performing, 4 for writing.
-pub fn status(fault: &Fault) -> u8 {
+pub fn status(fault: &Fault) -> u8
+    ensures { result ≡ status fault.now }
+{
     match fault {
         Fault::Usage(_) => 1,
         Fault::Read(_) => 2,
@@ -100,7 +104,9 @@ pub fn status(fault: &Fault) -> u8 {
 
 /// Writes the line of a fault. The words of the parser of options stand as they are, without the
 /// program's name. It takes no memory, so `Write` is the only fault.
-pub fn write_fault<W: Write>(writer: &mut W, fault: &Fault) -> Result<(), WriteFault> {
+pub fn write_fault<W: Write>(writer: &mut W, fault: &Fault) -> Result<(), WriteFault>
+    ensures { IfErr result (λ refused. refused ≡ WriteFault.Write) }
+{
     let written = match fault {
         Fault::Usage(UsageFault::Text(text)) => writer.write_all(text.as_bytes()),
         _ => writeln!(writer, "rubis_auction: {fault}"),

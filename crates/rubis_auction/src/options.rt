@@ -1,6 +1,12 @@
 //! The options of the program.
-ghost use Rattle.std.specs.Prelude.{◌≡◌, ◌≤◌, IfOk};
+ghost use Rattle.std.specs.Prelude.{◌≡◌, ◌≤◌, IfOk, IfErr, OnOk, false, map, string_bytes};
+ghost use Rattle.std.specs.IoError.{error_kind};
+ghost use Rattle.std.specs.declared.io.ErrorKind.{ErrorKind as IoErrorKind};
+ghost use Rattle.clap.specs.Words.{app_of, found_of, kind_of, one_text, rule_of};
+ghost use Rattle.clap.specs.declared.error.kind.ErrorKind.{ErrorKind};
 ghost use Rattle.rubis_auction.specs.Options.{AreInRange};
+ghost use Rattle.rubis_auction.specs.Words.{AreTaken, HaveNumbers, IsNumberIn, flag_rule, is_set, number_of, number_rule, options_in, options_of, program};
+ghost use Rattle.rubis_auction.specs.declared.faults.UsageFault.{UsageFault};
 
 use crate::faults::UsageFault;
 use auction_rows::Opening;
@@ -96,7 +102,10 @@ const NUMBERS: Range = Range {
     greatest: 1_000_000,
 };
 
-fn number_option<'a>(alloc: Global, id: &'a str, range: Range, usual: &'a str) -> Arg<'a> {
+fn number_option<'a>(alloc: Global, id: &'a str, range: Range, usual: &'a str) -> Arg<'a>
+    ensures rule { rule_of result ≡ number_rule id.entry.now range.least range.greatest usual.entry.now }
+    ensures local { result.global ≡ false }
+{
     let parser = clap::value_parser!(u32);
     Arg::new(alloc, id)
         .long(id)
@@ -105,11 +114,16 @@ fn number_option<'a>(alloc: Global, id: &'a str, range: Range, usual: &'a str) -
         .default_value(usual)
 }
 
-fn flag<'a>(alloc: Global, id: &'a str) -> Arg<'a> {
+fn flag<'a>(alloc: Global, id: &'a str) -> Arg<'a>
+    ensures rule { rule_of result ≡ flag_rule id.entry.now }
+    ensures local { result.global ≡ false }
+{
     Arg::new(alloc, id).long(id).action(ArgAction::SetTrue)
 }
 
-fn command<'a>(alloc: Global) -> Result<Command<'a>, AllocError> {
+fn command<'a>(alloc: Global) -> Result<Command<'a>, AllocError>
+    ensures { IfOk result (λ command. app_of command ≡ program) }
+{
     Command::new(alloc, "rubis_auction")
         .arg(number_option(alloc, "workers", WORKERS, "1"))?
         .arg(number_option(alloc, "shards", SHARDS, "4"))?
@@ -124,19 +138,43 @@ fn command<'a>(alloc: Global) -> Result<Command<'a>, AllocError> {
         .arg(flag(alloc, "report"))
 }
 
-// The number of an option, which its parser holds to the range and gives where the words don't.
-fn number_of(matches: &ArgMatches<'_>, id: &str, range: Range) -> u32
-    requires { range.least ≤ range.greatest }
-    ensures least { range.least ≤ result }
-    ensures greatest { result ≤ range.greatest }
+// The number of an option, which its parser has found to be one.
+fn number_of(matches: &ArgMatches<'_>, id: &str) -> u32
+    requires { IsNumberIn 0 1000000 (one_text (found_of matches.now) id.now) }
+    ensures { result ≡ number_of (one_text (found_of matches.now) id.now) }
 {
-    match matches.get_one::<u32>(id) {
-        Some(number) => number.clamp(range.least, range.greatest),
-        None => range.least,
+    matches.get_one::<u32>(id).unwrap()
+}
+
+// Whether a flag is there.
+fn flag_of(matches: &ArgMatches<'_>, id: &str) -> bool
+    ensures { result ≡ is_set (one_text (found_of matches.now) id.now) }
+{
+    matches.get_one(id).unwrap_or(false)
+}
+
+fn options_of(matches: &ArgMatches<'_>) -> Options
+    requires { HaveNumbers (one_text (found_of matches.now)) }
+    ensures { result ≡ options_of (one_text (found_of matches.now)) }
+{
+    Options {
+        workers: number_of(matches, "workers"),
+        shards: number_of(matches, "shards"),
+        joined: number_of(matches, "joined"),
+        split: number_of(matches, "split"),
+        threshold: number_of(matches, "threshold"),
+        hot: number_of(matches, "hot"),
+        users: number_of(matches, "users"),
+        categories: number_of(matches, "categories"),
+        history: flag_of(matches, "history"),
+        rows: flag_of(matches, "rows"),
+        report: flag_of(matches, "report"),
     }
 }
 
-fn usage_fault(alloc: Global, error: &Error) -> UsageFault {
+fn usage_fault(alloc: Global, error: &Error) -> UsageFault
+    ensures { kind_of error.now ≡ ErrorKind.OutOfMemory → result ≡ UsageFault.Memory }
+{
     if error.kind() == ErrorKind::OutOfMemory {
         return UsageFault::Memory;
     }
@@ -147,7 +185,9 @@ fn usage_fault(alloc: Global, error: &Error) -> UsageFault {
 }
 
 /// Why the program's words could not be had: memory was refused, or a word is no text.
-pub fn words_fault(alloc: Global, error: &io::Error) -> UsageFault {
+pub fn words_fault(alloc: Global, error: &io::Error) -> UsageFault
+    ensures { error_kind error.now ≡ IoErrorKind.OutOfMemory → result ≡ UsageFault.Memory }
+{
     if error.kind() == io::ErrorKind::OutOfMemory {
         return UsageFault::Memory;
     }
@@ -161,25 +201,16 @@ pub fn words_fault(alloc: Global, error: &io::Error) -> UsageFault {
 /// phases of 64 requests, the threshold 8, 8 hot objects, 100 users, 10 categories, and the replies alone. Words that are
 /// refused, or that ask for help, are answered in `clap`'s words.
 pub fn read_options(alloc: Global, words: &[String]) -> Result<Options, UsageFault>
-    ensures { IfOk result AreInRange }
+    ensures given { IfOk result (λ options. options ≡ options_in (map string_bytes words.now)) }
+    ensures range { IfOk result AreInRange }
+    ensures taken { OnOk result (AreTaken (map string_bytes words.now)) }
+    ensures memory { IfErr result (λ fault. AreTaken (map string_bytes words.now) → fault ≡ UsageFault.Memory) }
 {
-    let Ok(command) = command(alloc) else {
+    let Ok(mut command) = command(alloc) else {
         return Err(UsageFault::Memory);
     };
-    match command.try_get_matches_from(words) {
-        Ok(matches) => Ok(Options {
-            workers: number_of(&matches, "workers", WORKERS),
-            shards: number_of(&matches, "shards", SHARDS),
-            joined: number_of(&matches, "joined", QUOTAS),
-            split: number_of(&matches, "split", QUOTAS),
-            threshold: number_of(&matches, "threshold", QUOTAS),
-            hot: number_of(&matches, "hot", HOT),
-            users: number_of(&matches, "users", NUMBERS),
-            categories: number_of(&matches, "categories", NUMBERS),
-            history: matches.get_flag("history"),
-            rows: matches.get_flag("rows"),
-            report: matches.get_flag("report"),
-        }),
+    match command.try_get_matches_from_mut(words) {
+        Ok(matches) => Ok(options_of(&matches)),
         Err(error) => Err(usage_fault(alloc, &error)),
     }
 }

@@ -21,14 +21,14 @@ use Rattle.run_laws.proofs.PartLemmas.{all_of_parts, ordered_of_parts}
 use Rattle.run_laws.proofs.CountLemmas.{how_many, how_many-is, count-filter, count-map}
 use Rattle.run_laws.proofs.CallLemmas.{numbered_until, all_from_turns, turns_ordered, once_in_turns, requests_in_turns}
 use Rattle.run_serving.specs.declared.policy.Policy.{Policy}
-use Rattle.run_serving.specs.Serving.{call_of, script_of, hot_in, phase_reached, commit_phase, Serves}
-use Rattle.run_serving.specs.Run.{first_index, HasRun, HasClosed, IsDone}
+use Rattle.run_serving.specs.Serving.{call_of, script_of, hot_in, phase_reached, commit_phase, AreNumbered, Serves}
+use Rattle.run_serving.specs.Run.{first_index, HasRun, IsDone}
 use Rattle.run_serving.proofs.CommitLemmas.{no_length, from, until}
 
 module _ (opening : Opening) (policy : Policy) (some : 0 < policy.joined_quota + policy.split_quota) (scripts : List (List Request)) where
   -- THE END
   module _ (p : ℕ) (hot : List (List Object)) (history : List Entry) (stashes : ℕ → List (ℕ × Request))
-      (run : HasRun policy scripts p hot history stashes) (closed : HasClosed opening policy hot history) (end : IsDone policy scripts p stashes) where
+      (run : HasRun policy scripts p hot history stashes) (numbered_all : AreNumbered opening policy hot history) (end : IsDone policy scripts p stashes) where
     all_commit : (w : ℕ) → AllByRecursion (λ call. commit_phase policy hot call < p) (numbered 0 (script_of scripts w))
     all_commit w =
         all-weaker (λ call. (call.0 < first_index policy p) × ((nat_lt (phase_reached policy call.0) p && (commit_phase policy hot call == p)) ≡ false)) (λ call. commit_phase policy hot call < p)
@@ -122,7 +122,7 @@ module _ (opening : Opening) (policy : Policy) (some : 0 < policy.joined_quota +
           (λ d e. d.worker ≡ e.worker → (commit_phase policy hot (call_of d) < commit_phase policy hot (call_of e)) ⊎ ((commit_phase policy hot (call_of d) ≡ commit_phase policy hot (call_of e)) × (d.index < e.index)))
           (λ d e. d.worker ≡ e.worker → is_splittable e.request ≡ true → d.index < e.index) store_first history in_order;
       phase_count = greatest_is;
-      numbers = closed.numbers;
+      numbers = numbered_all;
     }
       where
         in_phase : (d e : Entry) → d.phase ≡ commit_phase policy hot (call_of d) → e.phase ≡ commit_phase policy hot (call_of e) →

@@ -185,10 +185,10 @@ module _ {opening : Opening} {start : Book} {policy : Policy} {script : List Req
         go : (is_split q ≡ true) ⊎ (is_split q ≡ false) → hot_in hot q ≡ hot_in hot' q
         go (inl split) =
             let more : 0 < q = after_first q split in
-            answer.closed.split q less split
+            answer.chosen.split q less split
             ∙ ap (λ entries. choose entries policy.threshold policy.hot_max) (earlier (omega arith))
-            ∙ sym (answer'.closed.split q less' split)
-        go (inr joined) = answer.closed.joined q less joined ∙ sym (answer'.closed.joined q less' joined)
+            ∙ sym (answer'.chosen.split q less' split)
+        go (inr joined) = answer.chosen.joined q less joined ∙ sym (answer'.chosen.joined q less' joined)
 
     -- so the phase has the same requests of the script
     same_test : (i : ℕ) (r : Request) → slice_get script i ≡ Some r → (commit_phase policy hot (i, r) == n) ≡ (commit_phase policy hot' (i, r) == n)

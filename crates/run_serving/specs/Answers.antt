@@ -8,11 +8,11 @@ use Rattle.auction_rows.specs.Book.{Book}
 use Rattle.auction_rows.specs.History.{ReplaysFrom}
 use Rattle.run_serving.specs.declared.policy.Policy.{Policy}
 use Rattle.run_serving.specs.Serving.{Serves}
-use Rattle.run_serving.specs.Run.{HasClosed}
+use Rattle.run_serving.specs.Run.{AreChosen}
 
 -- The hot sets and the history answer the scripts, from a book: the history serves them, the hot sets are chosen, and it replays.
 pub record IsAnswer (opening : Opening) (start : Book) (policy : Policy) (scripts : List (List Request))
     (hot : List (List Object)) (history : List Entry) : Type 0 where
   pub serves : Serves opening policy scripts hot history
-  pub closed : HasClosed opening policy hot history
+  pub chosen : AreChosen policy hot history
   pub replays : ReplaysFrom opening start history

@@ -1,12 +1,11 @@
 -- What has been done of a run's scripts before a phase, and what a phase does.
 use Rattle.std.specs.Prelude.{ℕ, ◌-◌, ◌<◌, ◌≤◌, ◌≡◌, ◌⊎◌, not, true, false, List, [], ◌++◌, length, map}
 use Rattle.std.specs.List.{filter, AllByRecursion}
-use Rattle.auction_rows.specs.declared.numbers.Opening.{Opening}
 use Rattle.auction_rows.specs.declared.ids.Object.{Object}
 use Rattle.auction_rows.specs.declared.requests.Request.{Request}
 use Rattle.auction_rows.specs.declared.rows.Entry.{Entry}
 use Rattle.auction_rows.specs.Choosing.{choose}
-use Rattle.auction_rows.specs.Phases.{is_put_off, IsNumbered}
+use Rattle.auction_rows.specs.Phases.{is_put_off}
 use Rattle.phase_laws.specs.Order.{IsOrderedBy, part}
 use Rattle.run_laws.specs.Phases.{is_split, first_of}
 use Rattle.run_laws.specs.Turns.{numbered, given, turns, waiting}
@@ -64,11 +63,10 @@ abbrev pub IsDone : Policy → List (List Request) → ℕ → (ℕ → List (�
 IsDone policy scripts phase stashes = (worker : ℕ) →
     (length (script_of scripts worker) ≤ first_index policy phase) × (length (stashes worker) ≡ 0)
 
--- Each phase so far was closed with its hot set.
-pub record HasClosed (opening : Opening) (policy : Policy) (hot : List (List Object)) (history : List Entry) : Type 0 where
+-- The hot sets are those that are chosen for the phases so far.
+pub record AreChosen (policy : Policy) (hot : List (List Object)) (history : List Entry) : Type 0 where
   -- nothing is hot in a joined phase
   pub joined : (phase : ℕ) → phase < length hot → is_split phase ≡ false → hot_in hot phase ≡ []
   -- in a split phase what the accepted stores of the phase before write most
   pub split : (phase : ℕ) → phase < length hot → is_split phase ≡ true →
       hot_in hot phase ≡ choose (segment_of (phase - 1) history) policy.threshold policy.hot_max
-  pub numbers : (phase : ℕ) → IsNumbered opening policy.shards (hot_in hot phase) (segment_of phase history)

@@ -37,6 +37,10 @@ phase_reached policy index = reach policy.joined_quota policy.split_quota index
 abbrev pub commit_phase : Policy → List (List Object) → ℕ × Request → ℕ
 commit_phase policy hot = commits_in (phase_reached policy) (λ phase request. is_put_off (hot_in hot phase) request)
 
+-- each phase's entries are numbered
+abbrev pub AreNumbered : Opening → Policy → List (List Object) → List Entry → Type 0
+AreNumbered opening policy hot history = (phase : ℕ) → IsNumbered opening policy.shards (hot_in hot phase) (segment_of phase history)
+
 -- A history serves scripts, with a hot set for each phase.
 pub record Serves (opening : Opening) (policy : Policy) (scripts : List (List Request))
     (hot : List (List Object)) (history : List Entry) : Type 0 where
@@ -55,5 +59,4 @@ pub record Serves (opening : Opening) (policy : Policy) (scripts : List (List Re
   pub stores_first : IsOrderedBy (λ d e. d.worker ≡ e.worker → is_splittable e.request ≡ true → d.index < e.index) history
   -- there is one phase more than the greatest phase of an entry, and none without entries
   pub phase_count : length hot ≡ greatest_by (λ e. suc e.phase) history
-  -- each phase's entries are numbered
-  pub numbers : (phase : ℕ) → IsNumbered opening policy.shards (hot_in hot phase) (segment_of phase history)
+  pub numbers : AreNumbered opening policy hot history

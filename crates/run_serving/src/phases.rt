@@ -9,14 +9,15 @@ ghost use Rattle.auction_rows.specs.Phases.{IsNumbered};
 ghost use Rattle.run_laws.specs.Phases.{is_split};
 ghost use Rattle.run_laws.specs.Turns.{reaching};
 ghost use Rattle.run_serving.specs.declared.policy.Policy.{Policy};
-ghost use Rattle.run_serving.specs.Serving.{segment_of, phase_reached};
-ghost use Rattle.run_serving.specs.Run.{HasRun, HasPerformed, HasLeft, HasClosed, calls_given};
+ghost use Rattle.run_serving.specs.Serving.{AreNumbered, segment_of, phase_reached};
+ghost use Rattle.run_serving.specs.Run.{HasRun, HasPerformed, HasLeft, AreChosen, calls_given};
 
 /// Before the first phase nothing is done.
 pub fn run_begins()
     ensures run { (policy : Policy) (scripts : List (List Request)) →
         HasRun policy scripts 0 [] [] (λ worker. []) }
-    ensures closed { (opening : Opening) (policy : Policy) → HasClosed opening policy [] [] }
+    ensures chosen { (policy : Policy) → AreChosen policy [] [] }
+    ensures numbers { (opening : Opening) (policy : Policy) → AreNumbered opening policy [] [] }
 {}
 
 /// What a worker is given in a phase is exactly what of its script reaches the phase.
@@ -38,19 +39,26 @@ pub fn phase_runs()
         HasRun policy scripts (suc phase) (hot ++ hot_now ∷ []) (history ++ segment) after }
 {}
 
-/// A phase whose hot set is the one chosen from the entries before it, and whose entries are
-/// numbered, is closed, and its entries are the last of the history.
+/// After a phase whose hot set is the one chosen from the entries before it, the hot sets are the
+/// chosen ones still; where its entries are numbered, each phase's still are; and its entries are the
+/// last of the history.
 pub fn phase_closes()
-    ensures closed { (opening : Opening) (policy : Policy) (scripts : List (List Request))
+    ensures chosen { (policy : Policy) (scripts : List (List Request)) (phase : ℕ)
+        (hot : List (List Object)) (hot_now : List Object) (history segment : List Entry)
+        (stashes after : ℕ → List (ℕ × Request)) →
+        HasRun policy scripts phase hot history stashes →
+        HasPerformed policy scripts phase hot_now stashes after segment →
+        AreChosen policy hot history → (is_split phase ≡ false → hot_now ≡ []) →
+        (is_split phase ≡ true → hot_now
+        ≡ choose (segment_of (phase - 1) history) policy.threshold policy.hot_max) →
+        AreChosen policy (hot ++ hot_now ∷ []) (history ++ segment) }
+    ensures numbers { (opening : Opening) (policy : Policy) (scripts : List (List Request))
         (phase : ℕ) (hot : List (List Object)) (hot_now : List Object)
         (history segment : List Entry) (stashes after : ℕ → List (ℕ × Request)) →
         HasRun policy scripts phase hot history stashes →
         HasPerformed policy scripts phase hot_now stashes after segment →
-        HasClosed opening policy hot history → (is_split phase ≡ false → hot_now ≡ []) →
-        (is_split phase ≡ true → hot_now
-        ≡ choose (segment_of (phase - 1) history) policy.threshold policy.hot_max) →
-        IsNumbered opening policy.shards hot_now segment →
-        HasClosed opening policy (hot ++ hot_now ∷ []) (history ++ segment) }
+        AreNumbered opening policy hot history → IsNumbered opening policy.shards hot_now segment →
+        AreNumbered opening policy (hot ++ hot_now ∷ []) (history ++ segment) }
     ensures last { (policy : Policy) (scripts : List (List Request)) (phase : ℕ)
         (hot : List (List Object)) (hot_now : List Object) (history segment : List Entry)
         (stashes after : ℕ → List (ℕ × Request)) →

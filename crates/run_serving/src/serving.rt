@@ -6,17 +6,17 @@ ghost use Rattle.auction_rows.specs.declared.requests.Request.{Request};
 ghost use Rattle.auction_rows.specs.declared.rows.Entry.{Entry};
 ghost use Rattle.auction_rows.specs.Book.{Book as Rows};
 ghost use Rattle.run_serving.specs.declared.policy.Policy.{Policy};
-ghost use Rattle.run_serving.specs.Serving.{Serves, script_of};
-ghost use Rattle.run_serving.specs.Run.{HasRun, HasClosed, IsDone};
+ghost use Rattle.run_serving.specs.Serving.{Serves, AreNumbered, script_of};
+ghost use Rattle.run_serving.specs.Run.{HasRun, IsDone};
 ghost use Rattle.run_serving.specs.Answers.{IsAnswer};
 
-/// Where nobody has anything left, the history serves the scripts.
+/// Where nobody has anything left and each phase is numbered, the history serves the scripts.
 pub fn run_serves()
     ensures { (opening : Opening) (policy : Policy) (scripts : List (List Request)) (phase : ℕ)
         (hot : List (List Object)) (history : List Entry) (stashes : ℕ → List (ℕ × Request)) →
         0 < policy.joined_quota + policy.split_quota →
         HasRun policy scripts phase hot history stashes →
-        HasClosed opening policy hot history → IsDone policy scripts phase stashes →
+        AreNumbered opening policy hot history → IsDone policy scripts phase stashes →
         Serves opening policy scripts hot history }
 {}
 

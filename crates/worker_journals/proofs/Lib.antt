@@ -4,3 +4,4 @@ pub mod HeadLemmas
 pub mod SourceLemmas
 pub mod TakingLemmas
 pub mod OneProof
+pub mod AddedLemmas

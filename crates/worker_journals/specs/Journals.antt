@@ -7,7 +7,7 @@ use Rattle.auction_rows.specs.declared.requests.Request.{Request}
 use Rattle.auction_rows.specs.declared.replies.Reply.{Reply}
 use Rattle.auction_rows.specs.declared.rows.Entry.{Entry}
 
--- a journal: whose commits of which phase it holds, how many entries it has a place for, and its entries
+-- a journal: whose commits of which phase it holds, for how many entries in all a place was asked, and its entries
 pub record JournalView : Type 0 where
   pub phase : ℕ
   pub worker : ℕ

@@ -1,5 +1,5 @@
 -- The journals of several workers.
-use Rattle.std.specs.Prelude.{ℕ, ◌<◌, ◌==◌, if◌then◌else◌, List, [], ◌∷◌, length}
+use Rattle.std.specs.Prelude.{ℕ, ◌<◌, ◌==◌, if◌then◌else◌, List, [], ◌∷◌, length, drop}
 use Rattle.std.specs.List.{sum_by}
 use Rattle.phase_laws.specs.Order.{IsOrderedBy}
 use Rattle.auction_rows.specs.declared.rows.Entry.{Entry}
@@ -18,3 +18,7 @@ AreByWorker = IsOrderedBy (λ journal later. journal.worker < later.worker)
 -- how many entries the journals have
 abbrev pub entry_count : List JournalView → ℕ
 entry_count = sum_by (λ journal. length journal.entries)
+
+-- what was added at the end of a list
+abbrev pub added : {X : Type 0} → List X → List X → List X
+added old new = drop (length old) new

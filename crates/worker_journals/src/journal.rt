@@ -1,5 +1,5 @@
 //! What one worker commits in one phase.
-ghost use Rattle.std.specs.Prelude.{◌≡◌, ◌<◌, length, IfOk};
+ghost use Rattle.std.specs.Prelude.{◌≡◌, ◌<◌, ◌≤◌, length, IfOk, IsOk};
 ghost use Rattle.worker_journals.specs.Journals.{IsLawful, ComesAfter, empty_journal, with_commit};
 
 use auction_rows::{Entry, Reply, Request};
@@ -7,24 +7,25 @@ use std::alloc::{AllocError, Global};
 use std::marker::Model;
 
 /// The commits of one worker in one phase, in the order of their numbers. Room for all of them is asked
-/// for ahead. Contracts see the phase, the worker, the entries, and the room: how many entries there is a
-/// place for in all.
+/// for ahead. Contracts see the phase, the worker, the entries, and the room: for how many entries in all
+/// a place was asked.
 #[derive(Drop)]
 pub struct Journal {
     phase: u64,
     worker: u32,
+    room: usize,
     entries: Vec<Entry>,
 }
 
 impl Model for Journal {
-    ghost use Rattle.std.specs.Prelude.{vec_capacity};
+    ghost use Rattle.std.specs.Prelude.{◌≤◌, vec_capacity};
     ghost use Rattle.worker_journals.specs.Journals.{JournalView, seen, IsLawful};
 
     ghost Value = { JournalView };
 
-    ghost view = { λ j. seen j.phase j.worker (vec_capacity j.entries) j.entries.items };
+    ghost view = { λ j. seen j.phase j.worker j.room j.entries.items };
 
-    ghost invariant = { λ j. IsLawful (seen j.phase j.worker (vec_capacity j.entries) j.entries.items) };
+    ghost invariant = { λ j. IsLawful (seen j.phase j.worker j.room j.entries.items) × (j.room ≤ vec_capacity j.entries) };
 }
 
 impl Journal {
@@ -40,7 +41,25 @@ impl Journal {
         Ok(Journal {
             phase,
             worker,
+            room,
             entries: Vec::with_capacity(alloc, room)?,
+        })
+    }
+
+    /// An empty journal of another phase, with room for so many entries, in the memory of this one; more
+    /// is asked for only where that doesn't do. It errs for want of memory alone, and this one is gone then.
+    pub fn renew(self, phase: u64, worker: u32, room: usize) -> Result<Journal, AllocError>
+        ensures renewed { IfOk result (λ journal. journal ≡ empty_journal phase worker room) }
+        ensures within { room ≤ self.room → IsOk result }
+    {
+        let mut entries = self.entries;
+        entries.clear();
+        entries.reserve_exact(room)?;
+        Ok(Journal {
+            phase,
+            worker,
+            room,
+            entries,
         })
     }
 
@@ -67,6 +86,13 @@ impl Journal {
         ensures lawful { IsLawful self.now }
     {
         self.entries.as_slice()
+    }
+
+    /// For how many entries in all a place was asked.
+    pub fn room(&self) -> usize
+        ensures { result ≡ self.now.room }
+    {
+        self.room
     }
 
     /// The worker whose commits these are.

@@ -1,10 +1,10 @@
 //! The merging of journals.
-ghost use Rattle.std.specs.Prelude.{◌≡◌, ◌≤◌, ◌<◌, ◌^◌, ℕ, map, length, IfOk, OnOk, IfSome, IsSome, IsPermutation};
+ghost use Rattle.std.specs.Prelude.{◌≡◌, ◌≤◌, ◌<◌, ◌^◌, ◌++◌, ℕ, map, length, IfOk, OnOk, OnErr, IfSome, IsSome, IsPermutation};
 ghost use Rattle.std.specs.List.{AllByRecursion};
 ghost use Rattle.std.specs.BinaryHeap.{heap_items, heap_len, heap_capacity, IsHeap};
 ghost use Rattle.phase_laws.specs.Order.{IsAscending, part};
 ghost use Rattle.worker_journals.specs.Journals.{entry_number, entry_worker, IsLawful};
-ghost use Rattle.worker_journals.specs.Merged.{entries_of, AreByWorker, entry_count};
+ghost use Rattle.worker_journals.specs.Merged.{entries_of, AreByWorker, entry_count, added};
 ghost use Rattle.worker_journals.specs.Lanes.{lane, lanes_of, head_cmp};
 
 use crate::heads::Head;
@@ -42,22 +42,30 @@ fn heads_of<'a>(alloc: Global, journals: &'a [Journal]) -> Result<BinaryHeap<Hea
     Ok(heads)
 }
 
-/// The entries of all journals by number, and those of one number by worker. The journals stand in the
-/// order of their workers, at most one for each. All memory is asked for before the first entry is
-/// moved; where it is refused, the journals are gone. A count of entries past 64 bits is want of memory.
-pub fn merge_journals(alloc: Global, journals: Vec<Journal>) -> Result<Vec<Entry>, AllocError>
-    requires by_worker { AreByWorker journals.items }
-    ensures ascending { IfOk result (λ merged. IsAscending entry_number entry_worker merged.items) }
-    ensures parts { IfOk result (λ merged. (worker : ℕ) →
-        part entry_worker worker merged.items ≡ entries_of worker journals.items) }
-    ensures count { IfOk result (λ merged. length merged.items ≡ entry_count journals.items) }
-    ensures lawful { OnOk result (AllByRecursion IsLawful journals.items) }
+/// Puts the entries of all journals at the end of the history, by number, and those of one number by
+/// worker. The journals stand in the order of their workers, at most one for each. All memory is asked for
+/// before the first entry is copied; where it is refused, the history stays as it was. A count of entries
+/// past 64 bits is want of memory.
+pub fn merge_journals(
+    alloc: Global,
+    history: &mut Vec<Entry>,
+    journals: &[Journal],
+) -> Result<(), AllocError>
+    requires by_worker { AreByWorker journals.now }
+    ensures history { history.new.items ≡ history.old.items ++ added history.old.items history.new.items }
+    ensures refused { OnErr result (history.new.items ≡ history.old.items) }
+    ensures ascending { OnOk result
+        (IsAscending entry_number entry_worker (added history.old.items history.new.items)) }
+    ensures parts { OnOk result ((worker : ℕ) →
+        part entry_worker worker (added history.old.items history.new.items) ≡ entries_of worker journals.now) }
+    ensures count { OnOk result (length (added history.old.items history.new.items) ≡ entry_count journals.now) }
+    ensures lawful { OnOk result (AllByRecursion IsLawful journals.now) }
 {
-    let count = entry_count(journals.as_slice()).ok_or(AllocError)?;
-    let mut merged = Vec::with_capacity(alloc, count)?;
-    let mut heads = heads_of(alloc, journals.as_slice())?;
+    let count = entry_count(journals).ok_or(AllocError)?;
+    history.reserve(count)?;
+    let mut heads = heads_of(alloc, journals)?;
     while let Some(first) = Head::take_first(&mut heads) {
-        merged.push_reserved(*first);
+        history.push_reserved(*first);
     }
-    Ok(merged)
+    Ok(())
 }

@@ -71,6 +71,17 @@ pub(crate) fn journals_of(alloc: Global, numbers: &[&[u16]]) -> Result<Vec<Journ
 
 /// The merged commits of workers from 0 on at these numbers.
 pub(crate) fn merged(alloc: Global, numbers: &[&[u16]]) -> Result<Vec<Entry>, Fail> {
+    let mut history = Vec::new(alloc);
+    merge_more(alloc, &mut history, numbers)?;
+    Ok(history)
+}
+
+/// Puts the commits of workers from 0 on at these numbers at the end of a history.
+pub(crate) fn merge_more(
+    alloc: Global,
+    history: &mut Vec<Entry>,
+    numbers: &[&[u16]],
+) -> Result<(), Fail> {
     let journals = journals_of(alloc, numbers)?;
-    Ok(merge_journals(alloc, journals)?)
+    Ok(merge_journals(alloc, history, journals.as_slice())?)
 }

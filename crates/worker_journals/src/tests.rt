@@ -1,6 +1,6 @@
 //! Journals that are filled and merged.
-use crate::testing::{PHASE, commit, commits, journal_of, merged};
-use crate::{Journal, merge_journals};
+use crate::testing::{PHASE, commit, commits, journal_of, journals_of, merge_more, merged};
+use crate::{Entry, Journal, merge_journals};
 use std::test::Fail;
 
 #[test]
@@ -22,6 +22,33 @@ fn push_adds_a_commit_of_the_worker(rt: HostRuntime) -> Result<(), Fail> {
     Ok(())
 }
 
+// A journal with two entries, that has room for two, begins again with less room, as much, and more.
+#[test]
+fn a_renewed_journal_has_its_new_room_and_no_old_entries(rt: HostRuntime) -> Result<(), Fail> {
+    for room in [1, 2, 3] {
+        let old = journal_of(rt.alloc(), 3, &[4, 6])?;
+        let mut journal = old.renew(PHASE + 1, 5, room)?;
+        assert!(rt; journal.entries().is_empty());
+        assert_eq!(rt; journal.worker(), 5);
+        assert_eq!(rt; journal.room(), room);
+        let first = commit(2, 5);
+        journal.push(first.number, first.index, &first.request, &first.reply);
+        let expected = Entry {
+            phase: PHASE + 1,
+            ..first
+        };
+        assert_eq!(rt; journal.entries(), [expected].as_slice());
+    }
+    Ok(())
+}
+
+#[test]
+fn renewal_for_more_than_memory_is_refused(rt: HostRuntime) -> Result<(), Fail> {
+    let journal = journal_of(rt.alloc(), 3, &[4, 6])?;
+    assert!(rt; journal.renew(PHASE, 3, usize::MAX).is_err());
+    Ok(())
+}
+
 #[test]
 fn merges_by_number_and_then_worker(rt: HostRuntime) -> Result<(), Fail> {
     let history = merged(rt.alloc(), &[&[1, 2, 4], &[2, 3]])?;
@@ -32,8 +59,33 @@ fn merges_by_number_and_then_worker(rt: HostRuntime) -> Result<(), Fail> {
 
 #[test]
 fn merges_no_journals(rt: HostRuntime) -> Result<(), Fail> {
-    let history = merge_journals(rt.alloc(), Vec::new(rt.alloc()))?;
+    let history = merged(rt.alloc(), &[])?;
     assert!(rt; history.is_empty());
+    Ok(())
+}
+
+// Each merge begins with number 1 again, since numbers do so in each phase.
+#[test]
+fn merges_at_the_end_of_what_is_there(rt: HostRuntime) -> Result<(), Fail> {
+    let mut history = merged(rt.alloc(), &[&[5], &[2, 9]])?;
+    merge_more(rt.alloc(), &mut history, &[&[1, 3], &[1]])?;
+    merge_more(rt.alloc(), &mut history, &[&[], &[]])?;
+    let pairs = [(2, 1), (5, 0), (9, 1), (1, 0), (1, 1), (3, 0)];
+    let expected = commits(rt.alloc(), &pairs)?;
+    assert_eq!(rt; history.as_slice(), expected.as_slice());
+    Ok(())
+}
+
+// Whichever allocation is refused, the history is as it was or has all entries.
+#[test]
+fn refused_memory_leaves_the_history(rt: HostRuntime) -> Result<(), Fail> {
+    let mut history = merged(rt.alloc(), &[&[5, 9]])?;
+    let journals = journals_of(rt.alloc(), &[&[1, 3], &[2]])?;
+    let merged = merge_journals(rt.alloc(), &mut history, journals.as_slice());
+    let count = if merged.is_ok() { 5 } else { 2 };
+    let pairs = [(5, 0), (9, 0), (1, 0), (2, 1), (3, 0)];
+    let expected = commits(rt.alloc(), &pairs[..count])?;
+    assert_eq!(rt; history.as_slice(), expected.as_slice());
     Ok(())
 }
 
@@ -115,7 +167,8 @@ fn workers_need_not_follow_one_another(rt: HostRuntime) -> Result<(), Fail> {
     let mut journals = Vec::with_capacity(rt.alloc(), 2)?;
     journals.push(journal_of(rt.alloc(), 4, &[3])?)?;
     journals.push(journal_of(rt.alloc(), 4_294_967_295, &[1, 3])?)?;
-    let history = merge_journals(rt.alloc(), journals)?;
+    let mut history = Vec::new(rt.alloc());
+    merge_journals(rt.alloc(), &mut history, journals.as_slice())?;
     let expected = commits(
         rt.alloc(),
         &[(1, 4_294_967_295), (3, 4), (3, 4_294_967_295)],

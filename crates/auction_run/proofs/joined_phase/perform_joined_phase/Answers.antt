@@ -1,4 +1,4 @@
-use Rattle.std.proofs.Common.{◌≡◌, ℕ, ◌<◌, List, [], length, refl, sym, ap, subst, ◌∙◌, arith}
+use Rattle.std.proofs.Common.{◌≡◌, ℕ, ◌<◌, ◌++◌, List, [], map, length, refl, sym, ap, subst, ◌∙◌, arith}
 use Rattle.std.specs.Prelude.{slice_index}
 use Rattle.std.specs.List.{AllByRecursion}
 use Rattle.std.proofs.lemmas.Bool.{cond-false}
@@ -8,35 +8,39 @@ use Rattle.run_laws.specs.Phases.{is_split}
 use Rattle.run_serving.specs.Run.{first_index}
 use Rattle.run_serving.specs.Serving.{script_of}
 use Rattle.phase_desks.specs.Slicing.{objects_of}
+use Rattle.worker_journals.specs.Merged.{added}
 use Rattle.auction_run.specs.Phases.{lists, quota_of}
-use Rattle.auction_run.specs.Tasks.{tasks, CanBeDone, IsDoneJoined}
-use Rattle.auction_run.proofs.PhaseLemmas.{quota_is, same_list, plain, only_memory, not_too_long, can_all, joined_receipts, joined_closed}
+use Rattle.auction_run.specs.Tasks.{tasks, calls_for, IsFirstFault, CanBeDone, IsDoneJoined}
+use Rattle.auction_run.specs.Working.{stashed, ArePermitsOf, HasStopped}
+use Rattle.auction_run.proofs.TaskLemmas.{is_met}
+use Rattle.auction_run.proofs.WorkLemmas.{err_as}
+use Rattle.auction_run.proofs.PhaseLemmas.{permits_of, quota_is, same_list, plain, only_memory, not_too_long, can_all, joined_receipts, joined_closed}
 use Rattle.auction_run.proofs.joined_phase.perform_joined_phase.Goals as goal
 
-pub unbegun-requires : goal.unbegun-requires
-unbegun-requires g c =
+pub begin_fault-requires : goal.begin_fault-requires
+begin_fault-requires g c =
     let may = c.requires.may in
-    let scripts : List (List Request) = lists c.args.scripts.now in
-    let mapped : length (lists c.args.scripts.now) ≡ length c.args.scripts.now = simp length-map in
-    let quotas_are : (w : ℕ) → w < length (lists c.args.scripts.now) → slice_index c.deref.result.now w ≡ quota_of c.args.policy c.args.state.phase (script_of (lists c.args.scripts.now) w) =
-    λ w less. quota_is c.args.policy c.args.state.phase c.args.policy.joined_quota (length (script_of (lists c.args.scripts.now) w)) (first_index c.args.policy c.args.state.phase) c.args.first
+    let scripts : List (List Request) = lists c.args.round.scripts.now in
+    let mapped : length (lists c.args.round.scripts.now) ≡ length c.args.round.scripts.now = simp length-map in
+    let quotas_are : (w : ℕ) → w < length (lists c.args.round.scripts.now) → slice_index c.deref.result.now w ≡ quota_of c.args.round.policy c.args.state.phase (script_of (lists c.args.round.scripts.now) w) =
+    λ w less. quota_is c.args.round.policy c.args.state.phase c.args.round.policy.joined_quota (length (script_of (lists c.args.round.scripts.now) w)) (first_index c.args.round.policy c.args.state.phase) c.args.round.first
     (slice_index c.deref.result.now w) (ap (λ qs. slice_index qs w) c.deref.ensures.value ∙ c.in_ok-quotas.ensures.each w (omega (arith, less, mapped)))
-    (cond-false (is_split c.args.state.phase) c.args.policy.split_quota c.args.policy.joined_quota c.requires.joined) may.first_is (may.short w) in
+    (cond-false (is_split c.args.state.phase) c.args.round.policy.split_quota c.args.round.policy.joined_quota c.requires.joined) c.requires.round.1 in
     only_memory c.in-Err.fault c.in-Err.ensures.known
-    (λ is. not_too_long c.args.policy scripts c.args.state c.args.stashes.items c.args.stashes.items [] c.args.first c.deref.result.now may (λ w. omega arith) quotas_are (c.in-Err.ensures.too_long.0 is))
+    (λ is. not_too_long c.args.round.policy scripts c.args.state c.args.stashes.items c.args.stashes.items [] c.deref.result.now may (λ w. omega arith) quotas_are (c.in-Err.ensures.too_long.0 is))
 
 pub serve_all-requires-clause-can : goal.serve_all-requires-clause-can
 serve_all-requires-clause-can g c κs within =
     let begun = c.in-Ok.ensures in
     let may = c.requires.may in
-    let scripts : List (List Request) = lists c.args.scripts.now in
-    let mapped : length (lists c.args.scripts.now) ≡ length c.args.scripts.now = simp length-map in
-    let quotas_are : (w : ℕ) → w < length (lists c.args.scripts.now) → slice_index c.deref.result.now w ≡ quota_of c.args.policy c.args.state.phase (script_of (lists c.args.scripts.now) w) =
-    λ w less. quota_is c.args.policy c.args.state.phase c.args.policy.joined_quota (length (script_of (lists c.args.scripts.now) w)) (first_index c.args.policy c.args.state.phase) c.args.first
+    let scripts : List (List Request) = lists c.args.round.scripts.now in
+    let mapped : length (lists c.args.round.scripts.now) ≡ length c.args.round.scripts.now = simp length-map in
+    let quotas_are : (w : ℕ) → w < length (lists c.args.round.scripts.now) → slice_index c.deref.result.now w ≡ quota_of c.args.round.policy c.args.state.phase (script_of (lists c.args.round.scripts.now) w) =
+    λ w less. quota_is c.args.round.policy c.args.state.phase c.args.round.policy.joined_quota (length (script_of (lists c.args.round.scripts.now) w)) (first_index c.args.round.policy c.args.state.phase) c.args.round.first
     (slice_index c.deref.result.now w) (ap (λ qs. slice_index qs w) c.deref.ensures.value ∙ c.in_ok-quotas.ensures.each w (omega (arith, less, mapped)))
-    (cond-false (is_split c.args.state.phase) c.args.policy.split_quota c.args.policy.joined_quota c.requires.joined) may.first_is (may.short w) in
-    subst (λ ps. AllByRecursion (CanBeDone g.N.PhaseName.opening c.boxes.result.now) (tasks ps (lists c.args.scripts.now) c.args.first)) (sym (same_list c.in-Ok.begun.1.items))
-    (can_all c.args.policy scripts c.args.state c.args.stashes.items c.args.stashes.items [] c.args.first may g.N.PhaseName.opening c.in-Ok.begun.0 c.deref.result.now c.in-Ok.begun.1.items
+    (cond-false (is_split c.args.state.phase) c.args.round.policy.split_quota c.args.round.policy.joined_quota c.requires.joined) c.requires.round.1 in
+    subst (λ ps. AllByRecursion (CanBeDone g.N.PhaseName.opening c.boxes.result.now) (tasks ps (lists c.args.round.scripts.now) c.args.round.first)) (sym (same_list c.in-Ok.begun.1.items))
+    (can_all c.args.round.policy scripts c.args.state c.args.stashes.items c.args.stashes.items [] c.args.round.first c.requires.round.1 may g.N.PhaseName.opening c.in-Ok.begun.0 c.deref.result.now c.in-Ok.begun.1.items
     c.requires.shards begun.opening begun.phase begun.counters quotas_are begun.permits c.boxes.result.now c.boxes.ensures.boxes c.boxes.ensures.opening
     (λ w less. let room = may.room w (omega (arith, less, may.scripts_are)) in omega (arith, room)))
 
@@ -44,29 +48,50 @@ pub close-requires : goal.close-requires
 close-requires g c =
     let begun = c.in-Ok.ensures in
     let may = c.requires.may in
-    let scripts : List (List Request) = lists c.args.scripts.now in
-    let mapped : length (lists c.args.scripts.now) ≡ length c.args.scripts.now = simp length-map in
-    let quotas_are : (w : ℕ) → w < length (lists c.args.scripts.now) → slice_index c.deref.result.now w ≡ quota_of c.args.policy c.args.state.phase (script_of (lists c.args.scripts.now) w) =
-    λ w less. quota_is c.args.policy c.args.state.phase c.args.policy.joined_quota (length (script_of (lists c.args.scripts.now) w)) (first_index c.args.policy c.args.state.phase) c.args.first
+    let scripts : List (List Request) = lists c.args.round.scripts.now in
+    let mapped : length (lists c.args.round.scripts.now) ≡ length c.args.round.scripts.now = simp length-map in
+    let quotas_are : (w : ℕ) → w < length (lists c.args.round.scripts.now) → slice_index c.deref.result.now w ≡ quota_of c.args.round.policy c.args.state.phase (script_of (lists c.args.round.scripts.now) w) =
+    λ w less. quota_is c.args.round.policy c.args.state.phase c.args.round.policy.joined_quota (length (script_of (lists c.args.round.scripts.now) w)) (first_index c.args.round.policy c.args.state.phase) c.args.round.first
     (slice_index c.deref.result.now w) (ap (λ qs. slice_index qs w) c.deref.ensures.value ∙ c.in_ok-quotas.ensures.each w (omega (arith, less, mapped)))
-    (cond-false (is_split c.args.state.phase) c.args.policy.split_quota c.args.policy.joined_quota c.requires.joined) may.first_is (may.short w) in
-    joined_receipts c.args.policy scripts c.args.state c.args.stashes.items c.args.stashes.items [] c.args.first may g.N.PhaseName.opening c.in-Ok.begun.0 c.deref.result.now c.in-Ok.begun.1.items
+    (cond-false (is_split c.args.state.phase) c.args.round.policy.split_quota c.args.round.policy.joined_quota c.requires.joined) c.requires.round.1 in
+    joined_receipts c.args.round.policy scripts c.args.state c.args.stashes.items c.args.stashes.items [] c.args.round.first c.requires.round.1 may g.N.PhaseName.opening c.in-Ok.begun.0 c.deref.result.now c.in-Ok.begun.1.items
     c.requires.shards begun.opening begun.phase begun.counters quotas_are begun.permits c.in_ok-receipts.receipts.items
-    (plain IsDoneJoined c.in-Ok.begun.1.items c.in_ok-receipts.receipts.items scripts c.args.first c.in_ok-receipts.ensures.done)
+    (plain IsDoneJoined c.in-Ok.begun.1.items c.in_ok-receipts.receipts.items scripts c.args.round.first c.in_ok-receipts.ensures.done)
 
 pub returns-clause-closed : goal.returns-clause-closed
 returns-clause-closed g c =
     let begun = c.in-Ok.ensures in
     let closed = c.in_ok-state.ensures in
     let may = c.requires.may in
-    let scripts : List (List Request) = lists c.args.scripts.now in
-    let mapped : length (lists c.args.scripts.now) ≡ length c.args.scripts.now = simp length-map in
-    let quotas_are : (w : ℕ) → w < length (lists c.args.scripts.now) → slice_index c.deref.result.now w ≡ quota_of c.args.policy c.args.state.phase (script_of (lists c.args.scripts.now) w) =
-    λ w less. quota_is c.args.policy c.args.state.phase c.args.policy.joined_quota (length (script_of (lists c.args.scripts.now) w)) (first_index c.args.policy c.args.state.phase) c.args.first
+    let scripts : List (List Request) = lists c.args.round.scripts.now in
+    let mapped : length (lists c.args.round.scripts.now) ≡ length c.args.round.scripts.now = simp length-map in
+    let quotas_are : (w : ℕ) → w < length (lists c.args.round.scripts.now) → slice_index c.deref.result.now w ≡ quota_of c.args.round.policy c.args.state.phase (script_of (lists c.args.round.scripts.now) w) =
+    λ w less. quota_is c.args.round.policy c.args.state.phase c.args.round.policy.joined_quota (length (script_of (lists c.args.round.scripts.now) w)) (first_index c.args.round.policy c.args.state.phase) c.args.round.first
     (slice_index c.deref.result.now w) (ap (λ qs. slice_index qs w) c.deref.ensures.value ∙ c.in_ok-quotas.ensures.each w (omega (arith, less, mapped)))
-    (cond-false (is_split c.args.state.phase) c.args.policy.split_quota c.args.policy.joined_quota c.requires.joined) may.first_is (may.short w) in
-    joined_closed c.args.policy scripts c.args.state c.args.stashes.items c.args.stashes.items [] c.args.first may g.N.PhaseName.opening c.in-Ok.begun.0 c.deref.result.now c.in-Ok.begun.1.items
+    (cond-false (is_split c.args.state.phase) c.args.round.policy.split_quota c.args.round.policy.joined_quota c.requires.joined) c.requires.round.1 in
+    joined_closed c.args.round.policy scripts c.args.state c.args.stashes.items c.args.stashes.items [] c.args.round.first c.requires.round.1 may g.N.PhaseName.opening c.in-Ok.begun.0 c.deref.result.now c.in-Ok.begun.1.items
     c.requires.shards begun.opening begun.phase begun.counters quotas_are begun.permits c.in_ok-receipts.receipts.items
-    (plain IsDoneJoined c.in-Ok.begun.1.items c.in_ok-receipts.receipts.items scripts c.args.first c.in_ok-receipts.ensures.done)
-    c.requires.joined refl (ap objects_of begun.cold) (record { state = c.in_ok-state.state; entries = c.in_ok-state.entries; stashes = c.in_ok-state.stashes })
+    (plain IsDoneJoined c.in-Ok.begun.1.items c.in_ok-receipts.receipts.items scripts c.args.round.first c.in_ok-receipts.ensures.done)
+    c.requires.joined refl (ap objects_of begun.cold) (record { state = c.in_ok-state.state; stashes = c.in_ok-state.stashes }) (added c.args.history.now.items c.close.new.history.items)
     closed.closed closed.opening closed.phase closed.counters closed.stashes closed.commits closed.replays closed.stands
+
+pub serve_all-requires-clause-of : goal.serve_all-requires-clause-of
+serve_all-requires-clause-of g c κs within =
+    let begun = c.in-Ok.ensures in
+    let may = c.requires.may in
+    let scripts : List (List Request) = lists c.args.round.scripts.now in
+    let mapped : length (lists c.args.round.scripts.now) ≡ length c.args.round.scripts.now = simp length-map in
+    let quotas_are : (w : ℕ) → w < length (lists c.args.round.scripts.now) → slice_index c.deref.result.now w ≡ quota_of c.args.round.policy c.args.state.phase (script_of (lists c.args.round.scripts.now) w) =
+    λ w less. quota_is c.args.round.policy c.args.state.phase c.args.round.policy.joined_quota (length (script_of (lists c.args.round.scripts.now) w)) (first_index c.args.round.policy c.args.state.phase) c.args.round.first
+    (slice_index c.deref.result.now w) (ap (λ qs. slice_index qs w) c.deref.ensures.value ∙ c.in_ok-quotas.ensures.each w (omega (arith, less, mapped)))
+    (cond-false (is_split c.args.state.phase) c.args.round.policy.split_quota c.args.round.policy.joined_quota c.requires.joined) c.requires.round.1 in
+    subst (λ ps. ArePermitsOf c.args.round.phase 0 ps) (sym (same_list c.in-Ok.begun.1.items))
+    (subst (λ phase. ArePermitsOf phase 0 c.in-Ok.begun.1.items) (sym c.requires.round.0)
+    (permits_of c.args.round.policy scripts c.args.state c.args.stashes.items c.args.stashes.items [] c.args.round.first c.requires.round.1 may g.N.PhaseName.opening c.in-Ok.begun.0 c.deref.result.now c.in-Ok.begun.1.items
+    c.requires.shards begun.opening begun.phase begun.counters quotas_are begun.permits))
+
+pub returns-in_err-receipts-clause-fault : goal.returns-in_err-receipts-clause-fault
+returns-in_err-receipts-clause-fault g c =
+    err_as c.from_residual-in_err-receipts.result c.in_err-receipts.field-0.0 _ c.from_residual-in_err-receipts.ensures.1
+    (is_met (IsFirstFault IsDoneJoined (λ t. HasStopped g.N.PhaseName.opening (stashed t.permit ++ calls_for t) t.permit) (tasks (map (λ x. x) c.in-Ok.begun.1.items) (lists c.args.round.scripts.now) c.args.round.first))
+    c.in_err-receipts.field-0.0 c.in_err-receipts.ensures.fault)

@@ -4,5 +4,5 @@ use Rattle.auction_run.proofs.serving.receipts_of.Goals as goal
 
 pub returns-in-Err-clause-fault : goal.returns-in-Err-clause-fault
 returns-in-Err-clause-fault g c =
-    fault_first c.loop-each.receipts.items c.in-Some.each (into_iter_items c.loop-each.each-iterator) (into_iter_items c.next.new.self) c.args.served.items c.in-Err.fault
-    c.in-Err.is c.in-Some.ensures.steps.0 c.loop-each.invariant.0
+    fault_first c.loop-answer.receipts.items c.in-Some.answer (into_iter_items c.loop-answer.answer-iterator) (into_iter_items c.next.new.self) c.args.answers.items c.in-Err.fault
+    c.in-Err.is c.in-Some.ensures.steps.0 c.loop-answer.invariant.0

@@ -4,7 +4,7 @@ use Rattle.auction_run.specs.Tasks.{without_fault}
 use Rattle.auction_run.proofs.serving.receipts_of.Given as goal
 
 -- the workers so far met no fault, and their receipts are taken
-abbrev pub invariant-loop-each : goal.invariant-loop-each
-invariant-loop-each g l =
-    (map without_fault l.receipts.items ++ into_iter_items l.each-iterator ≡ l.fn.served.items)
-    × (vec_len l.receipts + into_iter_len l.each-iterator ≤ vec_capacity l.receipts)
+abbrev pub invariant-loop-answer : goal.invariant-loop-answer
+invariant-loop-answer g l =
+    (map without_fault l.receipts.items ++ into_iter_items l.answer-iterator ≡ l.fn.answers.items)
+    × (vec_len l.receipts + into_iter_len l.answer-iterator ≤ vec_capacity l.receipts)

@@ -1,17 +1,32 @@
 use Rattle.std.proofs.Common.{◌∙◌, map, arith}
 use Rattle.auction_run.specs.Phases.{lists}
-use Rattle.auction_run.specs.Tasks.{task, tasks}
-use Rattle.auction_run.proofs.TaskLemmas.{all_done, zip_length, duties_few}
+use Rattle.auction_run.specs.Tasks.{task, tasks, met, IsFirstFault}
+use Rattle.auction_run.proofs.TaskLemmas.{all_done, fault_met, met_by, unstarted_by, zip_length, tasks_of_few}
+use Rattle.auction_run.proofs.WorkLemmas.{err_as}
 use Rattle.auction_run.proofs.serving.serve_all.Goals as goal
 
 pub receipts_of-requires-clause-room : goal.receipts_of-requires-clause-room
 receipts_of-requires-clause-room g c =
-    let as_many = zip_length _ c.in_ok-duties.duties.items c.in_ok-served.served.items c.in_ok-served.ensures.answers in
-    let few = duties_few (λ duty. task (g.P.Permit.shows duty.carried.permit) duty.script.now duty.first) c.in_ok-duties.duties.items _ c.args.scripts.now c.args.first c.in_ok-duties.ensures.tasks in
-    omega (arith, as_many, few, c.in_ok-served.served.ok.0, c.in-Ok.ensures.capacity)
+    let as_many = zip_length _ c.in_ok-own_tasks.own_tasks.items c.in_ok-answers.answers.items c.in_ok-answers.ensures.answers in
+    let few = tasks_of_few (λ own. task (g.P.Permit.shows own.permit) own.script.now own.first) c.in_ok-own_tasks.own_tasks.items _ c.args.round.scripts.now c.args.round.first c.in_ok-own_tasks.ensures.tasks in
+    omega (arith, as_many, few, c.in_ok-answers.answers.ok.0, c.in-Ok.ensures.capacity)
 
 pub returns-clause-done : goal.returns-clause-done
 returns-clause-done g c =
-    all_done (λ duty. task (g.P.Permit.shows duty.carried.permit) duty.script.now duty.first) g.P.Permit.left g.P.Permit.is_done
-    c.in_ok-duties.duties.items c.in_ok-served.served.items c.in_ok-receipts_of.field-0.items _ c.in_ok-served.ensures.answers c.in_ok-receipts_of.ensures.receipts
-    (c.in_ok-duties.ensures.tasks ∙ (λ i. tasks (map g.P.Permit.shows (c.into_iter-permits.ensures.rest i)) (lists c.args.scripts.now) c.args.first))
+    all_done (λ own. task (g.P.Permit.shows own.permit) own.script.now own.first) g.P.Permit.left g.P.Permit.is_done g.P.Permit.has_stopped
+    c.in_ok-own_tasks.own_tasks.items c.in_ok-answers.answers.items c.in_ok-receipts_of.field-0.items _ c.in_ok-answers.ensures.answers c.in_ok-receipts_of.ensures.receipts
+    (c.in_ok-own_tasks.ensures.tasks ∙ (λ i. tasks (map g.P.Permit.shows (c.into_iter-permits.ensures.rest i)) (lists c.args.round.scripts.now) c.args.round.first))
+
+pub returns-in_err-answers-clause-fault : goal.returns-in_err-answers-clause-fault
+returns-in_err-answers-clause-fault g c =
+    err_as c.from_residual-in_err-answers.result c.in_err-answers.field-0.0 _ c.from_residual-in_err-answers.ensures.1
+    (unstarted_by (IsFirstFault g.P.Permit.is_done g.P.Permit.has_stopped (tasks (map g.P.Permit.shows c.args.permits.items) (lists c.args.round.scripts.now) c.args.round.first))
+    c.in_err-answers.field-0.0 c.in_err-answers.ensures.fault)
+
+pub returns-in_err-receipts_of-clause-fault : goal.returns-in_err-receipts_of-clause-fault
+returns-in_err-receipts_of-clause-fault g c =
+    err_as c.from_residual-in_err-receipts_of.result (met c.in_err-receipts_of.field-0.0) _ c.from_residual-in_err-receipts_of.ensures.1
+    (met_by (IsFirstFault g.P.Permit.is_done g.P.Permit.has_stopped (tasks (map g.P.Permit.shows c.args.permits.items) (lists c.args.round.scripts.now) c.args.round.first))
+    c.in_err-receipts_of.field-0.0 (fault_met (λ own. task (g.P.Permit.shows own.permit) own.script.now own.first) g.P.Permit.left g.P.Permit.is_done g.P.Permit.has_stopped
+    c.in_ok-own_tasks.own_tasks.items c.in_ok-answers.answers.items _ c.in_err-receipts_of.field-0.0 c.in_ok-answers.ensures.answers c.in_err-receipts_of.ensures.fault
+    (c.in_ok-own_tasks.ensures.tasks ∙ (λ i. tasks (map g.P.Permit.shows (c.into_iter-permits.ensures.rest i)) (lists c.args.round.scripts.now) c.args.round.first))))

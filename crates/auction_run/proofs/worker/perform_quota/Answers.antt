@@ -3,7 +3,7 @@ use Rattle.auction_rows.specs.declared.requests.Request.{Request}
 use Rattle.phase_transactions.specs.Permits.{PermitState}
 use Rattle.run_laws.proofs.QuotaLemmas.{next_call}
 use Rattle.auction_run.specs.Working.{calls_from, committed}
-use Rattle.auction_run.proofs.WorkLemmas.{same_after, all_more}
+use Rattle.auction_run.proofs.WorkLemmas.{same_after, all_more, err_as, stopped_next}
 use Rattle.auction_run.proofs.worker.perform_quota.Goals as goal
 
 pub loop-place-preserved : goal.loop-place-preserved
@@ -26,3 +26,18 @@ loop-place-preserved g c =
       omega (arith, step.left, was.3, less),
       omega (arith, step.tries, was.4),
     )
+
+pub returns-in_err-perform_next-clause-stopped : goal.returns-in_err-perform_next-clause-stopped
+returns-in_err-perform_next-clause-stopped g c =
+    let was = c.loop-place.invariant in
+    let old : PermitState = c.args.permit.now in
+    let first : ℕ = c.args.first in
+    let k : ℕ = c.loop-place.place in
+    let request : Request = c.index-script-index.result in
+    let calls : List (ℕ × Request) = calls_from c.args.first c.args.permit.now.split.desk.left c.args.script.now in
+    let less : c.loop-place.place < c.args.permit.now.split.desk.left = omega (arith, c.loop-place-test.true, c.left-place-end.ensures) in
+    let next : take (k + 1) calls ≡ take k calls ++ (first + k, request) ∷ [] =
+    next_call first old.split.desk.left k c.args.script.now request less c.requires.given c.index-script-index.is in
+    err_as c.from_residual.result c.in_err-perform_next.field-0.0 _ c.from_residual.ensures.1
+    (stopped_next g.N.PhaseName.opening old c.loop-place.permit c.perform_next.new.permit c.in_err-perform_next.field-0.0 k calls (first + k, request) next was.1
+    c.in_err-perform_next.ensures.failed)

@@ -6,7 +6,7 @@ use Rattle.auction_rows.specs.Phases.{is_put_off}
 use Rattle.phase_transactions.specs.Permits.{PermitState}
 use Rattle.run_laws.proofs.QuotaLemmas.{next_call}
 use Rattle.auction_run.specs.Working.{calls_from, committed, stashed, hot_for}
-use Rattle.auction_run.proofs.WorkLemmas.{same_after, kept_more}
+use Rattle.auction_run.proofs.WorkLemmas.{same_after, kept_more, err_as, stopped_split}
 use Rattle.auction_run.proofs.worker.perform_split.Goals as goal
 
 pub loop-place-preserved : goal.loop-place-preserved
@@ -31,3 +31,18 @@ loop-place-preserved g c =
       omega (arith, step.left, was.3, less),
       omega (arith, step.tries, was.4),
     )
+
+pub returns-in_err-deal_with_next-clause-stopped : goal.returns-in_err-deal_with_next-clause-stopped
+returns-in_err-deal_with_next-clause-stopped g c =
+    let was = c.loop-place.invariant in
+    let old : PermitState = c.args.permit.now in
+    let first : ℕ = c.args.first in
+    let k : ℕ = c.loop-place.place in
+    let request : Request = c.index-script-index.result in
+    let calls : List (ℕ × Request) = calls_from c.args.first c.args.permit.now.split.desk.left c.args.script.now in
+    let less : c.loop-place.place < c.args.permit.now.split.desk.left = omega (arith, c.loop-place-test.true, c.left-place-end.ensures) in
+    let next : take (k + 1) calls ≡ take k calls ++ (first + k, request) ∷ [] =
+    next_call first old.split.desk.left k c.args.script.now request less c.requires.given c.index-script-index.is in
+    err_as c.from_residual.result c.in_err-deal_with_next.field-0.0 _ c.from_residual.ensures.1
+    (stopped_split g.N.PhaseName.opening old c.loop-place.permit c.deal_with_next.new.permit c.in_err-deal_with_next.field-0.0 k calls (first + k, request) next was.1 was.2
+    c.in_err-deal_with_next.ensures.failed)

@@ -6,7 +6,7 @@ use Rattle.phase_floor.proofs.joined_work.phase.Goals as goal
 pub perform_all-requires-clause-permits : goal.perform_all-requires-clause-permits
 perform_all-requires-clause-permits g c κs within =
     let quotas = c.deref.result.now in
-    subst (AreReceiptsOf c.in-Ok.floor) (sym c.deref_mut.ensures.value) (begun_receipts c.in-Ok.floor quotas c.in_ok-stashes.stashes.items c.in-Ok.permits.items c.in-Ok.ensures.permits)
+    subst (AreReceiptsOf c.in-Ok.floor) (sym c.deref_mut.ensures.value) (begun_receipts c.in-Ok.floor quotas c.args.between.stashes.items c.in-Ok.permits.items c.in-Ok.ensures.permits)
 
 pub close-requires : goal.close-requires
 close-requires g c =

@@ -3,4 +3,4 @@ use Rattle.phase_floor.specs.States.{states_of}
 use Rattle.phase_floor.proofs.split_work.split_phase.Given as goal
 
 abbrev pub ghosts-phase : goal.ghosts-phase
-ghosts-phase g a = record { opening = states_of a.state; workers = length a.state.counters }
+ghosts-phase g a = record { opening = states_of a.between.state; workers = length a.between.state.counters }

@@ -1,11 +1,10 @@
-use Rattle.std.proofs.Common.{◌≡◌, ◌+◌, List, Some, IfSome, Err, refl, sym, ap, subst, ◌∙◌}
+use Rattle.std.proofs.Common.{◌≡◌, IfSome, sym, ap, subst, ◌∙◌}
 use Rattle.auction_text.specs.declared.faults.WriteFault.{WriteFault}
 use Rattle.item_shards.specs.OpeningBooks as book
 use Rattle.item_shards.specs.OpeningRows.{AreRows, opening_rows}
-use Rattle.rubis_auction.specs.Execution.{Answers, ArePartWritten, AreWritten, IsCausedBy, IsNotRun, IsOneWritten, IsRefused}
+use Rattle.rubis_auction.specs.Execution.{ArePartWritten, AreWritten, IsCausedBy, IsNotRun, IsOneWritten, IsRefused}
 use Rattle.rubis_auction.specs.Options.{opening_of, policy_of}
 use Rattle.auction_run.specs.Phases.{hot_sets, lists}
-use Rattle.rubis_auction.specs.declared.faults.Fault.{Fault}
 use Rattle.rubis_auction.specs.declared.faults.Fault.TheVariants.{Resume, Run, Write}
 use Rattle.rubis_auction.proofs.Answering.{answered, error_is, is_error, not_run, of_input, refused}
 use Rattle.rubis_auction.proofs.execute.execute.Goals as goal
@@ -53,7 +52,7 @@ returns-in_err-write_texts-clause-part g c = λ is.
     let says = answered options rows scripts remaining c.in_ok-input.ensures.input opening c.policy.result (book.rows_of c.in_ok-book.book) c.rows.result.now
     outcome.history.items (hot_sets outcome.hot.items) starts c.policy.ensures opens c.rows.ensures.rows
     (subst (λ o. AreRows o rows) (sym c.in_ok-book.ensures.opening) c.in_ok-book.ensures.accepted)
-    (record { serves = c.in_ok-outcome.ensures.serves; closed = c.in_ok-outcome.ensures.hot; replays = c.in_ok-outcome.ensures.replays }) in
+    (record { serves = c.in_ok-outcome.ensures.serves; chosen = c.in_ok-outcome.ensures.hot; replays = c.in_ok-outcome.ensures.replays }) in
     let fault : c.in_err-write_texts.field-0.0 ≡ WriteFault.Write =
     let same = is_error c.from_residual-in_err-write_texts.result (Write c.in_err-write_texts.field-0.0) (Write WriteFault.Write) c.from_residual-in_err-write_texts.ensures is in cc in
     says (ArePartWritten old new) (c.in_err-write_texts.ensures.part fault)
@@ -73,7 +72,7 @@ returns-in_err-write_texts-clause-memory g c = λ is.
     let says = answered options rows scripts remaining c.in_ok-input.ensures.input opening c.policy.result (book.rows_of c.in_ok-book.book) c.rows.result.now
     outcome.history.items (hot_sets outcome.hot.items) starts c.policy.ensures opens c.rows.ensures.rows
     (subst (λ o. AreRows o rows) (sym c.in_ok-book.ensures.opening) c.in_ok-book.ensures.accepted)
-    (record { serves = c.in_ok-outcome.ensures.serves; closed = c.in_ok-outcome.ensures.hot; replays = c.in_ok-outcome.ensures.replays }) in
+    (record { serves = c.in_ok-outcome.ensures.serves; chosen = c.in_ok-outcome.ensures.hot; replays = c.in_ok-outcome.ensures.replays }) in
     let fault : c.in_err-write_texts.field-0.0 ≡ WriteFault.Memory =
     let same = is_error c.from_residual-in_err-write_texts.result (Write c.in_err-write_texts.field-0.0) (Write WriteFault.Memory) c.from_residual-in_err-write_texts.ensures is in cc in
     says (IsOneWritten old new) (c.in_err-write_texts.ensures.memory fault)
@@ -93,7 +92,7 @@ returns-in_err-write_texts-clause-cause g c =
     let says = answered options rows scripts remaining c.in_ok-input.ensures.input opening c.policy.result (book.rows_of c.in_ok-book.book) c.rows.result.now
     outcome.history.items (hot_sets outcome.hot.items) starts c.policy.ensures opens c.rows.ensures.rows
     (subst (λ o. AreRows o rows) (sym c.in_ok-book.ensures.opening) c.in_ok-book.ensures.accepted)
-    (record { serves = c.in_ok-outcome.ensures.serves; closed = c.in_ok-outcome.ensures.hot; replays = c.in_ok-outcome.ensures.replays }) in
+    (record { serves = c.in_ok-outcome.ensures.serves; chosen = c.in_ok-outcome.ensures.hot; replays = c.in_ok-outcome.ensures.replays }) in
     error_is c.from_residual-in_err-write_texts.result (Write c.in_err-write_texts.field-0.0) (λ f. IfSome remaining (λ input. IsCausedBy options input f))
     c.from_residual-in_err-write_texts.ensures (says (λ text added. Unit {0}) tt)
 
@@ -112,5 +111,5 @@ returns-clause-answers g c =
     let says = answered options rows scripts remaining c.in_ok-input.ensures.input opening c.policy.result (book.rows_of c.in_ok-book.book) c.rows.result.now
     outcome.history.items (hot_sets outcome.hot.items) starts c.policy.ensures opens c.rows.ensures.rows
     (subst (λ o. AreRows o rows) (sym c.in_ok-book.ensures.opening) c.in_ok-book.ensures.accepted)
-    (record { serves = c.in_ok-outcome.ensures.serves; closed = c.in_ok-outcome.ensures.hot; replays = c.in_ok-outcome.ensures.replays }) in
+    (record { serves = c.in_ok-outcome.ensures.serves; chosen = c.in_ok-outcome.ensures.hot; replays = c.in_ok-outcome.ensures.replays }) in
     says (AreWritten old new) c.in_ok-write_texts.ensures.whole

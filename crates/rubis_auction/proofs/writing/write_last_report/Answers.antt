@@ -1,4 +1,4 @@
-use Rattle.std.proofs.Common.{◌≡◌, subst, ap, map}
+use Rattle.std.proofs.Common.{◌≡◌, subst, ap}
 use Rattle.auction_rows.specs.Book.{Book}
 use Rattle.auction_text.specs.Report.{report_text}
 use Rattle.auction_text.specs.Writing.{IsPartWritten}

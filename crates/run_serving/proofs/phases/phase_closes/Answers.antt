@@ -1,8 +1,9 @@
-use Rattle.run_serving.proofs.ClosedLemmas.{phase_closed, segment_now}
+use Rattle.run_serving.proofs.ClosedLemmas.{phase_chosen, phase_numbered, segment_now}
 use Rattle.run_serving.proofs.phases.phase_closes.Goals as goal
 
 pub returns : goal.returns
 returns c = record {
-  closed = phase_closed;
+  chosen = phase_chosen;
+  numbers = phase_numbered;
   last = λ policy scripts phase hot hot_now history segment stashes after run performed. segment_now phase history segment run.phases_before performed.phases;
 }

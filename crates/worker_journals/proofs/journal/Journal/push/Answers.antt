@@ -7,4 +7,4 @@ pub invariant_of-self : goal.invariant_of-self
 invariant_of-self c =
     let after = subst (λ (j : JournalView). ComesAfter j.entries c.args.number) (sym c.self.view_is) c.requires.after in
     rw (c.push_reserved.ensures.items, c.push_reserved.ensures.capacity)
-    (lawful_after _ _ c.self.invariant (refl, refl) after)
+    (lawful_after _ _ c.self.invariant.0 (refl, refl) after, c.self.invariant.1)

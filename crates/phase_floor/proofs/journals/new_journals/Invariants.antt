@@ -1,7 +1,7 @@
 use Rattle.std.proofs.Common.{◌≡◌, ℕ, ◌+◌, ◌<◌, length, vec_len, get_or}
 use Rattle.worker_journals.specs.Journals.{empty_journal, JournalView}
 use Rattle.phase_floor.specs.Floors.{stash_at}
-use Rattle.phase_floor.proofs.quotas.new_journals.Given as goal
+use Rattle.phase_floor.proofs.journals.new_journals.Given as goal
 
 abbrev pub invariant-loop-w : goal.invariant-loop-w
 invariant-loop-w l = record {
