@@ -147,10 +147,11 @@ fn rows_of_workers_without_script(rt: HostRuntime) -> Result<(), Fail> {
 #[test]
 fn no_requests(rt: HostRuntime) -> Result<(), Fail> {
     let alloc = rt.alloc();
-    let book = three_rows(alloc, 0)?;
-    let outcome = run(&rt, alloc, &book, scripts(alloc, 1, 0)?, POLICY, &FreeGate)?;
-    assert!(rt; outcome.history.is_empty());
-    assert!(rt; outcome.hot.is_empty());
-    assert_eq!(rt; outcome.state.phase(), 0);
+    for book in [OpeningBook::empty(OPENING), three_rows(alloc, 0)?] {
+        let outcome = run(&rt, alloc, &book, scripts(alloc, 1, 0)?, POLICY, &FreeGate)?;
+        assert!(rt; outcome.history.is_empty());
+        assert!(rt; outcome.hot.is_empty());
+        assert_eq!(rt; outcome.state.phase(), 0);
+    }
     Ok(())
 }

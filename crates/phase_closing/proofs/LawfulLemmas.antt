@@ -27,13 +27,15 @@ module _ (p : Phase) (closed : HasClosed p) where
   are_sliced w known = sliced p closed w known
 
   -- whatever shards are left, where hot and other objects have what they shall
-  lawful : (closing : List ShardState) → AreHotMerged p closing → AreOthersAsGiven p closing → ClosesLawfully p closing
-  lawful closing merged others = record {
+  lawful : (closing : List ShardState) → length closing ≡ length p.opening → AreHotMerged p closing → AreOthersAsGiven p closing → ClosesLawfully p closing
+  lawful closing left merged others = record {
     numbers = record { ascending = closed.merged.ascending; follows = follow_what_they_share p closed };
     parts = λ w. part_is p closed w;
     deeds = all_deeds p closed;
     entries = (lift p closed).entries_are;
     lists = λ s known. subst (λ (lines : List (ℕ × Line)). IsHistory p.opening (length p.receipts) s lines (state_at p.given s)) (list_is p closed s known) (box p closed s known).history;
+    given = closed.boxes.0;
+    left = left;
     slices = are_sliced;
     merged = merged;
     others = others;
@@ -41,7 +43,7 @@ module _ (p : Phase) (closed : HasClosed p) where
 
   -- where nothing is hot there is nothing to merge
   pub joined_lawful : hot_in p.setting ≡ [] → ClosesLawfully p p.given
-  joined_lawful none = lawful p.given (λ object hot. absurd (false≢true (ap (λ objects. is_hot objects object) (sym none) ∙ hot))) (λ object cold. refl)
+  joined_lawful none = lawful p.given closed.boxes.0 (λ object hot. absurd (false≢true (ap (λ objects. is_hot objects object) (sym none) ∙ hot))) (λ object cold. refl)
 
   module _ (closing : List ShardState) (reconciled : IsReconciled p closing) where
     some : 0 < length p.given
@@ -67,4 +69,4 @@ module _ (p : Phase) (closed : HasClosed p) where
         closing_value object ∙ all_cold p.setting.stocks rows_by object p.receipts (all_sliced p closed) cold (value_on p.given object)
 
     pub split_lawful : ClosesLawfully p closing
-    split_lawful = lawful closing hot_merged others_as_given
+    split_lawful = lawful closing (reconciled.count ∙ closed.boxes.0) hot_merged others_as_given

@@ -52,6 +52,9 @@ pub record ClosesLawfully (p : Phase) (closing : List ShardState) : Type 0 where
   -- take it, in their order
   pub lists : (s : ℕ) → s < length p.opening →
       IsHistory p.opening (length p.receipts) s (map (worker_line p.setting s) (filter (takes p.setting s) deeds)) (state_at p.given s)
+  -- there is a shard given back, and one left, for each with which the phase opened
+  pub given : length p.given ≡ length p.opening
+  pub left : length closing ≡ length p.opening
   pub slices : AreSliced p
   pub merged : AreHotMerged p closing
   pub others : AreOthersAsGiven p closing

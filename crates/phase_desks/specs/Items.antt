@@ -1,5 +1,4 @@
 -- An item that is to be stored.
-use Rattle.std.specs.Prelude.{ℕ, ◌∷◌, [], List}
 use Rattle.auction_rows.specs.declared.ids.ItemEntry.{ItemEntry}
 use Rattle.auction_rows.specs.declared.ids.ItemId.{ItemId}
 use Rattle.auction_rows.specs.declared.requests.Request.{Request}

@@ -1,7 +1,7 @@
 use crate::execute::execute;
 use crate::faults::{Fault, UsageFault, status, write_fault};
 use crate::options::Options;
-use crate::tests::{FIRST_EXAMPLE, FIRST_REPLIES, REPLIES, answer_to};
+use crate::tests::{FIRST_EXAMPLE, FIRST_REPLIES, REPLIES, USUAL, answer_to};
 use auction_run::RunFault;
 use auction_text::{Cause, ReadFault, WriteFault};
 use item_shards::ResumeFault;
@@ -37,25 +37,41 @@ impl<'a> Read for CutReader<'a> {
     }
 }
 
-// Takes so many bytes and then fails.
+// Takes at most so many bytes a call, and in all as many as it has room for; then it fails.
 #[derive(Drop)]
-struct FullWriter {
+struct NarrowWriter {
     held: Vec<u8>,
+    most: usize,
     room: usize,
+    is_stuck: bool,
 }
 
-impl Write for FullWriter {
+impl NarrowWriter {
+    fn with_room(alloc: Global, room: usize) -> NarrowWriter {
+        NarrowWriter {
+            held: Vec::new(alloc),
+            most: usize::MAX,
+            room,
+            is_stuck: false,
+        }
+    }
+}
+
+impl Write for NarrowWriter {
     fn write(&mut self, buf: &[u8]) -> io::Result<usize> {
         let left = self.room.saturating_sub(self.held.len());
         if left == 0 {
             return Err(io::Error::from(io::ErrorKind::BrokenPipe));
         }
-        let most = buf.len().min(left);
+        let most = buf.len().min(left).min(self.most);
         self.held.extend_from_slice(&buf[..most])?;
         Ok(most)
     }
 
     fn flush(&mut self) -> io::Result<()> {
+        if self.is_stuck {
+            return Err(io::Error::from(io::ErrorKind::BrokenPipe));
+        }
         Ok(())
     }
 }
@@ -69,7 +85,7 @@ fn answers_a_reader_that_fails_and_a_writer_that_fails(rt: HostRuntime) {
             at: 0,
             cut,
         };
-        let answered = execute(&rt, rt.alloc(), reader, &mut text, &REPLIES);
+        let answered = execute(&rt, rt.alloc(), reader, &mut text, &USUAL);
         assert!(rt;
             matches!(answered, Err(Fault::Read(ReadFault::Read))),
             "at {cut}"
@@ -77,9 +93,35 @@ fn answers_a_reader_that_fails_and_a_writer_that_fails(rt: HostRuntime) {
         assert!(rt; text.is_empty());
     }
     for room in 0..FIRST_REPLIES.len() {
-        let written = written_in(&rt, rt.alloc(), room, &REPLIES);
+        let written = written_in(&rt, rt.alloc(), room, &USUAL);
         assert_eq!(rt; written.as_slice(), &FIRST_REPLIES[..room]);
     }
+}
+
+#[test]
+fn answers_writers_that_take_few_bytes_none_or_do_not_flush(rt: HostRuntime) {
+    let alloc = rt.alloc();
+    let mut slow = NarrowWriter {
+        most: 3,
+        ..NarrowWriter::with_room(alloc, 1_000)
+    };
+    let answered = execute(&rt, alloc, FIRST_EXAMPLE, &mut slow, &USUAL);
+    assert!(rt; answered.is_ok());
+    assert_eq!(rt; slow.held.as_slice(), FIRST_REPLIES);
+    let mut still = NarrowWriter {
+        most: 0,
+        ..NarrowWriter::with_room(alloc, 1_000)
+    };
+    let answered = execute(&rt, alloc, FIRST_EXAMPLE, &mut still, &USUAL);
+    assert!(rt; matches!(answered, Err(Fault::Write(WriteFault::Write))));
+    assert!(rt; still.held.is_empty());
+    let mut stuck = NarrowWriter {
+        is_stuck: true,
+        ..NarrowWriter::with_room(alloc, 1_000)
+    };
+    let answered = execute(&rt, alloc, FIRST_EXAMPLE, &mut stuck, &USUAL);
+    assert!(rt; matches!(answered, Err(Fault::Write(WriteFault::Write))));
+    assert_eq!(rt; stuck.held.as_slice(), FIRST_REPLIES);
 }
 
 // The report is written after the replies.
@@ -104,8 +146,7 @@ fn written_in<R: Threads + Wait + Abort + Sync>(
     room: usize,
     options: &Options,
 ) -> Vec<u8> {
-    let held = Vec::new(alloc);
-    let mut writer = FullWriter { held, room };
+    let mut writer = NarrowWriter::with_room(alloc, room);
     let answered = execute(rt, alloc, FIRST_EXAMPLE, &mut writer, options);
     assert!(rt;
         matches!(answered, Err(Fault::Write(WriteFault::Write))),
@@ -151,114 +192,136 @@ fn line_of(alloc: Global, fault: &Fault) -> Result<Vec<u8>, WriteFault> {
     Ok(line)
 }
 
+// The program's name, a text and the end of the line.
+fn named(alloc: Global, text: &[u8]) -> Result<Vec<u8>, Fail> {
+    let mut line = b"rubis_auction: ".to_vec(alloc)?;
+    line.extend_from_slice(text)?;
+    line.push(b'\n')?;
+    Ok(line)
+}
+
 #[test]
-fn a_fault_has_its_status_and_its_line(rt: HostRuntime) -> Result<(), Fail> {
-    let table: [(Fault, u8, &[u8]); 25] = [
-        (Fault::Usage(UsageFault::Memory), 1, b"no memory"),
+fn faults_in_the_input_have_their_status_and_line(rt: HostRuntime) -> Result<(), Fail> {
+    let alloc = rt.alloc();
+    let table: [(ReadFault, &[u8]); 12] = [
+        (ReadFault::Line(7, Cause::Number), b"record 7: not a number"),
+        (ReadFault::Line(7, Cause::Kind), b"record 7: unknown kind"),
         (
-            Fault::Read(ReadFault::Line(7, Cause::Number)),
-            2,
-            b"record 7: not a number",
-        ),
-        (
-            Fault::Read(ReadFault::Line(7, Cause::Kind)),
-            2,
-            b"record 7: unknown kind",
-        ),
-        (
-            Fault::Read(ReadFault::Line(7, Cause::Fields)),
-            2,
+            ReadFault::Line(7, Cause::Fields),
             b"record 7: wrong number of fields",
         ),
+        (ReadFault::Line(7, Cause::Item), b"record 7: not an item id"),
+        (ReadFault::Line(7, Cause::Name), b"record 7: not a name"),
         (
-            Fault::Read(ReadFault::Line(7, Cause::Item)),
-            2,
-            b"record 7: not an item id",
-        ),
-        (
-            Fault::Read(ReadFault::Line(7, Cause::Name)),
-            2,
-            b"record 7: not a name",
-        ),
-        (
-            Fault::Read(ReadFault::Line(7, Cause::Quantity)),
-            2,
+            ReadFault::Line(7, Cause::Quantity),
             b"record 7: not a quantity",
         ),
+        (ReadFault::Line(7, Cause::Stars), b"record 7: not stars"),
         (
-            Fault::Read(ReadFault::Line(7, Cause::Stars)),
-            2,
-            b"record 7: not stars",
-        ),
-        (
-            Fault::Read(ReadFault::Line(7, Cause::Late)),
-            2,
+            ReadFault::Line(7, Cause::Late),
             b"record 7: row after a request",
         ),
-        (
-            Fault::Read(ReadFault::Worker(16)),
-            2,
-            b"record 16: no such worker",
-        ),
-        (Fault::Read(ReadFault::Read), 2, b"input cannot be read"),
-        (Fault::Read(ReadFault::Memory), 2, b"no memory"),
-        (
-            Fault::Read(ReadFault::Long),
-            2,
-            b"more than 16000000 records",
-        ),
-        (
-            Fault::Resume(ResumeFault::TooLong),
-            3,
-            b"more than 1000000 requests for a worker",
-        ),
-        (Fault::Resume(ResumeFault::BadRow(7)), 3, b"row 7: refused"),
-        (Fault::Resume(ResumeFault::Memory), 3, b"no memory"),
-        (
-            Fault::Run(RunFault::TooLong),
-            3,
-            b"more than 1000000 requests for a worker",
-        ),
-        (Fault::Run(RunFault::Workers), 3, b"number of workers"),
-        (Fault::Run(RunFault::Shards), 3, b"number of shards"),
-        (
-            Fault::Run(RunFault::Quota),
-            3,
-            b"quota, threshold or hot limit",
-        ),
-        (Fault::Run(RunFault::Spawn), 3, b"thread not started"),
-        (
-            Fault::Run(RunFault::NumberFull),
-            3,
-            b"commit numbers used up",
-        ),
-        (Fault::Run(RunFault::Memory), 3, b"no memory"),
-        (
-            Fault::Write(WriteFault::Write),
-            4,
-            b"output cannot be written",
-        ),
-        (Fault::Write(WriteFault::Memory), 4, b"no memory"),
+        (ReadFault::Worker(16), b"record 16: no such worker"),
+        (ReadFault::Read, b"input cannot be read"),
+        (ReadFault::Memory, b"no memory"),
+        (ReadFault::Long, b"more than 16000000 records"),
     ];
-    for (fault, wanted, text) in table.iter() {
-        assert_eq!(rt; status(fault), *wanted, "at {text:?}");
-        let line = line_of(rt.alloc(), fault)?;
-        let mut whole = b"rubis_auction: ".to_vec(rt.alloc())?;
-        whole.extend_from_slice(text)?;
-        whole.push(b'\n')?;
-        assert_eq!(rt; line.as_slice(), whole.as_slice());
+    for (found, text) in table {
+        let fault = Fault::Read(found);
+        assert_eq!(rt; status(&fault), 2, "at {text:?}");
+        assert_eq!(rt;
+            line_of(alloc, &fault)?.as_slice(),
+            named(alloc, text)?.as_slice()
+        );
     }
-    let text = Fault::Usage(UsageFault::Text(String::from_str(rt.alloc(), "its words\n")?));
-    assert_eq!(rt; status(&text), 1);
+    Ok(())
+}
+
+#[test]
+fn faults_of_rows_have_their_status_and_line(rt: HostRuntime) -> Result<(), Fail> {
+    let alloc = rt.alloc();
+    let table: [(ResumeFault, &[u8]); 3] = [
+        (
+            ResumeFault::TooLong,
+            b"more than 1000000 requests for a worker",
+        ),
+        (ResumeFault::BadRow(7), b"row 7: refused"),
+        (ResumeFault::Memory, b"no memory"),
+    ];
+    for (found, text) in table {
+        let fault = Fault::Resume(found);
+        assert_eq!(rt; status(&fault), 3, "at {text:?}");
+        assert_eq!(rt;
+            line_of(alloc, &fault)?.as_slice(),
+            named(alloc, text)?.as_slice()
+        );
+    }
+    Ok(())
+}
+
+#[test]
+fn faults_of_runs_have_their_status_and_line(rt: HostRuntime) -> Result<(), Fail> {
+    let alloc = rt.alloc();
+    let table: [(RunFault, &[u8]); 7] = [
+        (
+            RunFault::TooLong,
+            b"more than 1000000 requests for a worker",
+        ),
+        (RunFault::Workers, b"number of workers"),
+        (RunFault::Shards, b"number of shards"),
+        (RunFault::Quota, b"quota, threshold or hot limit"),
+        (RunFault::Spawn, b"thread not started"),
+        (RunFault::NumberFull, b"commit numbers used up"),
+        (RunFault::Memory, b"no memory"),
+    ];
+    for (found, text) in table {
+        let fault = Fault::Run(found);
+        assert_eq!(rt; status(&fault), 3, "at {text:?}");
+        assert_eq!(rt;
+            line_of(alloc, &fault)?.as_slice(),
+            named(alloc, text)?.as_slice()
+        );
+    }
+    Ok(())
+}
+
+#[test]
+fn faults_of_writing_have_their_status_and_line(rt: HostRuntime) -> Result<(), Fail> {
+    let alloc = rt.alloc();
+    let table: [(WriteFault, &[u8]); 2] = [
+        (WriteFault::Write, b"output cannot be written"),
+        (WriteFault::Memory, b"no memory"),
+    ];
+    for (found, text) in table {
+        let fault = Fault::Write(found);
+        assert_eq!(rt; status(&fault), 4, "at {text:?}");
+        assert_eq!(rt;
+            line_of(alloc, &fault)?.as_slice(),
+            named(alloc, text)?.as_slice()
+        );
+    }
+    Ok(())
+}
+
+#[test]
+fn refused_words_have_the_parsers_words(rt: HostRuntime) -> Result<(), Fail> {
+    let alloc = rt.alloc();
+    let refused = Fault::Usage(UsageFault::Text(String::from_str(alloc, "its words\n")?));
+    assert_eq!(rt; status(&refused), 1);
+    let line = line_of(alloc, &refused)?;
+    assert_eq!(rt; line.as_slice(), b"its words\n".as_slice());
+    let unread = Fault::Usage(UsageFault::Memory);
+    assert_eq!(rt; status(&unread), 1);
     assert_eq!(rt;
-        line_of(rt.alloc(), &text)?.as_slice(),
-        b"its words\n".as_slice()
+        line_of(alloc, &unread)?.as_slice(),
+        named(alloc, b"no memory")?.as_slice()
     );
-    let mut full = FullWriter {
-        held: Vec::new(rt.alloc()),
-        room: 3,
-    };
+    Ok(())
+}
+
+#[test]
+fn a_full_writer_refuses_the_line_of_a_fault(rt: HostRuntime) {
+    let mut full = NarrowWriter::with_room(rt.alloc(), 3);
     let refused = write_fault(&mut full, &Fault::Run(RunFault::Memory));
     assert_eq!(rt; refused, Err(WriteFault::Write));
-    Ok(())
 }

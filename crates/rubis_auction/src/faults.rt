@@ -1,7 +1,8 @@
 //! Why the program fails, its exit statuses and its words.
-ghost use Rattle.std.specs.Prelude.{◌≡◌, IfErr};
+ghost use Rattle.std.specs.Prelude.{◌≡◌, IfErr, IfSome, OnOk};
+ghost use Rattle.std.specs.Io.KnownBytes.{Appends};
 ghost use Rattle.auction_text.specs.declared.faults.WriteFault.{WriteFault};
-ghost use Rattle.rubis_auction.specs.Faults.{status};
+ghost use Rattle.rubis_auction.specs.Faults.{status, parser_words};
 
 use auction_run::RunFault;
 use auction_text::{ReadFault, WriteFault};
@@ -105,7 +106,8 @@ pub fn status(fault: &Fault) -> u8
 /// Writes the line of a fault. The words of the parser of options stand as they are, without the
 /// program's name. It takes no memory, so `Write` is the only fault.
 pub fn write_fault<W: Write>(writer: &mut W, fault: &Fault) -> Result<(), WriteFault>
-    ensures { IfErr result (λ refused. refused ≡ WriteFault.Write) }
+    ensures words { OnOk result (IfSome (parser_words fault.now) (Appends (W.contents writer.old) (W.contents writer.new))) }
+    ensures fault { IfErr result (λ refused. refused ≡ WriteFault.Write) }
 {
     let written = match fault {
         Fault::Usage(UsageFault::Text(text)) => writer.write_all(text.as_bytes()),

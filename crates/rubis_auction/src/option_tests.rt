@@ -1,7 +1,89 @@
 use crate::faults::UsageFault;
 use crate::options::{Options, read_options};
+use crate::tests::USUAL;
 use std::alloc::{AllocError, Global};
 use std::test::Fail;
+
+const LEAST: Options = Options {
+    workers: 1,
+    shards: 1,
+    joined: 1,
+    split: 1,
+    threshold: 1,
+    hot: 0,
+    users: 0,
+    categories: 0,
+    history: true,
+    rows: false,
+    report: false,
+};
+
+const LEAST_WORDS: [&str; 10] = [
+    "--workers",
+    "1",
+    "--shards=1",
+    "--joined=1",
+    "--split=1",
+    "--threshold=1",
+    "--hot=0",
+    "--users=0",
+    "--categories=0",
+    "--history",
+];
+
+const MOST: Options = Options {
+    workers: 16,
+    shards: 64,
+    joined: 1_000_000,
+    split: 1_000_000,
+    threshold: 1_000_000,
+    hot: 64,
+    users: 1_000_000,
+    categories: 1_000_000,
+    history: false,
+    rows: true,
+    report: true,
+};
+
+const MOST_WORDS: [&str; 10] = [
+    "--workers=16",
+    "--shards=64",
+    "--joined=1000000",
+    "--split=1000000",
+    "--threshold=1000000",
+    "--hot=64",
+    "--users=1000000",
+    "--categories=1000000",
+    "--rows",
+    "--report",
+];
+
+// Each number another one.
+const EACH: Options = Options {
+    workers: 2,
+    shards: 3,
+    joined: 5,
+    split: 7,
+    threshold: 11,
+    hot: 13,
+    users: 17,
+    categories: 19,
+    history: false,
+    rows: false,
+    report: false,
+};
+
+const EACH_WORDS: [&str; 9] = [
+    "--categories=19",
+    "--users",
+    "17",
+    "--hot=13",
+    "--threshold=11",
+    "--split=7",
+    "--joined=5",
+    "--shards=3",
+    "--workers=2",
+];
 
 // What the words say after the program's name.
 fn options_of(alloc: Global, words: &[&str]) -> Result<Result<Options, UsageFault>, AllocError> {
@@ -15,100 +97,14 @@ fn options_of(alloc: Global, words: &[&str]) -> Result<Result<Options, UsageFaul
 
 #[test]
 fn reads_its_options(rt: HostRuntime) -> Result<(), Fail> {
-    let alloc = rt.alloc();
-    let usual = Options {
-        workers: 1,
-        shards: 4,
-        joined: 64,
-        split: 64,
-        threshold: 8,
-        hot: 8,
-        users: 100,
-        categories: 10,
-        history: false,
-        rows: false,
-        report: false,
-    };
-    let least = Options {
-        workers: 1,
-        shards: 1,
-        joined: 1,
-        split: 1,
-        threshold: 1,
-        hot: 0,
-        users: 0,
-        categories: 0,
-        history: true,
-        rows: false,
-        report: false,
-    };
-    let most = Options {
-        workers: 16,
-        shards: 64,
-        joined: 1_000_000,
-        split: 1_000_000,
-        threshold: 1_000_000,
-        hot: 64,
-        users: 1_000_000,
-        categories: 1_000_000,
-        history: false,
-        rows: true,
-        report: true,
-    };
-    let least_words = [
-        "--workers",
-        "1",
-        "--shards=1",
-        "--joined=1",
-        "--split=1",
-        "--threshold=1",
-        "--hot=0",
-        "--users",
-        "0",
-        "--categories=0",
-        "--history",
-    ];
-    let most_words = [
-        "--workers=16",
-        "--shards=64",
-        "--joined=1000000",
-        "--split=1000000",
-        "--threshold=1000000",
-        "--hot=64",
-        "--users=1000000",
-        "--categories=1000000",
-        "--rows",
-        "--report",
-    ];
-    let each = Options {
-        workers: 2,
-        shards: 3,
-        joined: 5,
-        split: 7,
-        threshold: 11,
-        hot: 13,
-        users: 17,
-        categories: 19,
-        ..usual
-    };
-    let each_words = [
-        "--categories=19",
-        "--users=17",
-        "--hot=13",
-        "--threshold=11",
-        "--split=7",
-        "--joined=5",
-        "--shards=3",
-        "--workers=2",
-    ];
     let table: [(&[&str], Options); 4] = [
-        (&[], usual),
-        (&least_words, least),
-        (&most_words, most),
-        (&each_words, each),
+        (&[], USUAL),
+        (&LEAST_WORDS, LEAST),
+        (&MOST_WORDS, MOST),
+        (&EACH_WORDS, EACH),
     ];
     for (words, wanted) in table {
-        let read = options_of(alloc, words)?;
+        let read = options_of(rt.alloc(), words)?;
         assert!(rt; matches!(read, Ok(_)), "at {words:?}");
         if let Ok(options) = read {
             assert_eq!(rt; options, wanted);

@@ -52,6 +52,20 @@ fn numbers_of_hot_bids_follow_their_own_worker(rt: HostRuntime) -> Result<(), Fa
     Ok(())
 }
 
+// The contended example of the documents: no shard is taken by both workers in a joined phase.
+#[test]
+fn performs_the_contended_example(rt: HostRuntime) -> Result<(), Fail> {
+    let input: &[u8] =
+        b"0,item,0,0,Vase,10,100,1\n1,viewuser,1\n0,bid,0,0.0,10,1\n1,viewuser,1\n0,bid,1,0.0,20,2\n1,bid,2,0.0,25,2\n0,viewitem,0.0\n0,bid,1,0.0,30,3\n";
+    let history: &[u8] =
+        b"0 1 0 0 item 0.0\n0 1 1 0 user rating=0 comments=0\n0 2 0 1 bid 0.0\n0 2 1 1 user rating=0 comments=0\n1 1 0 2 bid 0.1\n1 1 1 2 bid 1.0\n1 2 0 4 bid 0.2\n2 1 0 3 viewitem seller=0 category=0 start=10 closes=100 highest=30 bidder=1 bids=4 left=1 name=Vase\n";
+    let options = Options {
+        split: 3,
+        ..PAIR_HISTORY
+    };
+    texts_are(&rt, rt.alloc(), &options, &[(input, history)])
+}
+
 // Which of the two comes first is the threads' choice: the bid is stored exactly where its item was before it.
 #[test]
 fn a_bid_finds_an_item_of_its_phase_or_does_not(rt: HostRuntime) -> Result<(), Fail> {

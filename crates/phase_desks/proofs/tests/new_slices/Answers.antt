@@ -1,4 +1,4 @@
-use Rattle.std.proofs.Common.{refl, lit≤, ◌≤◌}
+use Rattle.std.proofs.Common.{refl}
 use Rattle.std.specs.List.{IsDistinct}
 use Rattle.phase_desks.proofs.tests.new_slices.Goals as goal
 

@@ -1,4 +1,4 @@
-use Rattle.std.proofs.Common.{◌≡◌, ◌∙◌, [], get_or, ap, arith}
+use Rattle.std.proofs.Common.{◌∙◌, [], get_or, ap, arith}
 use Rattle.shard_boxes.proofs.Each.{each_push}
 use Rattle.phase_desks.specs.Slicing.{slices_of}
 use Rattle.phase_floor.specs.declared.kits.Kit.{Kit}
