@@ -114,27 +114,45 @@ fn entries_from(alloc: Global, history: &[Entry], phase: u64) -> Result<Vec<Entr
     Ok(entries)
 }
 
-// Sees when a request of worker 0 arrives and leaves: a bit for each of phases 1 and 2.
+// Sees which requests arrive and leave, of two workers in up to four phases: a bit for each index below 8.
 #[derive(Drop)]
 struct Watch {
-    index: u32,
     arrived: AtomicU64,
     left: AtomicU64,
 }
 
+// The bit of a request, and all bits for one that is not watched.
+fn watched(phase: u64, worker: u32, index: u32) -> u64 {
+    if phase >= 4 || worker >= 2 || index >= 8 {
+        return u64::MAX;
+    }
+    1 << (phase * 16 + worker as u64 * 8 + index as u64)
+}
+
 impl Gate for Watch {
     fn arrive(&self, phase: u64, worker: u32, index: u32) {
-        if worker == 0 && index == self.index {
-            self.arrived.fetch_or(phase, Ordering::SeqCst);
-        }
+        self.arrived
+            .fetch_or(watched(phase, worker, index), Ordering::SeqCst);
     }
 
     fn leave(&self, phase: u64, worker: u32, index: u32) {
-        if worker == 0 && index == self.index {
-            self.left.fetch_or(phase, Ordering::SeqCst);
-        }
+        self.left
+            .fetch_or(watched(phase, worker, index), Ordering::SeqCst);
     }
 }
+
+// The phase, worker and index of each request that arrives in the run below: the view does so in two phases.
+const ARRIVALS: [(u64, u32, u32); 9] = [
+    (0, 0, 0),
+    (0, 0, 1),
+    (0, 1, 0),
+    (0, 1, 1),
+    (1, 0, 2),
+    (1, 0, 3),
+    (1, 0, 4),
+    (1, 1, 2),
+    (2, 0, 3),
+];
 
 #[test]
 fn view_waits_for_the_joined_phase(rt: HostRuntime) -> Result<(), Fail> {
@@ -142,7 +160,6 @@ fn view_waits_for_the_joined_phase(rt: HostRuntime) -> Result<(), Fail> {
     let first = [item()?, bid(0, 10, 1), bid(1, 20, 2), VIEW, bid(1, 30, 3)];
     let second = [LOOK, LOOK, bid(2, 25, 2)];
     let watch = Watch {
-        index: 3,
         arrived: AtomicU64::new(0),
         left: AtomicU64::new(0),
     };
@@ -163,8 +180,12 @@ fn view_waits_for_the_joined_phase(rt: HostRuntime) -> Result<(), Fail> {
     ];
     let later = entries_from(alloc, &outcome.history, 1)?;
     assert_eq!(rt; later.as_slice(), expected.as_slice());
-    assert_eq!(rt; watch.arrived.load(Ordering::SeqCst), 3);
-    assert_eq!(rt; watch.left.load(Ordering::SeqCst), 3);
+    let mut told = 0;
+    for (phase, worker, index) in ARRIVALS {
+        told |= watched(phase, worker, index);
+    }
+    assert_eq!(rt; watch.arrived.load(Ordering::SeqCst), told);
+    assert_eq!(rt; watch.left.load(Ordering::SeqCst), told);
     Ok(())
 }
 

@@ -10,8 +10,9 @@ use Rattle.auction_rows.proofs.HistoryLemmas.{book_after-replays, rows_go_on, lo
 use Rattle.phase_desks.specs.declared.counters.Counters.{Counters}
 use Rattle.phase_desks.specs.Deeds.{Deed, entry_of, counted, after_deed}
 use Rattle.phase_closing.specs.Phases.{Phase, HasClosed, counters_of, journal_of, receipt_at}
-use Rattle.phase_closing.specs.Standing.{StandFor, counters_at, stores}
-use Rattle.phase_closing.proofs.WorkerLemmas.{rows_star}
+use Rattle.phase_closing.specs.Standing.{StandFor, AreOfWorkers, counters_at, stores}
+use Rattle.phase_closing.proofs.WorkerLemmas.{rows_below, rows_star}
+use Rattle.item_shards.specs.Counting.{worker_of}
 use Rattle.item_shards.specs.Limits.{GivesStars, HasStars}
 use Rattle.item_shards.proofs.CanActLemmas.{all_both}
 use Rattle.std.specs.List.{AllByRecursion}
@@ -72,6 +73,12 @@ pub stores_few : (p : Phase) (closed : HasClosed p) (w : ℕ) → w < length p.r
 stores_few p closed w known few =
     subst (λ (counters : Counters). stores counters ≤ counters.commits) (sym (counts p closed w known))
     (stores_after (counters_at p.counters w) (deeds_by p closed w) few)
+
+pub workers_go_on : (p : Phase) (closed : HasClosed p) (book : Book) → StandFor p.opening p.counters book [] → AreOfWorkers (length p.counters) book
+    → AreOfWorkers (length p.receipts) (book_after p.setting.opening book p.entries)
+workers_go_on p closed book opens own =
+    subst (AreOfWorkers (length p.receipts)) (sym (book_after-replays p.setting.opening book p.entries (entries_replay p closed book opens)))
+    (all_both (λ row. worker_of row < length p.receipts) book (rows_of p.entries) (subst (λ n. AreOfWorkers n book) closed.begun.workers own) (rows_below p closed))
 
 pub stars_go_on : (p : Phase) (closed : HasClosed p) (book : Book) → StandFor p.opening p.counters book [] → AllByRecursion HasStars book
     → AllByRecursion (λ entry. GivesStars entry.request) p.entries → AllByRecursion HasStars (book_after p.setting.opening book p.entries)

@@ -98,4 +98,4 @@ module _ (facts : Facts) where
   shards (suc n) known = absurd (omega (arith, known))
 
   pub has_stood : StandFor (example_phase facts).opening (example_phase facts).counters (example_book facts) []
-  has_stood = record { shards = shards; counts = record { each = counts; no_others = (omega arith, tt) } }
+  has_stood = record { shards = shards; counts = counts }

@@ -14,11 +14,6 @@ use Rattle.auction_rows.specs.History.{IsRight, ReplaysFrom, after_entry, book_a
 use Rattle.auction_rows.specs.Requests.{shard_of}
 use Rattle.item_shards.specs.Shelves.{Shelf}
 use Rattle.item_shards.specs.Standing.{ShelfStandsFor}
-use Rattle.item_shards.specs.Counting.{worker_of}
-use Rattle.item_shards.proofs.CanActLemmas.{all_both}
-use Rattle.auction_rows.specs.History.{rows_of}
-use Rattle.auction_rows.proofs.HistoryLemmas.{book_after-replays}
-use Rattle.std.specs.List.{AllByRecursion}
 use Rattle.item_shards.specs.Values.{value, stock}
 use Rattle.item_shards.proofs.AnswerLemmas.{stock_is}
 use Rattle.shard_boxes.specs.declared.line.Line.{Line}
@@ -35,7 +30,6 @@ use Rattle.phase_closing.proofs.GivenLemmas.{given_is, is_known}
 use Rattle.phase_closing.proofs.HotLemmas.{stocked_of, read_of}
 use Rattle.phase_closing.proofs.PlaceLemmas.{Place, shard, worker, fixed, State, takes_at, step_at, Saw_at, Stands_at, next_at, Right_at, phase_laws}
 use Rattle.phase_closing.proofs.ReceiptLemmas.{receipt, no_deeds, answered, counts, counters_are}
-use Rattle.phase_closing.proofs.WorkerLemmas.{rows_below}
 use Rattle.phase_closing.proofs.ListLemmas.{lift, all_deeds, box, list_is, nowhere}
 
 -- Of a shard after lines, its shelf alone.
@@ -76,7 +70,7 @@ module _ (p : Phase) (closed : HasClosed p) (book : Book) (opens : StandFor p.op
   opening_at fixed = λ item. (facts_of book item, bought book item)
 
   counts_then : (w : ℕ) (case : (w < length p.receipts) ⊎ (length p.receipts ≤ w)) → CountsOf book w (counters_then w case)
-  counts_then w (inl known) = opens.counts.each w (subst (λ n. w < n) (sym closed.begun.workers) known)
+  counts_then w (inl known) = opens.counts w (subst (λ n. w < n) (sym closed.begun.workers) known)
   counts_then w (inr past) = record { items = refl; bids = refl; comments = refl; buys = refl }
 
   opening_stands : (q : Place) → Stands_at z q (opening_at q) book
@@ -144,21 +138,12 @@ module _ (p : Phase) (closed : HasClosed p) (book : Book) (opens : StandFor p.op
   counts_end w known = subst (CountsOf end w) (sym (counters_are p closed w))
       (counted_then w known (cases_lt w (length p.receipts)) (replay.1 (worker w)))
 
-  -- no row in the end is of another worker
-  rows_are : AllByRecursion (λ row. worker_of row < length p.counters) (book_after z.opening book p.entries)
-  rows_are = subst (AllByRecursion (λ row. worker_of row < length p.counters)) (sym (book_after-replays z.opening book p.entries entries_replay))
-      (all_both (λ row. worker_of row < length p.counters) book (rows_of p.entries) opens.counts.no_others
-      (subst (λ n. AllByRecursion (λ row. worker_of row < n) (rows_of p.entries)) (sym closed.begun.workers) (rows_below p closed)))
-
   pub replays_and_stands : ReplaysAndStands p book
   replays_and_stands = record {
     replays = entries_replay;
     stand = record {
       shards = subst (λ b. ShardsStandFor p.given b (hot_in z)) end_is
           (λ s known. subst (λ n. ShelfStandsFor s n (state_at p.given s).shelf end (hot_in z)) (sym closed.boxes.0) (given_stands s (subst (λ n. s < n) closed.boxes.0 known)));
-      counts = record {
-        each = λ w known. subst (λ b. CountsOf b w (counters_at (map counters_of p.receipts) w)) end_is (counts_end w (subst (λ n. w < n) (length-map p.receipts counters_of) known));
-        no_others = subst (λ n. AllByRecursion (λ row. worker_of row < n) (book_after z.opening book p.entries)) (closed.begun.workers ∙ sym (length-map p.receipts counters_of)) rows_are;
-      };
+      counts = λ w known. subst (λ b. CountsOf b w (counters_at (map counters_of p.receipts) w)) end_is (counts_end w (subst (λ n. w < n) (length-map p.receipts counters_of) known));
     };
   }

@@ -21,10 +21,13 @@ stores counters = counters.items + counters.bids + counters.comments + counters.
 abbrev pub ShardsStandFor : List ShardState → Book → List Object → Type 0
 ShardsStandFor states book hot = (s : ℕ) → s < length states → ShelfStandsFor s (length states) (state_at states s).shelf book hot
 
--- each worker's counters count its rows of a book, and no row is of a worker beyond these
-pub record AreCountersOf (counters : List Counters) (book : Book) : Type 0 where
-  pub each : (w : ℕ) → w < length counters → CountsOf book w (counters_at counters w)
-  pub no_others : AllByRecursion (λ row. worker_of row < length counters) book
+-- each worker's counters count its rows of a book
+abbrev pub AreCountersOf : List Counters → Book → Type 0
+AreCountersOf counters book = (w : ℕ) → w < length counters → CountsOf book w (counters_at counters w)
+
+-- each row is of one of so many workers
+abbrev pub AreOfWorkers : ℕ → Book → Type 0
+AreOfWorkers workers book = AllByRecursion (λ row. worker_of row < workers) book
 
 -- Shards and counters stand for a book, but for hot objects.
 pub record StandFor (states : List ShardState) (counters : List Counters) (book : Book) (hot : List Object) : Type 0 where

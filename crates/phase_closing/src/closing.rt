@@ -6,7 +6,7 @@ ghost use Rattle.auction_rows.specs.History.{IsBook, book_after};
 ghost use Rattle.item_shards.specs.Limits.{GivesStars, HasStars};
 ghost use Rattle.phase_desks.specs.Deeds.{hot_in};
 ghost use Rattle.phase_closing.specs.Phases.{Phase, HasClosed, receipt_at, counters_of, journal_of};
-ghost use Rattle.phase_closing.specs.Standing.{StandFor, counters_at, stores};
+ghost use Rattle.phase_closing.specs.Standing.{StandFor, AreOfWorkers, counters_at, stores};
 ghost use Rattle.phase_closing.specs.Histories.{HoldTheEntries, FollowWhatTheyShare, ReplaysAndStands};
 
 /// Each shard's list holds the lines of the entries whose footprint has the shard, in the entries' order, and
@@ -29,13 +29,17 @@ pub fn entries_replay()
         ReplaysAndStands p book }
 {}
 
-/// A book of the opening leaves one. Its stars are from -5 to 5, where those of the book and of the entries are.
+/// A book of the opening leaves one. Its stars are from -5 to 5, where those of the book and of the entries are, and
+/// its rows are of the phase's workers, where those of the book are.
 pub fn books_go_on()
     ensures books { (p : Phase) → HasClosed p → (book : Book) → StandFor p.opening p.counters book [] →
         IsBook p.setting.opening book → IsBook p.setting.opening (book_after p.setting.opening book p.entries) }
     ensures stars { (p : Phase) → HasClosed p → (book : Book) → StandFor p.opening p.counters book [] →
         AllByRecursion HasStars book → AllByRecursion (λ entry. GivesStars entry.request) p.entries →
         AllByRecursion HasStars (book_after p.setting.opening book p.entries) }
+    ensures workers { (p : Phase) → HasClosed p → (book : Book) → StandFor p.opening p.counters book [] →
+        AreOfWorkers (length p.counters) book →
+        AreOfWorkers (length p.receipts) (book_after p.setting.opening book p.entries) }
 {}
 
 /// A worker's commits grow by the entries of its journal. Its stores, where they were no more than its commits, are

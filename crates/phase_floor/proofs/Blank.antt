@@ -53,10 +53,7 @@ module _ (opening : Opening) (shards : List Shard) (counters : List Counters) (c
   pub blank_stands : StandsFor (joined_of opening 0 shards counters) []
   blank_stands = record {
     shards = λ s below object lies cold. (blank s (here s below)).nothing object ∙ sym (blank_of_none object);
-    counts = record {
-      each = λ w below. subst (CountsOf [] w) (nothing w) (record { items = refl; bids = refl; comments = refl; buys = refl });
-      no_others = tt;
-    };
+    counts = λ w below. subst (CountsOf [] w) (nothing w) (record { items = refl; bids = refl; comments = refl; buys = refl });
   }
 
   pub blank_kept : (0 < count) × (count ≤ 64) → (0 < workers) × (workers ≤ 16) → length counters ≡ workers → IsKept opening (map state_of shards) counters
@@ -68,5 +65,5 @@ module _ (opening : Opening) (shards : List Shard) (counters : List Counters) (c
     opened = λ s below. subst (λ n. IsOpened n s (state_at (map state_of shards) s)) (sym (same ∙ len)) (opened_of_blank opening count s (state_at (map state_of shards) s) (blank s (here s below)));
     opening_is = λ s below. (blank s (here s below)).opening_is;
     limits = λ w below. subst IsWithinLimit (nothing w) (record { stored = omega arith; commits = omega arith });
-    of_a_book = λ none. none [] tt tt blank_stands;
+    of_a_book = λ none. none [] tt tt tt blank_stands;
   }

@@ -21,8 +21,8 @@ use Rattle.shard_boxes.specs.States.{ShardState, state_of, state_at, IsWithin, A
 use Rattle.phase_desks.specs.declared.counters.Counters.{Counters}
 use Rattle.phase_transactions.specs.Permits.{PermitState}
 use Rattle.phase_closing.specs.Phases.{HasClosed, receipt_at, counters_of}
-use Rattle.phase_closing.specs.Standing.{StandFor, counters_at}
-use Rattle.phase_closing.proofs.CommitLemmas.{book_left, stores_few, stars_go_on}
+use Rattle.phase_closing.specs.Standing.{StandFor, AreOfWorkers, counters_at}
+use Rattle.phase_closing.proofs.CommitLemmas.{book_left, stores_few, stars_go_on, workers_go_on}
 use Rattle.phase_floor.specs.Closings.{AreReceiptsOf, phase_of}
 use Rattle.phase_floor.specs.Floors.{FloorState, IsOpen}
 use Rattle.phase_floor.specs.Resuming.{AreReady}
@@ -44,10 +44,10 @@ not_over n m h = omega (arith, h)
 module _ (opening : Opening) (shards : List Shard) (counters : List Counters) (ready : AreReady opening (map state_of shards))
     (few : length counters ≤ 16) (limits : AreWithinLimit counters) (of_a_book : AreOfABook opening (map state_of shards) counters) where
   -- of a book for which they stand
-  size : (book : Book) → StandFor (map state_of shards) counters book [] → length book ≤ 16000000
-  size book holds =
-      let all = size_at_most book 1000000 (length counters) holds.counts.no_others (λ w low.
-      let counts = holds.counts.each w low in let limit = limits w low in omega (arith, counts.items, counts.bids, counts.comments, counts.buys, limit.stored, limit.commits)) in
+  size : (book : Book) → AreOfWorkers (length counters) book → StandFor (map state_of shards) counters book [] → length book ≤ 16000000
+  size book own holds =
+      let all = size_at_most book 1000000 (length counters) own (λ w low.
+      let counts = holds.counts w low in let limit = limits w low in omega (arith, counts.items, counts.bids, counts.comments, counts.buys, limit.stored, limit.commits)) in
       omega (arith, all, few)
 
   -- what holds of blank values and of those of a book for which they stand holds of theirs
@@ -56,14 +56,14 @@ module _ (opening : Opening) (shards : List Shard) (counters : List Counters) (r
     abbrev state : ShardState
     state = state_at (map state_of shards) s
 
-    over : most < measure (state.shelf object) → (book : Book) → AllByRecursion HasStars book → StandFor (map state_of shards) counters book [] → ⊥
-    over more book stars holds = at (shard_of object state.shards == state.number) refl where
+    over : most < measure (state.shelf object) → (book : Book) → AllByRecursion HasStars book → AreOfWorkers (length counters) book → StandFor (map state_of shards) counters book [] → ⊥
+    over more book stars own holds = at (shard_of object state.shards == state.number) refl where
       at : (b : Bool) → (shard_of object state.shards == state.number) ≡ b → ⊥
       at true here =
           let lies : shard_of object (length (map state_of shards)) ≡ s =
           ap (shard_of object) (sym (ready.numbered s below).1) ∙ eqb-true (shard_of object state.shards) state.number here ∙ (ready.numbered s below).0 in
           let is : measure (state.shelf object) ≡ measure (value book object) = ap measure (holds.shards s below object lies refl) in
-          let low = some book stars (size book holds) in
+          let low = some book stars (size book own holds) in
           omega (arith, is, low, more)
       at false apart =
           let same : length (map state_of shards) ≡ length shards = simp length-map in
@@ -71,7 +71,7 @@ module _ (opening : Opening) (shards : List Shard) (counters : List Counters) (r
           omega (arith, is, none, more)
 
     measured : measure (state.shelf object) ≤ most
-    measured = not_over (measure (state.shelf object)) most (λ more. of_a_book (λ book is stars holds. over more book stars holds))
+    measured = not_over (measure (state.shelf object)) most (λ more. of_a_book (λ book is stars own holds. over more book stars own holds))
 
   within : (s : ℕ) → s < length (map state_of shards) → IsWithin (state_at (map state_of shards) s)
   within s below = record {
@@ -110,9 +110,11 @@ module _ (opening : List ShardState) (workers : ℕ) (floor : FloorState) (is_op
   module _ (shards : List Shard) (as_many : length (map state_of shards) ≡ length opening) (ready : AreReady floor.opening (map state_of shards))
       (stand : (book : Book) → StandFor opening floor.counters book [] → StandFor (map state_of shards) (map counters_of receipts) (book_after floor.opening book entries) []) where
     of_a_book_after : AreOfABook floor.opening (map state_of shards) (map counters_of receipts)
-    of_a_book_after = λ none. is_open.kept.of_a_book (λ book is stars_are holds.
+    of_a_book_after = λ none. is_open.kept.of_a_book (λ book is stars_are own holds.
         none (book_after floor.opening book entries) (book_left (phase_of opening floor receipts given entries) closed book holds is)
-        (stars_go_on (phase_of opening floor receipts given entries) closed book holds stars_are stars) (stand book holds))
+        (stars_go_on (phase_of opening floor receipts given entries) closed book holds stars_are stars)
+        (subst (λ n. AreOfWorkers n (book_after floor.opening book entries)) (sym many) (workers_go_on (phase_of opening floor receipts given entries) closed book holds own))
+        (stand book holds))
 
     pub kept_after : IsKept floor.opening (map state_of shards) (map counters_of receipts)
     kept_after =

@@ -24,7 +24,7 @@ use Rattle.phase_closing.specs.Merging.{after_merge, slices_left, CanMerge}
 use Rattle.phase_closing.proofs.MergeLemmas.{as_many as as_many_merged}
 use Rattle.phase_closing.proofs.ReconcileLemmas.{reconciled_stand}
 use Rattle.phase_closing.proofs.RoomLemmas.{merges_can_be_done}
-use Rattle.phase_floor.specs.Closings.{AreReceiptsOf, AreOfOne, AreKnown, IsNumbered, phase_of, at_start, sliced_of, opening_in, from_the_last}
+use Rattle.phase_floor.specs.Closings.{AreReceiptsOf, AreOfOne, AreKnown, IsKnown, phase_of, at_start, sliced_of, opening_in, from_the_last}
 use Rattle.phase_floor.specs.Floors.{FloorState, IsOpen}
 use Rattle.phase_floor.specs.Resuming.{AreReady}
 use Rattle.phase_floor.specs.States.{DoesExist, DoAllExist}
@@ -45,21 +45,21 @@ all_once (receipt ∷ receipts) =
 
 -- What exists has a number.
 
-exists_numbered : (opening : Opening) (states : List ShardState) (object : Object) → DoesExist opening states object → IsNumbered opening object
-exists_numbered opening states (Item id) exists = tt
-exists_numbered opening states (User user) exists = exists
-exists_numbered opening states (Category category) exists = exists
+exists_known : (opening : Opening) (states : List ShardState) (object : Object) → DoesExist opening states object → IsKnown opening object
+exists_known opening states (Item id) exists = tt
+exists_known opening states (User user) exists = exists
+exists_known opening states (Category category) exists = exists
 
 slices_numbered : (opening : Opening) (states : List ShardState) (slices : List (Object × Hot)) → DoAllExist opening states (objects_of (stocks_of slices))
-    → AllByRecursion (λ pair. IsNumbered opening pair.0) (slices_in slices)
+    → AllByRecursion (λ pair. IsKnown opening pair.0) (slices_in slices)
 slices_numbered opening states [] exist = tt
-slices_numbered opening states (hot ∷ hots) exist = (exists_numbered opening states hot.0 exist.0, slices_numbered opening states hots exist.1)
+slices_numbered opening states (hot ∷ hots) exist = (exists_known opening states hot.0 exist.0, slices_numbered opening states hots exist.1)
 
 all_numbered : (opening : Opening) (states : List ShardState) (stocks : List (Object × Option (Facts × ℕ))) → DoAllExist opening states (objects_of stocks)
-    → (receipts : List PermitState) → AllByRecursion (λ receipt. stocks_of receipt.split.slices ≡ stocks) receipts → AllByRecursion (λ pair. IsNumbered opening pair.0) (slices_left receipts)
+    → (receipts : List PermitState) → AllByRecursion (λ receipt. stocks_of receipt.split.slices ≡ stocks) receipts → AllByRecursion (λ pair. IsKnown opening pair.0) (slices_left receipts)
 all_numbered opening states stocks exist [] are = tt
 all_numbered opening states stocks exist (receipt ∷ receipts) are =
-    all_both (λ (pair : Object × Slice). IsNumbered opening pair.0) (slices_in receipt.split.slices) (slices_left receipts)
+    all_both (λ (pair : Object × Slice). IsKnown opening pair.0) (slices_in receipt.split.slices) (slices_left receipts)
     (slices_numbered opening states receipt.split.slices (subst (λ s. DoAllExist opening states (objects_of s)) (sym are.0) exist))
     (all_numbered opening states stocks exist receipts are.1)
 
@@ -84,10 +84,10 @@ module _ (opening : List ShardState) (workers : ℕ) (floor : FloorState) (is_op
 
   pub given_known : AreKnown given (order_of receipts)
   given_known =
-      let P : Object × Slice → Type 0 = λ pair. IsNumbered (opening_in given) pair.0 in
+      let P : Object × Slice → Type 0 = λ pair. IsKnown (opening_in given) pair.0 in
       let stocks : AllByRecursion (λ receipt. stocks_of receipt.split.slices ≡ floor.stocks) receipts =
       every_from (λ receipt. stocks_of receipt.split.slices ≡ floor.stocks) receipts no_receipt (λ w below. (are.1 w (omega (arith, below, are.0))).stocks_are) in
-      let left = subst (λ (o : Opening). AllByRecursion (λ (pair : Object × Slice). IsNumbered o pair.0) (slices_left receipts)) (sym first)
+      let left = subst (λ (o : Opening). AllByRecursion (λ (pair : Object × Slice). IsKnown o pair.0) (slices_left receipts)) (sym first)
       (all_numbered floor.opening opening floor.stocks is_open.stocks_are.exist receipts stocks) in
       recursion_from_All P (order_of receipts) (All-permutation P (slices_left receipts) (order_of receipts) (all_once receipts) (All-from_recursion P (slices_left receipts) left))
 

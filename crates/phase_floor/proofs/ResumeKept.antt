@@ -1,6 +1,5 @@
 -- What is kept between phases holds of what an opening book leaves.
 use Rattle.std.proofs.Common.{◌≡◌, ℕ, ◌+◌, ◌<◌, ◌≤◌, ◌==◌, cond, List, [], ◌∷◌, map, length, refl, sym, subst, arith}
-use Rattle.std.specs.List.{AllByRecursion}
 use Rattle.std.proofs.lemmas.List.{length-map}
 use Rattle.std.proofs.lemmas.List.Sums.{sum_by-append}
 use Rattle.auction_rows.specs.declared.numbers.Opening.{Opening}
@@ -13,9 +12,9 @@ use Rattle.item_shards.specs.OpeningRows.{rows_by}
 use Rattle.shard_boxes.specs.States.{state_of}
 use Rattle.phase_desks.specs.declared.counters.Counters.{Counters}
 use Rattle.phase_desks.specs.Splits.{CountsOf}
-use Rattle.phase_closing.specs.Standing.{ShardsStandFor, StandFor, counters_at, stores}
+use Rattle.phase_closing.specs.Standing.{ShardsStandFor, StandFor, AreOfWorkers, counters_at, stores}
 use Rattle.phase_floor.specs.Resuming.{counters_in, AreReady}
-use Rattle.phase_floor.specs.States.{IsKept, IsWithinLimit, AreWithinLimit}
+use Rattle.phase_floor.specs.States.{AreOfABook, IsKept, IsWithinLimit, AreWithinLimit}
 use Rattle.phase_floor.proofs.BookSize.{one_more}
 use Rattle.phase_floor.proofs.Kept.{are_opened}
 
@@ -27,15 +26,12 @@ stored_few (one ∷ b) w =
     omega (arith, rest, more, rows)
 
 module _ (opening : Opening) (book : Book) (shards : List Shard) (counters : List Counters) (workers : ℕ) (many : length counters ≡ workers)
-    (each : (w : ℕ) → w < workers → counters_at counters w ≡ counters_in book w) (own : AllByRecursion (λ one. worker_of one < workers) book)
+    (each : (w : ℕ) → w < workers → counters_at counters w ≡ counters_in book w) (own : AreOfWorkers workers book)
     (stand : ShardsStandFor (map state_of shards) book []) where
   pub stand_for : StandFor (map state_of shards) counters book []
   stand_for = record {
     shards = stand;
-    counts = record {
-      each = λ w low. let is = sym (each w (omega (arith, low, many))) in subst (CountsOf book w) is (record { items = refl; bids = refl; comments = refl; buys = refl });
-      no_others = subst (λ n. AllByRecursion (λ one. worker_of one < n) book) (sym many) own;
-    };
+    counts = λ w low. let is = sym (each w (omega (arith, low, many))) in subst (CountsOf book w) is (record { items = refl; bids = refl; comments = refl; buys = refl });
   }
 
   pub kept_of : IsBook opening book → IsWithinLimits book → ((w : ℕ) → w < 16 → rows_by book w ≤ 1000000) → AreReady opening (map state_of shards)
@@ -44,13 +40,14 @@ module _ (opening : Opening) (book : Book) (shards : List Shard) (counters : Lis
       let same : length (map state_of shards) ≡ length shards = simp length-map in
       let within : AreWithinLimit counters = λ w low. let at = each w (omega (arith, low, many)) in
       subst IsWithinLimit (sym at) (record { stored = stored_few book w; commits = few w (omega (arith, low, many, hands)) }) in
+      let of_a_book : AreOfABook opening (map state_of shards) counters = λ none. none book is limits.stars (subst (λ n. AreOfWorkers n book) (sym many) own) stand_for in
       let most : length counters ≤ 16 = omega (arith, many, hands) in record {
         some_shards = omega (arith, same, some);
         few_shards = omega (arith, same, some);
         some_workers = omega (arith, many, hands);
         few_workers = most;
-        opened = are_opened opening shards counters ready most within (λ none. none book is limits.stars stand_for);
+        opened = are_opened opening shards counters ready most within of_a_book;
         opening_is = ready.opening_is;
         limits = within;
-        of_a_book = λ none. none book is limits.stars stand_for;
+        of_a_book = of_a_book;
       }

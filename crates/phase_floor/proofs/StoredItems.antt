@@ -35,9 +35,9 @@ module _ (opening : Opening) (states : List ShardState) (counters : List Counter
   no_later id some below from book is holds =
       let place = shard_of (Item id) (length states) in
       let seen : value_on states (Item id) ≡ value book (Item id) = holds.shards place (within (number_of (Item id)) (length states) kept.some_shards) (Item id) refl refl in
-      let fresh = (ids_of_book opening book is).0.items id.worker id.serial (omega (arith, from, (holds.counts.each id.worker below).items)) in
+      let fresh = (ids_of_book opening book is).0.items id.worker id.serial (omega (arith, from, (holds.counts id.worker below).items)) in
       nothing_left book id (ap (option_map (λ row. row.facts)) fresh) (subst (λ v. IsSome (stock v)) seen some)
 
   -- a stored item's serial is below its worker's count
   pub stored_before : (id : ItemId) → IsSome (stock (value_on states (Item id))) → id.worker < length counters → id.serial < (counters_at counters id.worker).items
-  stored_before id some below = not_from id.serial _ (λ from. kept.of_a_book (λ book is stars holds. no_later id some below from book is holds))
+  stored_before id some below = not_from id.serial _ (λ from. kept.of_a_book (λ book is stars own holds. no_later id some below from book is holds))

@@ -11,7 +11,7 @@ use Rattle.shard_boxes.specs.States.{ShardState}
 use Rattle.phase_desks.specs.declared.slices.Hot.{Hot}
 use Rattle.phase_desks.specs.Slicing.{slices_in}
 use Rattle.phase_closing.specs.Merging.{after_merge, CanMerge}
-use Rattle.phase_floor.specs.Closings.{AreOfOne, AreKnown, IsNumbered, opening_in, from_the_last}
+use Rattle.phase_floor.specs.Closings.{AreOfOne, AreKnown, IsKnown, opening_in, from_the_last}
 use Rattle.phase_floor.proofs.Merges.{still_of_one, one_opening}
 
 saw_split : {D S : Type 0} (P : S → D → Type 0) (step : S → D → S) (xs ys : List D) (s : S) → SawInTurn P step s (xs ++ ys) → SawInTurn P step s xs × SawInTurn P step (fold step s xs) ys
@@ -38,8 +38,8 @@ pub record AreToMerge (start now : List ShardState) (all left : List (Object × 
   pub whole : fold after_merge now left ≡ fold after_merge start all
 
 module _ (start now : List ShardState) (all left first rest : List (Object × Slice)) (is : left ≡ first ++ rest) (was : AreToMerge start now all left) where
-  all_known : AreKnown now first × AllByRecursion (λ pair. IsNumbered (opening_in now) pair.0) rest
-  all_known = all_split (λ (pair : Object × Slice). IsNumbered (opening_in now) pair.0) first rest (subst (AreKnown now) is was.known)
+  all_known : AreKnown now first × AllByRecursion (λ pair. IsKnown (opening_in now) pair.0) rest
+  all_known = all_split (λ (pair : Object × Slice). IsKnown (opening_in now) pair.0) first rest (subst (AreKnown now) is was.known)
 
   pub first_known : AreKnown now first
   first_known = all_known.0
@@ -54,7 +54,7 @@ module _ (start now : List ShardState) (all left first rest : List (Object × Sl
   pub merged_next : (next : List ShardState) → next ≡ fold after_merge now first → AreToMerge start next all rest
   merged_next next merged = record {
     one = subst AreOfOne (sym merged) (one_after first now was.one);
-    known = subst (λ (o : Opening). AllByRecursion (λ (pair : Object × Slice). IsNumbered o pair.0) rest) (sym (ap opening_in merged ∙ opening_after first now)) all_known.1;
+    known = subst (λ (o : Opening). AllByRecursion (λ (pair : Object × Slice). IsKnown o pair.0) rest) (sym (ap opening_in merged ∙ opening_after first now)) all_known.1;
     can = subst (λ (states : List ShardState). SawInTurn CanMerge after_merge states rest) (sym merged) all_can.1;
     whole = ap (λ (states : List ShardState). fold after_merge states rest) merged ∙ sym (fold-append after_merge now first rest) ∙ ap (fold after_merge now) (sym is) ∙ was.whole;
   }

@@ -82,14 +82,14 @@ abbrev pub opening_in : List ShardState → Opening
 opening_in states = (state_at states 0).opening
 
 -- a user or category of the opening, or any item
-abbrev pub IsNumbered : Opening → Object → Type 0
-IsNumbered opening (Item id) = ⊤
-IsNumbered opening (User user) = user < opening.users
-IsNumbered opening (Category category) = category < opening.categories
+abbrev pub IsKnown : Opening → Object → Type 0
+IsKnown opening (Item id) = ⊤
+IsKnown opening (User user) = user < opening.users
+IsKnown opening (Category category) = category < opening.categories
 
 -- each slice is of an item, or of a user or category of the shards' opening
 abbrev pub AreKnown : List ShardState → List (Object × Slice) → Type 0
-AreKnown states pairs = AllByRecursion (λ pair. IsNumbered (opening_in states) pair.0) pairs
+AreKnown states pairs = AllByRecursion (λ pair. IsKnown (opening_in states) pair.0) pairs
 
 -- a worker's slices, the last first
 abbrev pub from_the_last : List (Object × Hot) → List (Object × Slice)

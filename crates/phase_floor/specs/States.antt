@@ -13,7 +13,7 @@ use Rattle.shard_boxes.specs.States.{ShardState, state_of, AreOpened}
 use Rattle.phase_desks.specs.declared.counters.Counters.{Counters}
 use Rattle.phase_transactions.specs.Single.{HaveOpening}
 use Rattle.phase_closing.specs.Phases.{value_on}
-use Rattle.phase_closing.specs.Standing.{StandFor, counters_at, stores}
+use Rattle.phase_closing.specs.Standing.{StandFor, AreOfWorkers, counters_at, stores}
 
 -- the users and categories, the number of the next phase, the shards, and the counters of each worker
 pub record JoinedState : Type 0 where
@@ -49,9 +49,11 @@ pub record IsWithinLimit (counters : Counters) : Type 0 where
 abbrev pub AreWithinLimit : List Counters → Type 0
 AreWithinLimit counters = (w : ℕ) → w < length counters → IsWithinLimit (counters_at counters w)
 
--- It is not so that they stand for no book. Whatever can be tested of them, and holds where they stand for a book, holds here.
+-- It is not so that they stand for no book of their workers' rows. Whatever can be tested of them, and holds where they stand
+-- for such a book, holds here.
 abbrev pub AreOfABook : Opening → List ShardState → List Counters → Type 0
-AreOfABook opening states counters = ¬ ((book : Book) → IsBook opening book → AllByRecursion HasStars book → StandFor states counters book [] → ⊥)
+AreOfABook opening states counters =
+    ¬ ((book : Book) → IsBook opening book → AllByRecursion HasStars book → AreOfWorkers (length counters) book → StandFor states counters book [] → ⊥)
 
 -- what is kept between phases: 1 to 64 shards with which a phase may open, 1 to 16 workers within limits, and that they are of
 -- a book

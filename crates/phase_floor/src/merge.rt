@@ -4,7 +4,7 @@ ghost use Rattle.std.specs.List.{flat_map};
 ghost use Rattle.phase_laws.specs.Replay.{SawInTurn};
 ghost use Rattle.shard_boxes.specs.States.{state_of};
 ghost use Rattle.phase_closing.specs.Merging.{CanMerge, after_merge};
-ghost use Rattle.phase_floor.specs.Closings.{AreOfOne, AreKnown, IsNumbered, opening_in, from_the_last};
+ghost use Rattle.phase_floor.specs.Closings.{AreOfOne, AreKnown, IsKnown, opening_in, from_the_last};
 
 use auction_rows::{Object, shard_of};
 use item_shards::{Shard, Slice};
@@ -13,7 +13,7 @@ use phase_permits::Slices;
 // Merges a slice of an object into the shard in which it lies.
 pub(crate) fn merge(shards: &mut Vec<Shard>, object: Object, slice: Slice)
     requires shards { AreOfOne (map state_of shards.old.items) }
-    requires known { IsNumbered (opening_in (map state_of shards.old.items)) object }
+    requires known { IsKnown (opening_in (map state_of shards.old.items)) object }
     requires can { CanMerge (map state_of shards.old.items) (object, slice) }
     ensures { map state_of shards.new.items ≡ after_merge (map state_of shards.old.items) (object, slice) }
 {

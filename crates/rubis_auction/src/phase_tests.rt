@@ -1,6 +1,6 @@
 //! Runs of several workers, in joined and split phases.
 use crate::options::Options;
-use crate::tests::{REPLIES, answer_to, texts_are};
+use crate::tests::{REPLIES, USUAL, answer_to, texts_are};
 use std::test::Fail;
 
 // Two workers, in joined and split phases of two requests.
@@ -103,13 +103,18 @@ fn reports_after_the_replies(rt: HostRuntime) -> Result<(), Fail> {
 
 #[test]
 fn reports_of_nothing(rt: HostRuntime) -> Result<(), Fail> {
-    let report: &[u8] = b"phases 0\nrequests 0\nrefused 0\ncategory 0 latest\n";
-    let options = Options {
-        categories: 1,
-        report: true,
-        ..REPLIES
-    };
-    texts_are(&rt, rt.alloc(), &options, &[(b"", report)])
+    let one_category: &[u8] = b"phases 0\nrequests 0\nrefused 0\ncategory 0 latest\n";
+    let ten_categories: &[u8] =
+        b"phases 0\nrequests 0\nrefused 0\ncategory 0 latest\ncategory 1 latest\ncategory 2 latest\ncategory 3 latest\ncategory 4 latest\ncategory 5 latest\ncategory 6 latest\ncategory 7 latest\ncategory 8 latest\ncategory 9 latest\n";
+    for (categories, report) in [(1, one_category), (10, ten_categories)] {
+        let options = Options {
+            categories,
+            report: true,
+            ..USUAL
+        };
+        texts_are(&rt, rt.alloc(), &options, &[(b"", report)])?;
+    }
+    Ok(())
 }
 
 #[test]

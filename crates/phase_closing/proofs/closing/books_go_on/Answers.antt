@@ -1,4 +1,4 @@
-use Rattle.phase_closing.proofs.CommitLemmas.{book_left, stars_go_on}
+use Rattle.phase_closing.proofs.CommitLemmas.{book_left, stars_go_on, workers_go_on}
 use Rattle.phase_closing.proofs.closing.books_go_on.Goals as goal
 
 pub returns-clause-books : goal.returns-clause-books
@@ -6,3 +6,6 @@ returns-clause-books c = book_left
 
 pub returns-clause-stars : goal.returns-clause-stars
 returns-clause-stars c = stars_go_on
+
+pub returns-clause-workers : goal.returns-clause-workers
+returns-clause-workers c = workers_go_on

@@ -5,7 +5,7 @@ use Rattle.auction_rows.specs.declared.ids.Object.TheVariants.{Category}
 use Rattle.auction_rows.specs.Requests.{shard_of}
 use Rattle.shard_boxes.specs.States.{ShardState, state_of, state_at, no_shard}
 use Rattle.phase_closing.specs.Merging.{with_slice}
-use Rattle.phase_floor.specs.Closings.{IsNumbered, opening_in}
+use Rattle.phase_floor.specs.Closings.{IsKnown, opening_in}
 use Rattle.phase_floor.proofs.Merges.{merged_at}
 use Rattle.phase_floor.proofs.merge.merge.Goals as goal
 
@@ -71,5 +71,5 @@ merge_category-requires-clause-known c =
     let seen : state_of old ≡ state_at (map state_of items) place = ap state_of c.index_mut-shard.ensures.value ∙ sym (get_or-map state_of items place old no_shard low) in
     let below : place < length (map state_of items) = omega (arith, low, same) in
     let opening = ap (λ (s : ShardState). s.opening) seen ∙ c.requires.shards.opening_is place below in
-    let known : c.in-Category-Category.category < (opening_in (map state_of items)).categories = subst (IsNumbered (opening_in (map state_of items))) c.in-Category-Category.is-0 c.requires.known in
+    let known : c.in-Category-Category.category < (opening_in (map state_of items)).categories = subst (IsKnown (opening_in (map state_of items))) c.in-Category-Category.is-0 c.requires.known in
     omega (arith, known, ap (λ (o : Opening). o.categories) opening)
