@@ -10,16 +10,10 @@ mod permit;
 mod phase;
 mod quotas;
 mod round;
-#[cfg(test)]
-mod run_tests;
 mod running;
 mod serving;
 mod split_phase;
-#[cfg(test)]
-mod tests;
 mod threads;
-#[cfg(test)]
-mod worked_tests;
 mod worker;
 
 pub use choosing::choose_hot;

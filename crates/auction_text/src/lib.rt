@@ -21,14 +21,3 @@ pub use report::ReportLines;
 pub use scripts::{Input, MOST_RECORDS, read_scripts};
 pub use text_laws::{replies_in_order, rows_of_histories};
 pub use writing::{write_history, write_replies, write_report, write_rows};
-
-#[cfg(test)]
-mod history_tests;
-#[cfg(test)]
-mod kinds_tests;
-#[cfg(test)]
-mod reading_tests;
-#[cfg(test)]
-mod report_tests;
-#[cfg(test)]
-mod writing_tests;

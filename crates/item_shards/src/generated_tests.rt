@@ -179,16 +179,18 @@ fn views_of_a_generated_book(rt: HostRuntime) -> Result<(), Fail> {
     Ok(())
 }
 
-#[test]
-fn one_item_listed(rt: HostRuntime) -> Result<(), Fail> {
-    let alloc = rt.alloc();
-    let row = row_to_add(&[], OPENING, 0, item(0, 0, 1, 1)?.request).ok_or("a row")?;
-    let shard = shard_with(alloc, 0, &[row])?;
+/// A category in which the first item alone stands.
+fn one_listed() -> Reply {
     let mut latest = Ten::new();
     latest.push(ItemShown { time: 1, id: FIRST });
-    assert_eq!(rt;
-        shard.view(Request::ViewCategory { category: 0 })?,
-        Reply::CategorySeen(latest)
-    );
+    Reply::CategorySeen(latest)
+}
+
+#[test]
+fn one_item_listed(rt: HostRuntime) -> Result<(), Fail> {
+    let row = row_to_add(&[], OPENING, 0, item(0, 0, 1, 1)?.request).ok_or("a row")?;
+    let shard = shard_with(rt.alloc(), 0, &[row])?;
+    let reply = shard.view(Request::ViewCategory { category: 0 })?;
+    assert_eq!(rt; reply, one_listed());
     Ok(())
 }

@@ -7,6 +7,7 @@ use auction_rows::{
 };
 use split_records::Splittable;
 use std::alloc::Global;
+use std::process::Abort;
 use std::test::Fail;
 
 const OPENING: Opening = Opening {
@@ -18,6 +19,8 @@ const FIRST: ItemId = ItemId {
     worker: 0,
     serial: 0,
 };
+
+const VIEW: Request = Request::ViewItem { item: FIRST };
 
 /// A vase, put up by user 0 in category 0 until time 100.
 fn vase(start: u64, quantity: u64) -> Result<Facts, Fail> {
@@ -95,22 +98,36 @@ fn clock_goes_forward_and_back_to_0(rt: HostRuntime) -> Result<(), Fail> {
     Ok(())
 }
 
+/// Compares what a shard shows.
+fn shows(rt: &impl Abort, shard: &Shard, view: Request, expected: &Reply) -> Result<(), Fail> {
+    let reply = shard.view(view)?;
+    assert_eq!(rt; reply, *expected);
+    Ok(())
+}
+
+/// Compares the view of a vase after these acts.
+fn shows_after(
+    rt: &impl Abort,
+    mut shard: Shard,
+    acts: &[Act],
+    expected: &Reply,
+) -> Result<(), Fail> {
+    shard.play(acts)?;
+    shows(rt, &shard, VIEW, expected)
+}
+
 #[test]
 fn room_shows_nothing(rt: HostRuntime) -> Result<(), Fail> {
     let mut shard = Shard::new(rt.alloc(), 0, 4, OPENING)?;
     shard.prepare_item(FIRST)?;
-    let view = shard.view(Request::ViewItem { item: FIRST })?;
-    assert_eq!(rt; view, Reply::Refused(Refusal::NoSuchItem));
-    Ok(())
+    shows(&rt, &shard, VIEW, &Reply::Refused(Refusal::NoSuchItem))
 }
 
 #[test]
 fn first_example(rt: HostRuntime) -> Result<(), Fail> {
-    let mut shard = with_vase(rt.alloc(), 10, 1)?;
-    shard.play(&[Act::Bid(FIRST, bid(10, 5, 1, 0, 0))])?;
-    let view = shard.view(Request::ViewItem { item: FIRST })?;
-    assert_eq!(rt; view, seen(10, Some(10), Some(1), 1, 1)?);
-    Ok(())
+    let acts = [Act::Bid(FIRST, bid(10, 5, 1, 0, 0))];
+    let expected = seen(10, Some(10), Some(1), 1, 1)?;
+    shows_after(&rt, with_vase(rt.alloc(), 10, 1)?, &acts, &expected)
 }
 
 #[test]
@@ -128,13 +145,8 @@ fn stored_vase(rt: HostRuntime) -> Result<(), Fail> {
     Ok(())
 }
 
-#[test]
-fn eleven_bids(rt: HostRuntime) -> Result<(), Fail> {
-    let mut shard = with_vase(rt.alloc(), 1, 1)?;
-    for serial in 0..10u32 {
-        shard.play(&[Act::Bid(FIRST, bid(11 + serial as u64, 1, 1, 0, serial))])?;
-    }
-    shard.play(&[Act::Bid(FIRST, bid(5, 1, 1, 0, 10))])?;
+/// Bids of 20 down to 11.
+fn ten_bids() -> Reply {
     let mut ten = Ten::new();
     for serial in (0..10u32).rev() {
         if ten.len() < 10 {
@@ -146,53 +158,66 @@ fn eleven_bids(rt: HostRuntime) -> Result<(), Fail> {
             });
         }
     }
-    assert_eq!(rt;
-        shard.view(Request::ViewBids { item: FIRST })?,
-        Reply::BidsSeen(ten)
-    );
-    assert_eq!(rt;
-        shard.view(Request::ViewItem { item: FIRST })?,
-        seen(1, Some(20), Some(1), 11, 1)?
-    );
-    Ok(())
+    Reply::BidsSeen(ten)
+}
+
+/// A vase with bids of 11 to 20, and then one of 5.
+fn with_eleven_bids(alloc: Global) -> Result<Shard, Fail> {
+    let mut shard = with_vase(alloc, 1, 1)?;
+    for serial in 0..10u32 {
+        shard.play(&[Act::Bid(FIRST, bid(11 + serial as u64, 1, 1, 0, serial))])?;
+    }
+    shard.play(&[Act::Bid(FIRST, bid(5, 1, 1, 0, 10))])?;
+    Ok(shard)
+}
+
+#[test]
+fn eleven_bids(rt: HostRuntime) -> Result<(), Fail> {
+    let shard = with_eleven_bids(rt.alloc())?;
+    shows(&rt, &shard, Request::ViewBids { item: FIRST }, &ten_bids())?;
+    shows(&rt, &shard, VIEW, &seen(1, Some(20), Some(1), 11, 1)?)
 }
 
 #[test]
 fn last_two_bought(rt: HostRuntime) -> Result<(), Fail> {
-    let mut shard = with_vase(rt.alloc(), 10, 2)?;
-    shard.play(&[Act::Buy(FIRST, Quantity::new(2).ok_or("a quantity")?)])?;
-    assert_eq!(rt;
-        shard.view(Request::ViewItem { item: FIRST })?,
-        seen(10, None, None, 0, 0)?
-    );
-    Ok(())
+    let acts = [Act::Buy(FIRST, Quantity::new(2).ok_or("a quantity")?)];
+    let expected = seen(10, None, None, 0, 0)?;
+    shows_after(&rt, with_vase(rt.alloc(), 10, 2)?, &acts, &expected)
+}
+
+/// What is shown of a user whose stars add up to nothing.
+fn balanced(comments: u64) -> Reply {
+    Reply::UserSeen {
+        rating: 0,
+        comments,
+    }
+}
+
+fn stars(value: i64) -> Result<Stars, Fail> {
+    Ok(Stars::new(value).ok_or("stars")?)
 }
 
 #[test]
 fn two_comments(rt: HostRuntime) -> Result<(), Fail> {
     let mut shard = Shard::new(rt.alloc(), 3, 4, OPENING)?;
-    for stars in [-5, 5] {
-        shard.play(&[Act::Comment(3, Stars::new(stars).ok_or("stars")?)])?;
+    for value in [-5, 5] {
+        shard.play(&[Act::Comment(3, stars(value)?)])?;
     }
-    let view = shard.view(Request::ViewUser { user: 3 })?;
-    assert_eq!(rt;
-        view,
-        Reply::UserSeen {
-            rating: 0,
-            comments: 2
-        }
-    );
-    Ok(())
+    shows(&rt, &shard, Request::ViewUser { user: 3 }, &balanced(2))
 }
 
 #[test]
 fn no_such_user_or_category(rt: HostRuntime) -> Result<(), Fail> {
     let shard = Shard::new(rt.alloc(), 2, 4, OPENING)?;
-    let user = shard.view(Request::ViewUser { user: 10 })?;
-    assert_eq!(rt; user, Reply::Refused(Refusal::NoSuchUser));
-    let category = shard.view(Request::ViewCategory { category: 2 })?;
-    assert_eq!(rt; category, Reply::Refused(Refusal::NoSuchCategory));
-    Ok(())
+    let user = Request::ViewUser { user: 10 };
+    shows(&rt, &shard, user, &Reply::Refused(Refusal::NoSuchUser))?;
+    let category = Request::ViewCategory { category: 2 };
+    shows(
+        &rt,
+        &shard,
+        category,
+        &Reply::Refused(Refusal::NoSuchCategory),
+    )
 }
 
 #[test]
@@ -204,30 +229,32 @@ fn equal_bids_in_two_slices(rt: HostRuntime) -> Result<(), Fail> {
         slice.apply(second);
         shard.merge_bids(FIRST, slice)?;
     }
-    assert_eq!(rt;
-        shard.view(Request::ViewItem { item: FIRST })?,
-        seen(10, Some(50), Some(2), 3, 1)?
-    );
-    Ok(())
+    shows(&rt, &shard, VIEW, &seen(10, Some(50), Some(2), 3, 1)?)
+}
+
+/// A slice with one comment.
+fn one_comment(value: i64) -> Result<UserSlice, Fail> {
+    let mut slice = UserSlice::identity();
+    slice.apply(stars(value)?);
+    Ok(slice)
 }
 
 #[test]
 fn comments_in_two_slices(rt: HostRuntime) -> Result<(), Fail> {
     let mut shard = Shard::new(rt.alloc(), 3, 4, OPENING)?;
-    shard.play(&[Act::Comment(3, Stars::new(0).ok_or("stars")?)])?;
-    for stars in [-5, 5] {
-        let mut slice = UserSlice::identity();
-        slice.apply(Stars::new(stars).ok_or("stars")?);
-        shard.merge_comments(3, slice)?;
+    shard.play(&[Act::Comment(3, stars(0)?)])?;
+    for value in [-5, 5] {
+        shard.merge_comments(3, one_comment(value)?)?;
     }
-    assert_eq!(rt;
-        shard.view(Request::ViewUser { user: 3 })?,
-        Reply::UserSeen {
-            rating: 0,
-            comments: 3
-        }
-    );
-    Ok(())
+    shows(&rt, &shard, Request::ViewUser { user: 3 }, &balanced(3))
+}
+
+/// The latest two items, the later one first.
+fn latest_two(later: ItemId) -> Reply {
+    let mut latest = Ten::new();
+    latest.push(ItemShown { time: 2, id: later });
+    latest.push(ItemShown { time: 1, id: FIRST });
+    Reply::CategorySeen(latest)
 }
 
 #[test]
@@ -240,15 +267,6 @@ fn later_item_in_a_slice(rt: HostRuntime) -> Result<(), Fail> {
     let mut slice = CategorySlice::identity();
     slice.apply(listed(2, second));
     shard.merge_items(0, slice)?;
-    let mut latest = Ten::new();
-    latest.push(ItemShown {
-        time: 2,
-        id: second,
-    });
-    latest.push(ItemShown { time: 1, id: FIRST });
-    assert_eq!(rt;
-        shard.view(Request::ViewCategory { category: 0 })?,
-        Reply::CategorySeen(latest)
-    );
-    Ok(())
+    let category = Request::ViewCategory { category: 0 };
+    shows(&rt, &shard, category, &latest_two(second))
 }

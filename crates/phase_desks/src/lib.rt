@@ -10,8 +10,6 @@ mod laws;
 mod slices;
 mod split;
 mod stash;
-#[cfg(test)]
-mod tests;
 
 pub use counters::Counters;
 pub use desk::Desk;

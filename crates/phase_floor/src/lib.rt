@@ -3,13 +3,9 @@
 
 mod begin;
 mod close;
-#[cfg(test)]
-mod closing_tests;
 mod fault;
 mod floor;
 mod joined;
-#[cfg(test)]
-mod joined_work;
 mod journals;
 mod kits;
 mod making;
@@ -21,12 +17,6 @@ mod resume;
 mod settle;
 mod split;
 mod split_close;
-#[cfg(test)]
-mod split_work;
-#[cfg(test)]
-mod testing;
-#[cfg(test)]
-mod tests;
 mod view;
 
 pub use fault::{BeginFault, FloorFault};

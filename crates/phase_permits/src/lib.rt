@@ -3,14 +3,6 @@
 
 mod joined;
 mod permit;
-#[cfg(test)]
-mod split_testing;
-#[cfg(test)]
-mod split_tests;
-#[cfg(test)]
-mod testing;
-#[cfg(test)]
-mod tests;
 
 pub use joined::{JoinedPermit, JoinedReceipt};
 pub use permit::{SplitPermit, SplitReceipt};

@@ -14,10 +14,6 @@ mod open;
 mod phase;
 mod place;
 mod rule;
-#[cfg(test)]
-mod testing;
-#[cfg(test)]
-mod tests;
 
 pub use boxes::Boxes;
 pub use held::Held;

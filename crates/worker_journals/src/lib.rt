@@ -6,10 +6,6 @@ mod heads;
 mod journal;
 mod laws;
 mod merging;
-#[cfg(test)]
-mod testing;
-#[cfg(test)]
-mod tests;
 
 pub use auction_rows::Entry;
 pub use journal::Journal;

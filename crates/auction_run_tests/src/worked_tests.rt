@@ -1,0 +1,463 @@
+//! Whole runs. Users 10, categories 2; the expected values are worked from the rules by hand.
+use crate::testing::assert_same;
+use auction_rows::{
+    BidId, Entry, Facts, ItemId, Name, Object, Opening, Quantity, Reply, Request, Row, Stars,
+    reply_to, row_of,
+};
+use auction_run::{FreeGate, Gate, Outcome, Policy, run};
+use item_shards::OpeningBook;
+use std::alloc::{AllocError, Global};
+use std::process::Abort;
+use std::sync::Wait;
+use std::sync::atomic::{AtomicU64, Ordering};
+use std::test::Fail;
+use std::thread::Threads;
+
+const OPENING: Opening = Opening {
+    users: 10,
+    categories: 2,
+};
+
+const FIRST: ItemId = ItemId {
+    worker: 0,
+    serial: 0,
+};
+
+const VIEW: Request = Request::ViewItem { item: FIRST };
+
+const LOOK: Request = Request::ViewUser { user: 0 };
+
+fn vase() -> Result<Facts, Fail> {
+    Ok(Facts {
+        seller: 0,
+        category: 0,
+        name: Name::new(b"Vase").ok_or("no name")?,
+        start: 10,
+        closes: 100,
+        quantity: Quantity::new(1).ok_or("no quantity")?,
+    })
+}
+
+fn item() -> Result<Request, Fail> {
+    Ok(Request::StoreItem {
+        facts: vase()?,
+        time: 1,
+    })
+}
+
+fn bid(bidder: u32, amount: u64, time: u64) -> Request {
+    Request::StoreBid {
+        bidder,
+        item: FIRST,
+        amount,
+        time,
+    }
+}
+
+fn comment(author: u32, stars: i64) -> Result<Request, Fail> {
+    Ok(Request::StoreComment {
+        author,
+        about: 3,
+        item: FIRST,
+        stars: Stars::new(stars).ok_or("no stars")?,
+    })
+}
+
+fn seen(highest: u64, bidder: u32, bids: u64) -> Result<Reply, Fail> {
+    let facts = vase()?;
+    Ok(Reply::ItemSeen {
+        seller: facts.seller,
+        category: facts.category,
+        name: facts.name,
+        start: facts.start,
+        closes: facts.closes,
+        highest: Some(highest),
+        bidder: Some(bidder),
+        bids,
+        left: 1,
+    })
+}
+
+fn bid_stored(worker: u32, serial: u32) -> Reply {
+    Reply::BidStored(BidId { worker, serial })
+}
+
+// The run of such scripts over four shards, with up to eight hot objects and threshold 1.
+fn run_of<R: Threads + Wait + Sync, G: Gate + Sync>(
+    rt: &R,
+    alloc: Global,
+    scripts: &[&[Request]],
+    joined_quota: u32,
+    split_quota: u32,
+    gate: &G,
+) -> Result<Outcome, Fail> {
+    let policy = Policy {
+        shards: 4,
+        joined_quota,
+        split_quota,
+        threshold: 1,
+        hot_max: 8,
+    };
+    let mut own = Vec::new(alloc);
+    for script in scripts {
+        own.push(Vec::from_slice(alloc, script)?)?;
+    }
+    Ok(run(rt, alloc, &OpeningBook::empty(OPENING), own, policy, gate)?)
+}
+
+// The entries from a phase on.
+fn entries_from(alloc: Global, history: &[Entry], phase: u64) -> Result<Vec<Entry>, AllocError> {
+    let mut entries = Vec::new(alloc);
+    for entry in history {
+        if entry.phase >= phase {
+            entries.push(*entry)?;
+        }
+    }
+    Ok(entries)
+}
+
+// Sees which requests arrive and leave, of two workers in up to four phases: a bit for each index below 8.
+#[derive(Drop)]
+struct Watch {
+    arrived: AtomicU64,
+    left: AtomicU64,
+}
+
+// The bit of a request, and all bits for one that is not watched.
+fn watched(phase: u64, worker: u32, index: u32) -> u64 {
+    if phase >= 4 || worker >= 2 || index >= 8 {
+        return u64::MAX;
+    }
+    1 << (phase * 16 + worker as u64 * 8 + index as u64)
+}
+
+impl Gate for Watch {
+    fn arrive(&self, phase: u64, worker: u32, index: u32) {
+        self.arrived
+            .fetch_or(watched(phase, worker, index), Ordering::SeqCst);
+    }
+
+    fn leave(&self, phase: u64, worker: u32, index: u32) {
+        self.left
+            .fetch_or(watched(phase, worker, index), Ordering::SeqCst);
+    }
+}
+
+// The phase, worker and index of each request that arrives in the run below: the view does so in two phases.
+const ARRIVALS: [(u64, u32, u32); 9] = [
+    (0, 0, 0),
+    (0, 0, 1),
+    (0, 1, 0),
+    (0, 1, 1),
+    (1, 0, 2),
+    (1, 0, 3),
+    (1, 0, 4),
+    (1, 1, 2),
+    (2, 0, 3),
+];
+
+// The bits of these arrivals.
+fn told() -> u64 {
+    let mut told = 0;
+    for (phase, worker, index) in ARRIVALS {
+        told |= watched(phase, worker, index);
+    }
+    told
+}
+
+// The entries of that run after its first phase.
+fn later_entries() -> Result<[Entry; 4], Fail> {
+    let seen = seen(30, 1, 4)?;
+    let entry = |phase, number, worker, index, request, reply| Entry {
+        phase,
+        number,
+        worker,
+        index,
+        request,
+        reply,
+    };
+    Ok([
+        entry(1, 1, 0, 2, bid(1, 20, 2), bid_stored(0, 1)),
+        entry(1, 1, 1, 2, bid(2, 25, 2), bid_stored(1, 0)),
+        entry(1, 2, 0, 4, bid(1, 30, 3), bid_stored(0, 2)),
+        entry(2, 1, 0, 3, VIEW, seen),
+    ])
+}
+
+#[test]
+fn view_waits_for_the_joined_phase(rt: HostRuntime) -> Result<(), Fail> {
+    let alloc = rt.alloc();
+    let first = [item()?, bid(0, 10, 1), bid(1, 20, 2), VIEW, bid(1, 30, 3)];
+    let second = [LOOK, LOOK, bid(2, 25, 2)];
+    let watch = Watch {
+        arrived: AtomicU64::new(0),
+        left: AtomicU64::new(0),
+    };
+    let outcome = run_of(&rt, alloc, &[&first, &second], 2, 3, &watch)?;
+    let later = entries_from(alloc, &outcome.history, 1)?;
+    assert_same(&rt, &later.as_slice(), &later_entries()?.as_slice());
+    let told = told();
+    assert_same(&rt, &watch.arrived.load(Ordering::SeqCst), &told);
+    assert_same(&rt, &watch.left.load(Ordering::SeqCst), &told);
+    Ok(())
+}
+
+// The last reply of a run of two workers with quotas of 2, and what was hot in its phase 1.
+fn last_reply<R: Threads + Wait + Sync>(
+    rt: &R,
+    alloc: Global,
+    scripts: &[&[Request]],
+    hot: &[Object],
+) -> Result<Reply, Fail> {
+    let outcome = run_of(rt, alloc, scripts, 2, 2, &FreeGate)?;
+    let chosen = outcome.hot.get(1).ok_or("no split phase")?;
+    if chosen.as_slice() != hot {
+        return Err(Fail::from("another hot set"));
+    }
+    let last = outcome.history.last().ok_or("no history")?;
+    if last.phase != 2 || outcome.state.view(&last.request) != Some(last.reply) {
+        return Err(Fail::from("another end"));
+    }
+    Ok(last.reply)
+}
+
+#[test]
+fn equal_bids_by_time_and_then_worker(rt: HostRuntime) -> Result<(), Fail> {
+    let alloc = rt.alloc();
+    let hot = [Object::Item(FIRST), Object::Category(0)];
+    let first = [item()?, bid(0, 10, 1), bid(1, 50, 7), VIEW];
+    for (time, bidder) in [(7, 2), (6, 1)] {
+        let second = [LOOK, LOOK, bid(2, 50, time)];
+        let reply = last_reply(&rt, alloc, &[&first, &second], &hot)?;
+        assert_same(&rt, &reply, &seen(50, bidder, 3)?);
+    }
+    Ok(())
+}
+
+#[test]
+fn comments_about_a_hot_user(rt: HostRuntime) -> Result<(), Fail> {
+    let view = Request::ViewUser { user: 3 };
+    let look = Request::ViewUser { user: 1 };
+    let first = [item()?, comment(0, 0)?, comment(0, -5)?, view];
+    let second = [look, look, comment(1, 5)?];
+    let hot = [Object::User(3), Object::Category(0)];
+    let reply = last_reply(&rt, rt.alloc(), &[&first, &second], &hot)?;
+    assert_same(
+        &rt,
+        &reply,
+        &Reply::UserSeen {
+            rating: 0,
+            comments: 3,
+        },
+    );
+    Ok(())
+}
+
+// Asserts that the entries are of these phases.
+fn assert_phases(rt: &impl Abort, history: &[Entry], phases: &[u64]) {
+    for (entry, phase) in history.iter().zip(phases) {
+        assert_same(rt, &entry.phase, phase);
+    }
+}
+
+#[test]
+fn indexes_reach_their_phases(rt: HostRuntime) -> Result<(), Fail> {
+    let outcome = run_of(&rt, rt.alloc(), &[&[LOOK; 12]], 2, 3, &FreeGate)?;
+    let phases = [0, 0, 1, 1, 1, 2, 2, 3, 3, 3, 4, 4];
+    assert_same(&rt, &outcome.history.len(), &12);
+    assert_phases(&rt, &outcome.history, &phases);
+    assert_same(&rt, &outcome.state.phase(), &5);
+    Ok(())
+}
+
+// One request of a joined phase, and then 1,000 bids of a user.
+fn bids_after(alloc: Global, request: Request, bidder: u32) -> Result<Vec<Request>, AllocError> {
+    let mut script = Vec::with_capacity(alloc, 1_001)?;
+    script.push(request)?;
+    for _bid in 0..1_000u32 {
+        script.push(bid(bidder, 10, 7))?;
+    }
+    Ok(script)
+}
+
+// The scripts of 16 workers, of which the first stores the item.
+fn sixteen_scripts(alloc: Global) -> Result<Vec<Vec<Request>>, Fail> {
+    let mut scripts = Vec::new(alloc);
+    scripts.push(bids_after(alloc, item()?, 0)?)?;
+    for worker in 1..16u32 {
+        scripts.push(bids_after(alloc, LOOK, worker)?)?;
+    }
+    Ok(scripts)
+}
+
+// Asserts that the entries are numbered from 1 on.
+fn assert_numbered(rt: &impl Abort, entries: &[Entry]) {
+    for (place, entry) in entries.iter().enumerate() {
+        assert_same(rt, &entry.number, &(place as u64 + 1));
+    }
+}
+
+#[test]
+fn sixteen_workers_share_a_shard(rt: HostRuntime) -> Result<(), Fail> {
+    let alloc = rt.alloc();
+    let opening = Opening {
+        users: 16,
+        categories: 2,
+    };
+    let policy = Policy {
+        shards: 1,
+        joined_quota: 1,
+        split_quota: 1_000,
+        threshold: 1,
+        hot_max: 0,
+    };
+    let scripts = sixteen_scripts(alloc)?;
+    let book = OpeningBook::empty(opening);
+    let outcome = run(&rt, alloc, &book, scripts, policy, &FreeGate)?;
+    let bids = entries_from(alloc, &outcome.history, 1)?;
+    assert_same(&rt, &bids.len(), &16_000);
+    assert_numbered(&rt, &bids);
+    assert_same(
+        &rt,
+        &outcome.state.view(&VIEW),
+        &Some(seen(10, 15, 16_000)?),
+    );
+    Ok(())
+}
+
+// Two workers who wait in each phase: the one of this number until the other has begun or, where it waits for the end, until
+// it has ended its request of that phase.
+#[derive(Drop)]
+struct Meeting {
+    waits: [bool; 2],
+    for_the_end: bool,
+    begun: AtomicU64,
+    ended: AtomicU64,
+    met: AtomicU64,
+}
+
+impl Meeting {
+    fn new(waits: [bool; 2], for_the_end: bool) -> Meeting {
+        Meeting {
+            waits,
+            for_the_end,
+            begun: AtomicU64::new(0),
+            ended: AtomicU64::new(0),
+            met: AtomicU64::new(0),
+        }
+    }
+}
+
+// A bit for each worker in each of two phases.
+fn bit(phase: u64, worker: u32) -> u64 {
+    match (phase, worker) {
+        (0, 0) => 1,
+        (0, _) => 2,
+        (_, 0) => 4,
+        _ => 8,
+    }
+}
+
+impl Gate for Meeting {
+    fn arrive(&self, phase: u64, worker: u32, _index: u32) {
+        self.begun.fetch_or(bit(phase, worker), Ordering::SeqCst);
+        if !self.waits[(worker % 2) as usize] {
+            return;
+        }
+        let other = bit(phase, 1 - worker % 2);
+        let mark = if self.for_the_end {
+            &self.ended
+        } else {
+            &self.begun
+        };
+        for _turn in 0..1_000_000_000u64 {
+            if mark.load(Ordering::SeqCst) & other == other {
+                self.met.fetch_or(bit(phase, worker), Ordering::SeqCst);
+                return;
+            }
+        }
+    }
+
+    fn leave(&self, phase: u64, worker: u32, _index: u32) {
+        self.ended.fetch_or(bit(phase, worker), Ordering::SeqCst);
+    }
+}
+
+#[test]
+fn workers_run_side_by_side(rt: HostRuntime) -> Result<(), Fail> {
+    let scripts = [[LOOK; 2].as_slice(), [LOOK; 2].as_slice()];
+    let side_by_side = Meeting::new([true, true], false);
+    let first_waits = Meeting::new([true, false], true);
+    let second_waits = Meeting::new([false, true], true);
+    for (gate, met) in [(&side_by_side, 15), (&first_waits, 5), (&second_waits, 10)] {
+        let outcome = run_of(&rt, rt.alloc(), &scripts, 1, 1, gate)?;
+        assert_same(&rt, &outcome.history.len(), &4);
+        assert_same(&rt, &gate.met.load(Ordering::SeqCst), &met);
+    }
+    Ok(())
+}
+
+// Whether each entry has the reply that the plain program gives from the rows of the entries before it.
+fn is_replayed(alloc: Global, history: &[Entry]) -> Result<bool, Fail> {
+    let mut rows: Vec<Row> = Vec::new(alloc);
+    for entry in history {
+        if rows.len() >= 1_000 {
+            return Err(Fail::from("more than 1,000 rows"));
+        }
+        let reply = reply_to(&rows, OPENING, entry.worker, entry.request);
+        if reply != entry.reply {
+            return Ok(false);
+        }
+        if let Some(row) = row_of(entry.worker, entry.request, reply) {
+            rows.push(row)?;
+        }
+    }
+    Ok(true)
+}
+
+// How many entries a run with these quotas has, all of them replayed: None where some are not.
+fn count_replayed<R: Threads + Wait + Sync>(
+    rt: &R,
+    alloc: Global,
+    scripts: &[&[Request]],
+    joined_quota: u32,
+    split_quota: u32,
+) -> Result<Option<usize>, Fail> {
+    let outcome = run_of(rt, alloc, scripts, joined_quota, split_quota, &FreeGate)?;
+    let replayed = is_replayed(alloc, &outcome.history)?;
+    Ok(replayed.then_some(outcome.history.len()))
+}
+
+#[test]
+fn histories_replay_on_the_plain_program(rt: HostRuntime) -> Result<(), Fail> {
+    let alloc = rt.alloc();
+    let buy = Request::BuyNow {
+        buyer: 4,
+        item: FIRST,
+        quantity: Quantity::new(1).ok_or("no quantity")?,
+        time: 9,
+    };
+    let first = [
+        item()?,
+        bid(0, 10, 1),
+        comment(0, 3)?,
+        VIEW,
+        bid(1, 30, 3),
+        LOOK,
+    ];
+    let second = [
+        LOOK,
+        bid(2, 25, 2),
+        item()?,
+        comment(1, -2)?,
+        bid(2, 35, 4),
+        VIEW,
+    ];
+    let third = [bid(3, 40, 5), LOOK, bid(3, 45, 5), buy, bid(3, 50, 6), VIEW];
+    for (joined, split) in [(1, 1), (2, 3), (3, 2), (6, 1), (1, 5)] {
+        let scripts = [first.as_slice(), second.as_slice(), third.as_slice()];
+        let replayed = count_replayed(&rt, alloc, &scripts, joined, split)?;
+        assert_same(&rt, &replayed, &Some(18));
+    }
+    Ok(())
+}

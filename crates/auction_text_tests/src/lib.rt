@@ -1,0 +1,13 @@
+//! Tests of how `auction_text` reads scripts and writes replies, histories, rows and reports.
+#![tactic(auto)]
+
+#[cfg(test)]
+mod history_tests;
+#[cfg(test)]
+mod kinds_tests;
+#[cfg(test)]
+mod reading_tests;
+#[cfg(test)]
+mod report_tests;
+#[cfg(test)]
+mod writing_tests;

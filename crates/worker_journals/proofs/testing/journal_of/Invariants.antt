@@ -1,9 +1,0 @@
-use Rattle.std.proofs.Common.{◌≡◌, length}
-use Rattle.worker_journals.proofs.testing.journal_of.Given as goal
-
-abbrev pub invariant-loop-number : goal.invariant-loop-number
-invariant-loop-number l = record {
-  worker : l.journal.worker ≡ l.worker;
-  room : l.journal.room ≡ length l.numbers;
-  count : length l.journal.entries ≡ l.number-index;
-}
