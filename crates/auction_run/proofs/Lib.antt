@@ -9,3 +9,4 @@ pub mod PhaseLemmas
 pub mod HotThere
 pub mod ScriptLemmas
 pub mod RunLemmas
+pub mod BoardLemmas

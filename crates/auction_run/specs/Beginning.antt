@@ -1,5 +1,5 @@
 -- What has to hold of what a run is handed, before it begins.
-use Rattle.std.specs.Prelude.{ℕ, ◌+◌, ◌<◌, ◌≤◌, List, All, Result, Ok, Err, length}
+use Rattle.std.specs.Prelude.{ℕ, ◌+◌, ◌<◌, ◌≤◌, ◌↔◌, List, All, Result, Ok, Err, length, OnOk, IsErrOf}
 use Rattle.auction_rows.specs.declared.requests.Request.{Request}
 use Rattle.auction_rows.specs.Book.{Book}
 use Rattle.item_shards.specs.Counting.{worker_of}
@@ -41,3 +41,11 @@ IsFirstToFail (Err TooLong) workers shards quotas short = workers × (shards × 
 IsFirstToFail (Err Spawn) workers shards quotas short = ⊥
 IsFirstToFail (Err Memory) workers shards quotas short = ⊥
 IsFirstToFail (Err NumberFull) workers shards quotas short = ⊥
+
+-- A run of such scripts is refused for the first of the four that doesn't hold, exactly then; where it answers Ok, all hold.
+pub record IsRefusedInOrder {T : Type 0} (result : Result T RunFault) (policy : Policy) (rows : Book) (scripts : List (List Request)) : Type 0 where
+  pub ready : OnOk result (HaveWorkers rows scripts × (HasShards policy × (HasQuotas policy × AreShort rows scripts)))
+  pub workers : IsErrOf result Workers ↔ ¬ HaveWorkers rows scripts
+  pub shards : IsErrOf result Shards ↔ (HaveWorkers rows scripts × ¬ HasShards policy)
+  pub quota : IsErrOf result Quota ↔ (HaveWorkers rows scripts × (HasShards policy × ¬ HasQuotas policy))
+  pub too_long : IsErrOf result TooLong ↔ (HaveWorkers rows scripts × (HasShards policy × (HasQuotas policy × ¬ AreShort rows scripts)))

@@ -7,3 +7,4 @@ pub mod Threads
 pub mod Tasks
 pub mod Closed
 pub mod Outcomes
+pub mod Boards

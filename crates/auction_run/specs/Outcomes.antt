@@ -1,21 +1,31 @@
--- What a run answers.
-use Rattle.std.specs.Prelude.{◌≡◌, List, length}
+-- What a run answers, and what its board has then.
+use Rattle.std.specs.Prelude.{ℕ, ◌≡◌, List, length}
 use Rattle.auction_rows.specs.declared.numbers.Opening.{Opening}
 use Rattle.auction_rows.specs.declared.requests.Request.{Request}
+use Rattle.auction_rows.specs.declared.rows.Row.{Row}
 use Rattle.auction_rows.specs.Book.{Book}
 use Rattle.auction_rows.specs.History.{ReplaysFrom, book_after}
 use Rattle.phase_floor.specs.States.{StandsFor}
 use Rattle.run_serving.specs.declared.policy.Policy.{Policy}
 use Rattle.run_serving.specs.Run.{AreChosen}
 use Rattle.run_serving.specs.Serving.{Serves}
+use Rattle.auction_run.specs.Boards.{HasShown}
 use Rattle.auction_run.specs.Phases.{hot_sets}
 use Rattle.auction_run.specs.declared.running.Outcome.{Outcome}
 
 -- The outcome of a run of these scripts, from an opening book on.
 pub record IsOutcome (opening : Opening) (rows : Book) (policy : Policy) (scripts : List (List Request)) (outcome : Outcome) : Type 0 where
+  -- its history holds each request once, in its phase and order
   pub serves : Serves opening policy scripts (hot_sets outcome.hot.items) outcome.history.items
+  -- what was hot in a split phase is what the entries of the phase before choose
   pub chosen : AreChosen policy (hot_sets outcome.hot.items) outcome.history.items
+  -- an auction of one thread gives each reply
   pub replays : ReplaysFrom opening rows outcome.history.items
+  -- the state is that of the book at the end, after so many phases
   pub stands : StandsFor outcome.state (book_after opening rows outcome.history.items)
   pub opening_is : outcome.state.opening ≡ opening
   pub phases : outcome.state.phase ≡ length outcome.hot.items
+
+-- A board has all phases of a run, of an auction that was opened with these rows.
+abbrev pub HasShownAll : {B : Type 0} → (B → Opening → Book → List (List Row) → Type 0) → Opening → Book → B → Outcome → Type 0
+HasShownAll has opening rows board outcome = HasShown has opening rows (length outcome.hot.items) outcome.history.items board

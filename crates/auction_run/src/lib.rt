@@ -1,6 +1,7 @@
 //! A run: workers perform their scripts in phases.
 #![tactic(auto)]
 
+mod board;
 mod checking;
 mod choosing;
 mod fault;
@@ -16,8 +17,9 @@ mod split_phase;
 mod threads;
 mod worker;
 
+pub use board::{Board, NoBoard, WindowBoard};
 pub use choosing::choose_hot;
 pub use fault::RunFault;
 pub use gate::{FreeGate, Gate};
 pub use run_serving::Policy;
-pub use running::{Outcome, run};
+pub use running::{Outcome, run, run_shown};

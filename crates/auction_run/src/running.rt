@@ -1,20 +1,23 @@
 //! A run: its phases, one after the other.
-ghost use Rattle.std.specs.Prelude.{◌≡◌, ◌⊎◌, ◌↔◌, ℕ, suc, ◌<◌, ◌≤◌, ◌+◌, ◌^◌, true, false, [], length, drop, IfOk, OnOk, IfErr, IsErrOf, IsTrue};
+ghost use Rattle.std.specs.Prelude.{◌≡◌, ◌⊎◌, ◌↔◌, ℕ, suc, ◌<◌, ◌≤◌, ◌+◌, ◌^◌, ◌++◌, ◌∷◌, true, false, List, [], length, drop, IfOk, OnOk, IfErr, IsErrOf, IsTrue};
 ghost use Rattle.auction_rows.specs.Choosing.{choose};
 ghost use Rattle.auction_rows.specs.declared.numbers.Opening.{Opening as Numbers};
+ghost use Rattle.auction_rows.specs.declared.rows.Row.{Row as Stored};
 ghost use Rattle.auction_rows.specs.Book.{Book};
-ghost use Rattle.auction_rows.specs.History.{IsBook, ReplaysFrom, book_after};
+ghost use Rattle.auction_rows.specs.History.{IsBook, ReplaysFrom, book_after, rows_of as stored_rows};
 ghost use Rattle.item_shards.specs.OpeningBooks.{opening_of, rows_of};
 ghost use Rattle.phase_floor.specs.States.{StandsFor};
 ghost use Rattle.run_laws.specs.Phases.{is_split};
 ghost use Rattle.run_serving.specs.Run.{HasLeft, AreChosen};
 ghost use Rattle.run_serving.specs.Serving.{script_of, Serves};
 ghost use Rattle.auction_run.specs.declared.fault.RunFault.TheVariants.{Workers, Shards, Quota, TooLong};
-ghost use Rattle.auction_run.specs.Beginning.{HaveWorkers, HasShards, HasQuotas, AreShort};
-ghost use Rattle.auction_run.specs.Outcomes.{IsOutcome};
+ghost use Rattle.auction_run.specs.Boards.{CanShow};
+ghost use Rattle.auction_run.specs.Beginning.{HaveWorkers, HasShards, HasQuotas, AreShort, IsRefusedInOrder};
+ghost use Rattle.auction_run.specs.Outcomes.{HasShownAll, IsOutcome};
 ghost use Rattle.auction_run.specs.Phases.{lists, hot_sets, waiting_in, IsRoundOf, IsMet};
 ghost use Rattle.auction_run.specs.Running.{IsRunning, CanGoOn};
 
+use crate::board::{Board, NoBoard};
 use crate::checking::check;
 use crate::choosing::choose_hot;
 use crate::fault::RunFault;
@@ -22,6 +25,7 @@ use crate::gate::Gate;
 use crate::phase::{Closed, perform_phase};
 use crate::round::Round;
 use auction_rows::{Entry, Object, Request};
+use auction_window::rows_of as rows_of_entries;
 use indexmap::IndexSet;
 use item_shards::OpeningBook;
 use phase_floor::Joined;
@@ -77,8 +81,27 @@ pub fn run<R: Threads + Wait + Sync, G: Gate + Sync>(
         ↔ (HaveWorkers (rows_of book.now) (lists scripts.items) × (HasShards policy × (HasQuotas policy
         × ¬ AreShort (rows_of book.now) (lists scripts.items)))) }
 {
+    run_shown(rt, alloc, book, scripts, policy, gate, &mut NoBoard)
+}
+
+/// The same run, of which a board is given the rows of each phase once it has closed, in order. A board that errs ends it with
+/// `Memory`, after the faults of the phase itself; of a board nothing is said after a fault.
+pub fn run_shown<R: Threads + Wait + Sync, G: Gate + Sync, B: Board>(
+    rt: &R,
+    alloc: Global,
+    book: &OpeningBook,
+    scripts: Vec<Vec<Request>>,
+    policy: Policy,
+    gate: &G,
+    board: &mut B,
+) -> Result<Outcome, RunFault>
+    requires { B.has board.old (opening_of book.now) (rows_of book.now) [] }
+    ensures outcome { IfOk result (IsOutcome (opening_of book.now) (rows_of book.now) policy (lists scripts.items)) }
+    ensures refused { IsRefusedInOrder result policy (rows_of book.now) (lists scripts.items) }
+    ensures board { IfOk result (HasShownAll B.has (opening_of book.now) (rows_of book.now) board.new) }
+{
     check(book, &scripts, policy)?;
-    run_checked(rt, alloc, book, &scripts, policy, gate)
+    run_checked(rt, alloc, book, &scripts, policy, gate, board)
 }
 
 /// A run between two phases.
@@ -93,18 +116,21 @@ struct Running {
 }
 
 // A run of what was checked.
-fn run_checked<R: Threads + Wait + Sync, G: Gate + Sync>(
+fn run_checked<R: Threads + Wait + Sync, G: Gate + Sync, B: Board>(
     rt: &R,
     alloc: Global,
     book: &OpeningBook,
     scripts: &[Vec<Request>],
     policy: Policy,
     gate: &G,
+    board: &mut B,
 ) -> Result<Outcome, RunFault>
+    requires board { B.has board.old (opening_of book.now) (rows_of book.now) [] }
     requires workers { HaveWorkers (rows_of book.now) (lists scripts.now) }
     requires shards { HasShards policy }
     requires quotas { HasQuotas policy }
     requires short { AreShort (rows_of book.now) (lists scripts.now) }
+    ensures board { IfOk result (HasShownAll B.has (opening_of book.now) (rows_of book.now) board.new) }
     ensures outcome { IfOk result (IsOutcome (opening_of book.now) (rows_of book.now) policy (lists scripts.now)) }
     ensures fault { IfErr result IsMet }
 {
@@ -125,6 +151,7 @@ fn run_checked<R: Threads + Wait + Sync, G: Gate + Sync>(
             });
         }
         running = next_phase(rt, alloc, running, round)?;
+        show_phase(rt, alloc, board, &running)?;
     }
     unreachable!()
 }
@@ -187,7 +214,7 @@ fn is_left(scripts: &[Vec<Request>], stashes: &[Stash], first: u64) -> bool
     false
 }
 
-// Whether a worker has.
+// Whether this worker has a request or a stash left.
 fn has_left(script: &[Request], stash: &Stash, first: u64) -> bool
     ensures { IsTrue result ↔ ((first < length script.now) ⊎ (0 < length stash.now.requests)) }
 {
@@ -210,6 +237,8 @@ fn next_phase<R: Threads + Wait + Sync, G: Gate + Sync>(
     ensures running { IfOk result (λ next. (opening : Numbers) (rows : Book) → IsBook opening rows →
         IsRunning opening rows round.entry.policy (lists round.entry.scripts.now) running.state.phase running →
         IsRunning opening rows round.entry.policy (lists round.entry.scripts.now) (suc running.state.phase) next) }
+    ensures grown { IfOk result (λ next. next.history.items
+        ≡ running.history.items ++ drop next.last next.history.items) }
     ensures fault { IfErr result IsMet }
 {
     let hot_now = next_hot(alloc, &running, round.policy)?;
@@ -221,15 +250,8 @@ fn next_phase<R: Threads + Wait + Sync, G: Gate + Sync>(
         ..
     } = running;
     let last = history.len();
-    let Closed { state, stashes } = perform_phase(
-        rt,
-        alloc,
-        &mut history,
-        state,
-        &hot_now,
-        stashes,
-        round,
-    )?;
+    let closed = perform_phase(rt, alloc, &mut history, state, &hot_now, stashes, round)?;
+    let Closed { state, stashes } = closed;
     hot.push(hot_now)?;
     Ok(Running {
         state,
@@ -238,6 +260,27 @@ fn next_phase<R: Threads + Wait + Sync, G: Gate + Sync>(
         stashes,
         last,
     })
+}
+
+// Gives a board the rows of the phase before.
+fn show_phase<R: Wait, B: Board>(
+    rt: &R,
+    alloc: Global,
+    board: &mut B,
+    running: &Running,
+) -> Result<(), AllocError>
+    requires within { running.now.last ≤ length running.now.history.items }
+    requires board { CanShow B.has board.old (stored_rows (drop running.now.last running.now.history.items)) }
+    ensures { OnOk result ((opening : Numbers) (rows : Book) (phases : List (List Stored)) →
+        B.has board.old opening rows phases →
+        B.has board.new opening rows
+        (phases ++ stored_rows (drop running.now.last running.now.history.items) ∷ [])) }
+{
+    if !board.is_watched() {
+        return Ok(());
+    }
+    let rows = rows_of_entries(alloc, &running.history[running.last..])?;
+    board.publish(rt, rows)
 }
 
 // The objects that are hot in the next phase.

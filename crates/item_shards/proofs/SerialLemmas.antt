@@ -1,5 +1,5 @@
 -- The auction of one thread: what it answers and stores, by the book that it holds.
-use Rattle.std.proofs.Common.{◌≡◌, ℕ, ◌+◌, ◌<◌, ◌≤◌, ◌==◌, Bool, true, false, cond, ◌&&◌, ◌||◌, List, [], ◌∷◌, ◌++◌, Option, Some, None, option_to_list, length, refl, sym, ap, subst, ◌∙◌, arith}
+use Rattle.std.proofs.Common.{◌≡◌, ℕ, ◌+◌, ◌<◌, ◌≤◌, ◌==◌, Bool, true, false, cond, ◌&&◌, ◌||◌, List, [], ◌∷◌, ◌++◌, Option, Some, None, option_to_list, length, refl, sym, ap, subst, ◌∙◌, arith, append_assoc}
 use Rattle.std.specs.Prelude.{option_map, option_and_then, unwrap_or, count_by, slice_get, Result, Ok, Err, OnErr}
 use Rattle.std.specs.List.{AllByRecursion, cons_option}
 use Rattle.std.specs.Option.{option_or}
@@ -238,27 +238,20 @@ none_stored worker within =
     let none = stored_by [] worker in
     slice_get-get_or (replicate 16 none) worker none (subst (λ n. worker < n) (sym (length-replicate 16 none)) within) ∙ ap Some (get_or-replicate 16 worker none none within)
 
--- ---- a book stored row by row
+-- ---- rows stored one by one after a book
 
-all_parts : {A : Type 0} (P : A → Type 0) (xs ys : List A) → AllByRecursion P (xs ++ ys) → AllByRecursion P xs × AllByRecursion P ys
-all_parts P [] ys h = (tt, h)
-all_parts P (x ∷ xs) ys h = (let rest = all_parts P xs ys h.1 in ((h.0, rest.0), rest.1))
+-- the next row goes on the book and the rows before it
+module _ (book rows : List Row) (i : ℕ) (r : Row) (within : i < length rows) (is : r ≡ get_or rows i r) where
+  pub one_more : book ++ take (i + 1) rows ≡ (book ++ take i rows) ++ r ∷ []
+  one_more = ap (λ front. book ++ front) (take_more rows i r within ∙ ap (λ x. take i rows ++ x ∷ []) (sym is)) ∙ sym (append_assoc book (take i rows) (r ∷ []))
 
--- the next row of a book goes on those before it, and what holds of every row holds of it
-module _ (rows : List Row) (i : ℕ) (r : Row) (within : i < length rows) (is : r ≡ get_or rows i r) where
-  pub one_more : take (i + 1) rows ≡ take i rows ++ r ∷ []
-  one_more = take_more rows i r within ∙ ap (λ x. take i rows ++ x ∷ []) (sym is)
+  whole : ((book ++ take i rows) ++ r ∷ []) ++ drop (i + 1) rows ≡ book ++ rows
+  whole =
+      ap (λ front. front ++ drop (i + 1) rows) (sym one_more) ∙ append_assoc book (take (i + 1) rows) (drop (i + 1) rows) ∙ ap (λ rs. book ++ rs) (take-append-drop (i + 1) rows)
 
-  whole : (take i rows ++ r ∷ []) ++ drop (i + 1) rows ≡ rows
-  whole = ap (λ front. front ++ drop (i + 1) rows) (sym one_more) ∙ take-append-drop (i + 1) rows
+  pub next_goes_on : (start : Opening) → IsBook start (book ++ rows) → GoOn start (book ++ take i rows) (r ∷ [])
+  next_goes_on start is_book =
+      (book_parts start (book ++ take i rows) (r ∷ []) (book_parts start ((book ++ take i rows) ++ r ∷ []) (drop (i + 1) rows) (subst (IsBook start) (sym whole) is_book)).0).1
 
-  pub next_goes_on : (start : Opening) → IsBook start rows → GoOn start (take i rows) (r ∷ [])
-  next_goes_on start book =
-      (book_parts start (take i rows) (r ∷ []) (book_parts start (take i rows ++ r ∷ []) (drop (i + 1) rows) (subst (IsBook start) (sym whole) book)).0).1
-
-  pub holds_of_next : (P : Row → Type 0) → AllByRecursion P rows → P r
-  holds_of_next P all =
-      (all_parts P (take i rows) (r ∷ []) (all_parts P (take i rows ++ r ∷ []) (drop (i + 1) rows) (subst (AllByRecursion P) (sym whole) all)).0).1.0
-
-pub front_not_full : (rows : List Row) (i : ℕ) → i < length rows → IsWithinLimits rows → length (take i rows) < 16000000
-front_not_full rows i within limits = omega (arith, length-take-le i rows (omega arith), within, limits.few)
+pub front_not_full : (book rows : List Row) (i : ℕ) → i < length rows → length book + length rows ≤ 16000000 → length (book ++ take i rows) < 16000000
+front_not_full book rows i within few = omega (arith, length-append book (take i rows), length-take-le i rows (omega arith), within, few)

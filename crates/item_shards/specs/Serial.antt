@@ -1,9 +1,9 @@
 -- The auction of one thread: what it holds, and which rows it can store.
-use Rattle.std.specs.Prelude.{ℕ, ◌≡◌, ◌<◌, [], ◌∷◌, Some, slice_get, length}
+use Rattle.std.specs.Prelude.{ℕ, ◌≡◌, ◌<◌, ◌≤◌, ◌+◌, List, [], ◌∷◌, ◌++◌, Some, slice_get, length, take, All}
 use Rattle.auction_rows.specs.declared.numbers.Opening.{Opening}
 use Rattle.auction_rows.specs.declared.rows.Row.{Row}
 use Rattle.auction_rows.specs.Book.{Book}
-use Rattle.auction_rows.specs.History.{GoOn}
+use Rattle.auction_rows.specs.History.{GoOn, IsBook}
 use Rattle.item_shards.specs.declared.serial.SerialAuction.{SerialAuction}
 use Rattle.item_shards.specs.Counting.{stored_by, worker_of}
 use Rattle.item_shards.specs.Limits.{IsWithinLimits, HasStars}
@@ -37,3 +37,23 @@ pub record CanStore (auction : SerialAuction) (row : Row) : Type 0 where
   pub goes_on : GoOn (opening_of auction) book (row ∷ [])
   pub stars : HasStars row
   pub worker : worker_of row < 16
+
+-- rows that can be stored after a book
+pub record CanFollow (start : Opening) (book : Book) (rows : List Row) : Type 0 where
+  -- each is what an accepted request adds at its place
+  pub is_book : IsBook start (book ++ rows)
+  -- each is of one of 16 workers
+  pub workers : All (λ row. worker_of row < 16) rows
+  -- they are no more than an auction may have
+  pub few : length book + length rows ≤ 16000000
+
+-- rows that follow some book which the auction holds
+pub record CanAdd (auction : SerialAuction) (rows : List Row) : Type 0 where
+  pub book : Book
+  pub holds : HoldsBook auction book
+  pub follow : CanFollow (opening_of auction) book rows
+
+-- the auction holds a book and then the first so many of these rows
+pub record HoldsFirst (auction : SerialAuction) (book : Book) (rows : List Row) : Type 0 where
+  pub count : ℕ
+  pub holds : HoldsBook auction (book ++ take count rows)

@@ -27,7 +27,7 @@ impl SerialAuction {
     ghost use Rattle.auction_rows.specs.History.{IsBook};
     ghost use Rattle.item_shards.specs.Counting.{worker_of};
     ghost use Rattle.item_shards.specs.Limits.{IsWithinLimits};
-    ghost use Rattle.item_shards.specs.Serial.{HoldsBook, IsNotFull, CanGrow, CanStore, opening_of};
+    ghost use Rattle.item_shards.specs.Serial.{HoldsBook, IsNotFull, CanGrow, CanStore, CanFollow, CanAdd, HoldsFirst, opening_of};
 
     /// An auction in which nothing is stored. It errs where the shard can't be made for want of memory.
     pub fn new(alloc: Global, opening: Opening) -> Result<SerialAuction, AllocError>
@@ -59,10 +59,25 @@ impl SerialAuction {
         ensures opening { IfOk result (λ auction. opening_of auction ≡ opening) }
     {
         let mut auction = SerialAuction::new(alloc, opening)?;
-        for row in rows {
-            auction.store(row)?;
-        }
+        auction.add_rows(rows)?;
         Ok(auction)
+    }
+
+    /// Stores rows that can follow a book which the auction holds. It costs in proportion to the rows. Where the auction
+    /// can't grow for want of memory, it holds that book with the first of the rows.
+    pub fn add_rows(&mut self, rows: &[Row]) -> Result<(), AllocError>
+        requires { CanAdd self.old rows.now }
+        ensures book { OnOk result ((book : Book) → HoldsBook self.old book →
+            CanFollow (opening_of self.old) book rows.now → HoldsBook self.new (book ++ rows.now)) }
+        ensures refused { OnErr result ((book : Book) → HoldsBook self.old book →
+            CanFollow (opening_of self.old) book rows.now → HoldsFirst self.new book rows.now) }
+        ensures opening { opening_of self.new ≡ opening_of self.old }
+    {
+        for row in rows {
+            row_has_stars(row);
+            self.store(row)?;
+        }
+        Ok(())
     }
 
     /// The reply to the request of a worker below 16. It changes nothing.

@@ -1,24 +1,7 @@
 //! An auction that is opened with the rows of its input, performs its scripts on threads and writes the replies.
 #![tactic(auto)]
 
-mod execute;
-#[cfg(test)]
-mod failing_tests;
-mod faults;
-mod one_worker;
-#[cfg(test)]
-mod option_tests;
-mod options;
-#[cfg(test)]
-mod phase_tests;
-#[cfg(test)]
-mod tests;
-mod views;
-mod writing;
-
-use crate::execute::execute;
-use crate::faults::{Fault, status, write_fault};
-use crate::options::{read_options, words_fault};
+use auction_program::{Fault, execute, read_options, status, words_fault, write_fault};
 use std::alloc::Global;
 use std::process::ExitCode;
 use std::rt::Env;

@@ -12,7 +12,7 @@ perform_phase-requires-clause-may g c κs within =
 
 pub returns-clause-running : goal.returns-clause-running
 returns-clause-running g c = λ opening rows is_book run.
-    let closed = c.in_ok-state.ensures.closed in
+    let closed = c.in_ok-closed.ensures.closed in
     stepped c.args.round.policy c.requires.quotas (lists c.args.round.scripts.now) c.args.running.state.phase opening rows is_book c.args.running _ c.in_ok-hot_now.hot_now.keys
     (added c.args.running.history.items c.perform_phase.new.history.items) c.requires.left.0 run c.requires.left.1
     closed.performed
@@ -24,7 +24,7 @@ returns-clause-running g c = λ opening rows is_book run.
     closed.workers_are
     closed.stashes_are
     closed.commits
-    c.in_ok-state.ensures.history
+    c.in_ok-closed.ensures.history
     (ap hot_sets c.in_ok-push.ensures.items ∙ map-append (λ set. set.keys) c.args.running.hot.items (c.in_ok-hot_now.hot_now ∷ []))
     (search rules)
     c.in_ok-hot_now.ensures.joined

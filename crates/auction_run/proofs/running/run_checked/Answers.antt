@@ -1,47 +1,88 @@
-use Rattle.std.proofs.Common.{rules, arith, ◌≡◌, ◌≤◌, ◌+◌, ℕ, suc, length, subst, sym}
+use Rattle.std.proofs.Common.{rules, arith, ◌≡◌, ◌≤◌, ◌<◌, ◌+◌, ◌^◌, ℕ, suc, length, drop, subst, sym, ap, ◌∙◌}
+use Rattle.auction_rows.specs.declared.rows.Entry.{Entry}
 use Rattle.item_shards.specs.OpeningBooks.{opening_of, rows_of}
 use Rattle.run_serving.specs.Run.{HasLeft}
-use Rattle.run_serving.specs.Serving.{script_of}
+use Rattle.run_serving.specs.Serving.{script_of, segment_of}
+use Rattle.auction_run.specs.Boards.{HasShown, phase_rows}
 use Rattle.auction_run.specs.Phases.{lists, waiting_in}
 use Rattle.auction_run.specs.Running.{IsRunning}
-use Rattle.auction_run.proofs.RunLemmas.{left_over, few_phases_so_far, ended}
+use Rattle.auction_run.proofs.BoardLemmas.{begins_shown, can_show, has_shown, next_runs}
+use Rattle.auction_run.proofs.RunLemmas.{left_over, few_phases_so_far, ended, phases_counted}
 use Rattle.auction_run.proofs.running.run_checked.Goals as goal
 
 pub returns-then-not-is_left-clause-outcome : goal.returns-then-not-is_left-clause-outcome
 returns-then-not-is_left-clause-outcome g c =
     let round = c.new-round.ensures in
-    let phase = c.loop-phase.invariant.phase_is in
+    let running = c.loop-phase.invariant.running in
+    let phase = running.phase_is in
     ended (opening_of c.args.book.now) (rows_of c.args.book.now) c.args.policy (omega (arith, c.requires.quotas.joined)) (lists c.args.scripts.now) c.requires.short c.loop-phase._phase c.loop-phase.running
-    c.loop-phase.invariant c.new-round.result.first (search rules)
+    running c.new-round.result.first (search rules)
     (subst (λ stashes. (worker : ℕ) → (length (script_of (lists c.args.scripts.now) worker) ≤ c.new-round.result.first) × (length (waiting_in stashes worker) ≡ 0)) c.deref.ensures.value
     (c.is_left.ensures.none (search rules)))
+
+pub returns-then-not-is_left-clause-board : goal.returns-then-not-is_left-clause-board
+returns-then-not-is_left-clause-board g c =
+    let running = c.loop-phase.invariant.running in
+    let counted = phases_counted (opening_of c.args.book.now) (rows_of c.args.book.now) c.args.policy (omega (arith, c.requires.quotas.joined)) (lists c.args.scripts.now) c.requires.short c.loop-phase._phase c.loop-phase.running running in
+    subst (λ n. HasShown g.B.Board.has (opening_of c.args.book.now) (rows_of c.args.book.now) n c.loop-phase.running.history.items c.loop-phase.board) (sym running.phase_is ∙ counted)
+    c.loop-phase.invariant.shown
 
 pub next_phase-requires-clause-left : goal.next_phase-requires-clause-left
 next_phase-requires-clause-left g c κs within =
     let some = c.is_left.ensures.some (search rules) in
+    let running = c.loop-phase.invariant.running in
     let same = c.new-round.ensures in (
       some.0,
       subst (λ policy. HasLeft policy (lists c.new-round.result.scripts.now) c.loop-phase.running.state.phase (waiting_in c.loop-phase.running.stashes.items) some.0) (sym same.policy)
           (subst (λ scripts. HasLeft c.args.policy (lists scripts) c.loop-phase.running.state.phase (waiting_in c.loop-phase.running.stashes.items) some.0) (sym same.scripts)
-          (subst (λ p. HasLeft c.args.policy (lists c.args.scripts.now) p (waiting_in c.loop-phase.running.stashes.items) some.0) (sym c.loop-phase.invariant.phase_is)
+          (subst (λ p. HasLeft c.args.policy (lists c.args.scripts.now) p (waiting_in c.loop-phase.running.stashes.items) some.0) (sym running.phase_is)
           (left_over (opening_of c.args.book.now) (rows_of c.args.book.now) c.args.policy (omega (arith, c.requires.quotas.joined)) (lists c.args.scripts.now) c.requires.short c.loop-phase._phase c.loop-phase.running
-          c.loop-phase.invariant c.new-round.result.first some.0 (search rules) (search rules)))),
+          running c.new-round.result.first some.0 (search rules) (search rules)))),
     )
+
+pub loop-phase-init : goal.loop-phase-init
+loop-phase-init g c = record {
+  running = c.in_ok-running.ensures.running;
+  shown = begins_shown g.B.Board.has (opening_of c.args.book.now) (rows_of c.args.book.now) c.args.policy (lists c.args.scripts.now) c.in_ok-running.running c.args.board.now
+      c.in_ok-running.ensures.running c.requires.board;
+}
+
+pub show_phase-requires-clause-within : goal.show_phase-requires-clause-within
+show_phase-requires-clause-within g c =
+    let same = c.new-round.ensures in
+    let book = c.args.book.now in
+    let scripts = lists c.args.scripts.now in
+    let next = next_runs (opening_of book) (rows_of book) book.is_book c.args.policy c.new-round.result.policy scripts (lists c.new-round.result.scripts.now) c.loop-phase._phase c.loop-phase.running c.in_ok-running-2.running
+    same.policy (ap lists same.scripts) c.loop-phase.invariant.running c.in_ok-running-2.ensures.running in
+    next.last_within
+
+pub show_phase-requires-clause-board : goal.show_phase-requires-clause-board
+show_phase-requires-clause-board g c =
+    let same = c.new-round.ensures in
+    let book = c.args.book.now in
+    let scripts = lists c.args.scripts.now in
+    let next = next_runs (opening_of book) (rows_of book) book.is_book c.args.policy c.new-round.result.policy scripts (lists c.new-round.result.scripts.now) c.loop-phase._phase c.loop-phase.running c.in_ok-running-2.running
+    same.policy (ap lists same.scripts) c.loop-phase.invariant.running c.in_ok-running-2.ensures.running in
+    can_show (opening_of book) (rows_of book) book.is_book c.args.policy scripts c.requires.workers.few c.requires.workers.own c.requires.short c.loop-phase._phase c.in_ok-running-2.running next
+    c.loop-phase.running.history.items c.in_ok-running-2.ensures.grown g.B.Board.has c.loop-phase.board c.loop-phase.invariant.shown c.loop-phase-test.true
 
 pub loop-phase-preserved : goal.loop-phase-preserved
 loop-phase-preserved g c =
-    let next : suc c.loop-phase.running.state.phase ≡ c.loop-phase._phase + 1 = omega (arith, c.loop-phase.invariant.phase_is) in
     let same = c.new-round.ensures in
-    subst (λ p. IsRunning (opening_of c.args.book.now) (rows_of c.args.book.now) c.args.policy (lists c.args.scripts.now) p c.in_ok-running-2.running) next
-    (subst (λ policy. IsRunning (opening_of c.args.book.now) (rows_of c.args.book.now) policy (lists c.args.scripts.now) (suc c.loop-phase.running.state.phase) c.in_ok-running-2.running) same.policy
-    (subst (λ scripts. IsRunning (opening_of c.args.book.now) (rows_of c.args.book.now) c.new-round.result.policy (lists scripts) (suc c.loop-phase.running.state.phase) c.in_ok-running-2.running) same.scripts
-    (c.in_ok-running-2.ensures.running (opening_of c.args.book.now) (rows_of c.args.book.now) (search rules)
-    (subst (λ policy. IsRunning (opening_of c.args.book.now) (rows_of c.args.book.now) policy (lists c.new-round.result.scripts.now) c.loop-phase.running.state.phase c.loop-phase.running) (sym same.policy)
-    (subst (λ scripts. IsRunning (opening_of c.args.book.now) (rows_of c.args.book.now) c.args.policy (lists scripts) c.loop-phase.running.state.phase c.loop-phase.running) (sym same.scripts)
-    (subst (λ p. IsRunning (opening_of c.args.book.now) (rows_of c.args.book.now) c.args.policy (lists c.args.scripts.now) p c.loop-phase.running) (sym c.loop-phase.invariant.phase_is) c.loop-phase.invariant))))))
+    let book = c.args.book.now in
+    let scripts = lists c.args.scripts.now in
+    let next = next_runs (opening_of book) (rows_of book) book.is_book c.args.policy c.new-round.result.policy scripts (lists c.new-round.result.scripts.now) c.loop-phase._phase c.loop-phase.running c.in_ok-running-2.running
+    same.policy (ap lists same.scripts) c.loop-phase.invariant.running c.in_ok-running-2.ensures.running in
+    let one_more : suc c.loop-phase._phase ≡ c.loop-phase._phase + 1 = omega arith in
+    record {
+      running = subst (λ n. IsRunning (opening_of book) (rows_of book) c.args.policy scripts n c.in_ok-running-2.running) one_more next;
+      shown = subst (λ n. HasShown g.B.Board.has (opening_of book) (rows_of book) n c.in_ok-running-2.running.history.items c.show_phase.new.board) one_more
+          (has_shown (opening_of book) (rows_of book) book.is_book c.args.policy scripts c.requires.workers.few c.requires.workers.own c.requires.short c.loop-phase._phase c.in_ok-running-2.running next
+          c.loop-phase.running.history.items c.in_ok-running-2.ensures.grown g.B.Board.has c.loop-phase.board c.loop-phase.invariant.shown c.show_phase.new.board c.in_ok-show_phase.ensures);
+    }
 
 pub unreachable-requires : goal.unreachable-requires
 unreachable-requires g c =
     let few = few_phases_so_far (opening_of c.args.book.now) (rows_of c.args.book.now) c.args.policy (omega (arith, c.requires.quotas.joined)) (lists c.args.scripts.now) c.requires.short c.loop-phase._phase c.loop-phase.running
-    c.loop-phase.invariant in
+    c.loop-phase.invariant.running in
     omega (arith, few, c.loop-phase-test.false)

@@ -1,4 +1,4 @@
-use Rattle.std.proofs.Common.{◌≡◌, ◌<◌, take, set, length, sym, ap, subst, ◌∙◌, arith}
+use Rattle.std.proofs.Common.{◌≡◌, ◌<◌, [], take, set, length, sym, ap, subst, ◌∙◌, arith}
 use Rattle.std.proofs.lemmas.List.{length-set, get_or_read}
 use Rattle.std.proofs.lemmas.List.Elements.{All-get_or}
 use Rattle.item_shards.specs.Counting.{worker_of}
@@ -31,5 +31,5 @@ loop-row-preserved c =
           ap (λ row. counters_at (set old w row) v) made
           ∙ ap (λ n. counters_at (set old n (with_row r (counters_at old n))) v) c.worker_of-worker.ensures
           ∙ each_next (take i rows) r old c.args.workers was.len was.each own v known
-          ∙ ap (λ b. counters_in b v) (sym (one_more rows i r low c.row-item.is));
+          ∙ ap (λ b. counters_in b v) (sym (one_more [] rows i r low c.row-item.is));
     }

@@ -15,8 +15,8 @@ write-requires-clause-numbered c = c.loop-row.invariant.ready.numbered
 pub write-requires-clause-can : goal.write-requires-clause-can
 write-requires-clause-can c =
     let rows = c.args.rows.now in let i = c.loop-row.row-index in let r = c.row-item.result in let low = c.loop-row-test.true in let was = c.loop-row.invariant in
-    can_write c.args.opening (map state_of c.loop-row.shards.items) (map state_of c.loop-row.shards.items) r was.ready (take i rows) was.stand (next_goes_on rows i r low c.row-item.is c.args.opening c.requires.book)
-    (subst IsWithinLimits (one_more rows i r low c.row-item.is) (front_within rows (i + 1) c.requires.limits))
+    can_write c.args.opening (map state_of c.loop-row.shards.items) (map state_of c.loop-row.shards.items) r was.ready (take i rows) was.stand (next_goes_on [] rows i r low c.row-item.is c.args.opening c.requires.book)
+    (subst IsWithinLimits (one_more [] rows i r low c.row-item.is) (front_within rows (i + 1) c.requires.limits))
 
 pub loop-row-init : goal.loop-row-init
 loop-row-init c =
@@ -40,5 +40,5 @@ loop-row-preserved c =
     let after : length (map state_of new) ≡ length new = simp length-map in record {
       len = omega (arith, before, after, done.len, was.len);
       ready = ready_next c.args.opening (map state_of old) (map state_of new) r was.ready done;
-      stand = subst (λ b. ShardsStandFor (map state_of new) b []) (sym (one_more rows i r low c.row-item.is)) (stand_next c.args.opening (map state_of old) (map state_of new) r was.ready done (take i rows) was.stand);
+      stand = subst (λ b. ShardsStandFor (map state_of new) b []) (sym (one_more [] rows i r low c.row-item.is)) (stand_next c.args.opening (map state_of old) (map state_of new) r was.ready done (take i rows) was.stand);
     }

@@ -1,0 +1,110 @@
+-- What is said of an input, from what its parts answered.
+use Rattle.std.proofs.Common.{◌≡◌, ℕ, List, Option, Some, None, IfSome, Result, Ok, Err, IfErr, sym, ap, subst, ◌∙◌}
+use Rattle.std.specs.Prelude.{◌↔◌}
+use Rattle.std.specs.Result.{IsErr, IsErrAnd}
+use Rattle.auction_rows.specs.declared.ids.Object.{Object}
+use Rattle.auction_rows.specs.declared.numbers.Opening.{Opening}
+use Rattle.auction_rows.specs.declared.requests.Request.{Request}
+use Rattle.auction_rows.specs.declared.rows.Entry.{Entry}
+use Rattle.auction_rows.specs.Book.{Book}
+use Rattle.auction_text.specs.Scripts.{input_of}
+use Rattle.item_shards.specs.OpeningRows.{AreRows, IsFirstBad, IsTooLong, opening_rows}
+use Rattle.item_shards.specs.declared.opened.Opened.{Opened}
+use Rattle.item_shards.specs.declared.opening_book.ResumeFault.{ResumeFault}
+use Rattle.item_shards.specs.declared.opening_book.ResumeFault.TheVariants as resume
+use Rattle.run_serving.specs.Answers.{IsAnswer}
+use Rattle.run_serving.specs.declared.policy.Policy.{Policy}
+use Rattle.auction_program.specs.Execution.{added_text, commits_text, Answers, IsCausedBy, IsNotPerformed, IsNotRun, IsRefused, OfInput}
+use Rattle.auction_program.specs.Options.{opening_of, policy_of}
+use Rattle.auction_run.specs.Beginning.{HaveWorkers, HasShards, HasQuotas, AreShort}
+use Rattle.auction_run.specs.declared.fault.RunFault.{RunFault}
+use Rattle.auction_run.specs.declared.fault.RunFault.TheVariants as run
+use Rattle.auction_program.specs.declared.faults.Fault.{Fault}
+use Rattle.auction_program.specs.declared.faults.Fault.TheVariants.{Usage, Read, Resume, Make, Run, Write}
+use Rattle.auction_program.specs.declared.options.Options.{Options}
+
+-- what holds of the error that there is
+pub error_is : {T E : Type 0} (r : Result T E) (e : E) (Q : E → Type 0) → IsErr r × IsErrAnd r (λ x. x ≡ e) → Q e → IfErr r Q
+error_is (Ok x) e Q is holds = tt
+error_is (Err x) e Q is holds = subst Q (sym is.1) holds
+
+pub is_error : {T E : Type 0} (r : Result T E) (e x : E) → IsErr r × IsErrAnd r (λ y. y ≡ e) → r ≡ Err x → x ≡ e
+is_error (Ok t) e x is same = absurd (let no = same in cc)
+is_error (Err y) e x is same = let one : y ≡ x = cc in sym one ∙ is.1
+
+-- what follows for the input that a reader tells
+pub for_input : (remaining : Option (List ℕ)) (P Q : List ℕ → Type 0) → ((input : List ℕ) → P input → Q input) → IfSome remaining P → IfSome remaining Q
+for_input None P Q follows holds = tt
+for_input (Some input) P Q follows holds = follows input holds
+
+-- why the rows were refused
+pub refused : {T : Type 0} (start : Opening) (rows : List Opened) (result : Result T ResumeFault) (fault : ResumeFault) → result ≡ Err fault
+    → (result ≡ Err resume.TooLong ↔ IsTooLong rows) → ((n : ℕ) → result ≡ Err (resume.BadRow n) → IsFirstBad start rows n) → IsRefused start fault rows
+refused start rows result resume.TooLong is long bad = long.0 is
+refused start rows result (resume.BadRow n) is long bad = (λ many. absurd (let no = sym is ∙ long.1 many in cc), bad n is)
+refused start rows result resume.Memory is long bad = λ many. absurd (let no = sym is ∙ long.1 many in cc)
+
+-- why the scripts were not performed
+pub not_run : {T : Type 0} (policy : Policy) (book : Book) (scripts : List (List Request)) (result : Result T RunFault) (fault : RunFault) → result ≡ Err fault
+    → (result ≡ Err run.Workers ↔ ¬ HaveWorkers book scripts)
+    → (result ≡ Err run.Shards ↔ (HaveWorkers book scripts × ¬ HasShards policy))
+    → (result ≡ Err run.Quota ↔ (HaveWorkers book scripts × (HasShards policy × ¬ HasQuotas policy)))
+    → (result ≡ Err run.TooLong ↔ (HaveWorkers book scripts × (HasShards policy × (HasQuotas policy × ¬ AreShort book scripts))))
+    → IsNotRun policy fault book scripts
+not_run policy book scripts result run.Workers is workers shards quotas short = workers.0 is
+not_run policy book scripts result run.Shards is workers shards quotas short = shards.0 is
+not_run policy book scripts result run.Quota is workers shards quotas short = quotas.0 is
+not_run policy book scripts result run.TooLong is workers shards quotas short = short.0 is
+not_run policy book scripts result run.Spawn is workers shards quotas short = tt
+not_run policy book scripts result run.Memory is workers shards quotas short = tt
+not_run policy book scripts result run.NumberFull is workers shards quotas short = tt
+
+-- the book of the rows, and the policy, are those of the options
+module _ (options : Options) (rows : List Opened) (scripts : List (List Request)) (remaining : Option (List ℕ))
+    (reads : IfSome remaining (λ input. input_of options.workers input ≡ Ok (record { rows = rows; scripts = scripts }))) where
+  pub of_input : (Holds : List Opened → List (List Request) → Type 0) → Holds rows scripts → IfSome remaining (λ input. OfInput options input Holds)
+  of_input Holds holds =
+      for_input remaining (λ input. input_of options.workers input ≡ Ok (record { rows = rows; scripts = scripts })) (λ input. OfInput options input Holds)
+      (λ input asks. record { rows = rows; scripts = scripts; reads = asks; holds = holds }) reads
+
+  -- why the scripts were not performed
+  pub not_performed : (fault : Fault) → AreRows (opening_of options) rows → IsNotPerformed (policy_of options) fault (opening_rows (opening_of options) rows) scripts
+      → IfSome remaining (λ input. IsCausedBy options input fault)
+  not_performed (Usage fault) are why = absurd why
+  not_performed (Read fault) are why = absurd why
+  not_performed (Resume fault) are why = absurd why
+  not_performed (Make fault) are why = of_input (λ rs ss. AreRows (opening_of options) rs) are
+  not_performed (Run fault) are why = of_input (λ rs ss. AreRows (opening_of options) rs × IsNotRun (policy_of options) fault (opening_rows (opening_of options) rs) ss) (are, why)
+  not_performed (Write fault) are why = absurd why
+
+  module _ (start : Opening) (policy : Policy) (book shown : Book) (history : List Entry) (hot : List (List Object))
+      (starts : start ≡ opening_of options) (divides : policy ≡ policy_of options) (opens : book ≡ opening_rows start rows) (shows : shown ≡ book)
+      (are : AreRows start rows) (runs : IsAnswer start book policy scripts hot history) where
+    opened : shown ≡ opening_rows (opening_of options) rows
+    opened = shows ∙ opens ∙ ap (λ o. opening_rows o rows) starts
+
+    ran : IsAnswer (opening_of options) (opening_rows (opening_of options) rows) (policy_of options) scripts hot history
+    ran =
+        subst (λ o. IsAnswer o (opening_rows o rows) (policy_of options) scripts hot history) starts
+        (subst (λ (b : Book). IsAnswer start b (policy_of options) scripts hot history) opens
+        (subst (λ p. IsAnswer start book p scripts hot history) divides runs))
+
+    pub answered : (Holds : List ℕ → List ℕ → Type 0) → Holds (commits_text options shown history) (added_text options shown history hot)
+        → IfSome remaining (λ input. Answers options input Holds)
+    answered Holds holds =
+        for_input remaining (λ input. input_of options.workers input ≡ Ok (record { rows = rows; scripts = scripts })) (λ input. Answers options input Holds)
+        (λ input asks. record {
+          text = commits_text options shown history;
+          added = added_text options shown history hot;
+          answered = record {
+            rows = rows;
+            scripts = scripts;
+            history = history;
+            hot = hot;
+            asks = record { reads = asks; are_rows = subst (λ o. AreRows o rows) starts are };
+            runs = ran;
+            text_is = ap (λ (b : Book). commits_text options b history) opened;
+            added_is = ap (λ (b : Book). added_text options b history hot) opened;
+          };
+          holds = holds;
+        }) reads

@@ -1,0 +1,45 @@
+-- Two texts, written one after the other.
+use Rattle.std.proofs.Common.{◌≡◌, ℕ, ◌+◌, ◌≤◌, min, List, [], ◌++◌, Option, Result, Ok, Err, IfErr, OnOk, length, take, append-nil, sym, subst, ◌∙◌, ap, arith}
+use Rattle.std.proofs.KnownBytes.{Appends-trans}
+use Rattle.std.proofs.Math.Seq.{take-append-add}
+use Rattle.std.proofs.lemmas.List.{take-append-le, take_min}
+use Rattle.std.specs.Io.KnownBytes.{Appends}
+use Rattle.auction_rows.specs.declared.ids.Object.{Object}
+use Rattle.auction_rows.specs.declared.numbers.Opening.{Opening}
+use Rattle.auction_rows.specs.declared.replies.Reply.{Reply}
+use Rattle.auction_rows.specs.declared.rows.Entry.{Entry}
+use Rattle.auction_rows.specs.Book.{Book}
+use Rattle.auction_text.specs.Report.{report_text}
+use Rattle.auction_text.specs.Writing.{IsPartWritten}
+use Rattle.auction_program.specs.Report.{category_views, report_of, user_views}
+
+module _ (old mid new : Option (List ℕ)) (text added : List ℕ) where
+  pub both_written : Appends old mid text → Appends mid new added → Appends old new (text ++ added)
+  both_written first second = Appends-trans old mid new text added first second
+
+  pub nothing_added : added ≡ [] → Appends old new text → Appends old new (text ++ added)
+  nothing_added none first = subst (Appends old new) (sym (append-nil text) ∙ ap (λ a. text ++ a) (sym none)) first
+
+  pub part_of_first : IsPartWritten old new text → IsPartWritten old new (text ++ added)
+  part_of_first part =
+      let n = min part.0 (length text) in
+      let within : n ≤ length text = omega arith in
+      (n, subst (Appends old new) (sym (take_min part.0 text) ∙ sym (take-append-le n text added within)) part.1)
+
+  pub part_of_added : Appends old mid text → IsPartWritten mid new added → IsPartWritten old new (text ++ added)
+  part_of_added first part =
+      (length text + part.0, subst (Appends old new) (sym (take-append-add text added part.0)) (Appends-trans old mid new text (take part.0 added) first part.1))
+
+-- what follows of each error
+pub if_err : {T E : Type 0} (r : Result T E) (P Q : E → Type 0) → ((e : E) → P e → Q e) → IfErr r P → IfErr r Q
+if_err (Ok x) P Q follows holds = tt
+if_err (Err e) P Q follows holds = follows e holds
+
+pub on_ok : {T E : Type 0} (r : Result T E) (P Q : Type 0) → (P → Q) → OnOk r P → OnOk r Q
+on_ok (Ok x) P Q follows holds = follows holds
+on_ok (Err e) P Q follows holds = tt
+
+-- a report whose views are those of a book
+pub report_same : (opening : Opening) (book : Book) (history given : List Entry) (hot given_hot : List (List Object)) (categories users : List Reply) → given ≡ history → given_hot ≡ hot
+    → categories ≡ category_views opening book → users ≡ user_views opening book → report_text given given_hot categories users ≡ report_of opening book history hot
+report_same opening book history given hot given_hot categories users histories hots cs us = cc

@@ -1,0 +1,19 @@
+use Rattle.std.proofs.Common.{subst}
+use Rattle.auction_run.specs.Phases.{lists}
+use Rattle.item_shards.specs.OpeningBooks as opened
+use Rattle.auction_program.specs.Execution.{IsNotPerformed, IsNotRun}
+use Rattle.auction_program.specs.Options.{policy_of}
+use Rattle.auction_program.specs.declared.faults.Fault.TheVariants.{Run}
+use Rattle.auction_program.proofs.Answering.{error_is, not_run}
+use Rattle.auction_program.proofs.performing.perform.Goals as goal
+
+pub returns-in_err-outcome-clause-cause : goal.returns-in_err-outcome-clause-cause
+returns-in_err-outcome-clause-cause g c =
+    let options = c.args.options.now in
+    let rows = opened.rows_of c.args.book.now in
+    let scripts = lists c.args.scripts.items in
+    let fault = c.in_err-outcome.field-0.0 in
+    let refused = c.run.ensures in
+    error_is c.from_residual.result (Run fault) (λ f. IsNotPerformed (policy_of options) f rows scripts) c.from_residual.ensures
+    (subst (λ p. IsNotRun p fault rows scripts) c.policy.ensures
+    (not_run c.policy.result rows scripts c.run.result fault c.in_err-outcome.was refused.workers refused.shards refused.quota refused.too_long))

@@ -1,0 +1,140 @@
+-- What the program answers.
+use Rattle.std.specs.Prelude.{ℕ, ◌≡◌, ◌⊎◌, List, [], ◌++◌, Option, Ok, Err, IfSome, if◌then◌else◌}
+use Rattle.std.specs.Io.KnownBytes.{Appends, Keeps}
+use Rattle.auction_rows.specs.declared.ids.Object.{Object}
+use Rattle.auction_rows.specs.declared.numbers.Opening.{Opening}
+use Rattle.auction_rows.specs.declared.requests.Request.{Request}
+use Rattle.auction_rows.specs.declared.rows.Entry.{Entry}
+use Rattle.auction_rows.specs.Book.{Book}
+use Rattle.auction_rows.specs.History.{book_after}
+use Rattle.auction_text.specs.Reading.{IsInputFault}
+use Rattle.auction_text.specs.Replies.{replies_text, history_text}
+use Rattle.auction_text.specs.RowLines.{rows_text}
+use Rattle.auction_text.specs.Scripts.{input_of}
+use Rattle.auction_text.specs.Writing.{IsPartWritten}
+use Rattle.auction_text.specs.declared.report.ReportLines.{ReportLines}
+use Rattle.item_shards.specs.OpeningRows.{AreRows, IsFirstBad, IsTooLong, opening_rows}
+use Rattle.item_shards.specs.declared.opened.Opened.{Opened}
+use Rattle.item_shards.specs.declared.opening_book.ResumeFault.{ResumeFault}
+use Rattle.item_shards.specs.declared.opening_book.ResumeFault.TheVariants as resume
+use Rattle.run_serving.specs.Answers.{IsAnswer}
+use Rattle.run_serving.specs.declared.policy.Policy.{Policy}
+use Rattle.auction_program.specs.Options.{opening_of, policy_of}
+use Rattle.auction_program.specs.Report.{report_of, AreViews}
+use Rattle.auction_run.specs.Beginning.{HaveWorkers, HasShards, HasQuotas, AreShort}
+use Rattle.auction_run.specs.Phases.{hot_sets}
+use Rattle.auction_run.specs.declared.fault.RunFault.{RunFault}
+use Rattle.auction_run.specs.declared.fault.RunFault.TheVariants as run
+use Rattle.auction_run.specs.declared.running.Outcome.{Outcome}
+use Rattle.auction_program.specs.declared.faults.Fault.{Fault}
+use Rattle.auction_program.specs.declared.faults.Fault.TheVariants.{Usage, Read, Resume, Make, Run, Write}
+use Rattle.auction_program.specs.declared.options.Options.{Options}
+
+-- what the options ask for: the rows, or else the history, or else the replies
+abbrev pub commits_text : Options → Book → List Entry → List ℕ
+commits_text options book history =
+    if options.rows then rows_text book history
+    else if options.history then history_text history
+    else replies_text history
+
+-- and after it the report, where they ask for it
+abbrev pub added_text : Options → Book → List Entry → List (List Object) → List ℕ
+added_text options book history hot =
+    if options.report then report_of (opening_of options) (book_after (opening_of options) book history) history hot else []
+
+-- The input has no fault and asks for these rows, each a row at its place, and for these scripts.
+pub record AsksFor (options : Options) (input : List ℕ) (rows : List Opened) (scripts : List (List Request)) : Type 0 where
+  pub reads : input_of options.workers input ≡ Ok (record { rows = rows; scripts = scripts })
+  pub are_rows : AreRows (opening_of options) rows
+
+-- Two texts answer an input: what the options ask for of a run of its scripts, from the book of its rows, and what is added.
+pub record IsAnsweredBy (options : Options) (input : List ℕ) (text added : List ℕ) : Type 0 where
+  pub rows : List Opened
+  pub scripts : List (List Request)
+  pub history : List Entry
+  pub hot : List (List Object)
+  pub asks : AsksFor options input rows scripts
+  pub runs : IsAnswer (opening_of options) (opening_rows (opening_of options) rows) (policy_of options) scripts hot history
+  pub text_is : text ≡ commits_text options (opening_rows (opening_of options) rows) history
+  pub added_is : added ≡ added_text options (opening_rows (opening_of options) rows) history hot
+
+-- This holds of two texts that answer the input.
+pub record Answers (options : Options) (input : List ℕ) (Holds : List ℕ → List ℕ → Type 0) : Type 0 where
+  pub text : List ℕ
+  pub added : List ℕ
+  pub answered : IsAnsweredBy options input text added
+  pub holds : Holds text added
+
+-- both were written whole
+abbrev pub AreWritten : Option (List ℕ) → Option (List ℕ) → List ℕ → List ℕ → Type 0
+AreWritten old new text added = Appends old new (text ++ added)
+
+-- a prefix of both was written, and nothing else
+abbrev pub ArePartWritten : Option (List ℕ) → Option (List ℕ) → List ℕ → List ℕ → Type 0
+ArePartWritten old new text added = IsPartWritten old new (text ++ added)
+
+-- nothing was written, or the first one whole
+abbrev pub IsOneWritten : Option (List ℕ) → Option (List ℕ) → List ℕ → List ℕ → Type 0
+IsOneWritten old new text added = Keeps old new ⊎ Appends old new text
+
+-- The input has no fault, and this holds of the rows and scripts that it asks for.
+pub record OfInput (options : Options) (input : List ℕ) (Holds : List Opened → List (List Request) → Type 0) : Type 0 where
+  pub rows : List Opened
+  pub scripts : List (List Request)
+  pub reads : input_of options.workers input ≡ Ok (record { rows = rows; scripts = scripts })
+  pub holds : Holds rows scripts
+
+-- why an opening book was refused, by the rows
+abbrev pub IsRefused : Opening → ResumeFault → List Opened → Type 0
+IsRefused opening resume.TooLong rows = IsTooLong rows
+IsRefused opening (resume.BadRow n) rows = (¬ IsTooLong rows) × IsFirstBad opening rows n
+IsRefused opening resume.Memory rows = ¬ IsTooLong rows
+
+-- why a run of scripts from a book was refused, by the first that doesn't hold; the last three faults are met while it goes on
+abbrev pub IsNotRun : Policy → RunFault → Book → List (List Request) → Type 0
+IsNotRun policy run.Workers book scripts = ¬ HaveWorkers book scripts
+IsNotRun policy run.Shards book scripts = HaveWorkers book scripts × ¬ HasShards policy
+IsNotRun policy run.Quota book scripts = HaveWorkers book scripts × (HasShards policy × ¬ HasQuotas policy)
+IsNotRun policy run.TooLong book scripts = HaveWorkers book scripts × (HasShards policy × (HasQuotas policy × ¬ AreShort book scripts))
+IsNotRun policy run.Spawn book scripts = Unit {0}
+IsNotRun policy run.Memory book scripts = Unit {0}
+IsNotRun policy run.NumberFull book scripts = Unit {0}
+
+-- the outcome of a run answers these scripts, from a book
+abbrev pub AnswersScripts : Options → Book → List (List Request) → Outcome → Type 0
+AnswersScripts options book scripts outcome =
+    IsAnswer (opening_of options) book (policy_of options) scripts (hot_sets outcome.hot.items) outcome.history.items
+
+-- the lines of its report, where there are some, are the views that the book at its end gives
+abbrev pub HasLastViews : Options → Book → Outcome → Option ReportLines → Type 0
+HasLastViews options book outcome lines = IfSome lines (λ shown.
+    AreViews (opening_of options) (book_after (opening_of options) book outcome.history.items) shown.categories.items shown.users.items)
+
+-- why scripts were not performed: no window could be made, or the run was refused
+abbrev pub IsNotPerformed : Policy → Fault → Book → List (List Request) → Type 0
+IsNotPerformed policy (Usage fault) book scripts = ⊥
+IsNotPerformed policy (Read fault) book scripts = ⊥
+IsNotPerformed policy (Resume fault) book scripts = ⊥
+IsNotPerformed policy (Make fault) book scripts = Unit {0}
+IsNotPerformed policy (Run fault) book scripts = IsNotRun policy fault book scripts
+IsNotPerformed policy (Write fault) book scripts = ⊥
+
+-- a fault that comes before anything is written
+abbrev pub IsUnwritten : Fault → Type 0
+IsUnwritten (Write fault) = ⊥
+IsUnwritten (Usage fault) = Unit {0}
+IsUnwritten (Read fault) = Unit {0}
+IsUnwritten (Resume fault) = Unit {0}
+IsUnwritten (Make fault) = Unit {0}
+IsUnwritten (Run fault) = Unit {0}
+
+-- Why the program failed, by the input: a fault in the input is its first one, a row that is refused is the first, and a run is refused
+-- for its first cause.
+abbrev pub IsCausedBy : Options → List ℕ → Fault → Type 0
+IsCausedBy options input (Usage fault) = ⊥
+IsCausedBy options input (Read fault) = IsInputFault fault → input_of options.workers input ≡ Err fault
+IsCausedBy options input (Resume fault) = OfInput options input (λ rows scripts. IsRefused (opening_of options) fault rows)
+IsCausedBy options input (Make fault) = OfInput options input (λ rows scripts. AreRows (opening_of options) rows)
+IsCausedBy options input (Run fault) = OfInput options input (λ rows scripts.
+    AreRows (opening_of options) rows × IsNotRun (policy_of options) fault (opening_rows (opening_of options) rows) scripts)
+IsCausedBy options input (Write fault) = Answers options input (λ text added. Unit {0})

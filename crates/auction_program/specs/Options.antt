@@ -1,0 +1,35 @@
+-- What options say of an auction and of its run.
+use Rattle.std.specs.Prelude.{◌≤◌}
+use Rattle.auction_rows.specs.declared.numbers.Opening.{Opening}
+use Rattle.run_serving.specs.declared.policy.Policy.{Policy}
+use Rattle.auction_program.specs.declared.options.Options.{Options}
+
+-- the users and categories
+abbrev pub opening_of : Options → Opening
+opening_of options = record { users = options.users; categories = options.categories }
+
+-- how the run is divided
+abbrev pub policy_of : Options → Policy
+policy_of options = record {
+  shards = options.shards;
+  joined_quota = options.joined;
+  split_quota = options.split;
+  threshold = options.threshold;
+  hot_max = options.hot;
+}
+
+-- Each number lies in its option's range.
+pub record AreInRange (options : Options) : Type 0 where
+  pub some_workers : 1 ≤ options.workers
+  pub workers : options.workers ≤ 16
+  pub some_shards : 1 ≤ options.shards
+  pub shards : options.shards ≤ 64
+  pub some_joined : 1 ≤ options.joined
+  pub joined : options.joined ≤ 1000000
+  pub some_split : 1 ≤ options.split
+  pub split : options.split ≤ 1000000
+  pub some_threshold : 1 ≤ options.threshold
+  pub threshold : options.threshold ≤ 1000000
+  pub hot : options.hot ≤ 64
+  pub users : options.users ≤ 1000000
+  pub categories : options.categories ≤ 1000000

@@ -1,0 +1,15 @@
+//! The program behind `main`: from its words and the bytes of rows and scripts to the bytes that it writes.
+#![tactic(auto)]
+
+mod executing;
+mod faults;
+mod one_worker;
+mod options;
+mod performing;
+mod views;
+mod writing;
+
+pub use executing::execute;
+pub use faults::{Fault, UsageFault, status, write_fault};
+pub use one_worker::one_worker_has_one_answer;
+pub use options::{Options, read_options, words_fault};

@@ -1,0 +1,143 @@
+//! The run of the scripts, and what the report shows at its end.
+ghost use Rattle.std.specs.Prelude.{◌≡◌, List, [], false, IfOk, IfErr, IfSome, MatchOption};
+ghost use mathlib.Core.List.{IsPrefix};
+ghost use Rattle.auction_rows.specs.declared.rows.Row.{Row as Stored};
+ghost use Rattle.auction_rows.specs.Book.{Book};
+ghost use Rattle.auction_run.specs.Phases.{lists};
+ghost use Rattle.item_shards.specs.OpeningBooks as opened;
+ghost use Rattle.auction_program.specs.Execution.{AnswersScripts, HasLastViews, IsNotPerformed};
+ghost use Rattle.auction_program.specs.Options.{opening_of, policy_of};
+ghost use Rattle.auction_program.specs.Report.{AreViews, IsEnd};
+
+use crate::faults::Fault;
+use crate::options::Options;
+use crate::views::report_lines;
+use auction_rows::{Opening, Request};
+use auction_run::{FreeGate, Outcome, WindowBoard, run, run_shown};
+use auction_text::ReportLines;
+use auction_window::{PhaseLog, Publisher, Told, Window, WindowName};
+use item_shards::OpeningBook;
+use phase_floor::Joined;
+use std::alloc::Global;
+use std::marker::Brand;
+use std::sync::Wait;
+use std::thread::Threads;
+
+/// What a run answered, and the lines of its report: none where it is not asked for, or memory was refused for them.
+#[derive(Drop)]
+pub struct Performed {
+    pub outcome: Outcome,
+    pub lines: Option<ReportLines>,
+}
+
+/// Performs the scripts from a book on. Where a report is asked for, its lines are read through a window that was told of
+/// all phases.
+pub fn perform<R: Threads + Wait + Sync>(
+    rt: &R,
+    alloc: Global,
+    book: &OpeningBook,
+    scripts: Vec<Vec<Request>>,
+    options: &Options,
+) -> Result<Performed, Fault>
+    requires { opened.opening_of book.now ≡ opening_of options.now }
+    ensures answer { IfOk result (λ performed.
+        AnswersScripts options.now (opened.rows_of book.now) (lists scripts.items) performed.outcome) }
+    ensures lines { IfOk result (λ performed.
+        HasLastViews options.now (opened.rows_of book.now) performed.outcome performed.lines) }
+    ensures cause { IfErr result (λ fault.
+        IsNotPerformed (policy_of options.now) fault (opened.rows_of book.now) (lists scripts.items)) }
+{
+    if options.report {
+        return perform_watched::<Brand, R>(rt, alloc, PhaseLog::new(), book, scripts, options);
+    }
+    let outcome = run(rt, alloc, book, scripts, options.policy(), &FreeGate)?;
+    Ok(Performed {
+        outcome,
+        lines: None,
+    })
+}
+
+// With a publisher of one window, which is ended whatever the run answers.
+fn perform_watched<J: WindowName, R: Threads + Wait + Sync>(
+    rt: &R,
+    alloc: Global,
+    log: PhaseLog,
+    book: &OpeningBook,
+    scripts: Vec<Vec<Request>>,
+    options: &Options,
+) -> Result<Performed, Fault>
+    requires log { log ≡ J.log }
+    requires opening { opened.opening_of book.now ≡ J.opening }
+    requires rows { opened.rows_of book.now ≡ J.rows }
+    requires options { opened.opening_of book.now ≡ opening_of options.now }
+    ensures answer { IfOk result (λ performed.
+        AnswersScripts options.now (opened.rows_of book.now) (lists scripts.items) performed.outcome) }
+    ensures lines { IfOk result (λ performed.
+        HasLastViews options.now (opened.rows_of book.now) performed.outcome performed.lines) }
+    ensures cause { IfErr result (λ fault.
+        IsNotPerformed (policy_of options.now) fault (opened.rows_of book.now) (lists scripts.items)) }
+{
+    let (publisher, mut windows) = Publisher::<J>::new(rt, alloc, log, book, 1)?;
+    let mut board = WindowBoard::new(publisher);
+    let window = &mut windows[0];
+    let performed = watch(rt, alloc, &mut board, window, book, scripts, options);
+    let WindowBoard { publisher, told: _ } = board;
+    publisher.end(rt);
+    performed
+}
+
+// Shows each phase to the window, and reads the lines through it at the end.
+fn watch<J: WindowName, R: Threads + Wait + Sync>(
+    rt: &R,
+    alloc: Global,
+    board: &mut WindowBoard<J>,
+    window: &mut Window<J>,
+    book: &OpeningBook,
+    scripts: Vec<Vec<Request>>,
+    options: &Options,
+) -> Result<Performed, Fault>
+    requires publisher { board.old.publisher ≡ record { phases = []; failed = false } }
+    requires told { board.old.told ≡ None }
+    requires opening { opened.opening_of book.now ≡ J.opening }
+    requires rows { opened.rows_of book.now ≡ J.rows }
+    requires options { opened.opening_of book.now ≡ opening_of options.now }
+    ensures answer { IfOk result (λ performed.
+        AnswersScripts options.now (opened.rows_of book.now) (lists scripts.items) performed.outcome) }
+    ensures lines { IfOk result (λ performed.
+        HasLastViews options.now (opened.rows_of book.now) performed.outcome performed.lines) }
+    ensures cause { IfErr result (λ fault.
+        IsNotPerformed (policy_of options.now) fault (opened.rows_of book.now) (lists scripts.items)) }
+{
+    let outcome = run_shown(rt, alloc, book, scripts, options.policy(), &FreeGate, board)?;
+    let told = board.told.take();
+    let lines = last_lines(alloc, told, window, &outcome.state, options.opening());
+    Ok(Performed { outcome, lines })
+}
+
+// The lines of the report at the end of a run: none where memory was refused for them.
+fn last_lines<J: WindowName>(
+    alloc: Global,
+    told: Option<Told<J>>,
+    window: &mut Window<J>,
+    state: &Joined,
+    opening: Opening,
+) -> Option<ReportLines>
+    requires { opening ≡ J.opening }
+    ensures { IfSome result (λ shown. (all : List (List Stored)) (book : Book) →
+        MatchOption told (all ≡ []) (λ last. last ≡ all) →
+        IsEnd J.opening J.rows all all state.now book →
+        AreViews J.opening book shown.categories.items shown.users.items) }
+{
+    learn_last(window, told);
+    report_lines(alloc, window, state, opening).ok()
+}
+
+// Tells a window what was told last.
+fn learn_last<J: WindowName>(window: &mut Window<J>, told: Option<Told<J>>)
+    ensures { (all : List (List Stored)) → MatchOption told (all ≡ []) (λ last. last ≡ all) →
+        IsPrefix all window.new }
+{
+    if let Some(told) = told {
+        window.learn(told);
+    }
+}

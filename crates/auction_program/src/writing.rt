@@ -1,0 +1,69 @@
+//! The texts that the program writes of a run.
+ghost use Rattle.std.specs.Prelude.{◌≡◌, IfErr, OnOk};
+ghost use Rattle.std.specs.Io.KnownBytes.{Appends};
+ghost use Rattle.auction_run.specs.Phases.{hot_sets};
+ghost use Rattle.auction_text.specs.Writing.{IsPartWritten};
+ghost use Rattle.auction_program.specs.Execution.{added_text, commits_text, AreWritten, ArePartWritten, HasLastViews, IsOneWritten};
+
+use crate::options::Options;
+use auction_rows::{Entry, Row};
+use auction_run::Outcome;
+use auction_text::{
+    ReportLines, WriteFault, write_history, write_replies, write_report, write_rows,
+};
+use std::alloc::Global;
+use std::io::Write;
+
+/// Writes what the options ask for of a run from these rows, and then its report, where they ask for it. Without lines a report
+/// is refused as memory was for them. After `Write` a prefix of both was written; after `Memory` nothing, or all but the report.
+#[tactic(auto, using(crate::proofs::WrittenLemmas::part_of_first, crate::proofs::WrittenLemmas::part_of_added))]
+pub fn write_texts<W: Write>(
+    alloc: Global,
+    writer: &mut W,
+    options: &Options,
+    rows: &[Row],
+    outcome: &Outcome,
+    lines: &Option<ReportLines>,
+) -> Result<(), WriteFault>
+    requires { HasLastViews options.now rows.now outcome.now lines.now }
+    ensures whole { OnOk result (AreWritten (W.contents writer.old) (W.contents writer.new)
+        (commits_text options.now rows.now outcome.now.history.items)
+        (added_text options.now rows.now outcome.now.history.items (hot_sets outcome.now.hot.items))) }
+    ensures part { IfErr result (λ fault. fault ≡ WriteFault.Write → ArePartWritten (W.contents writer.old) (W.contents writer.new)
+        (commits_text options.now rows.now outcome.now.history.items)
+        (added_text options.now rows.now outcome.now.history.items (hot_sets outcome.now.hot.items))) }
+    ensures memory { IfErr result (λ fault. fault ≡ WriteFault.Memory → IsOneWritten (W.contents writer.old) (W.contents writer.new)
+        (commits_text options.now rows.now outcome.now.history.items)
+        (added_text options.now rows.now outcome.now.history.items (hot_sets outcome.now.hot.items))) }
+{
+    write_commits(alloc, writer, options, rows, &outcome.history)?;
+    if !options.report {
+        return Ok(());
+    }
+    match lines {
+        Some(lines) => write_report(alloc, writer, &outcome.history, &outcome.hot, lines),
+        None => Err(WriteFault::Memory),
+    }
+}
+
+// Writes the rows, the history or the replies.
+fn write_commits<W: Write>(
+    alloc: Global,
+    writer: &mut W,
+    options: &Options,
+    rows: &[Row],
+    history: &[Entry],
+) -> Result<(), WriteFault>
+    ensures whole { OnOk result (Appends (W.contents writer.old) (W.contents writer.new) (commits_text options.now rows.now history.now)) }
+    ensures part { IfErr result (λ fault. fault ≡ WriteFault.Write →
+        IsPartWritten (W.contents writer.old) (W.contents writer.new) (commits_text options.now rows.now history.now)) }
+    ensures memory { IfErr result (λ fault. fault ≡ WriteFault.Memory → writer.new ≡ writer.old) }
+{
+    if options.rows {
+        write_rows(alloc, writer, rows, history)
+    } else if options.history {
+        write_history(alloc, writer, history)
+    } else {
+        write_replies(alloc, writer, history)
+    }
+}

@@ -1,0 +1,105 @@
+//! What a board is given. Users 10, categories 2.
+use auction_rows::{Facts, ItemId, Name, Opening, Quantity, Request, Row};
+use auction_run::{Board, FreeGate, Outcome, Policy, RunFault, run_shown};
+use item_shards::OpeningBook;
+use std::alloc::{AllocError, Global};
+use std::sync::Wait;
+use std::test::Fail;
+use std::thread::Threads;
+
+const OPENING: Opening = Opening {
+    users: 10,
+    categories: 2,
+};
+
+const FIRST: ItemId = ItemId {
+    worker: 0,
+    serial: 0,
+};
+
+// Counts its calls, and the rows of each of the first three; it refuses one call, the first being 0.
+#[derive(Drop)]
+struct Counting {
+    calls: usize,
+    rows: [usize; 3],
+    refused: usize,
+}
+
+impl Board for Counting {
+    ghost has = { λ board opening rows phases. Unit {0} };
+
+    fn publish<R: Wait>(&mut self, _rt: &R, last: Vec<Row>) -> Result<(), AllocError> {
+        let call = self.calls;
+        self.calls = call.saturating_add(1);
+        if call < 3 {
+            self.rows[call] = last.len();
+        }
+        if call == self.refused {
+            return Err(AllocError);
+        }
+        Ok(())
+    }
+}
+
+fn item() -> Result<Request, Fail> {
+    Ok(Request::StoreItem {
+        facts: Facts {
+            seller: 0,
+            category: 0,
+            name: Name::new(b"Vase").ok_or("no name")?,
+            start: 10,
+            closes: 100,
+            quantity: Quantity::new(1).ok_or("no quantity")?,
+        },
+        time: 1,
+    })
+}
+
+fn bid(bidder: u32, amount: u64, time: u64) -> Request {
+    Request::StoreBid {
+        bidder,
+        item: FIRST,
+        amount,
+        time,
+    }
+}
+
+// Two workers, whose bids are split in the second phase, and a view that waits for the third.
+fn shown_to<R: Threads + Wait + Sync>(
+    rt: &R,
+    alloc: Global,
+    board: &mut Counting,
+) -> Result<Result<Outcome, RunFault>, Fail> {
+    let view = Request::ViewItem { item: FIRST };
+    let look = Request::ViewUser { user: 0 };
+    let first = [item()?, bid(0, 10, 1), bid(1, 20, 2), view, bid(1, 30, 3)];
+    let second = [look, look, bid(2, 25, 2)];
+    let first = Vec::from_slice(alloc, &first)?;
+    let second = Vec::from_slice(alloc, &second)?;
+    let scripts = vec![in alloc; first, second]?;
+    let policy = Policy {
+        shards: 4,
+        joined_quota: 2,
+        split_quota: 3,
+        threshold: 1,
+        hot_max: 8,
+    };
+    let book = OpeningBook::empty(OPENING);
+    Ok(run_shown(rt, alloc, &book, scripts, policy, &FreeGate, board))
+}
+
+// A board that never refuses is called once a phase; one that refuses the second call is called twice.
+#[test]
+fn a_board_is_given_each_phase_until_it_refuses(rt: HostRuntime) -> Result<(), Fail> {
+    for (refused, fault, calls) in [(9, None, 3), (1, Some(RunFault::Memory), 2)] {
+        let mut board = Counting {
+            calls: 0,
+            rows: [0; 3],
+            refused,
+        };
+        let answered = shown_to(&rt, rt.alloc(), &mut board)?;
+        let found = (answered.err(), board.calls, board.rows);
+        assert!(rt; found == (fault, calls, [2, 3, 0]), "at {refused}");
+    }
+    Ok(())
+}

@@ -1,0 +1,214 @@
+//! What publishes the rows of phases.
+ghost use Rattle.std.specs.Prelude.{◌≡◌, ◌++◌, ◌∷◌, ◌<◌, ◌≤◌, [], true, false, length, All, alloc_error, Err, IfOk, OnOk, OnErr};
+ghost use Rattle.item_shards.specs.OpeningBooks.{opening_of, rows_of as opening_rows};
+ghost use Rattle.item_shards.specs.Serial.{CanFollow};
+ghost use Rattle.auction_window.specs.Published.{book_of, AreComparable};
+
+use crate::auction_copy::{AddPhase, AuctionCopy};
+use crate::name::WindowName;
+use crate::phase_log::{PhaseCount, PhaseLog};
+use crate::prefix::Prefix;
+use crate::window::{Told, Window};
+use auction_rows::Row;
+use core::mem::replace_with;
+use crossbeam_utils::rule::Unruled;
+use item_shards::OpeningBook;
+use left_right::Absorb;
+use left_right::writer::Writer;
+use std::alloc::{AllocError, Global};
+use std::marker::Model;
+use std::sync::Wait;
+use thiserror::Error;
+
+type CopyWriter<J> = Writer<AuctionCopy<J>, AddPhase<J>, (), Unruled>;
+
+/// Why no publisher was made.
+#[derive(Clone, Copy, Debug, PartialEq, Eq, Drop, Error)]
+pub enum MakeFault {
+    /// No memory was left.
+    #[error("no memory")]
+    Memory,
+    /// `left_right` gave a window no reader.
+    #[error("no window")]
+    Reader,
+}
+
+impl From<AllocError> for MakeFault {
+    ghost use Rattle.auction_window.specs.declared.publisher.MakeFault.TheVariants.{Memory};
+
+    ghost from_gives = { λ _ fault. fault ≡ Memory };
+
+    fn from(_refused: AllocError) -> MakeFault {
+        MakeFault::Memory
+    }
+}
+
+/// Publishes the phases of an auction to its windows. It must be spent by `end`. Contracts see the phases that windows
+/// read, and whether it was refused memory.
+///
+/// It keeps two copies of the auction's records, of all users, categories and items, and the rows of the phase published
+/// last: one copy lacks them, and takes them in at the next publish, which then lets them go. It keeps no other rows. After
+/// a refusal it keeps the refused rows too, until `end`.
+pub struct Publisher<J: WindowName>
+where
+    AuctionCopy<J>: Absorb<AddPhase<J>, State = [[Row; 0]; 0]>,
+{
+    writer: CopyWriter<J>,
+    count: PhaseCount<J>,
+    phases: Prefix<J>,
+    failed: bool,
+}
+
+impl<J: WindowName> Model for Publisher<J>
+where
+    AuctionCopy<J>: Absorb<AddPhase<J>, State = [[Row; 0]; 0]>,
+{
+    ghost use Rattle.std.specs.Prelude.{◌≡◌};
+    ghost use Rattle.auction_window.specs.Published.{Published};
+
+    ghost Value = { Published };
+
+    ghost view = { λ p. record { phases = p.phases; failed = p.failed } };
+
+    ghost invariant = { λ p. p.writer.desk.shown.value ≡ p.phases };
+}
+
+impl<J: WindowName> Publisher<J> {
+    /// A publisher that has published nothing, and 1 to 16 windows on the auction that is opened with the book. It takes
+    /// time and memory for two such auctions, and waits for nobody. An error leaves neither publisher nor window.
+    pub fn new<R: Wait>(
+        rt: &R,
+        alloc: Global,
+        log: PhaseLog,
+        book: &OpeningBook,
+        windows: u32,
+    ) -> Result<(Publisher<J>, Vec<Window<J>>), MakeFault>
+        requires log { log ≡ J.log }
+        requires opening { opening_of book.now ≡ J.opening }
+        requires rows { opening_rows book.now ≡ J.rows }
+        requires count { (0 < windows) × (windows ≤ 16) }
+        ensures publisher { IfOk result (λ made. made.0 ≡ record { phases = []; failed = false }) }
+        ensures windows { IfOk result (λ made. length made.1.items ≡ windows) }
+        ensures nothing { IfOk result (λ made. All (λ window. window ≡ []) made.1.items) }
+    {
+        let (count, phases) = log.named::<J>();
+        let first = AuctionCopy::new(alloc, book, phases.again())?;
+        let second = AuctionCopy::new(alloc, book, phases.again())?;
+        let writer: CopyWriter<J> = Writer::new(alloc, first, second, windows as usize)?;
+        match open_windows(alloc, &writer, &phases, windows) {
+            Ok(made) => {
+                let publisher = Publisher {
+                    writer,
+                    count,
+                    phases,
+                    failed: false,
+                };
+                Ok((publisher, made))
+            }
+            Err(fault) => {
+                writer.take(rt);
+                Err(fault)
+            }
+        }
+    }
+
+    /// How many phases are published.
+    pub fn phases(&self) -> u64
+        ensures { result ≡ length self.now.phases }
+    {
+        self.phases.len()
+    }
+
+    /// Publishes the rows of one phase, all at once. It costs in proportion to the rows of this phase and of the one before,
+    /// and to the windows. Where memory is refused, windows read what they read before, and so they do from then on: every
+    /// later publish is refused.
+    ///
+    /// It waits for those views alone that began before the publish before it returned, until they are done, since they may
+    /// read the copy that it is to change. The first publish waits for none, and no view waits for a publish.
+    pub fn publish<R: Wait>(&mut self, rt: &R, rows: Vec<Row>) -> Result<Told<J>, AllocError>
+        requires rows { CanFollow J.opening (book_of J.rows self.old.phases) rows.items }
+        requires count { length self.old.phases < u64.MAX }
+        ensures published { OnOk result
+            (self.new ≡ record { phases = self.old.phases ++ rows.items ∷ []; failed = false }) }
+        ensures told { IfOk result (λ told. told ≡ self.new.phases) }
+        ensures refused { OnErr result (self.new ≡ record { phases = self.old.phases; failed = true }) }
+        ensures for_good { self.old.failed ≡ true → result ≡ Err alloc_error }
+    {
+        if self.failed {
+            return Err(AllocError);
+        }
+        // It has failed until all is done.
+        self.failed = true;
+        let mut phases = self.phases.again();
+        if !phases.add(&self.count, &rows) {
+            return Err(AllocError);
+        }
+        let told = phases.again();
+        let added = AddPhase::new(rows, phases);
+        replace_with(
+            &mut self.writer,
+            added,
+            |writer, added| show(writer, rt, added),
+        )?;
+        self.phases = told.again();
+        self.failed = false;
+        Ok(Told::new(told))
+    }
+
+    /// Of the phases that a window knows and those that are published, one list begins with the other. It does nothing else
+    /// than to say so.
+    pub fn agrees(&self, window: &Window<J>)
+        ensures { AreComparable window.now self.now.phases }
+    {
+        let _longer = window.phases().longer(&self.phases);
+    }
+
+    /// Ends it: from now on windows answer `NoGuard`. It waits until each view that is under way is done, and takes no
+    /// memory.
+    pub fn end<R: Wait>(self, rt: &R) {
+        let Publisher {
+            writer,
+            count: _,
+            phases: _,
+            failed: _,
+        } = self;
+        writer.take(rt);
+    }
+}
+
+// So many windows that have shown nothing.
+fn open_windows<J: WindowName>(
+    alloc: Global,
+    writer: &CopyWriter<J>,
+    none: &Prefix<J>,
+    count: u32,
+) -> Result<Vec<Window<J>>, MakeFault>
+    ensures count { IfOk result (λ made. length made.items ≡ count) }
+    ensures nothing { IfOk result (λ made. All (λ window. window ≡ none.now) made.items) }
+{
+    let mut made = Vec::with_capacity(alloc, count as usize)?;
+    for _window in 0..count {
+        let Ok(reader) = writer.factory().reader() else {
+            return Err(MakeFault::Reader);
+        };
+        if made.push(Window::new(reader, none.again())).is_err() {
+            return Err(MakeFault::Memory);
+        }
+    }
+    Ok(made)
+}
+
+// Shows one phase more. Where memory is refused windows read what they read before.
+fn show<J: WindowName, R: Wait>(
+    mut writer: CopyWriter<J>,
+    rt: &R,
+    added: AddPhase<J>,
+) -> (CopyWriter<J>, Result<(), AllocError>)
+    ensures shown { OnOk result.1 (result.0.desk.shown.value ≡ added) }
+    ensures refused { OnErr result.1 (result.0.desk.shown.value ≡ writer.desk.shown.value) }
+{
+    match writer.append(added) {
+        Ok(()) => writer.publish_as::<Unruled, R>(rt),
+        Err(_refused) => (writer, Err(AllocError)),
+    }
+}

@@ -1,9 +1,0 @@
-use Rattle.std.proofs.Common.{◌≡◌}
-use Rattle.auction_rows.specs.Book.{Book}
-use Rattle.auction_rows.specs.declared.requests.Request.TheVariants.{ViewCategory}
-use Rattle.phase_floor.specs.States.{StandsFor}
-use Rattle.rubis_auction.specs.Report.{views}
-use Rattle.rubis_auction.proofs.views.views_of_categories.Given as goal
-
-abbrev pub invariant-loop-category : goal.invariant-loop-category
-invariant-loop-category l = (book : Book) → StandsFor l.state book → l.replies.items ≡ views l.state.opening book ViewCategory l.category

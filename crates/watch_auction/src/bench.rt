@@ -1,0 +1,214 @@
+//! How fast windows are, alone and beside a run, and what a run pays for them.
+ghost use Rattle.std.specs.Prelude.{◌≡◌, ◌<◌, ◌≤◌};
+ghost use Rattle.item_shards.specs.OpeningBooks.{opening_of, rows_of};
+
+use crate::VIEW;
+use crate::timed::Timed;
+use anyhow::Result;
+use auction_rows::{ItemId, Opening, Request};
+use auction_run::{FreeGate, Policy, WindowBoard, run, run_shown};
+use auction_text::read_scripts;
+use auction_window::{PhaseLog, Publisher, Window, WindowName};
+use item_shards::OpeningBook;
+use std::alloc::{AllocError, Global};
+use std::marker::Brand;
+use std::rt::Clock;
+use std::sync::Wait;
+use std::thread::{JoinHandle, Threads};
+use std::time::{Duration, Instant};
+use std::{io, thread};
+
+const OPENING: Opening = Opening {
+    users: 4,
+    categories: 1,
+};
+
+// The vase is there before the run, so that each bid is accepted.
+const ROWS: &[u8] = b"0,+item,0,0,Vase,10,100,1\n";
+
+const POLICY: Policy = Policy {
+    shards: 4,
+    joined_quota: 64,
+    split_quota: 4_096,
+    threshold: 8,
+    hot_max: 8,
+};
+
+const WORKERS: u32 = 4;
+
+const BIDS: usize = 250_000;
+
+const LOOKS: u64 = 1_000_000;
+
+// More looks than a run leaves time for: windows stop once their publisher has ended.
+const MOST_LOOKS: u64 = 1_000_000_000_000;
+
+/// Prints the figures.
+pub fn measure<R>(rt: &R, alloc: Global) -> Result<()>
+where
+    R: Threads + Wait + Sync + Clock + Print,
+{
+    let book = OpeningBook::new(alloc, OPENING, read_scripts(alloc, ROWS, 1)?.rows)?;
+    println!(rt; "windows alone, {LOOKS} views each")?;
+    for windows in [1, 4, 16] {
+        let begun = Instant::now(rt)?;
+        let looks = looks_alone(rt, alloc, &book, windows)?;
+        print_looks(rt, windows, looks, begun.elapsed(rt)?)?;
+    }
+    println!(rt; "a run of {WORKERS} workers, {BIDS} bids each on one item")?;
+    let all = scripts(alloc)?;
+    let begun = Instant::now(rt)?;
+    drop(run(rt, alloc, &book, all, POLICY, &FreeGate)?);
+    println!(rt; "shown to nobody: {:?}", begun.elapsed(rt)?)?;
+    for (windows, most) in [(1, 0), (1, MOST_LOOKS), (4, MOST_LOOKS), (16, MOST_LOOKS)] {
+        show_run(rt, alloc, &book, windows, most)?;
+    }
+    Ok(())
+}
+
+fn print_looks<R: Print>(rt: &R, windows: u32, looks: u64, spent: Duration) -> io::Result<()> {
+    let looks = f64::from(u32::try_from(looks).unwrap_or(u32::MAX));
+    let seconds = spent.as_secs_f64();
+    let millions = looks / seconds / 1e6;
+    let nanos = seconds * 1e9 * f64::from(windows) / looks;
+    println!(rt;
+        "  windows={windows} nanoseconds_a_view={nanos:.0} million_views_a_second={millions:.2}"
+    )
+}
+
+// Bids of four users on the vase.
+fn scripts(alloc: Global) -> Result<Vec<Vec<Request>>, AllocError> {
+    let mut scripts = Vec::new(alloc);
+    for bidder in 0..WORKERS {
+        let bid = Request::StoreBid {
+            bidder,
+            item: ItemId {
+                worker: 0,
+                serial: 0,
+            },
+            amount: 10,
+            time: 7,
+        };
+        scripts.push(vec![in alloc; bid; BIDS]?)?;
+    }
+    Ok(scripts)
+}
+
+// A thread for each window, which looks so often, unless the publisher ends before.
+fn start_all<J: WindowName + Send + Sync + 'static, R: Threads>(
+    rt: &R,
+    alloc: Global,
+    windows: Vec<Window<J>>,
+    most: u64,
+) -> Result<Vec<JoinHandle<u64>>, AllocError> {
+    let mut watchers = Vec::with_capacity(alloc, windows.len())?;
+    for window in windows {
+        watchers.push(thread::spawn(rt, move || look(window, most))?)?;
+    }
+    Ok(watchers)
+}
+
+fn look<J: WindowName>(mut window: Window<J>, most: u64) -> u64 {
+    for looks in 0..most {
+        if window.view(VIEW).is_err() {
+            return looks;
+        }
+    }
+    most
+}
+
+// How often they looked, all together.
+fn join_all<R: Threads>(rt: &R, watchers: Vec<JoinHandle<u64>>) -> u64 {
+    let mut looks = 0u64;
+    for watcher in watchers {
+        looks = looks.saturating_add(watcher.join(rt));
+    }
+    looks
+}
+
+fn looks_alone<R: Threads + Wait + Sync>(
+    rt: &R,
+    alloc: Global,
+    book: &OpeningBook,
+    windows: u32,
+) -> Result<u64> {
+    look_alone::<Brand, R>(rt, alloc, PhaseLog::new(), book, windows.clamp(1, 16))
+}
+
+// So many windows on an auction in which nothing happens.
+fn look_alone<J: WindowName + Send + Sync + 'static, R: Threads + Wait + Sync>(
+    rt: &R,
+    alloc: Global,
+    log: PhaseLog,
+    book: &OpeningBook,
+    windows: u32,
+) -> Result<u64>
+    requires log { log ≡ J.log }
+    requires opening { opening_of book.now ≡ J.opening }
+    requires rows { rows_of book.now ≡ J.rows }
+    requires windows { (0 < windows) × (windows ≤ 16) }
+{
+    let (publisher, windows) = Publisher::<J>::new(rt, alloc, log, book, windows)?;
+    let started = start_all(rt, alloc, windows, LOOKS);
+    let looks = started.map(|watchers| join_all(rt, watchers));
+    publisher.end(rt);
+    Ok(looks?)
+}
+
+fn show_run<R: Threads + Wait + Sync + Clock + Print>(
+    rt: &R,
+    alloc: Global,
+    book: &OpeningBook,
+    windows: u32,
+    most: u64,
+) -> Result<()> {
+    let windows = windows.clamp(1, 16);
+    let all = scripts(alloc)?;
+    let (looks, spent) = look_beside::<Brand, R>(
+        rt,
+        alloc,
+        PhaseLog::new(),
+        book,
+        all,
+        windows,
+        most,
+    )?;
+    if looks > 0 {
+        print_looks(rt, windows, looks, spent)?;
+    }
+    Ok(())
+}
+
+// So many windows beside a run, and how long it takes.
+fn look_beside<J, R>(
+    rt: &R,
+    alloc: Global,
+    log: PhaseLog,
+    book: &OpeningBook,
+    all: Vec<Vec<Request>>,
+    windows: u32,
+    most: u64,
+) -> Result<(u64, Duration)>
+where
+    J: WindowName + Send + Sync + 'static,
+    R: Threads + Wait + Sync + Clock + Print,
+    requires log { log ≡ J.log }
+    requires opening { opening_of book.now ≡ J.opening }
+    requires rows { rows_of book.now ≡ J.rows }
+    requires windows { (0 < windows) × (windows ≤ 16) }
+{
+    let (publisher, windows) = Publisher::<J>::new(rt, alloc, log, book, windows)?;
+    let started = start_all(rt, alloc, windows, most);
+    let mut board = Timed::new(WindowBoard::new(publisher), rt);
+    let begun = Instant::now(rt);
+    let performed = run_shown(rt, alloc, book, all, POLICY, &FreeGate, &mut board);
+    let done = Instant::now(rt);
+    let (board, phases, publishing) = board.parts();
+    let WindowBoard { publisher, told: _ } = board;
+    publisher.end(rt);
+    let looks = join_all(rt, started?);
+    performed?;
+    let spent = done?.duration_since(begun?);
+    println!(rt; "shown to windows: {spent:?}, {publishing:?} of it to publish {phases} phases")?;
+    Ok((looks, spent))
+}

@@ -1,0 +1,149 @@
+//! A run, and a thread that looks at it through a window.
+ghost use Rattle.std.specs.Prelude.{◌≡◌};
+ghost use Rattle.item_shards.specs.OpeningBooks.{opening_of, rows_of};
+
+use crate::VIEW;
+use anyhow::{Result, bail};
+use auction_rows::{Opening, Request};
+use auction_run::{Gate, Policy, WindowBoard, run_shown};
+use auction_text::read_scripts;
+use auction_window::{PhaseLog, Publisher, Seen, Window, WindowName};
+use crossbeam_utils::Backoff;
+use item_shards::OpeningBook;
+use std::alloc::{AllocError, Global};
+use std::marker::Brand;
+use std::sync::atomic::{AtomicU64, Ordering};
+use std::sync::{Arc, Wait};
+use std::thread;
+use std::thread::Threads;
+
+// The scripts of docs/EXAMPLE.md, which take three phases.
+const SCRIPTS: &[u8] =
+    b"0,item,0,0,Vase,10,100,1\n1,viewuser,1\n0,bid,0,0.0,10,1\n1,viewuser,1\n0,bid,1,0.0,20,2\n1,bid,2,0.0,25,2\n0,viewitem,0.0\n0,bid,1,0.0,30,3\n";
+
+const PHASES: u64 = 3;
+
+const OPENING: Opening = Opening {
+    users: 10,
+    categories: 2,
+};
+
+const POLICY: Policy = Policy {
+    shards: 4,
+    joined_quota: 2,
+    split_quota: 3,
+    threshold: 1,
+    hot_max: 8,
+};
+
+const MOST_TRIES: u64 = 1_000_000_000;
+
+/// The looks of a thread at a run of the scripts, each with more phases than the one before. In step with it, the run begins
+/// no phase before the thread has looked at what the phases so far have left.
+pub fn watched_run<R: Threads + Wait + Sync>(
+    rt: &R,
+    alloc: Global,
+    in_step: bool,
+) -> Result<Vec<Seen>> {
+    let input = read_scripts(alloc, SCRIPTS, 2)?;
+    let book = OpeningBook::new(alloc, OPENING, input.rows)?;
+    let gate = Steps {
+        in_step,
+        looks: AtomicU64::new(0),
+    };
+    let gate = Arc::new(alloc, gate)?;
+    let own = Arc::try_clone(&gate)?;
+    perform::<Brand, R>(rt, alloc, PhaseLog::new(), &book, input.scripts, &gate, own)
+}
+
+// The watcher has the gate as its own.
+fn perform<J: WindowName + Send + Sync + 'static, R: Threads + Wait + Sync>(
+    rt: &R,
+    alloc: Global,
+    log: PhaseLog,
+    book: &OpeningBook,
+    scripts: Vec<Vec<Request>>,
+    gate: &Steps,
+    own: Arc<Steps, Global>,
+) -> Result<Vec<Seen>>
+    requires log { log ≡ J.log }
+    requires opening { opening_of book.now ≡ J.opening }
+    requires rows { rows_of book.now ≡ J.rows }
+{
+    let (publisher, mut windows) = Publisher::<J>::new(rt, alloc, log, book, 1)?;
+    let window = windows.remove(0);
+    let Ok(watcher) = thread::spawn(rt, move || watch(alloc, window, &own)) else {
+        publisher.end(rt);
+        bail!("the watcher was not started");
+    };
+    let mut board = WindowBoard::new(publisher);
+    let performed = run_shown(rt, alloc, book, scripts, POLICY, gate, &mut board);
+    let WindowBoard { publisher, told: _ } = board;
+    match performed {
+        Ok(_) => {
+            let looks = watcher.join(rt);
+            publisher.end(rt);
+            Ok(looks?)
+        }
+        // A window answers no more once the publisher has ended: so the watcher stops.
+        Err(fault) => {
+            publisher.end(rt);
+            let _looks = watcher.join(rt);
+            Err(fault.into())
+        }
+    }
+}
+
+// Looks until all phases are published, or the publisher has ended, and keeps each look that differs from the one before.
+fn watch<J: WindowName>(
+    alloc: Global,
+    mut window: Window<J>,
+    gate: &Steps,
+) -> Result<Vec<Seen>, AllocError> {
+    let mut looks: Vec<Seen> = Vec::new(alloc);
+    let backoff = Backoff::new();
+    for _try in 0..MOST_TRIES {
+        let Ok(Some(look)) = window.view(VIEW) else {
+            break;
+        };
+        let phases = look.phases;
+        if differs(&looks, &look) {
+            looks.push(look)?;
+            gate.looks.store(looks.len() as u64, Ordering::SeqCst);
+        }
+        if phases == PHASES {
+            break;
+        }
+        backoff.snooze();
+    }
+    Ok(looks)
+}
+
+// Whether a look is not the last of these.
+fn differs(looks: &[Seen], look: &Seen) -> bool {
+    match looks.last() {
+        Some(last) => last != look,
+        None => true,
+    }
+}
+
+// Holds a phase back until there are more looks than phases before it, where it is to keep in step.
+#[derive(Drop)]
+struct Steps {
+    in_step: bool,
+    looks: AtomicU64,
+}
+
+impl Gate for Steps {
+    fn arrive(&self, phase: u64, _worker: u32, _index: u32) {
+        let backoff = Backoff::new();
+        for _try in 0..MOST_TRIES {
+            if !self.in_step || self.looks.load(Ordering::SeqCst) > phase {
+                return;
+            }
+            backoff.snooze();
+        }
+    }
+
+    fn leave(&self, _phase: u64, _worker: u32, _index: u32) {}
+}
