@@ -1,6 +1,6 @@
 -- What is said of an input, from what its parts answered.
 use Rattle.std.proofs.Common.{◌≡◌, ℕ, List, Option, Some, None, IfSome, Result, Ok, Err, IfErr, sym, ap, subst, ◌∙◌}
-use Rattle.std.specs.Prelude.{◌↔◌}
+use Rattle.std.specs.Prelude.{◌↔◌, IsTrue}
 use Rattle.std.specs.Result.{IsErr, IsErrAnd}
 use Rattle.auction_rows.specs.declared.ids.Object.{Object}
 use Rattle.auction_rows.specs.declared.numbers.Opening.{Opening}
@@ -68,12 +68,15 @@ module _ (options : Options) (rows : List Opened) (scripts : List (List Request)
       (λ input asks. record { rows = rows; scripts = scripts; reads = asks; holds = holds }) reads
 
   -- why the scripts were not performed
-  pub not_performed : (fault : Fault) → AreRows (opening_of options) rows → IsNotPerformed (policy_of options) fault (opening_rows (opening_of options) rows) scripts
+  pub not_performed : (fault : Fault) → AreRows (opening_of options) rows → IsNotPerformed options fault (opening_rows (opening_of options) rows) scripts
       → IfSome remaining (λ input. IsCausedBy options input fault)
   not_performed (Usage fault) are why = absurd why
   not_performed (Read fault) are why = absurd why
   not_performed (Resume fault) are why = absurd why
-  not_performed (Make fault) are why = of_input (λ rs ss. AreRows (opening_of options) rs) are
+  not_performed (Make fault) are why =
+      for_input remaining (λ input. OfInput options input (λ rs ss. AreRows (opening_of options) rs))
+      (λ input. IsTrue options.report × OfInput options input (λ rs ss. AreRows (opening_of options) rs)) (λ input holds. (why, holds))
+      (of_input (λ rs ss. AreRows (opening_of options) rs) are)
   not_performed (Run fault) are why = of_input (λ rs ss. AreRows (opening_of options) rs × IsNotRun (policy_of options) fault (opening_rows (opening_of options) rs) ss) (are, why)
   not_performed (Write fault) are why = absurd why
 

@@ -1,5 +1,5 @@
 -- What the program answers.
-use Rattle.std.specs.Prelude.{ℕ, ◌≡◌, ◌⊎◌, List, [], ◌++◌, Option, Ok, Err, IfSome, if◌then◌else◌}
+use Rattle.std.specs.Prelude.{ℕ, ◌≡◌, ◌⊎◌, List, [], ◌++◌, Option, Ok, Err, IfSome, IsTrue, if◌then◌else◌}
 use Rattle.std.specs.Io.KnownBytes.{Appends, Keeps}
 use Rattle.auction_rows.specs.declared.ids.Object.{Object}
 use Rattle.auction_rows.specs.declared.numbers.Opening.{Opening}
@@ -73,9 +73,9 @@ AreWritten old new text added = Appends old new (text ++ added)
 abbrev pub ArePartWritten : Option (List ℕ) → Option (List ℕ) → List ℕ → List ℕ → Type 0
 ArePartWritten old new text added = IsPartWritten old new (text ++ added)
 
--- nothing was written, or the first one whole
-abbrev pub IsOneWritten : Option (List ℕ) → Option (List ℕ) → List ℕ → List ℕ → Type 0
-IsOneWritten old new text added = Keeps old new ⊎ Appends old new text
+-- nothing was written, or before a report the first one whole
+abbrev pub IsOneWritten : Options → Option (List ℕ) → Option (List ℕ) → List ℕ → List ℕ → Type 0
+IsOneWritten options old new text added = Keeps old new ⊎ (IsTrue options.report × Appends old new text)
 
 -- The input has no fault, and this holds of the rows and scripts that it asks for.
 pub record OfInput (options : Options) (input : List ℕ) (Holds : List Opened → List (List Request) → Type 0) : Type 0 where
@@ -110,14 +110,14 @@ abbrev pub HasLastViews : Options → Book → Outcome → Option ReportLines �
 HasLastViews options book outcome lines = IfSome lines (λ shown.
     AreViews (opening_of options) (book_after (opening_of options) book outcome.history.items) shown.categories.items shown.users.items)
 
--- why scripts were not performed: no window could be made, or the run was refused
-abbrev pub IsNotPerformed : Policy → Fault → Book → List (List Request) → Type 0
-IsNotPerformed policy (Usage fault) book scripts = ⊥
-IsNotPerformed policy (Read fault) book scripts = ⊥
-IsNotPerformed policy (Resume fault) book scripts = ⊥
-IsNotPerformed policy (Make fault) book scripts = Unit {0}
-IsNotPerformed policy (Run fault) book scripts = IsNotRun policy fault book scripts
-IsNotPerformed policy (Write fault) book scripts = ⊥
+-- why scripts were not performed: no window could be made for a report, or the run was refused
+abbrev pub IsNotPerformed : Options → Fault → Book → List (List Request) → Type 0
+IsNotPerformed options (Usage fault) book scripts = ⊥
+IsNotPerformed options (Read fault) book scripts = ⊥
+IsNotPerformed options (Resume fault) book scripts = ⊥
+IsNotPerformed options (Make fault) book scripts = IsTrue options.report
+IsNotPerformed options (Run fault) book scripts = IsNotRun (policy_of options) fault book scripts
+IsNotPerformed options (Write fault) book scripts = ⊥
 
 -- a fault that comes before anything is written
 abbrev pub IsUnwritten : Fault → Type 0
@@ -134,7 +134,7 @@ abbrev pub IsCausedBy : Options → List ℕ → Fault → Type 0
 IsCausedBy options input (Usage fault) = ⊥
 IsCausedBy options input (Read fault) = IsInputFault fault → input_of options.workers input ≡ Err fault
 IsCausedBy options input (Resume fault) = OfInput options input (λ rows scripts. IsRefused (opening_of options) fault rows)
-IsCausedBy options input (Make fault) = OfInput options input (λ rows scripts. AreRows (opening_of options) rows)
+IsCausedBy options input (Make fault) = IsTrue options.report × OfInput options input (λ rows scripts. AreRows (opening_of options) rows)
 IsCausedBy options input (Run fault) = OfInput options input (λ rows scripts.
     AreRows (opening_of options) rows × IsNotRun (policy_of options) fault (opening_rows (opening_of options) rows) scripts)
 IsCausedBy options input (Write fault) = Answers options input (λ text added. Unit {0})

@@ -30,7 +30,7 @@ pub fn execute<R: Threads + Wait + Sync, I: Read + Drop, W: Write>(
     ensures part { result ≡ Err (Fault.Write WriteFault.Write) → IfSome (I.remaining reader) (λ input.
         Answers options.now input (ArePartWritten (W.contents writer.old) (W.contents writer.new))) }
     ensures memory { result ≡ Err (Fault.Write WriteFault.Memory) → IfSome (I.remaining reader) (λ input.
-        Answers options.now input (IsOneWritten (W.contents writer.old) (W.contents writer.new))) }
+        Answers options.now input (IsOneWritten options.now (W.contents writer.old) (W.contents writer.new))) }
     ensures unwritten { IfErr result (λ fault. IsUnwritten fault → writer.new ≡ writer.old) }
     ensures cause { IfErr result (λ fault. IfSome (I.remaining reader) (λ input. IsCausedBy options.now input fault)) }
 {

@@ -1,12 +1,12 @@
 //! The run of the scripts, and what the report shows at its end.
-ghost use Rattle.std.specs.Prelude.{◌≡◌, List, [], false, IfOk, IfErr, IfSome, MatchOption};
+ghost use Rattle.std.specs.Prelude.{◌≡◌, List, [], false, None, IfOk, IfErr, IfSome, IsTrue, MatchOption};
 ghost use mathlib.Core.List.{IsPrefix};
 ghost use Rattle.auction_rows.specs.declared.rows.Row.{Row as Stored};
 ghost use Rattle.auction_rows.specs.Book.{Book};
 ghost use Rattle.auction_run.specs.Phases.{lists};
 ghost use Rattle.item_shards.specs.OpeningBooks as opened;
 ghost use Rattle.auction_program.specs.Execution.{AnswersScripts, HasLastViews, IsNotPerformed};
-ghost use Rattle.auction_program.specs.Options.{opening_of, policy_of};
+ghost use Rattle.auction_program.specs.Options.{opening_of};
 ghost use Rattle.auction_program.specs.Report.{AreViews, IsEnd};
 
 use crate::faults::Fault;
@@ -44,8 +44,9 @@ pub fn perform<R: Threads + Wait + Sync>(
         AnswersScripts options.now (opened.rows_of book.now) (lists scripts.items) performed.outcome) }
     ensures lines { IfOk result (λ performed.
         HasLastViews options.now (opened.rows_of book.now) performed.outcome performed.lines) }
+    ensures unasked { IfOk result (λ performed. ¬ IsTrue options.now.report → performed.lines ≡ None) }
     ensures cause { IfErr result (λ fault.
-        IsNotPerformed (policy_of options.now) fault (opened.rows_of book.now) (lists scripts.items)) }
+        IsNotPerformed options.now fault (opened.rows_of book.now) (lists scripts.items)) }
 {
     if options.report {
         return perform_watched::<Brand, R>(rt, alloc, PhaseLog::new(), book, scripts, options);
@@ -70,12 +71,13 @@ fn perform_watched<J: WindowName, R: Threads + Wait + Sync>(
     requires opening { opened.opening_of book.now ≡ J.opening }
     requires rows { opened.rows_of book.now ≡ J.rows }
     requires options { opened.opening_of book.now ≡ opening_of options.now }
+    requires report { IsTrue options.now.report }
     ensures answer { IfOk result (λ performed.
         AnswersScripts options.now (opened.rows_of book.now) (lists scripts.items) performed.outcome) }
     ensures lines { IfOk result (λ performed.
         HasLastViews options.now (opened.rows_of book.now) performed.outcome performed.lines) }
     ensures cause { IfErr result (λ fault.
-        IsNotPerformed (policy_of options.now) fault (opened.rows_of book.now) (lists scripts.items)) }
+        IsNotPerformed options.now fault (opened.rows_of book.now) (lists scripts.items)) }
 {
     let (publisher, mut windows) = Publisher::<J>::new(rt, alloc, log, book, 1)?;
     let mut board = WindowBoard::new(publisher);
@@ -106,7 +108,7 @@ fn watch<J: WindowName, R: Threads + Wait + Sync>(
     ensures lines { IfOk result (λ performed.
         HasLastViews options.now (opened.rows_of book.now) performed.outcome performed.lines) }
     ensures cause { IfErr result (λ fault.
-        IsNotPerformed (policy_of options.now) fault (opened.rows_of book.now) (lists scripts.items)) }
+        IsNotPerformed options.now fault (opened.rows_of book.now) (lists scripts.items)) }
 {
     let outcome = run_shown(rt, alloc, book, scripts, options.policy(), &FreeGate, board)?;
     let told = board.told.take();

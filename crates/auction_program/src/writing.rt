@@ -32,7 +32,7 @@ pub fn write_texts<W: Write>(
     ensures part { IfErr result (λ fault. fault ≡ WriteFault.Write → ArePartWritten (W.contents writer.old) (W.contents writer.new)
         (commits_text options.now rows.now outcome.now.history.items)
         (added_text options.now rows.now outcome.now.history.items (hot_sets outcome.now.hot.items))) }
-    ensures memory { IfErr result (λ fault. fault ≡ WriteFault.Memory → IsOneWritten (W.contents writer.old) (W.contents writer.new)
+    ensures memory { IfErr result (λ fault. fault ≡ WriteFault.Memory → IsOneWritten options.now (W.contents writer.old) (W.contents writer.new)
         (commits_text options.now rows.now outcome.now.history.items)
         (added_text options.now rows.now outcome.now.history.items (hot_sets outcome.now.hot.items))) }
 {

@@ -31,7 +31,7 @@ returns-in_err-performed-clause-cause g c =
     error_is c.from_residual-in_err-performed.result fault (λ f. IfSome remaining (λ input. IsCausedBy options input f)) c.from_residual-in_err-performed.ensures
     (not_performed options rows scripts remaining c.in_ok-input.ensures.input fault
     (subst (λ o. AreRows o rows) c.opening.ensures c.in_ok-book.ensures.accepted)
-    (subst (λ b. IsNotPerformed (policy_of options) fault b scripts) opens c.in_err-performed.ensures.cause))
+    (subst (λ b. IsNotPerformed options fault b scripts) opens c.in_err-performed.ensures.cause))
 
 pub returns-in_err-write_texts-clause-part : goal.returns-in_err-write_texts-clause-part
 returns-in_err-write_texts-clause-part g c = λ is.
@@ -65,7 +65,7 @@ returns-in_err-write_texts-clause-memory g c = λ is.
     (subst (λ o. AreRows o rows) c.opening.ensures c.in_ok-book.ensures.accepted) c.in_ok-performed.ensures.answer in
     let fault : c.in_err-write_texts.field-0.0 ≡ WriteFault.Memory =
     let same = is_error c.from_residual-in_err-write_texts.result (Write c.in_err-write_texts.field-0.0) (Write WriteFault.Memory) c.from_residual-in_err-write_texts.ensures is in cc in
-    says (IsOneWritten old new) (c.in_err-write_texts.ensures.memory fault)
+    says (IsOneWritten options old new) (c.in_err-write_texts.ensures.memory fault)
 
 pub returns-in_err-write_texts-clause-cause : goal.returns-in_err-write_texts-clause-cause
 returns-in_err-write_texts-clause-cause g c =

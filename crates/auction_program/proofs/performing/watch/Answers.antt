@@ -47,6 +47,6 @@ returns-in_err-outcome-clause-cause g c =
     let scripts = lists c.args.scripts.items in
     let fault = c.in_err-outcome.field-0.0 in
     let refused = c.run_shown.ensures.refused in
-    error_is c.from_residual.result (Run fault) (λ f. IsNotPerformed (policy_of options) f rows scripts) c.from_residual.ensures
+    error_is c.from_residual.result (Run fault) (λ f. IsNotPerformed options f rows scripts) c.from_residual.ensures
     (subst (λ p. IsNotRun p fault rows scripts) c.policy.ensures
     (not_run c.policy.result rows scripts c.run_shown.result fault c.in_err-outcome.was refused.workers refused.shards refused.quota refused.too_long))
