@@ -197,8 +197,8 @@ where
     requires rows { rows_of book.now ≡ J.rows }
     requires windows { (0 < windows) × (windows ≤ 16) }
 {
-    let (publisher, windows) = Publisher::<J>::new(rt, alloc, log, book, windows)?;
-    let started = start_all(rt, alloc, windows, most);
+    let (publisher, made) = Publisher::<J>::new(rt, alloc, log, book, windows)?;
+    let started = start_all(rt, alloc, made, most);
     let mut board = Timed::new(WindowBoard::new(publisher), rt);
     let begun = Instant::now(rt);
     let performed = run_shown(rt, alloc, book, all, POLICY, &FreeGate, &mut board);
@@ -209,6 +209,6 @@ where
     let looks = join_all(rt, started?);
     performed?;
     let spent = done?.duration_since(begun?);
-    println!(rt; "shown to windows: {spent:?}, {publishing:?} of it to publish {phases} phases")?;
+    println!(rt; "shown to {windows} windows: {spent:?}, {publishing:?} of it to publish {phases} phases")?;
     Ok((looks, spent))
 }

@@ -7,7 +7,7 @@ mod watching;
 
 use crate::watching::watched_run;
 use anyhow::{Result, bail};
-use auction_rows::{ItemId, Reply, Request};
+use auction_rows::{ItemId, Refusal, Reply, Request};
 use auction_window::Seen;
 use std::{env, io};
 
@@ -50,7 +50,8 @@ fn print_look<R: Print>(rt: &R, look: &Seen) -> io::Result<()> {
             bids,
             ..
         } => println!(rt; "phases={phases} bids={bids} highest={highest} bidder={bidder}"),
-        _ => println!(rt; "phases={phases} no vase"),
+        Reply::Refused(Refusal::NoSuchItem) => println!(rt; "phases={phases} no vase"),
+        _ => println!(rt; "phases={phases} a vase without a bid"),
     }
 }
 

@@ -48,8 +48,8 @@ impl<'a, B: Board, C: Clock> Board for Timed<'a, B, C> {
     fn publish<R: Wait>(&mut self, rt: &R, last: Vec<Row>) -> Result<(), AllocError> {
         let begun = Instant::now(self.clock);
         self.board.publish(rt, last)?;
+        self.phases = self.phases.saturating_add(1);
         if let (Ok(begun), Ok(done)) = (begun, Instant::now(self.clock)) {
-            self.phases = self.phases.saturating_add(1);
             self.spent = self.spent.saturating_add(done.duration_since(begun));
         }
         Ok(())

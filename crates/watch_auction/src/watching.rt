@@ -108,7 +108,11 @@ fn watch<J: WindowName>(
         };
         let phases = look.phases;
         if differs(&looks, &look) {
-            looks.push(look)?;
+            if looks.push(look).is_err() {
+                // So that the run waits for no more looks.
+                gate.looks.store(u64::MAX, Ordering::SeqCst);
+                return Err(AllocError);
+            }
             gate.looks.store(looks.len() as u64, Ordering::SeqCst);
         }
         if phases == PHASES {
