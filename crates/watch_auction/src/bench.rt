@@ -209,6 +209,8 @@ where
     let looks = join_all(rt, started?);
     performed?;
     let spent = done?.duration_since(begun?);
-    println!(rt; "shown to {windows} windows: {spent:?}, {publishing:?} of it to publish {phases} phases")?;
+    println!(rt;
+        "shown to {windows} windows: {spent:?}, {publishing:?} of it to publish {phases} phases"
+    )?;
     Ok((looks, spent))
 }
