@@ -14,6 +14,7 @@ use Rattle.item_shards.specs.declared.opening_book.ResumeFault.{ResumeFault}
 use Rattle.item_shards.specs.declared.opening_book.ResumeFault.TheVariants as resume
 use Rattle.run_serving.specs.Answers.{IsAnswer}
 use Rattle.run_serving.specs.declared.policy.Policy.{Policy}
+use Rattle.auction_text.specs.declared.faults.WriteFault.{WriteFault}
 use Rattle.auction_program.specs.Execution.{added_text, commits_text, Answers, IsCausedBy, IsNotPerformed, IsNotRun, IsRefused, OfInput}
 use Rattle.auction_program.specs.Options.{opening_of, policy_of}
 use Rattle.auction_run.specs.Beginning.{HaveWorkers, HasShards, HasQuotas, AreShort}
@@ -31,6 +32,10 @@ error_is (Err x) e Q is holds = subst Q (sym is.1) holds
 pub is_error : {T E : Type 0} (r : Result T E) (e x : E) → IsErr r × IsErrAnd r (λ y. y ≡ e) → r ≡ Err x → x ≡ e
 is_error (Ok t) e x is same = absurd (let no = same in cc)
 is_error (Err y) e x is same = let one : y ≡ x = cc in sym one ∙ is.1
+
+-- the fault of writing that a fault is
+pub write_is : {T : Type 0} (r : Result T Fault) (fault is : WriteFault) → IsErr r × IsErrAnd r (λ e. e ≡ Write fault) → r ≡ Err (Write is) → fault ≡ is
+write_is r fault is told same = let one = is_error r (Write fault) (Write is) told same in cc
 
 -- what follows for the input that a reader tells
 pub for_input : (remaining : Option (List ℕ)) (P Q : List ℕ → Type 0) → ((input : List ℕ) → P input → Q input) → IfSome remaining P → IfSome remaining Q
@@ -80,18 +85,13 @@ module _ (options : Options) (rows : List Opened) (scripts : List (List Request)
   not_performed (Run fault) are why = of_input (λ rs ss. AreRows (opening_of options) rs × IsNotRun (policy_of options) fault (opening_rows (opening_of options) rs) ss) (are, why)
   not_performed (Write fault) are why = absurd why
 
-  module _ (start : Opening) (policy : Policy) (book shown : Book) (history : List Entry) (hot : List (List Object))
-      (starts : start ≡ opening_of options) (divides : policy ≡ policy_of options) (opens : book ≡ opening_rows start rows) (shows : shown ≡ book)
-      (are : AreRows start rows) (runs : IsAnswer start book policy scripts hot history) where
-    opened : shown ≡ opening_rows (opening_of options) rows
-    opened = shows ∙ opens ∙ ap (λ o. opening_rows o rows) starts
+  module _ (start : Opening) (book shown : Book) (history : List Entry) (hot : List (List Object)) (starts : start ≡ opening_of options)
+      (opens : book ≡ opening_rows start rows) (shows : shown ≡ book) (are : AreRows start rows)
+      (runs : IsAnswer (opening_of options) book (policy_of options) scripts hot history) where
+    opened : book ≡ opening_rows (opening_of options) rows
+    opened = opens ∙ ap (λ o. opening_rows o rows) starts
 
-    ran : IsAnswer (opening_of options) (opening_rows (opening_of options) rows) (policy_of options) scripts hot history
-    ran =
-        subst (λ o. IsAnswer o (opening_rows o rows) (policy_of options) scripts hot history) starts
-        (subst (λ (b : Book). IsAnswer start b (policy_of options) scripts hot history) opens
-        (subst (λ p. IsAnswer start book p scripts hot history) divides runs))
-
+    -- what holds of the texts, as what holds of the input
     pub answered : (Holds : List ℕ → List ℕ → Type 0) → Holds (commits_text options shown history) (added_text options shown history hot)
         → IfSome remaining (λ input. Answers options input Holds)
     answered Holds holds =
@@ -105,9 +105,9 @@ module _ (options : Options) (rows : List Opened) (scripts : List (List Request)
             history = history;
             hot = hot;
             asks = record { reads = asks; are_rows = subst (λ o. AreRows o rows) starts are };
-            runs = ran;
-            text_is = ap (λ (b : Book). commits_text options b history) opened;
-            added_is = ap (λ (b : Book). added_text options b history hot) opened;
+            runs = subst (λ (b : Book). IsAnswer (opening_of options) b (policy_of options) scripts hot history) opened runs;
+            text_is = ap (λ (b : Book). commits_text options b history) (shows ∙ opened);
+            added_is = ap (λ (b : Book). added_text options b history hot) (shows ∙ opened);
           };
           holds = holds;
         }) reads

@@ -1,5 +1,5 @@
 -- Two texts, written one after the other.
-use Rattle.std.proofs.Common.{◌≡◌, ℕ, ◌+◌, ◌≤◌, min, List, [], ◌++◌, Option, Result, Ok, Err, IfErr, OnOk, length, take, append-nil, sym, subst, ◌∙◌, ap, arith}
+use Rattle.std.proofs.Common.{◌≡◌, Bool, true, if◌then◌else◌, Some, IfSome, ℕ, ◌+◌, ◌≤◌, min, List, [], ◌++◌, Option, Result, Ok, Err, IfErr, OnOk, length, take, append-nil, sym, subst, ◌∙◌, ap, arith}
 use Rattle.std.proofs.KnownBytes.{Appends-trans}
 use Rattle.std.proofs.Math.Seq.{take-append-add}
 use Rattle.std.proofs.lemmas.List.{take-append-le, take_min}
@@ -11,7 +11,8 @@ use Rattle.auction_rows.specs.declared.rows.Entry.{Entry}
 use Rattle.auction_rows.specs.Book.{Book}
 use Rattle.auction_text.specs.Report.{report_text}
 use Rattle.auction_text.specs.Writing.{IsPartWritten}
-use Rattle.auction_program.specs.Report.{category_views, report_of, user_views}
+use Rattle.auction_text.specs.declared.report.ReportLines.{ReportLines}
+use Rattle.auction_program.specs.Report.{report_of, AreViews}
 
 module _ (old mid new : Option (List ℕ)) (text added : List ℕ) where
   pub both_written : Appends old mid text → Appends mid new added → Appends old new (text ++ added)
@@ -39,7 +40,13 @@ pub on_ok : {T E : Type 0} (r : Result T E) (P Q : Type 0) → (P → Q) → OnO
 on_ok (Ok x) P Q follows holds = follows holds
 on_ok (Err e) P Q follows holds = tt
 
--- a report whose views are those of a book
-pub report_same : (opening : Opening) (book : Book) (history given : List Entry) (hot given_hot : List (List Object)) (categories users : List Reply) → given ≡ history → given_hot ≡ hot
-    → categories ≡ category_views opening book → users ≡ user_views opening book → report_text given given_hot categories users ≡ report_of opening book history hot
-report_same opening book history given hot given_hot categories users histories hots cs us = cc
+-- the text of a report whose views are those of a book is what is added where one is asked for
+pub report_added : (report : Bool) (opening : Opening) (book : Book) (history : List Entry) (hot given : List (List Object)) (lines : Option ReportLines) (shown : ReportLines)
+    → lines ≡ Some shown → IfSome lines (λ s. AreViews opening book s.categories.items s.users.items) → given ≡ hot → report ≡ true
+    → report_text history given shown.categories.items shown.users.items ≡ (if report then report_of opening book history hot else [])
+report_added report opening book history hot given lines shown is views hots asked =
+    let are = subst (λ o. IfSome o (λ (s : ReportLines). AreViews opening book s.categories.items s.users.items)) is views in
+    let cs = are.categories_are in
+    let us = are.users_are in
+    let same : report_text history given shown.categories.items shown.users.items ≡ report_of opening book history hot = cc in
+    same ∙ ap (λ b. if b then report_of opening book history hot else []) (sym asked)

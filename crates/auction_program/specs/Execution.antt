@@ -103,12 +103,12 @@ IsNotRun policy run.NumberFull book scripts = Unit {0}
 -- the outcome of a run answers these scripts, from a book
 abbrev pub AnswersScripts : Options → Book → List (List Request) → Outcome → Type 0
 AnswersScripts options book scripts outcome =
-    IsAnswer (opening_of options) book (policy_of options) scripts (hot_sets outcome.hot.items) outcome.history.items
+    IsAnswer (opening_of options) book (policy_of options) scripts (hot_sets outcome.hot.items) outcome.history.entries
 
 -- the lines of its report, where there are some, are the views that the book at its end gives
 abbrev pub HasLastViews : Options → Book → Outcome → Option ReportLines → Type 0
 HasLastViews options book outcome lines = IfSome lines (λ shown.
-    AreViews (opening_of options) (book_after (opening_of options) book outcome.history.items) shown.categories.items shown.users.items)
+    AreViews (opening_of options) (book_after (opening_of options) book outcome.history.entries) shown.categories.items shown.users.items)
 
 -- why scripts were not performed: no window could be made for a report, or the run was refused
 abbrev pub IsNotPerformed : Options → Fault → Book → List (List Request) → Type 0

@@ -6,13 +6,14 @@ ghost use Rattle.auction_text.specs.Writing.{IsPartWritten};
 ghost use Rattle.auction_program.specs.Execution.{added_text, commits_text, AreWritten, ArePartWritten, HasLastViews, IsOneWritten};
 
 use crate::options::Options;
-use auction_rows::{Entry, Row};
+use auction_rows::Row;
 use auction_run::Outcome;
 use auction_text::{
     ReportLines, WriteFault, write_history, write_replies, write_report, write_rows,
 };
 use std::alloc::Global;
 use std::io::Write;
+use worker_journals::History;
 
 /// Writes what the options ask for of a run from these rows, and then its report, where they ask for it. Without lines a report
 /// is refused as memory was for them. After `Write` a prefix of both was written; after `Memory` nothing, or all but the report.
@@ -27,14 +28,14 @@ pub fn write_texts<W: Write>(
 ) -> Result<(), WriteFault>
     requires { HasLastViews options.now rows.now outcome.now lines.now }
     ensures whole { OnOk result (AreWritten (W.contents writer.old) (W.contents writer.new)
-        (commits_text options.now rows.now outcome.now.history.items)
-        (added_text options.now rows.now outcome.now.history.items (hot_sets outcome.now.hot.items))) }
+        (commits_text options.now rows.now outcome.now.history.entries)
+        (added_text options.now rows.now outcome.now.history.entries (hot_sets outcome.now.hot.items))) }
     ensures part { IfErr result (λ fault. fault ≡ WriteFault.Write → ArePartWritten (W.contents writer.old) (W.contents writer.new)
-        (commits_text options.now rows.now outcome.now.history.items)
-        (added_text options.now rows.now outcome.now.history.items (hot_sets outcome.now.hot.items))) }
+        (commits_text options.now rows.now outcome.now.history.entries)
+        (added_text options.now rows.now outcome.now.history.entries (hot_sets outcome.now.hot.items))) }
     ensures memory { IfErr result (λ fault. fault ≡ WriteFault.Memory → IsOneWritten options.now (W.contents writer.old) (W.contents writer.new)
-        (commits_text options.now rows.now outcome.now.history.items)
-        (added_text options.now rows.now outcome.now.history.items (hot_sets outcome.now.hot.items))) }
+        (commits_text options.now rows.now outcome.now.history.entries)
+        (added_text options.now rows.now outcome.now.history.entries (hot_sets outcome.now.hot.items))) }
 {
     write_commits(alloc, writer, options, rows, &outcome.history)?;
     if !options.report {
@@ -52,11 +53,11 @@ fn write_commits<W: Write>(
     writer: &mut W,
     options: &Options,
     rows: &[Row],
-    history: &[Entry],
+    history: &History,
 ) -> Result<(), WriteFault>
-    ensures whole { OnOk result (Appends (W.contents writer.old) (W.contents writer.new) (commits_text options.now rows.now history.now)) }
+    ensures whole { OnOk result (Appends (W.contents writer.old) (W.contents writer.new) (commits_text options.now rows.now history.now.entries)) }
     ensures part { IfErr result (λ fault. fault ≡ WriteFault.Write →
-        IsPartWritten (W.contents writer.old) (W.contents writer.new) (commits_text options.now rows.now history.now)) }
+        IsPartWritten (W.contents writer.old) (W.contents writer.new) (commits_text options.now rows.now history.now.entries)) }
     ensures memory { IfErr result (λ fault. fault ≡ WriteFault.Memory → writer.new ≡ writer.old) }
 {
     if options.rows {

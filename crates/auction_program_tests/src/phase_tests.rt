@@ -1,6 +1,7 @@
 //! Runs of several workers, in joined and split phases.
 use crate::answer_tests::{REPLIES, USUAL, answer_to, texts_are};
 use auction_program::Options;
+use std::alloc::Global;
 use std::test::Fail;
 
 // Two workers, in joined and split phases of two requests.
@@ -166,4 +167,52 @@ fn purchases_of_hot_items_wait(rt: HostRuntime) -> Result<(), Fail> {
         ..REPLIES
     };
     texts_are(&rt, rt.alloc(), &options, &[(input, text)])
+}
+
+// A request of each kind, without its worker.
+const KINDS: [&str; 8] = [
+    "item,1,1,Vase,10,100,3",
+    "bid,1,0.0,10,5",
+    "comment,1,2,0.0,3",
+    "viewitem,0.0",
+    "viewbids,0.0",
+    "viewcategory,1",
+    "viewuser,2",
+    "buynow,1,0.0,1,5",
+];
+
+// Adds a request of one kind of each of 16 workers.
+fn add_requests(alloc: Global, text: &mut Vec<u8>, kind: &str) -> Result<(), Fail> {
+    for worker in 0..16 {
+        let line = format!(in alloc; "{worker},{kind}\n")?;
+        text.extend_from_slice(line.as_bytes())?;
+    }
+    Ok(())
+}
+
+// 6,250 requests of each of 16 workers, of all kinds in turn.
+fn many_requests(alloc: Global) -> Result<Vec<u8>, Fail> {
+    let mut text = Vec::new(alloc);
+    for index in 0..6_250_usize {
+        add_requests(alloc, &mut text, KINDS[index % 8])?;
+    }
+    Ok(text)
+}
+
+// Views of what is hot wait, and so do purchases: each reply stands in its place all the same.
+#[test]
+fn replies_of_a_long_run_stand_in_order(rt: HostRuntime) -> Result<(), Fail> {
+    let alloc = rt.alloc();
+    let options = Options {
+        workers: 16,
+        ..REPLIES
+    };
+    let text = answer_to(&rt, alloc, &many_requests(alloc)?, &options)?;
+    let replies = str::from_utf8(&text).map_err(|_| "no text")?;
+    for (count, line) in replies.lines().enumerate() {
+        let place = format!(in alloc; "{},{},", count / 6_250, count % 6_250)?;
+        assert!(rt; line.starts_with(place.as_str()), "at {count}");
+    }
+    assert_eq!(rt; replies.lines().count(), 100_000);
+    Ok(())
 }

@@ -1,5 +1,5 @@
 -- The rows of a run's phases follow one another, and are few.
-use Rattle.std.proofs.Common.{◌≡◌, ℕ, zero, suc, ◌+◌, ◌*◌, ◌-◌, ◌<◌, ◌≤◌, ◌==◌, ◌⊎◌, Bool, true, false, cond, List, [], ◌∷◌, ◌++◌, Option, Some, None, map, length, drop, slice_get, All, refl, subst, sym, ap, ◌∙◌, inl, inr, arith, append_assoc, length-append, eqb-true, filter_map}
+use Rattle.std.proofs.Common.{◌≡◌, ℕ, zero, suc, ◌+◌, ◌*◌, ◌-◌, ◌<◌, ◌≤◌, ◌==◌, ◌⊎◌, Bool, true, false, cond, List, [], ◌∷◌, ◌++◌, Option, Some, None, map, length, slice_get, All, refl, subst, sym, ap, ◌∙◌, inl, inr, arith, append_assoc, length-append, eqb-true, filter_map}
 use Rattle.std.specs.List.{filter, AllByRecursion, cons_option}
 use Rattle.std.proofs.lemmas.Bool.{eq-eqb, false≢true, cases_lt}
 use Rattle.std.proofs.lemmas.List.{append-nil, length-map}
@@ -26,6 +26,7 @@ use Rattle.run_laws.proofs.CountLemmas.{how_many, how_many-is, count-append, cou
 use Rattle.run_laws.proofs.ListLemmas.{all-append, all-both, all-from_map, all-kept, all-right, filter_false}
 use Rattle.run_laws.proofs.PartLemmas.{all_of_parts}
 use Rattle.run_laws.proofs.TurnLemmas.{length-numbered}
+use Rattle.worker_journals.specs.Merged.{merged}
 use Rattle.run_serving.specs.declared.policy.Policy.{Policy}
 use Rattle.run_serving.specs.Run.{HasRun, calls_of}
 use Rattle.run_serving.specs.Serving.{script_of, segment_of, call_of, commit_phase}
@@ -152,7 +153,7 @@ module _ (opening : Opening) (rows : Book) (is_book : IsBook opening rows) (poli
   commit = commit_phase policy (hot_sets next.hot.items)
 
   abbrev history : List Entry
-  history = next.history.items
+  history = next.history.entries
 
   -- each entry is of a worker that has a script
   known : AllByRecursion (λ e. e.worker < length scripts) history
@@ -196,12 +197,12 @@ module _ (opening : Opening) (rows : Book) (is_book : IsBook opening rows) (poli
       let long = length-append (map worker_of rows) (map (λ e. e.worker) history) in
       omega (arith, counted, most, long, length-map rows worker_of, length-map history (λ e. e.worker), rows_few history, workers)
 
-  module _ (old : List Entry) (grown : history ≡ old ++ drop next.last history) where
+  module _ (old : List Entry) (grown : history ≡ old ++ merged next.history.last) where
     abbrev es : List Entry
-    es = drop next.last history
+    es = merged next.history.last
 
     last : es ≡ segment_of p history
-    last = run.last ∙ (let e : suc p - 1 ≡ p = omega arith in ap (λ n. segment_of n history) e)
+    last = sym run.last_entries ∙ run.last ∙ (let e : suc p - 1 ≡ p = omega arith in ap (λ n. segment_of n history) e)
 
     rows_now : rows_of history ≡ rows_of old ++ rows_of es
     rows_now = ap rows_of grown ∙ rows_of-append old es
@@ -268,8 +269,8 @@ none_before (e ∷ es) none = absurd (omega (arith, none.0))
 
 -- a board that has no phases has those of a run before its first
 pub begins_shown : {B : Type 0} (has : B → Opening → Book → List (List Row) → Type 0) (opening : Opening) (rows : Book) (policy : Policy) (scripts : List (List Request)) (running : Running) (board : B) →
-    IsRunning opening rows policy scripts 0 running → has board opening rows [] → HasShown has opening rows 0 running.history.items board
+    IsRunning opening rows policy scripts 0 running → has board opening rows [] → HasShown has opening rows 0 running.history.entries board
 begins_shown has opening rows policy scripts running board run has_none = record {
   has_them = has_none;
-  book_is = sym (append-nil rows) ∙ ap (λ es. rows ++ rows_of es) (sym (none_before running.history.items run.run.phases_before));
+  book_is = sym (append-nil rows) ∙ ap (λ es. rows ++ rows_of es) (sym (none_before running.history.entries run.run.phases_before));
 }

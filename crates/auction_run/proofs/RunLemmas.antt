@@ -19,6 +19,7 @@ use Rattle.run_laws.specs.Phases.{is_split, quota}
 use Rattle.run_laws.proofs.QuotaLemmas.{given_length}
 use Rattle.run_laws.proofs.ReachLemmas.{first_next, split_then_joined}
 use Rattle.run_laws.proofs.TurnLemmas.{waiting_none}
+use Rattle.worker_journals.specs.Merged.{merged}
 use Rattle.run_serving.specs.declared.policy.Policy.{Policy}
 use Rattle.run_serving.specs.Books.{HasReplayed, ReplaysOn}
 use Rattle.run_serving.specs.Run.{first_index, calls_of, calls_given, HasRun, HasPerformed, HasLeft, AreChosen}
@@ -107,11 +108,11 @@ module _ (policy : Policy) (some : 0 < policy.joined_quota + policy.split_quota)
     (stashes : length new.stashes.items ≡ length old.state.counters)
     (commits : (w : ℕ) → w < length old.state.counters →
     (counters_at new.state.counters w).commits ≡ (counters_at old.state.counters w).commits + length (calls_of w entries))
-    (history : new.history.items ≡ old.history.items ++ entries)
+    (history : new.history.entries ≡ old.history.entries ++ entries)
     (hot : hot_sets new.hot.items ≡ hot_sets old.hot.items ++ hot_now ∷ [])
-    (last : new.last ≡ length old.history.items)
+    (last : merged new.history.last ≡ entries)
     (not_chosen : is_split old.state.phase ≡ false → hot_now ≡ [])
-    (chosen : is_split old.state.phase ≡ true → hot_now ≡ choose (drop old.last old.history.items) policy.threshold policy.hot_max) where
+    (chosen : is_split old.state.phase ≡ true → hot_now ≡ choose (merged old.history.last) policy.threshold policy.hot_max) where
   here : HasPerformed policy scripts p hot_now (waiting_in old.stashes.items) (waiting_in new.stashes.items) entries
   here = subst (λ n. HasPerformed policy scripts n hot_now (waiting_in old.stashes.items) (waiting_in new.stashes.items) entries) run.phase_is performed
 
@@ -130,21 +131,21 @@ module _ (policy : Policy) (some : 0 < policy.joined_quota + policy.split_quota)
   pub stepped : IsRunning opening rows policy scripts (suc p) new
   stepped = record {
     run = subst (λ es. HasRun policy scripts (suc p) (hot_sets new.hot.items) es (waiting_in new.stashes.items)) (sym history)
-        (subst (λ hs. HasRun policy scripts (suc p) hs (old.history.items ++ entries) (waiting_in new.stashes.items)) (sym hot)
-        (phase_runs policy some scripts p (hot_sets old.hot.items) hot_now old.history.items entries (waiting_in old.stashes.items) (waiting_in new.stashes.items) run.run here worker left));
+        (subst (λ hs. HasRun policy scripts (suc p) hs (old.history.entries ++ entries) (waiting_in new.stashes.items)) (sym hot)
+        (phase_runs policy some scripts p (hot_sets old.hot.items) hot_now old.history.entries entries (waiting_in old.stashes.items) (waiting_in new.stashes.items) run.run here worker left));
     chosen = subst (λ es. AreChosen policy (hot_sets new.hot.items) es) (sym history)
-        (subst (λ hs. AreChosen policy hs (old.history.items ++ entries)) (sym hot)
-        (phase_chosen policy scripts p (hot_sets old.hot.items) hot_now old.history.items entries
+        (subst (λ hs. AreChosen policy hs (old.history.entries ++ entries)) (sym hot)
+        (phase_chosen policy scripts p (hot_sets old.hot.items) hot_now old.history.entries entries
         (waiting_in old.stashes.items) (waiting_in new.stashes.items) run.run here run.chosen
         (λ is. not_chosen (ap is_split run.phase_is ∙ is))
-        (λ is. chosen (ap is_split run.phase_is ∙ is) ∙ ap (λ es. choose es policy.threshold policy.hot_max) run.last)));
+        (λ is. chosen (ap is_split run.phase_is ∙ is) ∙ ap (λ es. choose es policy.threshold policy.hot_max) (sym run.last_entries ∙ run.last))));
     numbers = subst (λ es. AreNumbered opening policy (hot_sets new.hot.items) es) (sym history)
-        (subst (λ hs. AreNumbered opening policy hs (old.history.items ++ entries)) (sym hot)
-        (phase_numbered opening policy scripts p (hot_sets old.hot.items) hot_now old.history.items entries
+        (subst (λ hs. AreNumbered opening policy hs (old.history.entries ++ entries)) (sym hot)
+        (phase_numbered opening policy scripts p (hot_sets old.hot.items) hot_now old.history.entries entries
         (waiting_in old.stashes.items) (waiting_in new.stashes.items) run.run here run.numbers
         (subst (λ o. IsNumbered o policy.shards hot_now entries) run.opening_is numbered)));
     replayed = subst (λ es. HasReplayed opening rows es (StandsFor new.state)) (sym history)
-        (phase_replayed opening rows old.history.items entries (StandsFor old.state) (StandsFor new.state) is_book run.replayed
+        (phase_replayed opening rows old.history.entries entries (StandsFor old.state) (StandsFor new.state) is_book run.replayed
         (subst (λ o. ReplaysOn o entries (StandsFor old.state) (StandsFor new.state)) run.opening_is replays));
     opening_is = same_opening ∙ run.opening_is;
     phase_is = counted ∙ ap suc run.phase_is;
@@ -152,10 +153,12 @@ module _ (policy : Policy) (some : 0 < policy.joined_quota + policy.split_quota)
     workers_are = same_workers ∙ run.workers_are;
     stashes_are = stashes ∙ run.workers_are;
     counted = counted_next;
-    last_within = subst (λ n. n ≤ length new.history.items) (sym last) (subst (λ es. length old.history.items ≤ length es) (sym history) (front_within old.history.items entries));
-    last = ap (λ n. drop n new.history.items) last ∙ ap (drop (length old.history.items)) history ∙ drop_front old.history.items entries
-        ∙ sym (segment_now p old.history.items entries run.run.phases_before here.phases) ∙ ap (segment_of p) (sym history)
-        ∙ (let e : p ≡ suc p - 1 = omega arith in ap (λ n. segment_of n new.history.items) e);
+    from = length old.history.entries;
+    last_within = subst (λ es. length old.history.entries ≤ length es) (sym history) (front_within old.history.entries entries);
+    last_entries = ap (drop (length old.history.entries)) history ∙ drop_front old.history.entries entries ∙ sym last;
+    last = ap (drop (length old.history.entries)) history ∙ drop_front old.history.entries entries
+        ∙ sym (segment_now p old.history.entries entries run.run.phases_before here.phases) ∙ ap (segment_of p) (sym history)
+        ∙ (let e : p ≡ suc p - 1 = omega arith in ap (λ n. segment_of n new.history.entries) e);
   }
 
 -- ---- what the next phase may begin with
@@ -184,7 +187,7 @@ room_left commits waits rows first len part a b = omega (arith, a, b)
 module _ (policy : Policy) (scripts : List (List Request)) (running : Running) (shards : 0 < policy.shards) (on : CanGoOn policy scripts running)
     (counted : running.state.phase + 1 < 2 ^ 64) (hot_now : List Object)
     (not_chosen : is_split running.state.phase ≡ false → hot_now ≡ [])
-    (chosen : is_split running.state.phase ≡ true → hot_now ≡ choose (drop running.last running.history.items) policy.threshold policy.hot_max) where
+    (chosen : is_split running.state.phase ≡ true → hot_now ≡ choose (merged running.history.last) policy.threshold policy.hot_max) where
   abbrev run : IsRunning on.opening on.rows policy scripts running.state.phase running
   run = on.running_is
 
@@ -192,10 +195,10 @@ module _ (policy : Policy) (scripts : List (List Request)) (running : Running) (
   hot_exist = go (cases_Bool (is_split running.state.phase))
     where
       go : (is_split running.state.phase ≡ true) ⊎ (is_split running.state.phase ≡ false) → DoAllExist running.state.opening (states_of running.state) hot_now
-      go (inl split) = subst (DoAllExist running.state.opening (states_of running.state)) (sym (chosen split))
-          (chosen_exist running.state on.rows running.history.items running.last policy.threshold policy.hot_max (omega (arith, shards, run.shards_are))
-          (subst (λ o. ReplaysFrom o on.rows running.history.items) (sym run.opening_is) run.replayed.replays)
-          (subst (λ o. StandsFor running.state (book_after o on.rows running.history.items)) (sym run.opening_is) run.replayed.stands))
+      go (inl split) = subst (DoAllExist running.state.opening (states_of running.state)) (sym (chosen split ∙ ap (λ es. choose es policy.threshold policy.hot_max) (sym run.last_entries)))
+          (chosen_exist running.state on.rows running.history.entries run.from policy.threshold policy.hot_max (omega (arith, shards, run.shards_are))
+          (subst (λ o. ReplaysFrom o on.rows running.history.entries) (sym run.opening_is) run.replayed.replays)
+          (subst (λ o. StandsFor running.state (book_after o on.rows running.history.entries)) (sym run.opening_is) run.replayed.stands))
       go (inr joined) = subst (DoAllExist running.state.opening (states_of running.state)) (sym (not_chosen joined)) tt
 
   pub may_perform : MayPerform policy scripts running.state running.stashes.items hot_now
@@ -211,7 +214,7 @@ module _ (policy : Policy) (scripts : List (List Request)) (running : Running) (
         (run.counted w own) (on.short w own);
     joined = not_chosen;
     exist = hot_exist;
-    split = λ split. nothing_waits policy scripts running.state.phase (hot_sets running.hot.items) running.history.items (waiting_in running.stashes.items) run.run split;
+    split = λ split. nothing_waits policy scripts running.state.phase (hot_sets running.hot.items) running.history.entries (waiting_in running.stashes.items) run.run split;
   }
 
 -- ---- the beginning and the end
@@ -219,7 +222,7 @@ module _ (policy : Policy) (scripts : List (List Request)) (running : Running) (
 pub begun : (opening : Opening) (rows : Book) (policy : Policy) (scripts : List (List Request)) (new : Running) →
     new.state.phase ≡ 0 → new.state.opening ≡ opening → StandsFor new.state rows → length new.state.shards ≡ policy.shards → length new.state.counters ≡ length scripts →
     ((w : ℕ) → w < length scripts → (counters_at new.state.counters w).commits ≡ rows_by rows w) →
-    new.history.items ≡ [] → new.hot.items ≡ [] → length new.stashes.items ≡ length scripts → ((w : ℕ) → waiting_in new.stashes.items w ≡ []) → new.last ≡ 0 →
+    new.history.entries ≡ [] → new.hot.items ≡ [] → length new.stashes.items ≡ length scripts → ((w : ℕ) → waiting_in new.stashes.items w ≡ []) → merged new.history.last ≡ [] →
     IsRunning opening rows policy scripts 0 new
 begun opening rows policy scripts new phase same stands shards workers commits history hot stashes none last = record {
   run = subst (λ es. HasRun policy scripts 0 (hot_sets new.hot.items) es (waiting_in new.stashes.items)) (sym history)
@@ -237,8 +240,10 @@ begun opening rows policy scripts new phase same stands shards workers commits h
   workers_are = workers;
   stashes_are = stashes;
   counted = λ w known. let e : length (waiting_in new.stashes.items w) ≡ 0 = ap length (none w) in omega (arith, e, commits w known);
-  last_within = omega (arith, last);
-  last = ap (λ n. drop n new.history.items) last ∙ ap (drop 0) history ∙ ap (segment_of (0 - 1)) (sym history);
+  from = 0;
+  last_within = omega arith;
+  last_entries = history ∙ sym last;
+  last = ap (drop 0) history ∙ ap (segment_of (0 - 1)) (sym history);
 }
 
 module _ (opening : Opening) (rows : Book) (policy : Policy) (some : 0 < policy.joined_quota + policy.split_quota) (scripts : List (List Request)) (short : AreShort rows scripts)
@@ -251,7 +256,7 @@ module _ (opening : Opening) (rows : Book) (policy : Policy) (some : 0 < policy.
 
   pub few_phases_so_far : p ≤ 2000002
   few_phases_so_far =
-      let most = few_phases policy some scripts p 1000000 (hot_sets running.hot.items) running.history.items (waiting_in running.stashes.items) run.run (all_short rows scripts short) in
+      let most = few_phases policy some scripts p 1000000 (hot_sets running.hot.items) running.history.entries (waiting_in running.stashes.items) run.run (all_short rows scripts short) in
       omega (arith, most)
 
   sets_length : {S : Type 0} (sets : List (HashSet Object S)) → length (hot_sets sets) ≡ length sets
@@ -266,7 +271,7 @@ module _ (opening : Opening) (rows : Book) (policy : Policy) (some : 0 < policy.
       ((worker : ℕ) → (length (script_of scripts worker) ≤ first) × (length (waiting_in running.stashes.items worker) ≡ 0)) →
       IsOutcome opening rows policy scripts (record { history = running.history; hot = running.hot; state = running.state })
   ended first is none = record {
-    serves = run_serves opening policy some scripts p (hot_sets running.hot.items) running.history.items (waiting_in running.stashes.items) run.run run.numbers
+    serves = run_serves opening policy some scripts p (hot_sets running.hot.items) running.history.entries (waiting_in running.stashes.items) run.run run.numbers
         (λ worker. (subst (λ n. length (script_of scripts worker) ≤ n) is (none worker).0, (none worker).1));
     chosen = run.chosen;
     replays = run.replayed.replays;

@@ -16,16 +16,16 @@ use Rattle.auction_run.specs.declared.running.Outcome.{Outcome}
 -- The outcome of a run of these scripts, from an opening book on.
 pub record IsOutcome (opening : Opening) (rows : Book) (policy : Policy) (scripts : List (List Request)) (outcome : Outcome) : Type 0 where
   -- its history holds each request once, in its phase and order
-  pub serves : Serves opening policy scripts (hot_sets outcome.hot.items) outcome.history.items
+  pub serves : Serves opening policy scripts (hot_sets outcome.hot.items) outcome.history.entries
   -- what was hot in a split phase is what the entries of the phase before choose
-  pub chosen : AreChosen policy (hot_sets outcome.hot.items) outcome.history.items
+  pub chosen : AreChosen policy (hot_sets outcome.hot.items) outcome.history.entries
   -- an auction of one thread gives each reply
-  pub replays : ReplaysFrom opening rows outcome.history.items
+  pub replays : ReplaysFrom opening rows outcome.history.entries
   -- the state is that of the book at the end, after so many phases
-  pub stands : StandsFor outcome.state (book_after opening rows outcome.history.items)
+  pub stands : StandsFor outcome.state (book_after opening rows outcome.history.entries)
   pub opening_is : outcome.state.opening ≡ opening
   pub phases : outcome.state.phase ≡ length outcome.hot.items
 
 -- A board has all phases of a run, of an auction that was opened with these rows.
 abbrev pub HasShownAll : {B : Type 0} → (B → Opening → Book → List (List Row) → Type 0) → Opening → Book → B → Outcome → Type 0
-HasShownAll has opening rows board outcome = HasShown has opening rows (length outcome.hot.items) outcome.history.items board
+HasShownAll has opening rows board outcome = HasShown has opening rows (length outcome.hot.items) outcome.history.entries board

@@ -7,6 +7,7 @@ use Rattle.auction_rows.specs.History.{IsBook}
 use Rattle.item_shards.specs.OpeningRows.{rows_by}
 use Rattle.phase_closing.specs.Standing.{counters_at}
 use Rattle.phase_floor.specs.States.{StandsFor}
+use Rattle.worker_journals.specs.Merged.{merged}
 use Rattle.run_serving.specs.declared.policy.Policy.{Policy}
 use Rattle.run_serving.specs.Books.{HasReplayed}
 use Rattle.run_serving.specs.Run.{HasRun, AreChosen, first_index}
@@ -18,10 +19,10 @@ use Rattle.auction_run.specs.declared.running.Running.{Running}
 -- What a run from an opening book knows before a phase.
 pub record IsRunning (opening : Opening) (rows : Book) (policy : Policy) (scripts : List (List Request)) (phase : ℕ)
     (running : Running) : Type 0 where
-  pub run : HasRun policy scripts phase (hot_sets running.hot.items) running.history.items (waiting_in running.stashes.items)
-  pub chosen : AreChosen policy (hot_sets running.hot.items) running.history.items
-  pub numbers : AreNumbered opening policy (hot_sets running.hot.items) running.history.items
-  pub replayed : HasReplayed opening rows running.history.items (StandsFor running.state)
+  pub run : HasRun policy scripts phase (hot_sets running.hot.items) running.history.entries (waiting_in running.stashes.items)
+  pub chosen : AreChosen policy (hot_sets running.hot.items) running.history.entries
+  pub numbers : AreNumbered opening policy (hot_sets running.hot.items) running.history.entries
+  pub replayed : HasReplayed opening rows running.history.entries (StandsFor running.state)
   pub opening_is : running.state.opening ≡ opening
   pub phase_is : running.state.phase ≡ phase
   pub shards_are : length running.state.shards ≡ policy.shards
@@ -32,8 +33,10 @@ pub record IsRunning (opening : Opening) (rows : Book) (policy : Policy) (script
       (counters_at running.state.counters worker).commits + length (waiting_in running.stashes.items worker)
       ≤ rows_by rows worker + min (first_index policy phase) (length (script_of scripts worker))
   -- the entries of the phase before are the last of the history
-  pub last_within : running.last ≤ length running.history.items
-  pub last : drop running.last running.history.items ≡ segment_of (phase - 1) running.history.items
+  pub from : ℕ
+  pub last_within : from ≤ length running.history.entries
+  pub last_entries : drop from running.history.entries ≡ merged running.history.last
+  pub last : drop from running.history.entries ≡ segment_of (phase - 1) running.history.entries
 
 -- A run that can go on: it runs from some book, which is short together with the scripts.
 pub record CanGoOn (policy : Policy) (scripts : List (List Request)) (running : Running) : Type 0 where

@@ -1,31 +1,33 @@
 //! The choice of the objects that the next split phase splits.
-ghost use Rattle.std.specs.Prelude.{◌≡◌, ◌+◌, ◌^◌, ◌<◌, IfOk, OnOk, map, take, unwrap_or};
+ghost use Rattle.std.specs.Prelude.{◌≡◌, ◌+◌, IfOk, OnOk, map, take, unwrap_or};
 ghost use Rattle.std.specs.List.{IsDistinct};
 ghost use Rattle.indexmap.specs.IndexMap.{get, IsUnique, Updates};
 ghost use Rattle.auction_rows.specs.Requests.{same_object};
-ghost use Rattle.auction_rows.specs.Choosing.{written_by, choose};
+ghost use Rattle.auction_rows.specs.Choosing.{choose};
+ghost use Rattle.worker_journals.specs.Merged.{merged};
 ghost use Rattle.auction_run.specs.Ranking.{HasHeats, IsRanking};
 
-use auction_rows::{Entry, Object, Reply, Request};
+use auction_rows::Object;
 use indexmap::{IndexMap, IndexSet};
 use std::alloc::{AllocError, Global};
 use std::cmp::Reverse;
+use worker_journals::History;
 
-/// Chooses the objects that at least `threshold` accepted splittable stores of the entries write,
+/// Chooses the objects that at least `threshold` accepted splittable stores of the last phase write,
 /// and at least one: those with most first, equally hot ones in the order of objects, and at most
 /// `hot_max` of them.
 pub fn choose_hot(
     alloc: Global,
-    entries: &[Entry],
+    history: &History,
     threshold: u32,
     hot_max: u32,
 ) -> Result<IndexSet<Object>, AllocError>
-    ensures { IfOk result (λ hot. hot.keys ≡ choose entries.now threshold hot_max) }
+    ensures { IfOk result (λ hot. hot.keys ≡ choose (merged history.now.last) threshold hot_max) }
 {
     if hot_max == 0 {
         return Ok(IndexSet::new(alloc));
     }
-    let heats = heats(alloc, entries)?;
+    let heats = heats(alloc, history)?;
     let candidates = candidates(alloc, &heats, threshold)?;
     first_of(alloc, &candidates, hot_max)
 }
@@ -38,44 +40,27 @@ struct Candidate {
     object: Object,
 }
 
-/// The object that an entry writes, where it is an accepted splittable store.
-fn object_written(entry: &Entry) -> Option<Object>
-    ensures { result ≡ written_by entry.now }
-{
-    match (&entry.request, &entry.reply) {
-        (Request::StoreItem { facts, .. }, Reply::ItemStored(id)) if id.worker == entry.worker => {
-            Some(Object::Category(facts.category))
-        }
-        (Request::StoreBid { item, .. }, Reply::BidStored(id)) if id.worker == entry.worker => {
-            Some(Object::Item(*item))
-        }
-        (Request::StoreComment { about, .. }, Reply::CommentStored(id))
-            if id.worker == entry.worker => { Some(Object::User(*about)) }
-        _ => None,
-    }
-}
-
-/// The objects that entries write, each with its heat: how many accepted splittable stores do.
-fn heats(alloc: Global, entries: &[Entry]) -> Result<IndexMap<Object, u64>, AllocError>
-    ensures { IfOk result (λ heats. HasHeats entries.now heats.entries) }
+/// The objects that the entries of the last phase write, each with its heat: how many accepted splittable stores do.
+fn heats(alloc: Global, history: &History) -> Result<IndexMap<Object, u64>, AllocError>
+    ensures { IfOk result (λ heats. HasHeats (merged history.now.last) heats.entries) }
 {
     let mut heats = IndexMap::new(alloc);
-    for entry in entries {
-        if let Some(object) = object_written(entry) {
+    for entry in history.last_entries() {
+        if let Some(object) = entry.object_written() {
             count(&mut heats, object)?;
         }
     }
     Ok(heats)
 }
 
-/// Adds one to the heat of an object.
+/// Adds one to the heat of an object. A heat past 64 bits is want of memory.
 fn count(heats: &mut IndexMap<Object, u64>, object: Object) -> Result<(), AllocError>
-    requires { unwrap_or (get ⟦<Object as PartialEq>⟧.eq heats.old object) 0 + 1 < 2 ^ 64 }
     ensures counted { OnOk result (Updates ⟦<Object as PartialEq>⟧.eq heats.old heats.new object
         (Some (unwrap_or (get ⟦<Object as PartialEq>⟧.eq heats.old object) 0 + 1))) }
     ensures once { OnOk result (IsUnique ⟦<Object as PartialEq>⟧.eq heats.new) }
 {
-    *heats.entry(object)?.or_insert(0) += 1;
+    let heat = heats.entry(object)?.or_insert(0);
+    *heat = heat.checked_add(1).ok_or(AllocError)?;
     Ok(())
 }
 

@@ -3,7 +3,7 @@ ghost use Rattle.std.specs.Prelude.{◌≡◌, ◌++◌, [], false, length, IfOk
 ghost use Rattle.phase_floor.specs.declared.fault.BeginFault.TheVariants.{Memory};
 ghost use Rattle.phase_floor.specs.States.{states_of};
 ghost use Rattle.run_laws.specs.Phases.{is_split};
-ghost use Rattle.worker_journals.specs.Merged.{added};
+ghost use Rattle.worker_journals.specs.Merged.{added, merged};
 ghost use Rattle.auction_run.specs.Closed.{HasClosedPhase};
 ghost use Rattle.auction_run.specs.Phases.{lists, IsRoundOf, MayPerform, IsMet};
 
@@ -13,19 +13,19 @@ use crate::phase::{Closed, begin_fault};
 use crate::quotas::quotas;
 use crate::round::Round;
 use crate::serving::serve_all;
-use auction_rows::Entry;
 use phase_floor::Joined;
 use phase_permits::Stash;
 use shard_boxes::PhaseName;
 use std::alloc::Global;
 use std::sync::Wait;
 use std::thread::Threads;
+use worker_journals::History;
 
 /// A joined phase, under a name of its shards and workers.
 pub(crate) fn perform_joined_phase<N, R, G>(
     rt: &R,
     alloc: Global,
-    history: &mut Vec<Entry>,
+    history: &mut History,
     state: Joined,
     stashes: Vec<Stash>,
     round: Round<'_, G>,
@@ -39,9 +39,10 @@ where
     requires joined { is_split state.phase ≡ false }
     requires round { IsRoundOf round state.phase }
     requires may { MayPerform round.policy (lists round.scripts.now) state stashes.items [] }
-    ensures history { OnOk result (history.new.items ≡ history.old.items ++ added history.old.items history.new.items) }
+    ensures history { OnOk result (history.new.entries ≡ history.old.entries ++ added history.old.entries history.new.entries) }
+    ensures last { OnOk result (merged history.new.last ≡ added history.old.entries history.new.entries) }
     ensures closed { IfOk result (HasClosedPhase round.entry.policy (lists round.entry.scripts.now) state stashes.items []
-        (added history.old.items history.new.items)) }
+        (added history.old.entries history.new.entries)) }
     ensures fault { IfErr result IsMet }
 {
     let quotas = quotas(alloc, round.scripts, round.policy.joined_quota, round.first)?;

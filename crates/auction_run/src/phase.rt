@@ -1,7 +1,7 @@
 //! One phase of a run.
 ghost use Rattle.std.specs.Prelude.{◌≡◌, ◌++◌, IfOk, OnOk, IfErr};
 ghost use Rattle.phase_floor.specs.declared.fault.BeginFault.TheVariants.{Memory};
-ghost use Rattle.worker_journals.specs.Merged.{added};
+ghost use Rattle.worker_journals.specs.Merged.{added, merged};
 ghost use Rattle.auction_run.specs.Closed.{HasClosedPhase};
 ghost use Rattle.auction_run.specs.Phases.{lists, IsRoundOf, MayPerform, IsMet};
 
@@ -10,7 +10,7 @@ use crate::gate::Gate;
 use crate::joined_phase::perform_joined_phase;
 use crate::round::Round;
 use crate::split_phase::perform_split_phase;
-use auction_rows::{Entry, Object};
+use auction_rows::Object;
 use indexmap::IndexSet;
 use phase_floor::{BeginFault, Joined};
 use phase_permits::Stash;
@@ -18,6 +18,7 @@ use std::alloc::Global;
 use std::marker::Brand;
 use std::sync::Wait;
 use std::thread::Threads;
+use worker_journals::History;
 
 /// What a closed phase leaves for the next one.
 #[derive(Drop)]
@@ -30,7 +31,7 @@ pub(crate) struct Closed {
 pub(crate) fn perform_phase<R: Threads + Wait + Sync, G: Gate + Sync>(
     rt: &R,
     alloc: Global,
-    history: &mut Vec<Entry>,
+    history: &mut History,
     state: Joined,
     hot: &IndexSet<Object>,
     stashes: Vec<Stash>,
@@ -38,9 +39,10 @@ pub(crate) fn perform_phase<R: Threads + Wait + Sync, G: Gate + Sync>(
 ) -> Result<Closed, RunFault>
     requires round { IsRoundOf round state.phase }
     requires may { MayPerform round.policy (lists round.scripts.now) state stashes.items hot.now.keys }
-    ensures history { OnOk result (history.new.items ≡ history.old.items ++ added history.old.items history.new.items) }
+    ensures history { OnOk result (history.new.entries ≡ history.old.entries ++ added history.old.entries history.new.entries) }
+    ensures last { OnOk result (merged history.new.last ≡ added history.old.entries history.new.entries) }
     ensures closed { IfOk result (HasClosedPhase round.entry.policy (lists round.entry.scripts.now) state stashes.items hot.now.keys
-        (added history.old.items history.new.items)) }
+        (added history.old.entries history.new.entries)) }
     ensures fault { IfErr result IsMet }
 {
     if state.phase() % 2 == 0 {

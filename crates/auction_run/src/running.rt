@@ -1,5 +1,5 @@
 //! A run: its phases, one after the other.
-ghost use Rattle.std.specs.Prelude.{◌≡◌, ◌⊎◌, ◌↔◌, ℕ, suc, ◌<◌, ◌≤◌, ◌+◌, ◌^◌, ◌++◌, ◌∷◌, true, false, List, [], length, drop, IfOk, OnOk, IfErr, IsErrOf, IsTrue};
+ghost use Rattle.std.specs.Prelude.{◌≡◌, ◌⊎◌, ◌↔◌, ℕ, suc, ◌<◌, ◌≤◌, ◌+◌, ◌^◌, ◌++◌, ◌∷◌, true, false, List, [], length, IfOk, OnOk, IfErr, IsErrOf, IsTrue};
 ghost use Rattle.auction_rows.specs.Choosing.{choose};
 ghost use Rattle.auction_rows.specs.declared.numbers.Opening.{Opening as Numbers};
 ghost use Rattle.auction_rows.specs.declared.rows.Row.{Row as Stored};
@@ -8,6 +8,7 @@ ghost use Rattle.auction_rows.specs.History.{IsBook, ReplaysFrom, book_after, ro
 ghost use Rattle.item_shards.specs.OpeningBooks.{opening_of, rows_of};
 ghost use Rattle.phase_floor.specs.States.{StandsFor};
 ghost use Rattle.run_laws.specs.Phases.{is_split};
+ghost use Rattle.worker_journals.specs.Merged.{merged};
 ghost use Rattle.run_serving.specs.Run.{HasLeft, AreChosen};
 ghost use Rattle.run_serving.specs.Serving.{script_of, Serves};
 ghost use Rattle.auction_run.specs.declared.fault.RunFault.TheVariants.{Workers, Shards, Quota, TooLong};
@@ -24,8 +25,8 @@ use crate::fault::RunFault;
 use crate::gate::Gate;
 use crate::phase::{Closed, perform_phase};
 use crate::round::Round;
-use auction_rows::{Entry, Object, Request};
-use auction_window::rows_of as rows_of_entries;
+use auction_rows::{Object, Request};
+use auction_window::last_rows;
 use indexmap::IndexSet;
 use item_shards::OpeningBook;
 use phase_floor::Joined;
@@ -34,6 +35,7 @@ use run_serving::Policy;
 use std::alloc::{AllocError, Global};
 use std::sync::Wait;
 use std::thread::Threads;
+use worker_journals::History;
 
 // Scripts of at most 1,000,000 requests have fewer phases.
 const MOST_PHASES: u64 = 2_000_003;
@@ -42,7 +44,7 @@ const MOST_PHASES: u64 = 2_000_003;
 #[derive(Drop)]
 pub struct Outcome {
     /// All commits, phase by phase, those of a phase by number and then worker.
-    pub history: Vec<Entry>,
+    pub history: History,
     /// What was hot in each phase, the hottest first: nothing in a joined one.
     pub hot: Vec<IndexSet<Object>>,
     /// The auction after the last phase.
@@ -64,12 +66,12 @@ pub fn run<R: Threads + Wait + Sync, G: Gate + Sync>(
     ensures ready { OnOk result (HaveWorkers (rows_of book.now) (lists scripts.items) × (HasShards policy
         × (HasQuotas policy × AreShort (rows_of book.now) (lists scripts.items)))) }
     ensures serves { IfOk result (λ outcome.
-        Serves (opening_of book.now) policy (lists scripts.items) (hot_sets outcome.hot.items) outcome.history.items) }
+        Serves (opening_of book.now) policy (lists scripts.items) (hot_sets outcome.hot.items) outcome.history.entries) }
     ensures hot { IfOk result (λ outcome.
-        AreChosen policy (hot_sets outcome.hot.items) outcome.history.items) }
-    ensures replays { IfOk result (λ outcome. ReplaysFrom (opening_of book.now) (rows_of book.now) outcome.history.items) }
+        AreChosen policy (hot_sets outcome.hot.items) outcome.history.entries) }
+    ensures replays { IfOk result (λ outcome. ReplaysFrom (opening_of book.now) (rows_of book.now) outcome.history.entries) }
     ensures stands { IfOk result (λ outcome.
-        StandsFor outcome.state (book_after (opening_of book.now) (rows_of book.now) outcome.history.items)) }
+        StandsFor outcome.state (book_after (opening_of book.now) (rows_of book.now) outcome.history.entries)) }
     ensures opening { IfOk result (λ outcome. outcome.state.opening ≡ opening_of book.now) }
     ensures phases { IfOk result (λ outcome. outcome.state.phase ≡ length outcome.hot.items) }
     ensures workers { IsErrOf result Workers ↔ ¬ HaveWorkers (rows_of book.now) (lists scripts.items) }
@@ -108,11 +110,9 @@ pub fn run_shown<R: Threads + Wait + Sync, G: Gate + Sync, B: Board>(
 #[derive(Drop)]
 struct Running {
     state: Joined,
-    history: Vec<Entry>,
+    history: History,
     hot: Vec<IndexSet<Object>>,
     stashes: Vec<Stash>,
-    // Where the entries of the phase before begin in the history.
-    last: usize,
 }
 
 // A run of what was checked.
@@ -142,7 +142,7 @@ fn run_checked<R: Threads + Wait + Sync, G: Gate + Sync, B: Board>(
                 state,
                 history,
                 hot,
-                ..
+                stashes: _,
             } = running;
             return Ok(Outcome {
                 history,
@@ -151,12 +151,12 @@ fn run_checked<R: Threads + Wait + Sync, G: Gate + Sync, B: Board>(
             });
         }
         running = next_phase(rt, alloc, running, round)?;
-        show_phase(rt, alloc, board, &running)?;
+        show_phase(rt, alloc, board, &running.history)?;
     }
     unreachable!()
 }
 
-// A run before its first phase, with room for its whole history.
+// A run before its first phase.
 fn begin(
     alloc: Global,
     book: &OpeningBook,
@@ -170,20 +170,10 @@ fn begin(
     let state = Joined::resume(alloc, book, scripts.len() as u32, policy.shards)?;
     Ok(Running {
         state,
-        history: Vec::with_capacity(alloc, requests_in(scripts))?,
+        history: History::new(alloc),
         hot: Vec::new(alloc),
         stashes: no_stashes(alloc, scripts.len())?,
-        last: 0,
     })
-}
-
-// How many requests the scripts have: each is one entry of the history.
-fn requests_in(scripts: &[Vec<Request>]) -> usize {
-    let mut requests = 0usize;
-    for script in scripts {
-        requests = requests.saturating_add(script.len());
-    }
-    requests
 }
 
 // So many stashes in which nothing waits.
@@ -237,8 +227,8 @@ fn next_phase<R: Threads + Wait + Sync, G: Gate + Sync>(
     ensures running { IfOk result (λ next. (opening : Numbers) (rows : Book) → IsBook opening rows →
         IsRunning opening rows round.entry.policy (lists round.entry.scripts.now) running.state.phase running →
         IsRunning opening rows round.entry.policy (lists round.entry.scripts.now) (suc running.state.phase) next) }
-    ensures grown { IfOk result (λ next. next.history.items
-        ≡ running.history.items ++ drop next.last next.history.items) }
+    ensures grown { IfOk result (λ next. next.history.entries
+        ≡ running.history.entries ++ merged next.history.last) }
     ensures fault { IfErr result IsMet }
 {
     let hot_now = next_hot(alloc, &running, round.policy)?;
@@ -247,9 +237,7 @@ fn next_phase<R: Threads + Wait + Sync, G: Gate + Sync>(
         mut history,
         mut hot,
         stashes,
-        ..
     } = running;
-    let last = history.len();
     let closed = perform_phase(rt, alloc, &mut history, state, &hot_now, stashes, round)?;
     let Closed { state, stashes } = closed;
     hot.push(hot_now)?;
@@ -258,28 +246,25 @@ fn next_phase<R: Threads + Wait + Sync, G: Gate + Sync>(
         history,
         hot,
         stashes,
-        last,
     })
 }
 
-// Gives a board the rows of the phase before.
+// Gives a board the rows of the last phase.
 fn show_phase<R: Wait, B: Board>(
     rt: &R,
     alloc: Global,
     board: &mut B,
-    running: &Running,
+    history: &History,
 ) -> Result<(), AllocError>
-    requires within { running.now.last ≤ length running.now.history.items }
-    requires board { CanShow B.has board.old (stored_rows (drop running.now.last running.now.history.items)) }
+    requires { CanShow B.has board.old (stored_rows (merged history.now.last)) }
     ensures { OnOk result ((opening : Numbers) (rows : Book) (phases : List (List Stored)) →
         B.has board.old opening rows phases →
-        B.has board.new opening rows
-        (phases ++ stored_rows (drop running.now.last running.now.history.items) ∷ [])) }
+        B.has board.new opening rows (phases ++ stored_rows (merged history.now.last) ∷ [])) }
 {
     if !board.is_watched() {
         return Ok(());
     }
-    let rows = rows_of_entries(alloc, &running.history[running.last..])?;
+    let rows = last_rows(alloc, history)?;
     board.publish(rt, rows)
 }
 
@@ -289,14 +274,12 @@ fn next_hot(
     running: &Running,
     policy: Policy,
 ) -> Result<IndexSet<Object>, AllocError>
-    requires { running.now.last ≤ length running.now.history.items }
     ensures joined { is_split running.now.state.phase ≡ false → IfOk result (λ hot. hot.keys ≡ []) }
     ensures split { is_split running.now.state.phase ≡ true → IfOk result (λ hot. hot.keys
-        ≡ choose (drop running.now.last running.now.history.items) policy.threshold policy.hot_max) }
+        ≡ choose (merged running.now.history.last) policy.threshold policy.hot_max) }
 {
     if running.state.phase() % 2 == 0 {
         return Ok(IndexSet::new(alloc));
     }
-    let entries = &running.history[running.last..];
-    choose_hot(alloc, entries, policy.threshold, policy.hot_max)
+    choose_hot(alloc, &running.history, policy.threshold, policy.hot_max)
 }

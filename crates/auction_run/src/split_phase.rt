@@ -3,7 +3,7 @@ ghost use Rattle.std.specs.Prelude.{◌≡◌, ◌++◌, ℕ, [], true, length, 
 ghost use Rattle.phase_floor.specs.declared.fault.BeginFault.TheVariants.{Memory};
 ghost use Rattle.phase_floor.specs.States.{states_of};
 ghost use Rattle.run_laws.specs.Phases.{is_split};
-ghost use Rattle.worker_journals.specs.Merged.{added};
+ghost use Rattle.worker_journals.specs.Merged.{added, merged};
 ghost use Rattle.auction_run.specs.Closed.{HasClosedPhase};
 ghost use Rattle.auction_run.specs.Phases.{lists, waiting_in, IsRoundOf, MayPerform, IsMet};
 
@@ -13,7 +13,7 @@ use crate::phase::{Closed, begin_fault};
 use crate::quotas::quotas;
 use crate::round::Round;
 use crate::serving::serve_all;
-use auction_rows::{Entry, Object};
+use auction_rows::Object;
 use indexmap::IndexSet;
 use phase_floor::Joined;
 use phase_permits::Stash;
@@ -21,12 +21,13 @@ use shard_boxes::PhaseName;
 use std::alloc::Global;
 use std::sync::Wait;
 use std::thread::Threads;
+use worker_journals::History;
 
 /// A split phase, under a name of its shards and workers.
 pub(crate) fn perform_split_phase<N, R, G>(
     rt: &R,
     alloc: Global,
-    history: &mut Vec<Entry>,
+    history: &mut History,
     state: Joined,
     hot: &IndexSet<Object>,
     stashes: Vec<Stash>,
@@ -41,9 +42,10 @@ where
     requires split { is_split state.phase ≡ true }
     requires round { IsRoundOf round state.phase }
     requires may { MayPerform round.policy (lists round.scripts.now) state stashes.items hot.now.keys }
-    ensures history { OnOk result (history.new.items ≡ history.old.items ++ added history.old.items history.new.items) }
+    ensures history { OnOk result (history.new.entries ≡ history.old.entries ++ added history.old.entries history.new.entries) }
+    ensures last { OnOk result (merged history.new.last ≡ added history.old.entries history.new.entries) }
     ensures closed { IfOk result (HasClosedPhase round.entry.policy (lists round.entry.scripts.now) state stashes.items hot.now.keys
-        (added history.old.items history.new.items)) }
+        (added history.old.entries history.new.entries)) }
     ensures fault { IfErr result IsMet }
 {
     let_go(stashes);

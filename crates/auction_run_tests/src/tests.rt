@@ -5,7 +5,9 @@ use auction_rows::{
     Stars,
 };
 use auction_run::{FreeGate, Gate, RunFault, choose_hot};
+use std::alloc::Global;
 use std::test::Fail;
+use worker_journals::{History, Journal};
 
 const FIRST: ItemId = ItemId {
     worker: 0,
@@ -89,6 +91,24 @@ fn purchase(item: ItemId) -> Result<Entry, Fail> {
     Ok(commit(request, Reply::Bought(id)))
 }
 
+// The journal of worker 0 in phase 0, in which it committed these.
+fn journal_of(alloc: Global, entries: &[Entry]) -> Result<Journal, Fail> {
+    let mut journal = Journal::with_room(alloc, 0, 0, entries.len())?;
+    let mut number: u64 = 0;
+    for entry in entries {
+        number = number.checked_add(1).ok_or("too many entries")?;
+        journal.push(number, entry.index, &entry.request, &entry.reply);
+    }
+    Ok(journal)
+}
+
+// The history of this phase alone.
+fn closed(alloc: Global, entries: &[Entry]) -> Result<History, Fail> {
+    let mut history = History::new(alloc);
+    history.add_phase(vec![in alloc; journal_of(alloc, entries)?]?)?;
+    Ok(history)
+}
+
 // Three comments about user 3, and two bids on each of two items, the second one first.
 fn busy_phase() -> Result<[Entry; 7], Fail> {
     Ok([
@@ -104,8 +124,8 @@ fn busy_phase() -> Result<[Entry; 7], Fail> {
 
 #[test]
 fn hottest_come_first_and_ties_in_the_order_of_objects(rt: HostRuntime) -> Result<(), Fail> {
-    let entries = busy_phase()?;
-    let hot = choose_hot(rt.alloc(), &entries, 2, 2)?;
+    let history = closed(rt.alloc(), &busy_phase()?)?;
+    let hot = choose_hot(rt.alloc(), &history, 2, 2)?;
     assert_same(
         &rt,
         &hot.as_slice(),
@@ -116,16 +136,16 @@ fn hottest_come_first_and_ties_in_the_order_of_objects(rt: HostRuntime) -> Resul
 
 #[test]
 fn none_are_hot_where_none_may_be(rt: HostRuntime) -> Result<(), Fail> {
-    let entries = busy_phase()?;
-    let hot = choose_hot(rt.alloc(), &entries, 2, 0)?;
+    let history = closed(rt.alloc(), &busy_phase()?)?;
+    let hot = choose_hot(rt.alloc(), &history, 2, 0)?;
     assert!(rt; hot.is_empty());
     Ok(())
 }
 
 #[test]
 fn objects_under_the_threshold_stay_cold(rt: HostRuntime) -> Result<(), Fail> {
-    let entries = busy_phase()?;
-    let hot = choose_hot(rt.alloc(), &entries, 3, 8)?;
+    let history = closed(rt.alloc(), &busy_phase()?)?;
+    let hot = choose_hot(rt.alloc(), &history, 3, 8)?;
     assert_same(&rt, &hot.as_slice(), &[Object::User(3)].as_slice());
     Ok(())
 }
@@ -138,7 +158,7 @@ fn refused_stores_purchases_and_views_give_no_heat(rt: HostRuntime) -> Result<()
         Reply::Refused(Refusal::NoSuchItem),
     );
     let entries = [refused, purchase(FIRST)?, view, bid(SECOND)];
-    let hot = choose_hot(rt.alloc(), &entries, 0, 8)?;
+    let hot = choose_hot(rt.alloc(), &closed(rt.alloc(), &entries)?, 0, 8)?;
     assert_same(&rt, &hot.as_slice(), &[Object::Item(SECOND)].as_slice());
     Ok(())
 }
@@ -146,7 +166,7 @@ fn refused_stores_purchases_and_views_give_no_heat(rt: HostRuntime) -> Result<()
 #[test]
 fn items_come_before_users_and_these_before_categories(rt: HostRuntime) -> Result<(), Fail> {
     let entries = [item_in(1)?, comment(9)?, item_in(0)?, bid(SECOND)];
-    let hot = choose_hot(rt.alloc(), &entries, 1, 8)?;
+    let hot = choose_hot(rt.alloc(), &closed(rt.alloc(), &entries)?, 1, 8)?;
     let expected = [
         Object::Item(SECOND),
         Object::User(9),

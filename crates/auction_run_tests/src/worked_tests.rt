@@ -12,6 +12,7 @@ use std::sync::Wait;
 use std::sync::atomic::{AtomicU64, Ordering};
 use std::test::Fail;
 use std::thread::Threads;
+use worker_journals::History;
 
 const OPENING: Opening = Opening {
     users: 10,
@@ -106,14 +107,9 @@ fn run_of<R: Threads + Wait + Sync, G: Gate + Sync>(
 }
 
 // The entries from a phase on.
-fn entries_from(alloc: Global, history: &[Entry], phase: u64) -> Result<Vec<Entry>, AllocError> {
-    let mut entries = Vec::new(alloc);
-    for entry in history {
-        if entry.phase >= phase {
-            entries.push(*entry)?;
-        }
-    }
-    Ok(entries)
+fn entries_from(alloc: Global, history: &History, phase: u64) -> Result<Vec<Entry>, AllocError> {
+    let entries = history.iter().map(|entry| entry.to_entry());
+    entries.filter(|entry| entry.phase >= phase).collect(alloc)
 }
 
 // Sees which requests arrive and leave, of two workers in up to four phases: a bit for each index below 8.
@@ -214,7 +210,8 @@ fn last_reply<R: Threads + Wait + Sync>(
     if chosen.as_slice() != hot {
         return Err(Fail::from("another hot set"));
     }
-    let last = outcome.history.last().ok_or("no history")?;
+    let last = outcome.history.iter().last().ok_or("no history")?;
+    let last = last.to_entry();
     if last.phase != 2 || outcome.state.view(&last.request) != Some(last.reply) {
         return Err(Fail::from("another end"));
     }
@@ -254,9 +251,9 @@ fn comments_about_a_hot_user(rt: HostRuntime) -> Result<(), Fail> {
 }
 
 // Asserts that the entries are of these phases.
-fn assert_phases(rt: &impl Abort, history: &[Entry], phases: &[u64]) {
+fn assert_phases(rt: &impl Abort, history: &History, phases: &[u64]) {
     for (entry, phase) in history.iter().zip(phases) {
-        assert_same(rt, &entry.phase, phase);
+        assert_same(rt, &entry.phase(), phase);
     }
 }
 
@@ -398,9 +395,9 @@ fn workers_run_side_by_side(rt: HostRuntime) -> Result<(), Fail> {
 }
 
 // Whether each entry has the reply that the plain program gives from the rows of the entries before it.
-fn is_replayed(alloc: Global, history: &[Entry]) -> Result<bool, Fail> {
+fn is_replayed(alloc: Global, history: &History) -> Result<bool, Fail> {
     let mut rows: Vec<Row> = Vec::new(alloc);
-    for entry in history {
+    for entry in history.iter().map(|entry| entry.to_entry()) {
         if rows.len() >= 1_000 {
             return Err(Fail::from("more than 1,000 rows"));
         }

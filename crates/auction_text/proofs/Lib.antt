@@ -1,6 +1,7 @@
 pub mod ListedLemmas
 pub mod NameLemmas
 pub mod NumberedLemmas
+pub mod PartLemmas
 pub mod RecordsLeft
 pub mod ReplyOrder
 pub mod RowsFirst

@@ -11,7 +11,7 @@ not_true : (b : Bool) → (b ≡ true → b ≡ false) → b ≡ false
 not_true true f = f refl
 not_true false f = refl
 
-not_false : (b : Bool) → not b ≡ true → b ≡ false
+pub not_false : (b : Bool) → not b ≡ true → b ≡ false
 not_false true e = sym e
 not_false false e = refl
 

@@ -6,6 +6,7 @@ use Rattle.auction_rows.specs.declared.ids.Object.TheVariants.{Item, User, Categ
 use Rattle.auction_rows.specs.declared.replies.Reply.{Reply}
 use Rattle.auction_rows.specs.declared.replies.Reply.TheVariants as reply
 use Rattle.auction_rows.specs.declared.rows.Entry.{Entry}
+use Rattle.auction_rows.specs.StoreReplies.{is_refusal}
 use Rattle.auction_text.specs.Replies.{labelled, labelled_id, reply_text, score_text}
 
 -- a line for each of a list that has one, by its number from a first one on
@@ -16,10 +17,6 @@ numbered_lines line number (x ∷ xs) = line number x ++ numbered_lines line (nu
 -- a count after its label
 abbrev pub count_line : List ℕ → ℕ → List ℕ
 count_line label count = labelled label count ++ codes "\n"
-
-abbrev pub is_refusal : Reply → Bool
-is_refusal (reply.Refused why) = true
-is_refusal _ = false
 
 -- how many entries of a history are refused
 abbrev pub refused_count : List Entry → ℕ

@@ -1,13 +1,15 @@
 //! The texts of replies, and their lines.
 ghost use Rattle.std.specs.Prelude.{◌≡◌, ◌++◌, OnOk, codes};
 ghost use Rattle.std.specs.List.{flat_map};
+ghost use Rattle.auction_rows.specs.StoreReplies.{reply_of};
 ghost use Rattle.auction_text.specs.Replies.{bid_text, facts_text, history_line, item_text, place_text, refusal_text, reply_line, reply_text, score_text, state_text};
 
 use crate::text::{
     push_labelled, push_labelled_id, push_labelled_optional, push_number, push_signed, push_text,
 };
-use auction_rows::{BidShown, Entry, ItemShown, Refusal, Reply, Ten};
+use auction_rows::{BidShown, ItemShown, Refusal, Reply, StoreReply, Ten};
 use std::alloc::AllocError;
+use worker_journals::EntryRef;
 
 fn text_of_refusal(refusal: Refusal) -> &'static [u8]
     ensures { result.now ≡ refusal_text refusal }
@@ -97,15 +99,28 @@ pub fn push_score(text: &mut Vec<u8>, rating: i64, comments: u64) -> Result<(), 
     push_labelled(text, b" comments=", comments)
 }
 
+fn push_store_reply(text: &mut Vec<u8>, reply: StoreReply) -> Result<(), AllocError>
+    ensures { OnOk result (text.new.items ≡ text.old.items ++ reply_text (reply_of reply)) }
+{
+    match reply {
+        StoreReply::ItemStored(id) => push_labelled_id(text, b"item ", id.worker, id.serial),
+        StoreReply::BidStored(id) => push_labelled_id(text, b"bid ", id.worker, id.serial),
+        StoreReply::CommentStored(id) => push_labelled_id(text, b"comment ", id.worker, id.serial),
+        StoreReply::Bought(id) => push_labelled_id(text, b"buynow ", id.worker, id.serial),
+        StoreReply::Refused(refusal) => push_text(text, text_of_refusal(refusal)),
+    }
+}
+
 /// Adds the text of a reply.
 pub fn push_reply(text: &mut Vec<u8>, reply: &Reply) -> Result<(), AllocError>
     ensures { OnOk result (text.new.items ≡ text.old.items ++ reply_text reply.now) }
 {
     match reply {
-        Reply::ItemStored(id) => push_labelled_id(text, b"item ", id.worker, id.serial),
-        Reply::BidStored(id) => push_labelled_id(text, b"bid ", id.worker, id.serial),
-        Reply::CommentStored(id) => push_labelled_id(text, b"comment ", id.worker, id.serial),
-        Reply::Bought(id) => push_labelled_id(text, b"buynow ", id.worker, id.serial),
+        Reply::ItemStored(id) => push_store_reply(text, StoreReply::ItemStored(*id)),
+        Reply::BidStored(id) => push_store_reply(text, StoreReply::BidStored(*id)),
+        Reply::CommentStored(id) => push_store_reply(text, StoreReply::CommentStored(*id)),
+        Reply::Bought(id) => push_store_reply(text, StoreReply::Bought(*id)),
+        Reply::Refused(reason) => push_store_reply(text, StoreReply::Refused(*reason)),
         Reply::ItemSeen {
             seller,
             category,
@@ -128,36 +143,45 @@ pub fn push_reply(text: &mut Vec<u8>, reply: &Reply) -> Result<(), AllocError>
             push_text(text, b"user")?;
             push_score(text, *rating, *comments)
         }
-        Reply::Refused(refusal) => push_text(text, text_of_refusal(*refusal)),
+    }
+}
+
+// Adds the text of an entry's reply: only what a view shows is made whole.
+fn push_reply_of(text: &mut Vec<u8>, entry: &EntryRef<'_>) -> Result<(), AllocError>
+    ensures { OnOk result (text.new.items ≡ text.old.items ++ reply_text entry.now.reply) }
+{
+    match entry.store_reply() {
+        Some(reply) => push_store_reply(text, reply),
+        None => push_reply(text, &entry.to_entry().reply),
     }
 }
 
 /// Adds the line of an entry among the replies.
-pub fn push_reply_line(text: &mut Vec<u8>, entry: &Entry) -> Result<(), AllocError>
+pub fn push_reply_line(text: &mut Vec<u8>, entry: &EntryRef<'_>) -> Result<(), AllocError>
     ensures { OnOk result (text.new.items ≡ text.old.items ++ reply_line entry.now) }
 {
-    push_number(text, u64::from(entry.worker))?;
-    push_labelled(text, b",", u64::from(entry.index))?;
+    push_number(text, u64::from(entry.worker()))?;
+    push_labelled(text, b",", u64::from(entry.index()))?;
     push_text(text, b",")?;
-    push_reply(text, &entry.reply)?;
+    push_reply_of(text, entry)?;
     push_text(text, b"\n")
 }
 
-fn push_place(text: &mut Vec<u8>, entry: &Entry) -> Result<(), AllocError>
+fn push_place(text: &mut Vec<u8>, entry: &EntryRef<'_>) -> Result<(), AllocError>
     ensures { OnOk result (text.new.items ≡ text.old.items ++ place_text entry.now) }
 {
-    push_number(text, entry.phase)?;
-    push_labelled(text, b" ", entry.number)?;
-    push_labelled(text, b" ", u64::from(entry.worker))?;
-    push_labelled(text, b" ", u64::from(entry.index))
+    push_number(text, entry.phase())?;
+    push_labelled(text, b" ", entry.number())?;
+    push_labelled(text, b" ", u64::from(entry.worker()))?;
+    push_labelled(text, b" ", u64::from(entry.index()))
 }
 
 /// Adds the line of an entry in a history.
-pub fn push_history_line(text: &mut Vec<u8>, entry: &Entry) -> Result<(), AllocError>
+pub fn push_history_line(text: &mut Vec<u8>, entry: &EntryRef<'_>) -> Result<(), AllocError>
     ensures { OnOk result (text.new.items ≡ text.old.items ++ history_line entry.now) }
 {
     push_place(text, entry)?;
     push_text(text, b" ")?;
-    push_reply(text, &entry.reply)?;
+    push_reply_of(text, entry)?;
     push_text(text, b"\n")
 }

@@ -5,9 +5,10 @@ ghost use Rattle.auction_text.specs.Report.{category_line, count_line, counts_te
 
 use crate::replies::{push_reply, push_score};
 use crate::text::{push_labelled, push_labelled_id, push_text};
-use auction_rows::{Entry, Object, Reply};
+use auction_rows::{Object, Reply};
 use indexmap::IndexSet;
 use std::alloc::AllocError;
+use worker_journals::History;
 
 /// What a report shows of the categories and users, each in order of number.
 #[derive(Drop)]
@@ -26,18 +27,16 @@ fn push_count_line(text: &mut Vec<u8>, label: &[u8], count: u64) -> Result<(), A
     push_text(text, b"\n")
 }
 
-fn refused_count(history: &[Entry]) -> usize
-    ensures { result ≡ refused_count history.now }
+fn refused_count(history: &History) -> usize
+    ensures { result ≡ refused_count history.now.entries }
 {
-    history
-        .iter()
-        .filter(|entry| matches!(entry.reply, Reply::Refused(_)))
-        .count()
+    let _fits = history.len();
+    history.iter().filter(|entry| entry.is_refused()).count()
 }
 
 /// Adds how many phases there were, how many requests, and how many of these were refused.
-pub fn push_counts(text: &mut Vec<u8>, phases: usize, history: &[Entry]) -> Result<(), AllocError>
-    ensures { OnOk result (text.new.items ≡ text.old.items ++ counts_text phases history.now) }
+pub fn push_counts(text: &mut Vec<u8>, phases: usize, history: &History) -> Result<(), AllocError>
+    ensures { OnOk result (text.new.items ≡ text.old.items ++ counts_text phases history.now.entries) }
 {
     push_count_line(text, b"phases ", phases as u64)?;
     push_count_line(text, b"requests ", history.len() as u64)?;

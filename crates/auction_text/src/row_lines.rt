@@ -6,8 +6,9 @@ ghost use Rattle.auction_text.specs.Replies.{lines};
 ghost use Rattle.auction_text.specs.RowLines.{bid_row_text, buy_row_text, byte_in_quotes, comment_row_text, item_row_text, offer_text, quoted, row_line, row_text, terms_text};
 
 use crate::text::{push_labelled, push_labelled_id, push_number, push_signed, push_text};
-use auction_rows::{BidRow, BuyRow, CommentRow, Entry, Facts, ItemRow, Row, row_of};
+use auction_rows::{BidRow, BuyRow, CommentRow, Facts, ItemRow, Row};
 use std::alloc::AllocError;
+use worker_journals::{EntryRef, History};
 
 fn push_byte_in_quotes(text: &mut Vec<u8>, byte: u8) -> Result<(), AllocError>
     ensures { OnOk result (text.new.items ≡ text.old.items ++ byte_in_quotes byte) }
@@ -121,22 +122,22 @@ pub fn push_rows(text: &mut Vec<u8>, rows: &[Row]) -> Result<(), AllocError>
 }
 
 // Adds the line of an entry's row, if it is an accepted store.
-fn push_row_of(text: &mut Vec<u8>, entry: &Entry) -> Result<(), AllocError>
+fn push_row_of(text: &mut Vec<u8>, entry: &EntryRef<'_>) -> Result<(), AllocError>
     ensures { OnOk result (text.new.items
         ≡ text.old.items ++ lines row_line (option_to_list (row_of_entry entry.now))) }
 {
-    match row_of(entry.worker, entry.request, entry.reply) {
+    match entry.row() {
         Some(row) => push_row_line(text, &row),
         None => Ok(()),
     }
 }
 
 /// Adds the line of the row of each accepted store.
-pub fn push_rows_of(text: &mut Vec<u8>, entries: &[Entry]) -> Result<(), AllocError>
-    ensures { OnOk result (text.new.items ≡ text.old.items ++ lines row_line (rows_of entries.now)) }
+pub fn push_rows_of(text: &mut Vec<u8>, history: &History) -> Result<(), AllocError>
+    ensures { OnOk result (text.new.items ≡ text.old.items ++ lines row_line (rows_of history.now.entries)) }
 {
-    for entry in entries {
-        push_row_of(text, entry)?;
+    for entry in history.iter() {
+        push_row_of(text, &entry)?;
     }
     Ok(())
 }

@@ -1,7 +1,10 @@
 //! The writing of texts.
-ghost use Rattle.std.specs.Prelude.{◌≡◌, ◌↔◌, map, IfOk, IfErr, IsErr, IsOkAnd, OnOk};
+ghost use Rattle.std.specs.Prelude.{◌≡◌, ◌++◌, ◌↔◌, map, IfOk, IfErr, IsErr, IsOkAnd, OnOk};
 ghost use Rattle.std.specs.Io.KnownBytes.{Appends};
-ghost use Rattle.auction_text.specs.Order.{in_order};
+ghost use Rattle.std.specs.List.Sorted.{IsStable};
+ghost use Rattle.phase_laws.specs.Order.{part};
+ghost use Rattle.worker_journals.specs.Journals.{entry_worker};
+ghost use Rattle.auction_text.specs.Order.{in_order, precedence};
 ghost use Rattle.auction_text.specs.Replies.{history_text, replies_text};
 ghost use Rattle.auction_text.specs.Report.{report_text};
 ghost use Rattle.auction_text.specs.RowLines.{rows_text};
@@ -13,12 +16,16 @@ use crate::report::{
     ReportLines, push_category_lines, push_counts, push_hot_lines, push_user_lines,
 };
 use crate::row_lines::{push_rows, push_rows_of};
-use auction_rows::{Entry, Object, Row};
+use auction_rows::{Object, Row};
 use indexmap::IndexSet;
 use std::alloc::{AllocError, Global};
 use std::io::Write;
+use worker_journals::{EntryRef, History};
 
-// The bytes that most lines take at most: so much room is asked for ahead for each entry and row.
+// The bytes that the line of a bid takes at most where numbers have six digits, among replies and elsewhere: so much room is
+// asked for ahead for each entry and row, and longer lines make a text grow.
+const ROOM_OF_A_REPLY: usize = 25;
+
 const ROOM_OF_A_LINE: usize = 40;
 
 // The lines of counts that a report begins with.
@@ -59,54 +66,80 @@ fn write_made<W: Write>(writer: &mut W, made: Result<Vec<u8>, AllocError>) -> Re
     write_text(writer, text.as_slice())
 }
 
-// The entries by worker, then index, then place: they are large, and stay where they are.
-fn in_order(alloc: Global, entries: &[Entry]) -> Result<Vec<&Entry>, AllocError>
-    ensures { IfOk result (λ ordered. map (λ entry. entry.now) ordered.items ≡ in_order entries.now) }
+// Adds a worker's entries, in the order of its commits.
+fn add_worker<'a>(
+    entries: &mut Vec<EntryRef<'a>>,
+    history: &'a History,
+    worker: u32,
+) -> Result<(), AllocError>
+    ensures { OnOk result (entries.new.items ≡ entries.old.items ++ part entry_worker worker history.now.entries) }
 {
-    let mut ordered: Vec<&Entry> = entries.iter().collect(alloc)?;
-    ordered.sort_by_cached_key(|entry| (entry.worker, entry.index))?;
+    for entry in history.of_worker(worker) {
+        entries.push(entry)?;
+    }
+    Ok(())
+}
+
+// The entries, worker by worker: they stay where they are.
+fn by_worker(alloc: Global, history: &History) -> Result<Vec<EntryRef<'_>>, AllocError>
+    ensures { IfOk result (λ entries. IsStable precedence history.now.entries entries.items) }
+{
+    let mut entries = Vec::with_capacity(alloc, history.len())?;
+    for worker in 0..u64::from(history.last_worker()) + 1 {
+        add_worker(&mut entries, history, worker as u32)?;
+    }
+    Ok(entries)
+}
+
+// The entries by worker, then index, then place. Worker by worker they are in order but for what was put off, so that the sort
+// has little to do.
+fn in_order(alloc: Global, history: &History) -> Result<Vec<EntryRef<'_>>, AllocError>
+    ensures { IfOk result (λ ordered. ordered.items ≡ in_order history.now.entries) }
+{
+    let mut ordered = by_worker(alloc, history)?;
+    ordered.sort_by_cached_key(|entry| (entry.worker(), entry.index()))?;
     Ok(ordered)
 }
 
-fn replies_text(alloc: Global, entries: &[Entry]) -> Result<Vec<u8>, AllocError>
-    ensures { IfOk result (λ text. text.items ≡ replies_text entries.now) }
+fn replies_text(alloc: Global, history: &History) -> Result<Vec<u8>, AllocError>
+    ensures { IfOk result (λ text. text.items ≡ replies_text history.now.entries) }
 {
-    let ordered = in_order(alloc, entries)?;
-    let mut text = Vec::with_capacity(alloc, ordered.len().saturating_mul(ROOM_OF_A_LINE))?;
+    let ordered = in_order(alloc, history)?;
+    let mut text = Vec::with_capacity(alloc, ordered.len().saturating_mul(ROOM_OF_A_REPLY))?;
     for entry in &ordered {
         push_reply_line(&mut text, entry)?;
     }
     Ok(text)
 }
 
-fn history_text(alloc: Global, entries: &[Entry]) -> Result<Vec<u8>, AllocError>
-    ensures { IfOk result (λ text. text.items ≡ history_text entries.now) }
+fn history_text(alloc: Global, history: &History) -> Result<Vec<u8>, AllocError>
+    ensures { IfOk result (λ text. text.items ≡ history_text history.now.entries) }
 {
-    let mut text = Vec::with_capacity(alloc, entries.len().saturating_mul(ROOM_OF_A_LINE))?;
-    for entry in entries {
-        push_history_line(&mut text, entry)?;
+    let mut text = Vec::with_capacity(alloc, history.len().saturating_mul(ROOM_OF_A_LINE))?;
+    for entry in history.iter() {
+        push_history_line(&mut text, &entry)?;
     }
     Ok(text)
 }
 
-fn rows_text(alloc: Global, rows: &[Row], entries: &[Entry]) -> Result<Vec<u8>, AllocError>
-    ensures { IfOk result (λ text. text.items ≡ rows_text rows.now entries.now) }
+fn rows_text(alloc: Global, rows: &[Row], history: &History) -> Result<Vec<u8>, AllocError>
+    ensures { IfOk result (λ text. text.items ≡ rows_text rows.now history.now.entries) }
 {
-    let most = rows.len().saturating_add(entries.len());
+    let most = rows.len().saturating_add(history.len());
     let mut text = Vec::with_capacity(alloc, most.saturating_mul(ROOM_OF_A_LINE))?;
     push_rows(&mut text, rows)?;
-    push_rows_of(&mut text, entries)?;
+    push_rows_of(&mut text, history)?;
     Ok(text)
 }
 
 #[tactic(auto, unfolding(crate::specs::Report::report_text))]
 fn report_text(
     alloc: Global,
-    history: &[Entry],
+    history: &History,
     hot: &[IndexSet<Object>],
     lines: &ReportLines,
 ) -> Result<Vec<u8>, AllocError>
-    ensures { IfOk result (λ text. text.items ≡ report_text history.now (map (λ set. set.keys) hot.now)
+    ensures { IfOk result (λ text. text.items ≡ report_text history.now.entries (map (λ set. set.keys) hot.now)
         lines.now.categories.items lines.now.users.items) }
 {
     let sure = lines.categories.len().saturating_add(COUNT_LINES);
@@ -124,15 +157,15 @@ fn report_text(
 pub fn write_replies<W: Write>(
     alloc: Global,
     writer: &mut W,
-    entries: &[Entry],
+    history: &History,
 ) -> Result<(), WriteFault>
     ensures whole { OnOk result
-        (Appends (W.contents writer.old) (W.contents writer.new) (replies_text entries.now)) }
+        (Appends (W.contents writer.old) (W.contents writer.new) (replies_text history.now.entries)) }
     ensures part { IfErr result (λ fault. fault ≡ WriteFault.Write →
-        IsPartWritten (W.contents writer.old) (W.contents writer.new) (replies_text entries.now)) }
+        IsPartWritten (W.contents writer.old) (W.contents writer.new) (replies_text history.now.entries)) }
     ensures memory { IfErr result (λ fault. fault ≡ WriteFault.Memory → writer.new ≡ writer.old) }
 {
-    write_made(writer, replies_text(alloc, entries))
+    write_made(writer, replies_text(alloc, history))
 }
 
 /// Writes each entry of a history as a line, in the order given, and flushes.
@@ -141,15 +174,15 @@ pub fn write_replies<W: Write>(
 pub fn write_history<W: Write>(
     alloc: Global,
     writer: &mut W,
-    entries: &[Entry],
+    history: &History,
 ) -> Result<(), WriteFault>
     ensures whole { OnOk result
-        (Appends (W.contents writer.old) (W.contents writer.new) (history_text entries.now)) }
+        (Appends (W.contents writer.old) (W.contents writer.new) (history_text history.now.entries)) }
     ensures part { IfErr result (λ fault. fault ≡ WriteFault.Write →
-        IsPartWritten (W.contents writer.old) (W.contents writer.new) (history_text entries.now)) }
+        IsPartWritten (W.contents writer.old) (W.contents writer.new) (history_text history.now.entries)) }
     ensures memory { IfErr result (λ fault. fault ≡ WriteFault.Memory → writer.new ≡ writer.old) }
 {
-    write_made(writer, history_text(alloc, entries))
+    write_made(writer, history_text(alloc, history))
 }
 
 /// Writes these rows, and then those of the accepted stores among the entries, as records that can
@@ -160,15 +193,15 @@ pub fn write_rows<W: Write>(
     alloc: Global,
     writer: &mut W,
     rows: &[Row],
-    entries: &[Entry],
+    history: &History,
 ) -> Result<(), WriteFault>
     ensures whole { OnOk result
-        (Appends (W.contents writer.old) (W.contents writer.new) (rows_text rows.now entries.now)) }
+        (Appends (W.contents writer.old) (W.contents writer.new) (rows_text rows.now history.now.entries)) }
     ensures part { IfErr result (λ fault. fault ≡ WriteFault.Write →
-        IsPartWritten (W.contents writer.old) (W.contents writer.new) (rows_text rows.now entries.now)) }
+        IsPartWritten (W.contents writer.old) (W.contents writer.new) (rows_text rows.now history.now.entries)) }
     ensures memory { IfErr result (λ fault. fault ≡ WriteFault.Memory → writer.new ≡ writer.old) }
 {
-    write_made(writer, rows_text(alloc, rows, entries))
+    write_made(writer, rows_text(alloc, rows, history))
 }
 
 /// Writes a report of a run, and flushes: how many phases, requests and refusals there were, the
@@ -180,15 +213,15 @@ pub fn write_rows<W: Write>(
 pub fn write_report<W: Write>(
     alloc: Global,
     writer: &mut W,
-    history: &[Entry],
+    history: &History,
     hot: &[IndexSet<Object>],
     lines: &ReportLines,
 ) -> Result<(), WriteFault>
     ensures whole { OnOk result (Appends (W.contents writer.old) (W.contents writer.new)
-        (report_text history.now (map (λ set. set.keys) hot.now) lines.now.categories.items lines.now.users.items)) }
+        (report_text history.now.entries (map (λ set. set.keys) hot.now) lines.now.categories.items lines.now.users.items)) }
     ensures part { IfErr result (λ fault. fault ≡ WriteFault.Write →
         IsPartWritten (W.contents writer.old) (W.contents writer.new)
-        (report_text history.now (map (λ set. set.keys) hot.now) lines.now.categories.items lines.now.users.items)) }
+        (report_text history.now.entries (map (λ set. set.keys) hot.now) lines.now.categories.items lines.now.users.items)) }
     ensures memory { IfErr result (λ fault. fault ≡ WriteFault.Memory → writer.new ≡ writer.old) }
 {
     write_made(writer, report_text(alloc, history, hot, lines))

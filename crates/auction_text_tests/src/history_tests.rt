@@ -1,4 +1,5 @@
 //! Histories and rows that are written, whole and in part.
+use crate::testing::history_of;
 use crate::writing_tests::{Narrow, narrow_writer};
 use auction_rows::{
     BidId, BidRow, BuyId, CommentId, CommentRow, Entry, Facts, ItemId, ItemRow, Name, Quantity,
@@ -7,6 +8,7 @@ use auction_rows::{
 use auction_text::{WriteFault, write_history, write_rows};
 use std::alloc::{AllocError, Global};
 use std::test::Fail;
+use worker_journals::History;
 
 const HISTORY: &[u8] =
     b"0 1 0 0 item 0.0\n0 2 0 1 bid 0.0\n0 3 0 2 viewitem seller=0 category=0 start=10 closes=100 highest=10 bidder=1 bids=1 left=1 name=Vase\n";
@@ -140,14 +142,20 @@ fn later_entries() -> Option<[Entry; 6]> {
 
 // Whether a history of these entries is this text.
 fn is_history(alloc: Global, entries: &[Entry], text: &[u8]) -> bool {
+    let Ok(history) = history_of(alloc, entries) else {
+        return false;
+    };
     let mut written = Vec::new(alloc);
-    write_history(alloc, &mut written, entries).is_ok() && written.as_slice() == text
+    write_history(alloc, &mut written, &history).is_ok() && written.as_slice() == text
 }
 
 // Whether these rows, and those that the entries stored, are this text.
 fn are_rows(alloc: Global, rows: &[Row], entries: &[Entry], text: &[u8]) -> bool {
+    let Ok(history) = history_of(alloc, entries) else {
+        return false;
+    };
     let mut written = Vec::new(alloc);
-    write_rows(alloc, &mut written, rows, entries).is_ok() && written.as_slice() == text
+    write_rows(alloc, &mut written, rows, &history).is_ok() && written.as_slice() == text
 }
 
 fn is_row(alloc: Global, row: Row, text: &[u8]) -> bool {
@@ -157,12 +165,12 @@ fn is_row(alloc: Global, row: Row, text: &[u8]) -> bool {
 // Whether a history written to this writer is answered so, and leaves it with this text.
 fn history_leaves(
     alloc: Global,
-    entries: &[Entry],
+    history: &History,
     mut writer: Narrow,
     answer: Result<(), WriteFault>,
     text: &[u8],
 ) -> bool {
-    let written = write_history(alloc, &mut writer, entries);
+    let written = write_history(alloc, &mut writer, history);
     written == answer && writer.held.as_slice() == text
 }
 
@@ -170,12 +178,12 @@ fn history_leaves(
 fn rows_leave(
     alloc: Global,
     rows: &[Row],
-    entries: &[Entry],
+    history: &History,
     mut writer: Narrow,
     answer: Result<(), WriteFault>,
     text: &[u8],
 ) -> bool {
-    let written = write_rows(alloc, &mut writer, rows, entries);
+    let written = write_rows(alloc, &mut writer, rows, history);
     written == answer && writer.held.as_slice() == text
 }
 
@@ -320,21 +328,21 @@ fn ends_of_numbers(rt: HostRuntime) -> Result<(), Fail> {
 #[test]
 fn history_that_is_cut(rt: HostRuntime) -> Result<(), Fail> {
     let alloc = rt.alloc();
-    let entries = first_history().ok_or("a history")?;
+    let history = history_of(alloc, &first_history().ok_or("a history")?)?;
     let cut = Err(WriteFault::Write);
     for room in [0, 1, 17, 52, HISTORY.len() - 1] {
         let writer = narrow_writer(alloc, 1000, room, false);
         assert!(rt;
-            history_leaves(alloc, &entries, writer, cut, &HISTORY[..room]),
+            history_leaves(alloc, &history, writer, cut, &HISTORY[..room]),
             "after {room} bytes"
         );
     }
     let slow = narrow_writer(alloc, 3, 1000, false);
-    assert!(rt; history_leaves(alloc, &entries, slow, Ok(()), HISTORY));
+    assert!(rt; history_leaves(alloc, &history, slow, Ok(()), HISTORY));
     let still = narrow_writer(alloc, 0, 1000, false);
-    assert!(rt; history_leaves(alloc, &entries, still, cut, b""));
+    assert!(rt; history_leaves(alloc, &history, still, cut, b""));
     let stuck = narrow_writer(alloc, 1000, 1000, true);
-    assert!(rt; history_leaves(alloc, &entries, stuck, cut, HISTORY));
+    assert!(rt; history_leaves(alloc, &history, stuck, cut, HISTORY));
     Ok(())
 }
 
@@ -342,20 +350,20 @@ fn history_that_is_cut(rt: HostRuntime) -> Result<(), Fail> {
 fn rows_that_are_cut(rt: HostRuntime) -> Result<(), Fail> {
     let alloc = rt.alloc();
     let rows = first_rows().ok_or("rows")?;
-    let entries = later_entries().ok_or("entries")?;
+    let history = history_of(alloc, &later_entries().ok_or("entries")?)?;
     let cut = Err(WriteFault::Write);
     for room in [0, 1, 12, 31, ROWS.len() - 1] {
         let writer = narrow_writer(alloc, 1000, room, false);
         assert!(rt;
-            rows_leave(alloc, &rows, &entries, writer, cut, &ROWS[..room]),
+            rows_leave(alloc, &rows, &history, writer, cut, &ROWS[..room]),
             "after {room} bytes"
         );
     }
     let slow = narrow_writer(alloc, 3, 1000, false);
-    assert!(rt; rows_leave(alloc, &rows, &entries, slow, Ok(()), ROWS));
+    assert!(rt; rows_leave(alloc, &rows, &history, slow, Ok(()), ROWS));
     let still = narrow_writer(alloc, 0, 1000, false);
-    assert!(rt; rows_leave(alloc, &rows, &entries, still, cut, b""));
+    assert!(rt; rows_leave(alloc, &rows, &history, still, cut, b""));
     let stuck = narrow_writer(alloc, 1000, 1000, true);
-    assert!(rt; rows_leave(alloc, &rows, &entries, stuck, cut, ROWS));
+    assert!(rt; rows_leave(alloc, &rows, &history, stuck, cut, ROWS));
     Ok(())
 }

@@ -10,4 +10,6 @@ mod reading_tests;
 #[cfg(test)]
 mod report_tests;
 #[cfg(test)]
+mod testing;
+#[cfg(test)]
 mod writing_tests;

@@ -1,10 +1,12 @@
 //! Reports that are written, whole and in part.
+use crate::testing::history_of;
 use crate::writing_tests::{Narrow, narrow_writer};
 use auction_rows::{CommentId, Entry, ItemId, ItemShown, Object, Refusal, Reply, Request, Ten};
 use auction_text::{ReportLines, WriteFault, write_report};
 use indexmap::IndexSet;
 use std::alloc::{AllocError, Global};
 use std::test::Fail;
+use worker_journals::History;
 
 const REPORT: &[u8] =
     b"phases 3\nrequests 7\nrefused 0\nhot 1 u3 c0\ncategory 0 latest 1:0.0\ncategory 1 latest\nuser 3 rating=0 comments=3\n";
@@ -35,7 +37,7 @@ fn comment(worker: u32, serial: u32) -> Reply {
 }
 
 // An item, and three comments about user 3, who is viewed when the last of them is counted.
-fn history() -> [Entry; 7] {
+fn entries() -> [Entry; 7] {
     let rated = Reply::UserSeen {
         rating: 0,
         comments: 3,
@@ -98,20 +100,24 @@ fn is_report(
     lines: &ReportLines,
     text: &[u8],
 ) -> bool {
+    let Ok(history) = history_of(alloc, entries) else {
+        return false;
+    };
     let mut written = Vec::new(alloc);
-    write_report(alloc, &mut written, entries, hot, lines).is_ok() && written.as_slice() == text
+    write_report(alloc, &mut written, &history, hot, lines).is_ok() && written.as_slice() == text
 }
 
-// Whether a report written to this writer is answered so, and leaves it with this text.
+// Whether a report of a history written to this writer is answered so, and leaves it with this text.
 fn report_leaves(
     alloc: Global,
+    history: &History,
     hot: &[IndexSet<Object>],
     lines: &ReportLines,
     mut writer: Narrow,
     answer: Result<(), WriteFault>,
     text: &[u8],
 ) -> bool {
-    let written = write_report(alloc, &mut writer, &history(), hot, lines);
+    let written = write_report(alloc, &mut writer, history, hot, lines);
     written == answer && writer.held.as_slice() == text
 }
 
@@ -119,7 +125,7 @@ fn report_leaves(
 fn report_of_a_run(rt: HostRuntime) -> Result<(), Fail> {
     let hot = hot_sets(rt.alloc())?;
     let lines = last_views(rt.alloc())?;
-    assert!(rt; is_report(rt.alloc(), &history(), &hot, &lines, REPORT));
+    assert!(rt; is_report(rt.alloc(), &entries(), &hot, &lines, REPORT));
     Ok(())
 }
 
@@ -193,21 +199,22 @@ fn report_of_many_users(rt: HostRuntime) -> Result<(), Fail> {
 #[test]
 fn report_that_is_cut(rt: HostRuntime) -> Result<(), Fail> {
     let alloc = rt.alloc();
+    let history = history_of(alloc, &entries())?;
     let hot = hot_sets(alloc)?;
     let lines = last_views(alloc)?;
     let cut = Err(WriteFault::Write);
     for room in 0..REPORT.len() {
         let writer = narrow_writer(alloc, 1000, room, false);
         assert!(rt;
-            report_leaves(alloc, &hot, &lines, writer, cut, &REPORT[..room]),
+            report_leaves(alloc, &history, &hot, &lines, writer, cut, &REPORT[..room]),
             "after {room} bytes"
         );
     }
     let slow = narrow_writer(alloc, 3, 1000, false);
-    assert!(rt; report_leaves(alloc, &hot, &lines, slow, Ok(()), REPORT));
+    assert!(rt; report_leaves(alloc, &history, &hot, &lines, slow, Ok(()), REPORT));
     let still = narrow_writer(alloc, 0, 1000, false);
-    assert!(rt; report_leaves(alloc, &hot, &lines, still, cut, b""));
+    assert!(rt; report_leaves(alloc, &history, &hot, &lines, still, cut, b""));
     let stuck = narrow_writer(alloc, 1000, 1000, true);
-    assert!(rt; report_leaves(alloc, &hot, &lines, stuck, cut, REPORT));
+    assert!(rt; report_leaves(alloc, &history, &hot, &lines, stuck, cut, REPORT));
     Ok(())
 }

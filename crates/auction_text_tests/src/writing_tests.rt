@@ -1,4 +1,5 @@
 //! Replies that are written, whole and in part.
+use crate::testing::history_of;
 use auction_rows::{
     BidId, BidShown, BuyId, CommentId, Entry, ItemId, ItemShown, Name, Refusal, Reply, Request, Ten,
 };
@@ -7,6 +8,7 @@ use std::alloc::{AllocError, Global};
 use std::io;
 use std::io::Write;
 use std::test::Fail;
+use worker_journals::History;
 
 const OUTPUT: &[u8] =
     b"0,0,item 0.0\n0,1,bid 0.0\n0,2,viewitem seller=0 category=0 start=10 closes=100 highest=10 bidder=1 bids=1 left=1 name=Vase\n";
@@ -119,8 +121,11 @@ fn two_items() -> Ten<ItemShown> {
 
 // Whether the replies of these entries are this text.
 fn are_replies(alloc: Global, entries: &[Entry], text: &[u8]) -> bool {
+    let Ok(history) = history_of(alloc, entries) else {
+        return false;
+    };
     let mut written = Vec::new(alloc);
-    write_replies(alloc, &mut written, entries).is_ok() && written.as_slice() == text
+    write_replies(alloc, &mut written, &history).is_ok() && written.as_slice() == text
 }
 
 // Whether this is the line of a reply to worker 16's request 3.
@@ -131,12 +136,12 @@ fn is_line(alloc: Global, reply: Reply, line: &[u8]) -> bool {
 // Whether replies written to this writer are answered so, and leave it with this text.
 fn replies_leave(
     alloc: Global,
-    entries: &[Entry],
+    history: &History,
     mut writer: Narrow,
     answer: Result<(), WriteFault>,
     text: &[u8],
 ) -> bool {
-    let written = write_replies(alloc, &mut writer, entries);
+    let written = write_replies(alloc, &mut writer, history);
     written == answer && writer.held.as_slice() == text
 }
 
@@ -235,27 +240,27 @@ fn order_of_replies(rt: HostRuntime) {
 #[test]
 fn writers_that_fail(rt: HostRuntime) -> Result<(), Fail> {
     let alloc = rt.alloc();
-    let entries = first_example().ok_or("replies")?;
+    let history = history_of(alloc, &first_example().ok_or("replies")?)?;
     let cut = Err(WriteFault::Write);
     for room in 0..OUTPUT.len() {
         let writer = narrow_writer(alloc, 1000, room, false);
         assert!(rt;
-            replies_leave(alloc, &entries, writer, cut, &OUTPUT[..room]),
+            replies_leave(alloc, &history, writer, cut, &OUTPUT[..room]),
             "after {room} bytes"
         );
     }
     let still = narrow_writer(alloc, 0, 1000, false);
-    assert!(rt; replies_leave(alloc, &entries, still, cut, b""));
+    assert!(rt; replies_leave(alloc, &history, still, cut, b""));
     let stuck = narrow_writer(alloc, 1000, 1000, true);
-    assert!(rt; replies_leave(alloc, &entries, stuck, cut, OUTPUT));
+    assert!(rt; replies_leave(alloc, &history, stuck, cut, OUTPUT));
     Ok(())
 }
 
 #[test]
 fn writer_that_takes_few_bytes(rt: HostRuntime) -> Result<(), Fail> {
-    let entries = first_example().ok_or("replies")?;
+    let history = history_of(rt.alloc(), &first_example().ok_or("replies")?)?;
     let slow = narrow_writer(rt.alloc(), 3, 1000, false);
-    assert!(rt; replies_leave(rt.alloc(), &entries, slow, Ok(()), OUTPUT));
+    assert!(rt; replies_leave(rt.alloc(), &history, slow, Ok(()), OUTPUT));
     Ok(())
 }
 

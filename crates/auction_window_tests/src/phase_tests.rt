@@ -1,15 +1,16 @@
-//! What windows show of an opening book and of two phases.
+//! What windows show of an opening book and of two phases, and the rows of a phase.
 ghost use Rattle.std.specs.Prelude.{◌≡◌, [], false};
 ghost use Rattle.item_shards.specs.OpeningBooks.{opening_of, rows_of as opening_rows};
 
 use crate::testing::{FIRST, OPENING, VIEW, answers_none, bid, item, item_seen, shows, vases};
-use auction_rows::{BidId, BidRow, Entry, ItemRow, Refusal, Reply, Request, Row};
-use auction_window::{PhaseLog, Publisher, Window, WindowName, rows_of};
+use auction_rows::{BidId, BidRow, ItemId, ItemRow, Refusal, Reply, Request, Row};
+use auction_window::{PhaseLog, Publisher, Window, WindowName, last_rows};
 use item_shards::OpeningBook;
 use std::alloc::Global;
 use std::marker::Brand;
 use std::sync::Wait;
 use std::test::Fail;
+use worker_journals::{History, Journal};
 
 // Whether both windows show this of the item.
 fn both_show<J: WindowName>(
@@ -128,44 +129,52 @@ fn windows_begin_with_the_opening_book(rt: HostRuntime) -> Result<(), Fail> {
     Ok(())
 }
 
-fn entry(request: Request, reply: Reply) -> Entry {
-    Entry {
-        phase: 0,
-        number: 1,
-        worker: 0,
-        index: 0,
-        request,
-        reply,
-    }
+const SECOND: ItemId = ItemId {
+    worker: 0,
+    serial: 1,
+};
+
+const BID: BidId = BidId {
+    worker: 0,
+    serial: 0,
+};
+
+// What worker 0 commits in two phases: an item is stored in the first, another one and a bid on the first in the last.
+fn two_phase_history(alloc: Global) -> Result<History, Fail> {
+    let store = item(vases(1)?).request;
+    let mut first = Journal::with_room(alloc, 0, 0, 1)?;
+    first.push(1, 0, &store, &Reply::ItemStored(FIRST));
+    let mut last = Journal::with_room(alloc, 1, 0, 4)?;
+    last.push(1, 1, &store, &Reply::ItemStored(SECOND));
+    last.push(2, 2, &VIEW, &Reply::Refused(Refusal::NoSuchItem));
+    let low = bid(1, 9, 5).request;
+    last.push(3, 3, &low, &Reply::Refused(Refusal::BelowStart));
+    last.push(4, 4, &bid(1, 50, 7).request, &Reply::BidStored(BID));
+    let mut history = History::new(alloc);
+    history.add_phase(vec![in alloc; first]?)?;
+    history.add_phase(vec![in alloc; last]?)?;
+    Ok(history)
 }
 
 #[test]
-fn rows_of_entries(rt: HostRuntime) -> Result<(), Fail> {
-    let id = BidId {
-        worker: 0,
-        serial: 0,
-    };
-    let entries = [
-        entry(item(vases(1)?).request, Reply::ItemStored(FIRST)),
-        entry(VIEW, Reply::Refused(Refusal::NoSuchItem)),
-        entry(bid(1, 9, 5).request, Reply::Refused(Refusal::BelowStart)),
-        entry(bid(1, 50, 7).request, Reply::BidStored(id)),
-    ];
+fn rows_of_the_last_phase(rt: HostRuntime) -> Result<(), Fail> {
     let want = [
         Row::Item(ItemRow {
-            id: FIRST,
+            id: SECOND,
             facts: vases(1)?,
             time: 1,
         }),
         Row::Bid(BidRow {
-            id,
+            id: BID,
             item: FIRST,
             bidder: 1,
             amount: 50,
             time: 7,
         }),
     ];
-    let rows = rows_of(rt.alloc(), &entries)?;
+    let none = last_rows(rt.alloc(), &History::new(rt.alloc()))?;
+    assert!(rt; none.is_empty());
+    let rows = last_rows(rt.alloc(), &two_phase_history(rt.alloc())?)?;
     assert!(rt; rows.as_slice() == want.as_slice());
     Ok(())
 }

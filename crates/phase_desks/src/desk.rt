@@ -261,10 +261,17 @@ impl Desk {
     {
         self.left -= 1;
         self.counters.count(reply);
+        // For proofs alone, as the deeds are.
+        let entry = Entry {
+            phase: self.journal.phase(),
+            number,
+            worker: self.journal.worker(),
+            index,
+            request: *request,
+            reply: *reply,
+        };
+        self.deeds = self.deeds.and(&entry, found);
         self.journal.push(number, index, request, reply);
         self.clock = number;
-        if let Some(entry) = self.journal.entries().last() {
-            self.deeds = self.deeds.and(entry, found);
-        }
     }
 }

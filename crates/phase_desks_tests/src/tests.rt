@@ -269,7 +269,10 @@ fn comment(
 
 /// The number and the reply of a journal's entry.
 fn entry_at(journal: &Journal, place: usize) -> Option<(u64, Reply)> {
-    let entry = journal.entries().get(place)?;
+    if place >= journal.len() {
+        return None;
+    }
+    let entry = journal.entry(place).to_entry();
     Some((entry.number, entry.reply))
 }
 
@@ -299,7 +302,7 @@ fn three_bids(rt: HostRuntime) -> Result<(), Fail> {
     same(&rt, stash.len(), 0);
     same(&rt, counters.bids, 1);
     same(&rt, counters.commits, 4);
-    same(&rt, journal.entries().len(), 3);
+    same(&rt, journal.len(), 3);
     same(&rt, entry_at(&journal, 0), Some((1, BELOW_START)));
     same(&rt, entry_at(&journal, 1), Some((2, CLOSED)));
     same(&rt, entry_at(&journal, 2), Some((3, BID_STORED)));
@@ -328,7 +331,7 @@ fn two_comments(rt: HostRuntime) -> Result<(), Fail> {
     same(&rt, slice.rating.value(), 5);
     same(&rt, slice.comments.value(), 1);
     let (journal, _, _) = desk.open();
-    same(&rt, journal.entries().len(), 2);
+    same(&rt, journal.len(), 2);
     same(&rt, entry_at(&journal, 0), Some((8, NO_SUCH_USER)));
     same(&rt, entry_at(&journal, 1), Some((9, COMMENT_STORED)));
     Ok(())
@@ -366,7 +369,7 @@ fn views_and_purchases_of_hot_objects_are_put_off(rt: HostRuntime) -> Result<(),
     same(&rt, (desk.left(), desk.stashed()), (3, 1));
     let (desk, _) = desk.open();
     let (journal, stash, _) = desk.open();
-    same(&rt, journal.entries().len(), 0);
+    same(&rt, journal.len(), 0);
     same(&rt, stash.get(0), Some((3, VIEW_VASE)));
     Ok(())
 }

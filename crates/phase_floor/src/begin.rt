@@ -50,8 +50,7 @@ impl Joined {
         if is_too_long(&self.counters, &stashes, quotas) {
             return Err((self, stashes, BeginFault::TooLong));
         }
-        let spare = self.take_spare(alloc);
-        let Ok(journals) = new_journals(alloc, spare, self.phase, &stashes, quotas) else {
+        let Ok(journals) = new_journals(alloc, self.phase, &stashes, quotas) else {
             return Err((self, stashes, BeginFault::Memory));
         };
         let Ok(permits) = Vec::with_capacity(alloc, quotas.len()) else {
@@ -62,7 +61,6 @@ impl Joined {
             phase,
             shards,
             counters,
-            spare: _,
         } = self;
         match Boxes::new(rt, alloc, shards, quotas.len() as u32) {
             Ok((boxes, keys)) => {
@@ -82,7 +80,6 @@ impl Joined {
                     phase,
                     shards,
                     counters,
-                    spare: Vec::new(alloc),
                 };
                 Err((state, stashes, BeginFault::Memory))
             }

@@ -1,10 +1,8 @@
 //! How a joined phase closes.
-ghost use Rattle.std.specs.Prelude.{◌≡◌, ◌+◌, ◌<◌, ◌++◌, ℕ, [], length, map, IfOk, OnErr};
-ghost use Rattle.std.specs.List.{AllByRecursion};
+ghost use Rattle.std.specs.Prelude.{◌≡◌, ◌+◌, ◌<◌, ◌++◌, ℕ, [], length, map, IfOk, OnErr, OnOk};
 ghost use Rattle.auction_rows.specs.Book.{Book};
 ghost use Rattle.auction_rows.specs.History.{ReplaysFrom, book_after};
-ghost use Rattle.item_shards.specs.Limits.{GivesStars};
-ghost use Rattle.worker_journals.specs.Merged.{added};
+ghost use Rattle.worker_journals.specs.Merged.{added, merged};
 ghost use Rattle.phase_closing.specs.Phases.{receipt_at, journal_of, counters_of};
 ghost use Rattle.phase_closing.specs.Standing.{StandFor, counters_at};
 ghost use Rattle.phase_floor.specs.Closings.{AreReceiptsOf, HasSettled, HasClosedLawfully, stash_of};
@@ -14,77 +12,56 @@ use crate::fault::FloorFault;
 use crate::floor::JoinedFloor;
 use crate::joined::Joined;
 use crate::settle::Settled;
-use auction_rows::{Entry, Request};
 use phase_permits::{JoinedReceipt, Stash};
 use shard_boxes::PhaseName;
 use std::alloc::Global;
 use std::sync::Wait;
+use worker_journals::History;
 
 impl<N: PhaseName> JoinedFloor<N> {
     /// Closes the phase, by one receipt of each worker, in order: the state after it, and of each stash what was not performed.
-    /// The phase's entries, by number and then worker, are put at the end of the history. All memory is asked for first; where
+    /// The phase's journals go to the history: their entries, by number and then worker, stand at its end. All memory is asked for first; where
     /// it is refused the history is as it was, and the run is over.
     pub fn close<R: Wait>(
         self,
         rt: &R,
         alloc: Global,
-        history: &mut Vec<Entry>,
+        history: &mut History,
         receipts: Vec<JoinedReceipt<N>>,
     ) -> Result<(Joined, Vec<Stash>), FloorFault>
         requires { AreReceiptsOf self receipts.items }
-        ensures history { history.new.items ≡ history.old.items ++ added history.old.items history.new.items }
-        ensures refused { OnErr result (history.new.items ≡ history.old.items) }
+        ensures history { history.new.entries ≡ history.old.entries ++ added history.old.entries history.new.entries }
+        ensures refused { OnErr result (history.new.entries ≡ history.old.entries) }
+        ensures last { OnOk result (merged history.new.last ≡ added history.old.entries history.new.entries) }
         ensures opening { IfOk result (λ closed. closed.0.opening ≡ self.opening) }
         ensures phase { IfOk result (λ closed. closed.0.phase ≡ self.phase + 1) }
         ensures counters { IfOk result (λ closed. closed.0.counters ≡ map counters_of receipts.items) }
         ensures stashes { IfOk result (λ closed. closed.1.items ≡ map stash_of receipts.items) }
         ensures closed { IfOk result (λ closed.
-            HasSettled N.opening self receipts.items (states_of closed.0) (added history.old.items history.new.items)) }
+            HasSettled N.opening self receipts.items (states_of closed.0) (added history.old.entries history.new.entries)) }
         ensures lawful { IfOk result (λ closed.
-            HasClosedLawfully N.opening self receipts.items (states_of closed.0) (added history.old.items history.new.items)) }
+            HasClosedLawfully N.opening self receipts.items (states_of closed.0) (added history.old.entries history.new.entries)) }
         ensures commits { IfOk result (λ closed. (w : ℕ) → w < length receipts.items →
             (counters_at closed.0.counters w).commits
             ≡ (counters_at self.counters w).commits + length (journal_of (receipt_at receipts.items w)).entries) }
         ensures replays { IfOk result (λ closed. (book : Book) → StandFor N.opening self.counters book [] →
-            ReplaysFrom self.opening book (added history.old.items history.new.items)) }
+            ReplaysFrom self.opening book (added history.old.entries history.new.entries)) }
         ensures stands { IfOk result (λ closed. (book : Book) → StandFor N.opening self.counters book [] →
-            StandsFor closed.0 (book_after self.opening book (added history.old.items history.new.items))) }
+            StandsFor closed.0 (book_after self.opening book (added history.old.entries history.new.entries))) }
     {
-        let before = history.len();
         let Settled {
             opening,
             phase,
             shards,
             counters,
-            spare,
             stashes,
         } = self.settle(rt, alloc, history, receipts)?;
-        know_stars(&history[before..]);
         let state = Joined {
             opening,
             phase,
             shards,
             counters,
-            spare,
         };
         Ok((state, stashes))
-    }
-}
-
-// The stars that entries give are from -5 to 5.
-pub(crate) fn know_stars(entries: &[Entry])
-    ensures { AllByRecursion (λ entry. GivesStars entry.request) entries.now }
-{
-    for entry in entries {
-        gives_stars(&entry.request);
-    }
-}
-
-// The stars of a request are from -5 to 5: their type keeps this, and says it where it is asked for their value.
-fn gives_stars(request: &Request)
-    ensures { GivesStars request.now }
-{
-    if let Request::StoreComment { stars, .. } = request {
-        let _known = stars.value();
     }
 }

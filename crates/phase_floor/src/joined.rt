@@ -4,10 +4,7 @@ ghost use Rattle.std.specs.Prelude.{◌≡◌};
 use auction_rows::Opening;
 use item_shards::Shard;
 use phase_permits::Counters;
-use std::alloc::Global;
 use std::marker::Model;
-use std::mem;
-use worker_journals::Journal;
 
 /// An auction between two phases: its 1 to 64 shards, and what each of 1 to 16 workers has committed.
 #[derive(Drop)]
@@ -16,8 +13,6 @@ pub struct Joined {
     pub(crate) phase: u64,
     pub(crate) shards: Vec<Shard>,
     pub(crate) counters: Vec<Counters>,
-    // Journals of the last phase: the next one writes its own in their memory. No contract shows them.
-    pub(crate) spare: Vec<Journal>,
 }
 
 impl Model for Joined {
@@ -42,12 +37,5 @@ impl Joined {
         ensures { result ≡ self.now.phase }
     {
         self.phase
-    }
-
-    // Gives the spare journals away.
-    pub(crate) fn take_spare(&mut self, alloc: Global) -> Vec<Journal>
-        ensures { self.new ≡ self.old }
-    {
-        mem::replace(&mut self.spare, Vec::new(alloc))
     }
 }

@@ -5,7 +5,6 @@ ghost use Rattle.auction_rows.specs.Requests.{same_object};
 ghost use Rattle.phase_desks.specs.Slicing.{objects_of, IsStocked};
 ghost use Rattle.phase_floor.specs.Begins.{IsTooLong, AreKits};
 
-use crate::journals::new_journal;
 use crate::quotas::is_over;
 use auction_rows::{Facts, Object};
 use phase_permits::{Counters, Slices, Stash};
@@ -39,7 +38,6 @@ pub(crate) fn is_over_quota(counters: &[Counters], quotas: &[u32]) -> bool
 // A kit for each worker, with room for its quota.
 pub(crate) fn new_kits(
     alloc: Global,
-    spare: Vec<Journal>,
     phase: u64,
     stocks: &Stocks,
     quotas: &[u32],
@@ -51,11 +49,10 @@ pub(crate) fn new_kits(
     ensures each { IfOk result (λ kits. AreKits phase stocks.now.items quotas.now (length quotas.now) kits.items) }
 {
     let mut kits = Vec::with_capacity(alloc, quotas.len())?;
-    let mut spare = spare.into_iter();
     for w in 0..quotas.len() {
         let quota = quotas[w] as usize;
         kits.push(Kit {
-            journal: new_journal(alloc, spare.next(), phase, w as u32, quota)?,
+            journal: Journal::with_room(alloc, phase, w as u32, quota)?,
             stash: Stash::with_room(alloc, quota)?,
             slices: Slices::new(alloc, stocks)?,
         })?;

@@ -34,7 +34,6 @@ impl Joined {
             phase: 0,
             shards,
             counters,
-            spare: Vec::new(alloc),
         })
     }
 }

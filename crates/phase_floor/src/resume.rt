@@ -45,7 +45,6 @@ impl Joined {
             phase: 0,
             shards,
             counters,
-            spare: Vec::new(alloc),
         })
     }
 }

@@ -61,8 +61,7 @@ impl Joined {
         let Ok(stocks) = self.stocks_of(alloc, objects) else {
             return Err((self, BeginFault::Memory));
         };
-        let spare = self.take_spare(alloc);
-        let Ok(kits) = new_kits(alloc, spare, self.phase, &stocks, quotas) else {
+        let Ok(kits) = new_kits(alloc, self.phase, &stocks, quotas) else {
             return Err((self, BeginFault::Memory));
         };
         let Ok(permits) = Vec::with_capacity(alloc, quotas.len()) else {
@@ -73,7 +72,6 @@ impl Joined {
             phase,
             shards,
             counters,
-            spare: _,
         } = self;
         match Boxes::new(rt, alloc, shards, quotas.len() as u32) {
             Ok((boxes, keys)) => {
@@ -94,7 +92,6 @@ impl Joined {
                     phase,
                     shards,
                     counters,
-                    spare: Vec::new(alloc),
                 };
                 Err((state, BeginFault::Memory))
             }

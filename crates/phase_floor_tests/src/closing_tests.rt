@@ -15,6 +15,7 @@ use std::process::Abort;
 use std::sync::Wait;
 use std::test::Fail;
 use std::thread::Threads;
+use worker_journals::History;
 
 const OPENING: Opening = Opening {
     users: 16,
@@ -146,9 +147,9 @@ fn hot(alloc: Global, objects: &[Object]) -> Result<IndexSet<Object>, Fail> {
 }
 
 /// Whether each entry after the first is the one commit at its number of one of 16 workers, in the order of the workers.
-fn are_in_turn(history: &[Entry]) -> bool {
-    for place in 1..history.len() {
-        let entry = history[place];
+fn are_in_turn(entries: &[Entry]) -> bool {
+    for place in 1..entries.len() {
+        let entry = entries[place];
         let (turn, worker) = ((place as u64 - 1) / 16, (place as u64 - 1) % 16);
         let found = (u64::from(entry.worker), u64::from(entry.index));
         if entry.phase != 1 || entry.number != turn + 1 || found != (worker, turn) {
@@ -191,7 +192,9 @@ fn sixteen_workers_bid_on_a_hot_item(rt: HostRuntime) -> Result<(), Fail> {
     let after = split_phase(&rt, alloc, auction, &hot, &sixteen_scripts(alloc)?)?;
     let Between { state, history, .. } = after;
     assert_same(&rt, &history.len(), &16_001);
-    assert!(rt; are_in_turn(&history));
+    let entries = history.iter().map(|entry| entry.to_entry());
+    let entries: Vec<Entry> = entries.collect(alloc)?;
+    assert!(rt; are_in_turn(&entries));
     assert_same(&rt, &state.phase(), &2);
     let item = state.view(&Request::ViewItem { item: VASE });
     assert_same(&rt, &item, &Some(seen(Some(5), Some(15), 16_000, 1)?));
@@ -280,7 +283,9 @@ fn what_was_put_off_is_performed_first(rt: HostRuntime) -> Result<(), Fail> {
     let look = alone(alloc, 2, Request::ViewItem { item: VASE })?;
     let auction = joined_phase(&rt, alloc, auction, &look)?;
     assert_same(&rt, &first_waiting(&auction)?, &None);
-    let [.., waited, looked] = auction.history.as_slice() else {
+    let entries = auction.history.iter().map(|entry| entry.to_entry());
+    let entries: Vec<Entry> = entries.collect(alloc)?;
+    let [.., waited, looked] = entries.as_slice() else {
         return Err(Fail::from("two entries"));
     };
     assert_same(&rt, &(waited.phase, waited.index), &(3, 1));
@@ -333,9 +338,9 @@ fn commits_count_in_later_phases(rt: HostRuntime) -> Result<(), Fail> {
 }
 
 /// The rows of entries, each of which has to have the reply that the plain program gives from the rows before it.
-fn replayed(alloc: Global, history: &[Entry]) -> Result<Vec<Row>, Fail> {
+fn replayed(alloc: Global, history: &History) -> Result<Vec<Row>, Fail> {
     let mut rows = Vec::new(alloc);
-    for entry in history {
+    for entry in history.iter().map(|entry| entry.to_entry()) {
         if rows.len() >= 1_000 {
             return Err(Fail::from("more than 1,000 rows"));
         }

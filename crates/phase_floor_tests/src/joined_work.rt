@@ -3,7 +3,7 @@ ghost use Rattle.std.specs.Prelude.{◌≡◌, ◌+◌, ◌<◌, ◌≤◌, ◌^
 ghost use Rattle.phase_floor.specs.Closings.{IsReceipt, AreReceiptsOf};
 ghost use Rattle.phase_floor.specs.States.{states_of};
 
-use auction_rows::{Entry, Request};
+use auction_rows::Request;
 use phase_floor::{Joined, JoinedFloor};
 use phase_permits::{JoinedPermit, JoinedReceipt, Stash};
 use shard_boxes::PhaseName;
@@ -13,6 +13,7 @@ use std::sync::Wait;
 use std::test::Fail;
 use std::thread;
 use std::thread::Threads;
+use worker_journals::History;
 
 /// What each worker may perform in a phase.
 pub(crate) const QUOTA: u32 = 1_000;
@@ -21,7 +22,7 @@ pub(crate) const QUOTA: u32 = 1_000;
 #[derive(Drop)]
 pub(crate) struct Between {
     pub(crate) state: Joined,
-    pub(crate) history: Vec<Entry>,
+    pub(crate) history: History,
     pub(crate) stashes: Vec<Stash>,
     ghost of_each: { vec_len stashes ≡ length state.counters },
 }
@@ -32,7 +33,7 @@ impl Between {
         requires { length state.counters ≡ workers }
     {
         let stashes = stashes(alloc, workers as usize)?;
-        let history = Vec::new(alloc);
+        let history = History::new(alloc);
         Ok(Between {
             state,
             history,

@@ -17,6 +17,7 @@ use std::marker::Brand;
 use std::process::Abort;
 use std::sync::Wait;
 use std::test::Fail;
+use worker_journals::History;
 
 const OPENING: Opening = Opening {
     users: 10,
@@ -142,7 +143,7 @@ fn begin_joined<N: PhaseName, R: Wait>(
     let (state, stashes, fault) = match state.begin_joined::<N, R>(rt, alloc, &[quota], stashes) {
         Ok((floor, permits)) => {
             let receipts = finish_all(permits, receipts);
-            let (state, stashes) = floor.close(rt, alloc, &mut Vec::new(alloc), receipts)?;
+            let (state, stashes) = floor.close(rt, alloc, &mut History::new(alloc), receipts)?;
             (state, stashes, None)
         }
         Err((state, stashes, fault)) => (state, stashes, Some(fault)),

@@ -258,7 +258,7 @@ fn stashed_whoever_asks(rt: HostRuntime) -> Result<(), Fail> {
         &outcome.stash.get(2),
         &Some((2, Request::ViewUser { user: 3 })),
     );
-    assert!(rt; outcome.journal.entries().is_empty());
+    assert!(rt; outcome.journal.is_empty());
     Ok(())
 }
 
@@ -275,7 +275,7 @@ fn refused_by_number_alone(rt: HostRuntime) -> Result<(), Fail> {
     ];
     assert_same(&rt, &outcome.answers.as_slice(), &wanted.as_slice());
     assert_same(&rt, &outcome.shown.clocks, &[0, 0, 0, 0]);
-    assert_same(&rt, &outcome.journal.entries().len(), &4);
+    assert_same(&rt, &outcome.journal.len(), &4);
     Ok(())
 }
 
@@ -293,6 +293,6 @@ fn end_of_numbers(rt: HostRuntime) -> Result<(), Fail> {
     assert_same(&rt, &outcome.left, &3);
     assert_same(&rt, &outcome.stash.len(), &1);
     assert_same(&rt, &outcome.shown.clocks, &[0, 0, 0, 0]);
-    assert!(rt; outcome.journal.entries().is_empty());
+    assert!(rt; outcome.journal.is_empty());
     Ok(())
 }

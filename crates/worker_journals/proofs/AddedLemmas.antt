@@ -1,27 +1,42 @@
--- What is added at the end of a list.
-use Rattle.std.proofs.Common.{◌≡◌, List, [], ◌∷◌, ◌++◌, sym, ap, ◌∙◌, append_assoc}
+-- What a phase adds to a history.
+use Rattle.std.proofs.Common.{◌≡◌, ℕ, List, [], ◌∷◌, ◌++◌, sym, ap, ◌∙◌, subst}
+use Rattle.std.specs.List.{AllByRecursion}
 use Rattle.std.proofs.Math.Seq.{drop-append_seam}
-use Rattle.std.proofs.lemmas.List.{append-nil}
-use Rattle.worker_journals.specs.Merged.{added}
+use Rattle.phase_laws.specs.Order.{IsAscending, part}
+use Rattle.auction_rows.specs.declared.rows.Entry.{Entry}
+use Rattle.auction_rows.specs.Stars.{GivesStars}
+use Rattle.worker_journals.specs.Journals.{JournalView, entry_number, entry_worker, IsLawful}
+use Rattle.worker_journals.specs.Merged.{merged, entries_of, added, AreByWorker}
+use Rattle.worker_journals.specs.Histories.{HistoryView, with_phase}
+use Rattle.worker_journals.proofs.OrderedLemmas.{all_append, all_in_order}
+use Rattle.worker_journals.proofs.HistoryLemmas.{closed_merged}
+use Rattle.worker_journals.proofs.MergedLemmas.{all_entries, merged_ascends, merged_parts}
 
--- what stands after a list is what was added to it
-pub added_is : {X : Type 0} (old more new : List X) → new ≡ old ++ more → added old new ≡ more
-added_is old more new is = ap (added old) is ∙ drop-append_seam old more
+module _ (old new : HistoryView) (journals : List JournalView) (is : new ≡ with_phase old journals) where
+  -- the merged entries of its journals
+  pub added_merged : added old.entries new.entries ≡ merged journals
+  added_merged = ap (λ (h : HistoryView). added old.entries h.entries) is ∙ drop-append_seam old.entries (merged journals)
 
--- nothing was added to a list that stayed
-pub added_none : {X : Type 0} (old new : List X) → new ≡ old → added old new ≡ []
-added_none old new same = added_is old [] new (same ∙ sym (append-nil old))
+  pub added_front : new.entries ≡ old.entries ++ added old.entries new.entries
+  added_front = ap (λ (h : HistoryView). h.entries) is ∙ ap (λ es. old.entries ++ es) (sym added_merged)
 
-pub stays : {X : Type 0} (old new : List X) → new ≡ old → new ≡ old ++ added old new
-stays old new same = same ∙ sym (append-nil old) ∙ ap (λ more. old ++ more) (sym (added_none old new same))
+  -- those of the history's last journals
+  pub last_merged : merged new.last ≡ added old.entries new.entries
+  last_merged = ap (λ (h : HistoryView). merged h.last) is ∙ closed_merged journals ∙ sym added_merged
 
-module _ {X : Type 0} (old items : List X) (x : X) (front : items ≡ old ++ added old items) where
-  longer : items ++ x ∷ [] ≡ old ++ (added old items ++ x ∷ [])
-  longer = ap (λ xs. xs ++ x ∷ []) front ∙ append_assoc old (added old items) (x ∷ [])
+  pub added_ascends : AreByWorker journals → AllByRecursion IsLawful journals →
+      IsAscending entry_number entry_worker (added old.entries new.entries)
+  added_ascends up lawful = subst (IsAscending entry_number entry_worker) (sym added_merged) (merged_ascends journals up lawful)
 
-  -- one more at the end was added to what was
-  pub added_one : added old (items ++ x ∷ []) ≡ added old items ++ x ∷ []
-  added_one = added_is old (added old items ++ x ∷ []) (items ++ x ∷ []) longer
+  pub added_parts : AreByWorker journals → AllByRecursion IsLawful journals → (w : ℕ) →
+      part entry_worker w (added old.entries new.entries) ≡ entries_of w journals
+  added_parts up lawful w = ap (part entry_worker w) added_merged ∙ merged_parts journals w up lawful
 
-  pub front_one : items ++ x ∷ [] ≡ old ++ added old (items ++ x ∷ [])
-  front_one = longer ∙ ap (λ more. old ++ more) (sym added_one)
+  stars_of_all : (js : List JournalView) → AllByRecursion IsLawful js → AllByRecursion (λ e. GivesStars e.request) (all_entries js)
+  stars_of_all [] lawful = tt
+  stars_of_all (j ∷ js) lawful = all_append (λ (e : Entry). GivesStars e.request) j.entries (all_entries js) lawful.0.stars (stars_of_all js lawful.1)
+
+  pub added_stars : AllByRecursion IsLawful journals → AllByRecursion (λ e. GivesStars e.request) (added old.entries new.entries)
+  added_stars lawful =
+      subst (AllByRecursion (λ (e : Entry). GivesStars e.request)) (sym added_merged)
+      (all_in_order (λ (e : Entry). GivesStars e.request) (all_entries journals) (stars_of_all journals lawful))

@@ -1,12 +1,11 @@
 -- One more commit at the end of a journal.
-use Rattle.std.proofs.Common.{◌<◌, ℕ, List, [], ◌∷◌, ◌++◌}
-use Rattle.std.specs.List.{All, AllByRecursion}
-use Rattle.std.proofs.lemmas.List.Elements.{recursion_from_All}
+use Rattle.std.proofs.Common.{◌≡◌, ◌<◌, ◌+◌, ℕ, List, [], ◌∷◌, ◌++◌, length, arith, length-append}
 use Rattle.phase_laws.specs.Order.{IsAscendingByNumber}
 use Rattle.phase_laws.specs.Numbers.{last_by}
 use Rattle.phase_laws.proofs.OrderLemmas.{all_push}
-use Rattle.phase_laws.proofs.NumberLemmas.{ascending_push}
+use Rattle.phase_laws.proofs.NumberLemmas.{ascending_push, last-push}
 use Rattle.auction_rows.specs.declared.rows.Entry.{Entry}
+use Rattle.auction_rows.specs.Stars.{GivesStars}
 use Rattle.worker_journals.specs.Journals.{JournalView, entry_number, seen, ComesAfter, IsOf, IsLawful}
 
 -- where a number is greater than the last, or than 0 where there is none, it comes after
@@ -20,20 +19,15 @@ ascending_after [] entry up after = (tt, tt)
 ascending_after (first ∷ entries) entry up after = ascending_push entry_number (first ∷ entries) entry up after
 
 pub lawful_after : (journal : JournalView) (entry : Entry) → IsLawful journal → IsOf journal.phase journal.worker entry →
-    ComesAfter journal.entries entry.number → IsLawful (seen journal.phase journal.worker journal.room (journal.entries ++ entry ∷ []))
-lawful_after journal entry held own after = record {
+    ComesAfter journal.entries entry.number → GivesStars entry.request → IsLawful (seen journal.phase journal.worker journal.room (journal.entries ++ entry ∷ []))
+lawful_after journal entry held own after given = record {
   own = all_push (IsOf journal.phase journal.worker) journal.entries entry held.own own;
   ascending = ascending_after journal.entries entry held.ascending after;
+  stars = all_push (λ (e : Entry). GivesStars e.request) journal.entries entry held.stars given;
 }
 
-last_below : (number m : ℕ) (entries : List Entry) → m < number → AllByRecursion (λ entry. entry.number < number) entries →
-    last_by entry_number m entries < number
-last_below number m [] below all = below
-last_below number m (entry ∷ entries) below all = last_below number entry.number entries all.0 all.1
+pub last_pushed : (entries : List Entry) (entry : Entry) → last_by entry_number 0 (entries ++ entry ∷ []) ≡ entry.number
+last_pushed entries entry = last-push entry_number 0 entries entry
 
--- where a number is greater than all, it comes after
-pub comes_after_all : (entries : List Entry) (number : ℕ) → All (λ entry. entry.number < number) entries → ComesAfter entries number
-comes_after_all [] number all = tt
-comes_after_all (entry ∷ entries) number all =
-    let each = recursion_from_All (λ (entry : Entry). entry.number < number) (entry ∷ entries) all in
-    last_below number entry.number entries each.0 each.1
+pub count_pushed : (entries : List Entry) (entry : Entry) (n : ℕ) → length entries ≡ n → length (entries ++ entry ∷ []) ≡ n + 1
+count_pushed entries entry n is = omega (arith, is, length-append entries (entry ∷ []))

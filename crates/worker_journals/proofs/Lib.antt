@@ -1,7 +1,13 @@
 pub mod JournalLemmas
-pub mod LaneLemmas
-pub mod HeadLemmas
-pub mod SourceLemmas
-pub mod TakingLemmas
 pub mod OneProof
+pub mod GrowthLemmas
+pub mod ReadLemmas
+pub mod OrderedLemmas
+pub mod MergedLemmas
+pub mod TakingLemmas
+pub mod LeastLemmas
+pub mod StepLemmas
+pub mod HistoryLemmas
+pub mod PlaceLemmas
+pub mod LastLemmas
 pub mod AddedLemmas

@@ -6,7 +6,10 @@ use Rattle.std.specs.List.{AllByRecursion-prop}
 use Rattle.std.proofs.Math.Nat.{ℕ_set}
 use Rattle.std.proofs.Props.{props}
 use Rattle.phase_laws.specs.OneProof.{IsAscendingByNumber-prop}
+use Rattle.auction_rows.specs.declared.requests.Request.{Request}
+use Rattle.auction_rows.specs.declared.requests.Request.TheVariants.{StoreItem, StoreBid, StoreComment, BuyNow, ViewItem, ViewBids, ViewCategory, ViewUser}
 use Rattle.auction_rows.specs.declared.rows.Entry.{Entry}
+use Rattle.auction_rows.specs.Stars.{GivesStars}
 use Rattle.worker_journals.specs.Journals.{JournalView, entry_number, IsOf, IsLawful}
 
 pub Entry-set : IsSet Entry
@@ -21,8 +24,19 @@ JournalView-set = hlevel (props, entries_set)
 IsOf-prop : (phase worker : ℕ) (entry : Entry) → IsProp (IsOf phase worker entry)
 IsOf-prop phase worker entry = ×_prop (ℕ_set _ _) (ℕ_set _ _)
 
+GivesStars-prop : (request : Request) → IsProp (GivesStars request)
+GivesStars-prop (StoreItem facts time) = hlevel props
+GivesStars-prop (StoreBid bidder item amount time) = hlevel props
+GivesStars-prop (StoreComment author about item stars) = hlevel props
+GivesStars-prop (BuyNow buyer item quantity time) = hlevel props
+GivesStars-prop (ViewItem item) = hlevel props
+GivesStars-prop (ViewBids item) = hlevel props
+GivesStars-prop (ViewCategory category) = hlevel props
+GivesStars-prop (ViewUser user) = hlevel props
+
 pub IsLawful-prop : (journal : JournalView) → IsProp (IsLawful journal)
 IsLawful-prop journal =
     let own = AllByRecursion-prop (IsOf journal.phase journal.worker) (IsOf-prop journal.phase journal.worker) journal.entries in
     let ascending = IsAscendingByNumber-prop entry_number journal.entries in
-    hlevel (props, own, ascending)
+    let stars = AllByRecursion-prop (λ (entry : Entry). GivesStars entry.request) (λ entry. GivesStars-prop entry.request) journal.entries in
+    hlevel (props, own, ascending, stars)

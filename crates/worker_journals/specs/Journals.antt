@@ -1,11 +1,12 @@
 -- What a worker commits in one phase.
-use Rattle.std.specs.Prelude.{◌≡◌, ℕ, ◌<◌, List, [], ◌∷◌, ◌++◌, ⊤}
+use Rattle.std.specs.Prelude.{◌≡◌, ℕ, ◌<◌, List, [], ◌∷◌, ◌++◌, length, ⊤}
 use Rattle.std.specs.List.{AllByRecursion}
 use Rattle.phase_laws.specs.Order.{IsAscendingByNumber}
 use Rattle.phase_laws.specs.Numbers.{last_by}
 use Rattle.auction_rows.specs.declared.requests.Request.{Request}
 use Rattle.auction_rows.specs.declared.replies.Reply.{Reply}
 use Rattle.auction_rows.specs.declared.rows.Entry.{Entry}
+use Rattle.auction_rows.specs.Stars.{GivesStars}
 
 -- a journal: whose commits of which phase it holds, for how many entries in all a place was asked, and its entries
 pub record JournalView : Type 0 where
@@ -21,6 +22,9 @@ entry_number entry = entry.number
 abbrev pub entry_worker : Entry → ℕ
 entry_worker entry = entry.worker
 
+abbrev pub entry_index : Entry → ℕ
+entry_index entry = entry.index
+
 -- a journal by its parts
 abbrev pub seen : ℕ → ℕ → ℕ → List Entry → JournalView
 seen phase worker room entries = record { phase = phase; worker = worker; room = room; entries = entries }
@@ -28,6 +32,10 @@ seen phase worker room entries = record { phase = phase; worker = worker; room =
 -- a journal before the first commit
 abbrev pub empty_journal : ℕ → ℕ → ℕ → JournalView
 empty_journal phase worker room = seen phase worker room []
+
+-- a journal after the last commit: its room is for the entries that it has
+abbrev pub closed_journal : JournalView → JournalView
+closed_journal journal = record journal { room = length journal.entries }
 
 -- a commit of a journal's worker in its phase
 abbrev pub commit_in : JournalView → ℕ → ℕ → Request → Reply → Entry
@@ -54,7 +62,9 @@ ComesAfter (entry ∷ entries) number = last_by entry_number (entry_number entry
 abbrev pub IsOf : ℕ → ℕ → Entry → Type 0
 IsOf phase worker entry = (entry.phase ≡ phase) × (entry.worker ≡ worker)
 
--- what each journal keeps: its entries are of its phase and its worker, in the order of their numbers
+-- what each journal keeps: its entries are of its phase and its worker, in the order of their numbers, and the stars that
+-- they give are from -5 to 5
 pub record IsLawful (journal : JournalView) : Type 0 where
   pub own : AllByRecursion (IsOf journal.phase journal.worker) journal.entries
   pub ascending : IsAscendingByNumber entry_number journal.entries
+  pub stars : AllByRecursion (λ entry. GivesStars entry.request) journal.entries

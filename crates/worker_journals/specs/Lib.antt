@@ -1,3 +1,6 @@
 pub mod Journals
-pub mod Lanes
+pub mod Sides
+pub mod Entries
 pub mod Merged
+pub mod Histories
+pub mod Places

@@ -1,93 +1,95 @@
-//! The heads of journals, of which the one whose entry comes first is taken.
-ghost use Rattle.std.specs.Prelude.{◌≡◌, map, option_to_list, ◌≤◌, [], IfSome, IfNone};
-ghost use Rattle.std.proofs.Common.{rules};
-ghost use Rattle.std.specs.Cmp.{partial_order_from_own_ties};
-ghost use Rattle.std.specs.Cmp.Rules.{comparing};
-ghost use Rattle.std.specs.Ordering.{as_partial_cmp, eq_by_cmp};
-ghost use Rattle.std.specs.BinaryHeap.{heap_items, heap_len, heap_capacity};
+//! What a journal keeps of each commit in its place: all that is small. The rest lies in the journal's side lists.
+ghost use Rattle.std.specs.Prelude.{◌≡◌, List};
+ghost use Rattle.auction_rows.specs.declared.replies.BidShown.{BidShown};
+ghost use Rattle.auction_rows.specs.declared.replies.ItemShown.{ItemShown};
+ghost use Rattle.auction_rows.specs.StoreReplies.{is_refusal, store_reply};
+ghost use Rattle.worker_journals.specs.declared.heads.ItemSeen.{ItemSeen as SeenItem};
+ghost use Rattle.worker_journals.specs.declared.heads.UserSeen.{UserSeen as SeenUser};
+ghost use Rattle.worker_journals.specs.Sides.{reply_from};
 
-use auction_rows::Entry;
-use std::cmp::Ordering;
-use std::collections::BinaryHeap;
+use auction_rows::{BidId, BuyId, CommentId, ItemId, Name, Quantity, Refusal, Stars, StoreReply};
 
-/// What is left of a journal: the entry that comes next, and those after it. The greatest of several
-/// heads is the one whose next entry has the least number, and of these the least worker.
+// Seven words: less than a cache line.
+const _: () = prove!(size_of::<Head>() == 56);
+
+/// A commit, but for its phase and worker, which are the journal's.
 #[derive(Clone, Copy)]
-pub(crate) struct Head<'a> {
-    first: &'a Entry,
-    rest: &'a [Entry],
+pub(crate) struct Head {
+    pub(crate) number: u64,
+    pub(crate) request: ShortRequest,
+    pub(crate) index: u32,
+    pub(crate) reply: ShortReply,
 }
 
-impl<'a> Head<'a> {
-    ghost use Rattle.worker_journals.specs.Lanes.{lane, one_lane, TakesFirst};
+/// A request, by its fields in order; the facts of an item that it stores lie at a place among the facts.
+#[derive(Clone, Copy)]
+pub(crate) enum ShortRequest {
+    StoreItem(u32, u64),
+    StoreBid(u32, ItemId, u64, u64),
+    StoreComment(u32, u32, ItemId, Stars),
+    BuyNow(u32, ItemId, Quantity, u64),
+    ViewItem(ItemId),
+    ViewBids(ItemId),
+    ViewCategory(u32),
+    ViewUser(u32),
+}
 
-    /// The head of entries, if there are any.
-    pub(crate) fn of(entries: &'a [Entry]) -> Option<Head<'a>>
-        ensures { map lane (option_to_list result) ≡ one_lane entries.now }
-    {
-        let (first, rest) = entries.split_first()?;
-        Some(Head { first, rest })
-    }
+/// A reply; what a view shows lies at a place among what views of its kind show, from there on so many where it shows a list.
+#[derive(Clone, Copy)]
+pub(crate) enum ShortReply {
+    ItemStored(ItemId),
+    BidStored(BidId),
+    CommentStored(CommentId),
+    Bought(BuyId),
+    ItemSeen(u32),
+    BidsSeen(u32, u8),
+    CategorySeen(u32, u8),
+    UserSeen(u32),
+    Refused(Refusal),
+}
 
-    /// Takes the entry that comes first, and leaves the head of those after it. It takes no memory.
-    pub(crate) fn take_first(heads: &mut BinaryHeap<Head<'a>>) -> Option<&'a Entry>
-        requires room { heap_len heads.old ≤ heap_capacity heads.old }
-        ensures taken { IfSome result (λ entry.
-            TakesFirst (heap_items heads.old) entry.now (heap_items heads.new)) }
-        ensures none { IfNone result (heap_items heads.old ≡ []) }
-        ensures room { heap_len heads.new ≤ heap_capacity heads.new }
+impl ShortReply {
+    /// The reply, where it shows nothing.
+    pub(crate) fn as_store_reply(self) -> Option<StoreReply>
+        ensures { (items : List SeenItem) (users : List SeenUser) (bids : List BidShown) (latest : List ItemShown) →
+            result ≡ store_reply (reply_from items users bids latest self) }
     {
-        let head = heads.pop()?;
-        if let Some(next) = Head::of(head.rest) {
-            heads.push(next).unwrap();
+        match self {
+            ShortReply::ItemStored(id) => Some(StoreReply::ItemStored(id)),
+            ShortReply::BidStored(id) => Some(StoreReply::BidStored(id)),
+            ShortReply::CommentStored(id) => Some(StoreReply::CommentStored(id)),
+            ShortReply::Bought(id) => Some(StoreReply::Bought(id)),
+            ShortReply::Refused(reason) => Some(StoreReply::Refused(reason)),
+            _ => None,
         }
-        Some(head.first)
+    }
+
+    /// Whether it is a refusal.
+    pub(crate) fn is_refusal(self) -> bool
+        ensures { (items : List SeenItem) (users : List SeenUser) (bids : List BidShown) (latest : List ItemShown) →
+            result ≡ is_refusal (reply_from items users bids latest self) }
+    {
+        matches!(self, ShortReply::Refused(_))
     }
 }
 
-impl<'a> Ord for Head<'a> {
-    ghost use Rattle.worker_journals.specs.Lanes.{head_cmp};
-
-    ghost cmp = { head_cmp };
-
-    ghost total = { Prim.search (comparing, rules) };
-
-    ghost matches_partial_cmp = { Prim.search (comparing, rules) };
-
-    ghost matches_eq = { Prim.search (comparing, rules) };
-
-    fn cmp(&self, other: &Head<'a>) -> Ordering {
-        // The other way round, since a heap gives its greatest element first.
-        let (this, that) = (self.first, other.first);
-        let by_number = that.number.cmp(&this.number);
-        by_number.then(that.worker.cmp(&this.worker))
-    }
+/// What the view of an item shows.
+#[derive(Clone, Copy)]
+pub(crate) struct ItemSeen {
+    pub(crate) seller: u32,
+    pub(crate) category: u32,
+    pub(crate) name: Name,
+    pub(crate) left: u32,
+    pub(crate) start: u64,
+    pub(crate) closes: u64,
+    pub(crate) bids: u64,
+    pub(crate) highest: Option<u64>,
+    pub(crate) bidder: Option<u32>,
 }
 
-impl<'a> PartialOrd for Head<'a> {
-    ghost use Rattle.worker_journals.specs.Lanes.{head_cmp};
-
-    ghost partial_cmp = { as_partial_cmp head_cmp };
-
-    ghost laws = { partial_order_from_own_ties (Prim.search (comparing, rules)) (Prim.search (comparing, rules)) };
-
-    fn partial_cmp(&self, other: &Head<'a>) -> Option<Ordering> {
-        Some(self.cmp(other))
-    }
-}
-
-impl<'a> PartialEq for Head<'a> {
-    ghost use Rattle.worker_journals.specs.Lanes.{head_cmp};
-
-    ghost eq = { eq_by_cmp head_cmp };
-
-    ghost laws = { Prim.search (comparing, rules) };
-
-    fn eq(&self, other: &Head<'a>) -> bool {
-        self.cmp(other).is_eq()
-    }
-}
-
-impl<'a> Eq for Head<'a> {
-    ghost laws = { Prim.search (comparing, rules) };
+/// What the view of a user shows.
+#[derive(Clone, Copy)]
+pub(crate) struct UserSeen {
+    pub(crate) rating: i64,
+    pub(crate) comments: u64,
 }

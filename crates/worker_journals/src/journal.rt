@@ -1,35 +1,44 @@
 //! What one worker commits in one phase.
-ghost use Rattle.std.specs.Prelude.{◌≡◌, ◌<◌, ◌≤◌, length, IfOk, IsOk};
-ghost use Rattle.worker_journals.specs.Journals.{IsLawful, ComesAfter, empty_journal, with_commit};
+ghost use Rattle.std.specs.Prelude.{◌≡◌, ◌<◌, ◌+◌, ◌^◌, ◌==◌, Some, length, map, slice_get, IfOk};
+ghost use Rattle.auction_rows.specs.Choosing.{written_by};
+ghost use Rattle.worker_journals.specs.Journals.{IsLawful, ComesAfter, closed_journal, empty_journal, entry_index, entry_number, with_commit};
+ghost use Rattle.worker_journals.specs.Places.{entry_request, entry_store_reply, is_refused};
 
-use auction_rows::{Entry, Reply, Request};
+use crate::entry_ref::EntryRef;
+use crate::heads::Head;
+use crate::sides::Sides;
+use auction_rows::{Entry, Object, Reply, Request, StoreReply};
 use std::alloc::{AllocError, Global};
 use std::marker::Model;
 
 /// The commits of one worker in one phase, in the order of their numbers. Room for all of them is asked
 /// for ahead. Contracts see the phase, the worker, the entries, and the room: for how many entries in all
 /// a place was asked.
+///
+/// An entry is kept as a short head; the facts of an item, and what views show, lie in lists of their own.
 #[derive(Drop)]
 pub struct Journal {
     phase: u64,
     worker: u32,
-    room: usize,
-    entries: Vec<Entry>,
+    heads: Vec<Head>,
+    sides: Sides,
 }
 
 impl Model for Journal {
-    ghost use Rattle.std.specs.Prelude.{◌≤◌, vec_capacity};
-    ghost use Rattle.worker_journals.specs.Journals.{JournalView, seen, IsLawful};
+    ghost use Rattle.std.specs.Prelude.{vec_capacity};
+    ghost use Rattle.worker_journals.specs.Journals.{JournalView};
+    ghost use Rattle.worker_journals.specs.Entries.{shown, IsKept};
 
     ghost Value = { JournalView };
 
-    ghost view = { λ j. seen j.phase j.worker j.room j.entries.items };
+    ghost view = { λ j. shown j.phase j.worker j.heads.items j.sides };
 
-    ghost invariant = { λ j. IsLawful (seen j.phase j.worker j.room j.entries.items) × (j.room ≤ vec_capacity j.entries) };
+    ghost invariant = { λ j. IsKept j.phase j.worker j.heads.items (vec_capacity j.heads) j.sides };
 }
 
 impl Journal {
-    /// An empty journal with room for so many entries. It errs for want of memory alone.
+    /// An empty journal with room for so many entries: for their heads and, at most, what all may have beside them, of which
+    /// memory is touched only as it is filled. It errs for want of memory alone; more than 400,000,000 entries are that.
     pub fn with_room(
         alloc: Global,
         phase: u64,
@@ -41,25 +50,8 @@ impl Journal {
         Ok(Journal {
             phase,
             worker,
-            room,
-            entries: Vec::with_capacity(alloc, room)?,
-        })
-    }
-
-    /// An empty journal of another phase, with room for so many entries, in the memory of this one; more
-    /// is asked for only where that doesn't do. It errs for want of memory alone, and this one is gone then.
-    pub fn renew(self, phase: u64, worker: u32, room: usize) -> Result<Journal, AllocError>
-        ensures renewed { IfOk result (λ journal. journal ≡ empty_journal phase worker room) }
-        ensures within { room ≤ self.room → IsOk result }
-    {
-        let mut entries = self.entries;
-        entries.clear();
-        entries.reserve_exact(room)?;
-        Ok(Journal {
-            phase,
-            worker,
-            room,
-            entries,
+            heads: Vec::with_capacity(alloc, room)?,
+            sides: Sides::with_room(alloc, room)?,
         })
     }
 
@@ -70,29 +62,124 @@ impl Journal {
         requires after { ComesAfter self.old.entries number }
         ensures pushed { self.new ≡ with_commit self.old number index request.now reply.now }
     {
-        self.entries.push_reserved(Entry {
-            phase: self.phase,
+        let (request, reply) = self.sides.keep(request, reply);
+        self.heads.push_reserved(Head {
             number,
-            worker: self.worker,
+            request,
             index,
-            request: *request,
-            reply: *reply,
+            reply,
         });
     }
 
-    /// The entries, in the order of their numbers.
-    pub fn entries(&self) -> &[Entry]
-        ensures entries { result.now ≡ self.now.entries }
-        ensures lawful { IsLawful self.now }
+    /// Gives back the memory that no entry fills: there is no more room then.
+    pub fn close(&mut self)
+        ensures { self.new ≡ closed_journal self.old }
     {
-        self.entries.as_slice()
+        self.heads.shrink_to_fit();
+        self.sides.close();
     }
 
-    /// For how many entries in all a place was asked.
+    /// How many entries there are.
+    pub fn len(&self) -> usize
+        ensures len { result ≡ length self.now.entries }
+        ensures lawful { IsLawful self.now }
+    {
+        self.heads.len()
+    }
+
+    /// Whether there is no entry.
+    pub fn is_empty(&self) -> bool
+        ensures { result ≡ (length self.now.entries == 0) }
+    {
+        self.heads.is_empty()
+    }
+
+    /// The entry at a place from 0, where it lies. The place after it is a `usize` too.
+    pub fn entry(&self, place: usize) -> EntryRef<'_>
+        requires { place < length self.now.entries }
+        ensures entry { slice_get self.now.entries place ≡ Some result }
+        ensures next { place + 1 < 2 ^ 64 }
+    {
+        EntryRef::of(self, place)
+    }
+
+    /// The entry at a place from 0, made whole.
+    pub(crate) fn to_entry(&self, place: usize) -> Entry
+        requires { place < length self.now.entries }
+        ensures { slice_get self.now.entries place ≡ Some result }
+    {
+        let head = self.heads[place];
+        Entry {
+            phase: self.phase,
+            number: head.number,
+            worker: self.worker,
+            index: head.index,
+            request: self.sides.request(head.request),
+            reply: self.sides.reply(head.reply),
+        }
+    }
+
+    /// The number of the entry at a place from 0.
+    pub(crate) fn number(&self, place: usize) -> u64
+        requires { place < length self.now.entries }
+        ensures { slice_get (map entry_number self.now.entries) place ≡ Some result }
+    {
+        self.heads[place].number
+    }
+
+    /// The index of the entry at a place from 0.
+    pub(crate) fn index(&self, place: usize) -> u32
+        requires { place < length self.now.entries }
+        ensures { slice_get (map entry_index self.now.entries) place ≡ Some result }
+    {
+        self.heads[place].index
+    }
+
+    /// What was asked at a place from 0.
+    pub(crate) fn request(&self, place: usize) -> Request
+        requires { place < length self.now.entries }
+        ensures { slice_get (map entry_request self.now.entries) place ≡ Some result }
+    {
+        self.sides.request(self.heads[place].request)
+    }
+
+    /// The reply at a place from 0, where it shows nothing.
+    pub(crate) fn store_reply(&self, place: usize) -> Option<StoreReply>
+        requires { place < length self.now.entries }
+        ensures { slice_get (map entry_store_reply self.now.entries) place ≡ Some result }
+    {
+        self.heads[place].reply.as_store_reply()
+    }
+
+    /// Whether the entry at a place from 0 is refused.
+    pub(crate) fn is_refused(&self, place: usize) -> bool
+        requires { place < length self.now.entries }
+        ensures { slice_get (map is_refused self.now.entries) place ≡ Some result }
+    {
+        self.heads[place].reply.is_refusal()
+    }
+
+    /// The object that the entry at a place from 0 writes, where it is an accepted splittable store.
+    pub(crate) fn object_written(&self, place: usize) -> Option<Object>
+        requires { place < length self.now.entries }
+        ensures { slice_get (map written_by self.now.entries) place ≡ Some result }
+    {
+        let Head { request, reply, .. } = self.heads[place];
+        self.sides.object_written(self.worker, request, reply)
+    }
+
+    /// For how many entries in all there is a place.
     pub fn room(&self) -> usize
         ensures { result ≡ self.now.room }
     {
-        self.room
+        self.sides.left() + self.heads.len()
+    }
+
+    /// The phase of these commits.
+    pub fn phase(&self) -> u64
+        ensures { result ≡ self.now.phase }
+    {
+        self.phase
     }
 
     /// The worker whose commits these are.

@@ -1,13 +1,16 @@
-//! The journals of workers: what each worker commits in one phase, and their merging into the
-//! phase's history.
+//! The journals of workers: what each worker commits in one phase, and the history of the phases' journals.
 #![tactic(auto)]
 
+mod entry_ref;
 mod heads;
+mod history;
 mod journal;
 mod laws;
 mod merging;
+mod sides;
 
 pub use auction_rows::Entry;
+pub use entry_ref::EntryRef;
+pub use history::{Entries, History, WorkerEntries};
 pub use journal::Journal;
-pub use laws::{entries_by_worker, numbers_come_after};
-pub use merging::merge_journals;
+pub use laws::{entries_by_worker, journals_merge, numbers_come_after};

@@ -1,71 +1,108 @@
-//! The merging of journals.
-ghost use Rattle.std.specs.Prelude.{◌≡◌, ◌≤◌, ◌<◌, ◌^◌, ◌++◌, ℕ, map, length, IfOk, OnOk, OnErr, IfSome, IsSome, IsPermutation};
-ghost use Rattle.std.specs.List.{AllByRecursion};
-ghost use Rattle.std.specs.BinaryHeap.{heap_items, heap_len, heap_capacity, IsHeap};
-ghost use Rattle.phase_laws.specs.Order.{IsAscending, part};
-ghost use Rattle.worker_journals.specs.Journals.{entry_number, entry_worker, IsLawful};
-ghost use Rattle.worker_journals.specs.Merged.{entries_of, AreByWorker, entry_count, added};
-ghost use Rattle.worker_journals.specs.Lanes.{lane, lanes_of, head_cmp};
+//! The entries of a phase's journals, merged while they are read.
+ghost use Rattle.std.specs.Prelude.{◌≡◌, ◌<◌, ℕ, None, length, slice_index_or, IfSome, IfNone};
+ghost use Rattle.std.specs.Iterator.{YieldsFirst, item_count};
+ghost use Rattle.worker_journals.specs.Histories.{ArePhase};
+ghost use Rattle.worker_journals.specs.Merged.{merged};
+ghost use Rattle.worker_journals.specs.Places.{IsLeastOf, lesser, number_at};
 
-use crate::heads::Head;
+use crate::entry_ref::EntryRef;
 use crate::journal::Journal;
-use auction_rows::Entry;
-use std::alloc::{AllocError, Global};
-use std::collections::BinaryHeap;
+use std::marker::Model;
 
-// How many entries the journals have, where a `usize` holds it.
-fn entry_count(journals: &[Journal]) -> Option<usize>
-    ensures count { IfSome result (λ count. count ≡ entry_count journals.now) }
-    ensures fits { entry_count journals.now < 2 ^ 64 → IsSome result }
-{
-    let mut count: usize = 0;
-    for journal in journals {
-        count = count.checked_add(journal.entries().len())?;
-    }
-    Some(count)
+// How many workers there are at most.
+const WORKERS: usize = 16;
+
+/// The entries of a phase's journals that are left, by number, and those of one number by worker. It takes no memory.
+#[derive(Drop)]
+pub(crate) struct Merging<'a> {
+    journals: &'a [Journal],
+    // The place of each journal's next entry, and its number.
+    places: [usize; WORKERS],
+    numbers: [Option<u64>; WORKERS],
 }
 
-// The heads of the journals that have entries, with room for one of each journal.
-fn heads_of<'a>(alloc: Global, journals: &'a [Journal]) -> Result<BinaryHeap<Head<'a>>, AllocError>
-    ensures lanes { IfOk result (λ heads.
-        IsPermutation (lanes_of journals.now) (map lane (heap_items heads))) }
-    ensures order { IfOk result (λ heads. IsHeap head_cmp (heap_items heads)) }
-    ensures room { IfOk result (λ heads. heap_len heads ≤ heap_capacity heads) }
-    ensures lawful { OnOk result (AllByRecursion IsLawful journals.now) }
-{
-    let mut heads = BinaryHeap::with_capacity(alloc, journals.len())?;
-    for journal in journals {
-        if let Some(head) = Head::of(journal.entries()) {
-            heads.push(head).unwrap();
+impl<'a> Model for Merging<'a> {
+    ghost use Rattle.std.specs.Prelude.{List};
+    ghost use Rattle.auction_rows.specs.declared.rows.Entry.{Entry};
+    ghost use Rattle.worker_journals.specs.Merged.{merged};
+    ghost use Rattle.worker_journals.specs.Places.{left_of, AreMerging};
+
+    ghost Value = { List Entry };
+
+    ghost view = { λ m. merged (left_of m.journals.now m.places) };
+
+    ghost invariant = { λ m. AreMerging m.journals.now m.places m.numbers };
+}
+
+impl<'a> Merging<'a> {
+    /// Those of all entries of these journals.
+    pub(crate) fn of(journals: &'a [Journal]) -> Merging<'a>
+        requires { ArePhase journals.now }
+        ensures { result ≡ merged journals.now }
+    {
+        let mut numbers = [None; WORKERS];
+        for worker in 0..journals.len() {
+            numbers[worker] = number_at(&journals[worker], 0);
+        }
+        Merging {
+            journals,
+            places: [0; WORKERS],
+            numbers,
         }
     }
-    Ok(heads)
 }
 
-/// Puts the entries of all journals at the end of the history, by number, and those of one number by
-/// worker. The journals stand in the order of their workers, at most one for each. All memory is asked for
-/// before the first entry is copied; where it is refused, the history stays as it was. A count of entries
-/// past 64 bits is want of memory.
-pub fn merge_journals(
-    alloc: Global,
-    history: &mut Vec<Entry>,
-    journals: &[Journal],
-) -> Result<(), AllocError>
-    requires by_worker { AreByWorker journals.now }
-    ensures history { history.new.items ≡ history.old.items ++ added history.old.items history.new.items }
-    ensures refused { OnErr result (history.new.items ≡ history.old.items) }
-    ensures ascending { OnOk result
-        (IsAscending entry_number entry_worker (added history.old.items history.new.items)) }
-    ensures parts { OnOk result ((worker : ℕ) →
-        part entry_worker worker (added history.old.items history.new.items) ≡ entries_of worker journals.now) }
-    ensures count { OnOk result (length (added history.old.items history.new.items) ≡ entry_count journals.now) }
-    ensures lawful { OnOk result (AllByRecursion IsLawful journals.now) }
-{
-    let count = entry_count(journals).ok_or(AllocError)?;
-    history.reserve(count)?;
-    let mut heads = heads_of(alloc, journals)?;
-    while let Some(first) = Head::take_first(&mut heads) {
-        history.push_reserved(*first);
+impl<'a> Iterator for Merging<'a> {
+    type Item = EntryRef<'a>;
+
+    ghost next_gives = { YieldsFirst (λ left. left) };
+
+    ghost remaining = { item_count (λ left. left) };
+
+    fn next(&mut self) -> Option<EntryRef<'a>> {
+        let Some(worker) = least_of(&self.numbers[..self.journals.len()]) else {
+            return None;
+        };
+        let place = self.places[worker];
+        let journal = &self.journals[worker];
+        let entry = EntryRef::of(journal, place);
+        self.places[worker] = place + 1;
+        self.numbers[worker] = number_at(journal, place + 1);
+        Some(entry)
     }
-    Ok(())
+}
+
+// The number of a journal's entry at a place, if there is one.
+fn number_at(journal: &Journal, place: usize) -> Option<u64>
+    ensures { result ≡ number_at place journal.now }
+{
+    if place < journal.len() {
+        Some(journal.number(place))
+    } else {
+        None
+    }
+}
+
+// The place of the first of the least numbers, if there is a number.
+fn least_of(numbers: &[Option<u64>]) -> Option<usize>
+    ensures least { IfSome result (IsLeastOf numbers.now) }
+    ensures none { IfNone result ((k : ℕ) → k < length numbers.now → slice_index_or numbers.now k None ≡ None) }
+{
+    let mut least: Option<(usize, u64)> = None;
+    for (i, number) in numbers.iter().enumerate() {
+        least = lesser(least, i, *number);
+    }
+    let (i, _number) = least?;
+    Some(i)
+}
+
+// What is the least with one more number.
+fn lesser(least: Option<(usize, u64)>, i: usize, number: Option<u64>) -> Option<(usize, u64)>
+    ensures { result ≡ lesser least i number }
+{
+    match (least, number) {
+        (_, None) => least,
+        (None, Some(next)) => Some((i, next)),
+        (Some((_, now)), Some(next)) => if next < now { Some((i, next)) } else { least },
+    }
 }

@@ -1,7 +1,9 @@
-//! Tests of `worker_journals`: journals that are filled, renewed and merged.
+//! Tests of `worker_journals`: journals that are filled, and histories of them.
 #![tactic(auto)]
 
 #[cfg(test)]
-mod testing;
+mod history_tests;
 #[cfg(test)]
-mod tests;
+mod journal_tests;
+#[cfg(test)]
+mod testing;

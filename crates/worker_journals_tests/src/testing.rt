@@ -1,12 +1,12 @@
-//! Journals for tests: each call where its conditions hold.
-ghost use Rattle.std.specs.Prelude.{◌≡◌, ◌<◌, All, IfOk, IsTrue};
+//! Journals and histories for tests: each call where its conditions hold.
+ghost use Rattle.std.specs.Prelude.{◌≡◌, ◌≤◌, vec_len, IfOk};
 ghost use Rattle.worker_journals.specs.Merged.{AreByWorker};
 
 use auction_rows::{Entry, Reply, Request};
 use std::alloc::Global;
 use std::process::Abort;
 use std::test::Fail;
-use worker_journals::{Journal, merge_journals};
+use worker_journals::{History, Journal};
 
 pub(crate) const PHASE: u64 = 7;
 
@@ -28,37 +28,43 @@ pub(crate) fn commit(number: u16, worker: u32) -> Entry
 }
 
 /// The commits at these numbers, each with its worker.
-pub(crate) fn commits(alloc: Global, pairs: &[(u16, u32)]) -> Result<Vec<Entry>, Fail> {
+fn commits(alloc: Global, pairs: &[(u16, u32)]) -> Result<Vec<Entry>, Fail> {
     let entries = pairs
         .iter()
         .map(|(number, worker)| commit(*number, *worker));
     Ok(entries.collect(alloc)?)
 }
 
-fn are_less(entries: &[Entry], number: u64) -> bool
-    ensures { IsTrue result → All (λ entry. entry.number < number) entries.now }
-{
-    entries.iter().all(|entry| entry.number < number)
-}
-
-/// The journal of a worker with commits at these numbers.
-#[tactic(auto, using(worker_journals::proofs::JournalLemmas::comes_after_all))]
+/// The journal of a worker with commits at these numbers, from 1 on.
 pub(crate) fn journal_of(alloc: Global, worker: u32, numbers: &[u16]) -> Result<Journal, Fail>
     ensures { IfOk result (λ journal. journal.worker ≡ worker) }
 {
     let mut journal = Journal::with_room(alloc, PHASE, worker, numbers.len())?;
+    let mut last = 0;
     for number in numbers {
         let entry = commit(*number, worker);
-        if !are_less(journal.entries(), entry.number) {
+        if entry.number <= last {
             return Err(Fail::from("numbers that don't ascend"));
         }
         journal.push(entry.number, entry.index, &entry.request, &entry.reply);
+        last = entry.number;
+    }
+    Ok(journal)
+}
+
+/// A journal of worker 3 with these requests and their replies, at numbers from 1 on.
+pub(crate) fn journal_with(alloc: Global, pairs: &[(Request, Reply)]) -> Result<Journal, Fail> {
+    let mut journal = Journal::with_room(alloc, PHASE, 3, pairs.len())?;
+    let mut number: u64 = 0;
+    for (request, reply) in pairs {
+        number = number.checked_add(1).ok_or("too many numbers")?;
+        journal.push(number, 0, request, reply);
     }
     Ok(journal)
 }
 
 /// A journal for each worker from 0 on, with commits at these numbers.
-pub(crate) fn journals_of(alloc: Global, numbers: &[&[u16]]) -> Result<Vec<Journal>, Fail>
+fn journals_of(alloc: Global, numbers: &[&[u16]]) -> Result<Vec<Journal>, Fail>
     ensures { IfOk result (λ journals. AreByWorker journals.items) }
 {
     let mut journals = Vec::with_capacity(alloc, numbers.len())?;
@@ -70,21 +76,41 @@ pub(crate) fn journals_of(alloc: Global, numbers: &[&[u16]]) -> Result<Vec<Journ
     Ok(journals)
 }
 
-/// The merged commits of workers from 0 on at these numbers.
-pub(crate) fn merged(alloc: Global, numbers: &[&[u16]]) -> Result<Vec<Entry>, Fail> {
-    let mut history = Vec::new(alloc);
-    merge_more(alloc, &mut history, numbers)?;
+/// The journals of a phase of workers from 0 on with commits at these numbers.
+pub(crate) fn phase_of(alloc: Global, numbers: &[&[u16]]) -> Result<Vec<Journal>, Fail>
+    ensures few { IfOk result (λ journals. vec_len journals ≤ 16) }
+    ensures by_worker { IfOk result (λ journals. AreByWorker journals.items) }
+{
+    let journals = journals_of(alloc, numbers)?;
+    if journals.len() > 16 {
+        return Err(Fail::from("more than 16 workers"));
+    }
+    Ok(journals)
+}
+
+/// Adds a phase of workers from 0 on with commits at these numbers.
+pub(crate) fn add_phase(
+    alloc: Global,
+    history: &mut History,
+    numbers: &[&[u16]],
+) -> Result<(), Fail> {
+    Ok(history.add_phase(phase_of(alloc, numbers)?)?)
+}
+
+/// The history of one phase of workers from 0 on with commits at these numbers.
+pub(crate) fn history_of(alloc: Global, numbers: &[&[u16]]) -> Result<History, Fail> {
+    let mut history = History::new(alloc);
+    add_phase(alloc, &mut history, numbers)?;
     Ok(history)
 }
 
-/// Puts the commits of workers from 0 on at these numbers at the end of a history.
-pub(crate) fn merge_more(
-    alloc: Global,
-    history: &mut Vec<Entry>,
-    numbers: &[&[u16]],
-) -> Result<(), Fail> {
-    let journals = journals_of(alloc, numbers)?;
-    Ok(merge_journals(alloc, history, journals.as_slice())?)
+/// Ends the test where the entries of a journal are not those that are wanted.
+pub(crate) fn assert_journal(rt: &impl Abort, journal: &Journal, expected: &[Entry]) {
+    assert!(rt; journal.len() == expected.len());
+    for (place, wanted) in expected.iter().enumerate() {
+        assert!(rt; place < journal.len());
+        assert_eq!(rt; journal.entry(place).to_entry(), *wanted);
+    }
 }
 
 /// Ends the test where entries are not those that are wanted.
@@ -104,6 +130,18 @@ pub(crate) fn assert_commits(
     Ok(())
 }
 
+/// Ends the test where the entries of a history are not the commits at these numbers, each with its worker.
+pub(crate) fn assert_history(
+    rt: &impl Abort,
+    alloc: Global,
+    history: &History,
+    pairs: &[(u16, u32)],
+) -> Result<(), Fail> {
+    let entries: Vec<Entry> = history.iter().map(|entry| entry.to_entry()).collect(alloc)?;
+    assert!(rt; history.len() == pairs.len());
+    assert_commits(rt, alloc, entries.as_slice(), pairs)
+}
+
 /// Ends the test where the commits of workers from 0 on at the first numbers are not merged to these, each with its worker.
 pub(crate) fn assert_merged(
     rt: &impl Abort,
@@ -111,6 +149,6 @@ pub(crate) fn assert_merged(
     numbers: &[&[u16]],
     pairs: &[(u16, u32)],
 ) -> Result<(), Fail> {
-    let history = merged(alloc, numbers)?;
-    assert_commits(rt, alloc, history.as_slice(), pairs)
+    let history = history_of(alloc, numbers)?;
+    assert_history(rt, alloc, &history, pairs)
 }

@@ -72,7 +72,7 @@ returns-clause-closed g c =
     joined_closed c.args.round.policy scripts c.args.state c.args.stashes.items c.args.stashes.items [] c.args.round.first c.requires.round.1 may g.N.PhaseName.opening c.in-Ok.begun.0 c.deref.result.now c.in-Ok.begun.1.items
     c.requires.shards begun.opening begun.phase begun.counters quotas_are begun.permits c.in_ok-receipts.receipts.items
     (plain IsDoneJoined c.in-Ok.begun.1.items c.in_ok-receipts.receipts.items scripts c.args.round.first c.in_ok-receipts.ensures.done)
-    c.requires.joined refl (ap objects_of begun.cold) (record { state = c.in_ok-state.state; stashes = c.in_ok-state.stashes }) (added c.args.history.now.items c.close.new.history.items)
+    c.requires.joined refl (ap objects_of begun.cold) (record { state = c.in_ok-state.state; stashes = c.in_ok-state.stashes }) (added c.args.history.now.entries c.close.new.history.entries)
     closed.closed closed.opening closed.phase closed.counters closed.stashes closed.commits closed.replays closed.stands
 
 pub serve_all-requires-clause-of : goal.serve_all-requires-clause-of

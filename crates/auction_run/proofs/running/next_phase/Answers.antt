@@ -1,5 +1,6 @@
-use Rattle.std.proofs.Common.{rules, ap, ◌∷◌, [], ◌∙◌}
+use Rattle.std.proofs.Common.{ap, sym, List, ◌++◌, ◌∷◌, [], ◌∙◌}
 use Rattle.std.proofs.lemmas.List.{map-append}
+use Rattle.auction_rows.specs.declared.rows.Entry.{Entry}
 use Rattle.auction_run.specs.Phases.{lists, hot_sets}
 use Rattle.worker_journals.specs.Merged.{added}
 use Rattle.auction_run.proofs.RunLemmas.{stepped, may_perform}
@@ -14,7 +15,7 @@ pub returns-clause-running : goal.returns-clause-running
 returns-clause-running g c = λ opening rows is_book run.
     let closed = c.in_ok-closed.ensures.closed in
     stepped c.args.round.policy c.requires.quotas (lists c.args.round.scripts.now) c.args.running.state.phase opening rows is_book c.args.running _ c.in_ok-hot_now.hot_now.keys
-    (added c.args.running.history.items c.perform_phase.new.history.items) c.requires.left.0 run c.requires.left.1
+    (added c.args.running.history.entries c.perform_phase.new.history.entries) c.requires.left.0 run c.requires.left.1
     closed.performed
     closed.numbered
     closed.replays
@@ -26,6 +27,10 @@ returns-clause-running g c = λ opening rows is_book run.
     closed.commits
     c.in_ok-closed.ensures.history
     (ap hot_sets c.in_ok-push.ensures.items ∙ map-append (λ set. set.keys) c.args.running.hot.items (c.in_ok-hot_now.hot_now ∷ []))
-    (search rules)
+    c.in_ok-closed.ensures.last
     c.in_ok-hot_now.ensures.joined
     c.in_ok-hot_now.ensures.split
+
+pub returns-clause-grown : goal.returns-clause-grown
+returns-clause-grown g c =
+    c.in_ok-closed.ensures.history ∙ ap (λ (es : List Entry). c.args.running.history.entries ++ es) (sym c.in_ok-closed.ensures.last)

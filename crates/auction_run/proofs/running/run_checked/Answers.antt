@@ -1,4 +1,4 @@
-use Rattle.std.proofs.Common.{rules, arith, ◌≡◌, ◌≤◌, ◌<◌, ◌+◌, ◌^◌, ℕ, suc, length, drop, subst, sym, ap, ◌∙◌}
+use Rattle.std.proofs.Common.{rules, arith, ◌≡◌, ◌≤◌, ◌<◌, ◌+◌, ◌^◌, ℕ, suc, length, subst, sym, ap, ◌∙◌}
 use Rattle.auction_rows.specs.declared.rows.Entry.{Entry}
 use Rattle.item_shards.specs.OpeningBooks.{opening_of, rows_of}
 use Rattle.run_serving.specs.Run.{HasLeft}
@@ -24,7 +24,7 @@ pub returns-then-not-is_left-clause-board : goal.returns-then-not-is_left-clause
 returns-then-not-is_left-clause-board g c =
     let running = c.loop-phase.invariant.running in
     let counted = phases_counted (opening_of c.args.book.now) (rows_of c.args.book.now) c.args.policy (omega (arith, c.requires.quotas.joined)) (lists c.args.scripts.now) c.requires.short c.loop-phase._phase c.loop-phase.running running in
-    subst (λ n. HasShown g.B.Board.has (opening_of c.args.book.now) (rows_of c.args.book.now) n c.loop-phase.running.history.items c.loop-phase.board) (sym running.phase_is ∙ counted)
+    subst (λ n. HasShown g.B.Board.has (opening_of c.args.book.now) (rows_of c.args.book.now) n c.loop-phase.running.history.entries c.loop-phase.board) (sym running.phase_is ∙ counted)
     c.loop-phase.invariant.shown
 
 pub next_phase-requires-clause-left : goal.next_phase-requires-clause-left
@@ -47,24 +47,15 @@ loop-phase-init g c = record {
       c.in_ok-running.ensures.running c.requires.board;
 }
 
-pub show_phase-requires-clause-within : goal.show_phase-requires-clause-within
-show_phase-requires-clause-within g c =
-    let same = c.new-round.ensures in
-    let book = c.args.book.now in
-    let scripts = lists c.args.scripts.now in
-    let next = next_runs (opening_of book) (rows_of book) book.is_book c.args.policy c.new-round.result.policy scripts (lists c.new-round.result.scripts.now) c.loop-phase._phase c.loop-phase.running c.in_ok-running-2.running
-    same.policy (ap lists same.scripts) c.loop-phase.invariant.running c.in_ok-running-2.ensures.running in
-    next.last_within
-
-pub show_phase-requires-clause-board : goal.show_phase-requires-clause-board
-show_phase-requires-clause-board g c =
+pub show_phase-requires : goal.show_phase-requires
+show_phase-requires g c =
     let same = c.new-round.ensures in
     let book = c.args.book.now in
     let scripts = lists c.args.scripts.now in
     let next = next_runs (opening_of book) (rows_of book) book.is_book c.args.policy c.new-round.result.policy scripts (lists c.new-round.result.scripts.now) c.loop-phase._phase c.loop-phase.running c.in_ok-running-2.running
     same.policy (ap lists same.scripts) c.loop-phase.invariant.running c.in_ok-running-2.ensures.running in
     can_show (opening_of book) (rows_of book) book.is_book c.args.policy scripts c.requires.workers.few c.requires.workers.own c.requires.short c.loop-phase._phase c.in_ok-running-2.running next
-    c.loop-phase.running.history.items c.in_ok-running-2.ensures.grown g.B.Board.has c.loop-phase.board c.loop-phase.invariant.shown c.loop-phase-test.true
+    c.loop-phase.running.history.entries c.in_ok-running-2.ensures.grown g.B.Board.has c.loop-phase.board c.loop-phase.invariant.shown c.loop-phase-test.true
 
 pub loop-phase-preserved : goal.loop-phase-preserved
 loop-phase-preserved g c =
@@ -76,9 +67,9 @@ loop-phase-preserved g c =
     let one_more : suc c.loop-phase._phase ≡ c.loop-phase._phase + 1 = omega arith in
     record {
       running = subst (λ n. IsRunning (opening_of book) (rows_of book) c.args.policy scripts n c.in_ok-running-2.running) one_more next;
-      shown = subst (λ n. HasShown g.B.Board.has (opening_of book) (rows_of book) n c.in_ok-running-2.running.history.items c.show_phase.new.board) one_more
+      shown = subst (λ n. HasShown g.B.Board.has (opening_of book) (rows_of book) n c.in_ok-running-2.running.history.entries c.show_phase.new.board) one_more
           (has_shown (opening_of book) (rows_of book) book.is_book c.args.policy scripts c.requires.workers.few c.requires.workers.own c.requires.short c.loop-phase._phase c.in_ok-running-2.running next
-          c.loop-phase.running.history.items c.in_ok-running-2.ensures.grown g.B.Board.has c.loop-phase.board c.loop-phase.invariant.shown c.show_phase.new.board c.in_ok-show_phase.ensures);
+          c.loop-phase.running.history.entries c.in_ok-running-2.ensures.grown g.B.Board.has c.loop-phase.board c.loop-phase.invariant.shown c.show_phase.new.board c.in_ok-show_phase.ensures);
     }
 
 pub unreachable-requires : goal.unreachable-requires

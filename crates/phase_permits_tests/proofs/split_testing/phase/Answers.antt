@@ -1,18 +1,11 @@
 use Rattle.std.proofs.Common.{◌≡◌, ℕ, zero, suc, ◌+◌, ◌<◌, List, [], ◌∷◌, ◌++◌, length, refl, sym, ap, ◌∙◌, subst, arith}
-use Rattle.std.proofs.lemmas.List.{length-append}
 use Rattle.std.specs.Option.{option_to_list}
 use Rattle.shard_boxes.specs.Closed.{IsSpent, AreSpent}
 use Rattle.shard_boxes.specs.Keys.{BoxId, KeyState, SeatState, key_at, IsNewKey, AreNewKeys}
 use Rattle.phase_transactions.specs.Permits.{PermitState, IsIdle}
 use Rattle.worker_journals.specs.Journals.{JournalView}
+use Rattle.phase_permits_tests.proofs.KeyLemmas.{only_key}
 use Rattle.phase_permits_tests.proofs.split_testing.phase.Goals as goal
-
-only_key : (boxes : List BoxId) (workers : ℕ) (keys rest : List KeyState) (key : KeyState) → keys ≡ rest ++ key ∷ [] → 1 ≡ workers → AreNewKeys boxes workers keys → IsNewKey boxes 0 key
-only_key boxes workers keys [] key is one new = subst (λ (k : List KeyState). IsNewKey boxes 0 (key_at k 0)) is (new.1 0 (omega (arith, one)))
-only_key boxes workers keys (first ∷ rest) key is one new =
-    let long : length (rest ++ key ∷ []) ≡ length rest + 1 = length-append rest (key ∷ []) in
-    let same = ap length is in
-    absurd (omega (arith, long, same, one, new.0))
 
 pub new-permit-requires-clause-key : goal.new-permit-requires-clause-key
 new-permit-requires-clause-key g c = λ shard.

@@ -1,4 +1,4 @@
-use Rattle.worker_journals.proofs.SourceLemmas.{entries_of_own, entries_of_none}
+use Rattle.worker_journals.proofs.MergedLemmas.{entries_of_own, entries_of_none}
 use Rattle.worker_journals.proofs.laws.entries_by_worker.Goals as goal
 
 pub returns : goal.returns

@@ -1,17 +1,27 @@
-use Rattle.std.proofs.Common.{List, map, sym, ap, ◌∙◌, subst}
+use Rattle.std.proofs.Common.{List, map, sym, ap, ◌∙◌, subst, length, arith}
+use Rattle.std.proofs.lemmas.List.{length-map}
 use Rattle.shard_boxes.specs.Closed.{AreSpent, AreClosed}
 use Rattle.shard_boxes.specs.Keys.{BoxId, KeyState}
 use Rattle.shard_boxes.specs.States.{state_of}
 use Rattle.worker_journals.specs.Merged.{AreByWorker, entries_of, added}
+use Rattle.worker_journals.proofs.AddedLemmas.{added_front, last_merged, added_ascends, added_parts, added_stars}
+use Rattle.phase_closing.specs.Phases.{journal_of}
 use Rattle.phase_floor.specs.Floors.{FloorState, IsOpen}
 use Rattle.phase_floor.proofs.Closings.{in_order, are_spent, has_closed}
 use Rattle.phase_floor.proofs.floor.JoinedFloor.settle.Goals as goal
 
-pub merge_journals-requires : goal.merge_journals-requires
-merge_journals-requires g c =
+pub add_phase-requires-clause-few : goal.add_phase-requires-clause-few
+add_phase-requires-clause-few g c =
     let opening = g.N.PhaseName.opening in let workers = g.N.PhaseName.workers in let e = c.in_ok-journals.ensures in
     let is_open = subst (IsOpen opening workers) c.self.view_is c.self.invariant in
-    record { by_worker = subst AreByWorker (sym (c.deref.ensures.value ∙ e.journals)) (in_order opening workers c.args.self is_open c.args.receipts.items c.requires e.worth) }
+    let journals = c.in_ok-journals.field-0.journals in
+    omega (arith, ap length e.journals, length-map c.args.receipts.items journal_of, c.requires.0, is_open.workers_are, is_open.kept.few_workers, journals.ok.0)
+
+pub add_phase-requires-clause-by_worker : goal.add_phase-requires-clause-by_worker
+add_phase-requires-clause-by_worker g c =
+    let opening = g.N.PhaseName.opening in let workers = g.N.PhaseName.workers in let e = c.in_ok-journals.ensures in
+    let is_open = subst (IsOpen opening workers) c.self.view_is c.self.invariant in
+    subst AreByWorker (sym e.journals) (in_order opening workers c.args.self is_open c.args.receipts.items c.requires e.worth)
 
 pub close-shards-requires : goal.close-shards-requires
 close-shards-requires g c =
@@ -23,12 +33,26 @@ close-shards-requires g c =
 
 pub returns-clause-closed : goal.returns-clause-closed
 returns-clause-closed g c =
-    let opening = g.N.PhaseName.opening in let workers = g.N.PhaseName.workers in let e = c.in_ok-journals.ensures in let merged = c.in_ok-merge_journals.ensures in
+    let opening = g.N.PhaseName.opening in let workers = g.N.PhaseName.workers in let e = c.in_ok-journals.ensures in let h = c.in_ok-add_phase.ensures in
+    let up = subst AreByWorker (sym e.journals) (in_order opening workers c.args.self (subst (IsOpen opening workers) c.self.view_is c.self.invariant) c.args.receipts.items c.requires e.worth) in
     let is_open = subst (IsOpen opening workers) c.self.view_is c.self.invariant in
     let given = map state_of c.close-shards.result.items in
     let boxes = subst (λ (keys : List KeyState). AreClosed opening workers keys given) e.keys c.close-shards.ensures in record {
       given = given;
-      closed = has_closed opening workers c.args.self is_open c.args.receipts.items c.requires e.worth given (added c.args.history.now.items c.merge_journals.new.history.items) boxes merged.ascending
-          (λ w. merged.parts w ∙ ap (entries_of w) (c.deref.ensures.value ∙ e.journals));
+      closed = has_closed opening workers c.args.self is_open c.args.receipts.items c.requires e.worth given (added c.args.history.now.entries c.add_phase.new.self.entries) boxes (added_ascends c.args.history.now c.add_phase.new.self c.in_ok-journals.field-0.journals.items h.added up h.lawful)
+          (λ w. added_parts c.args.history.now c.add_phase.new.self c.in_ok-journals.field-0.journals.items h.added up h.lawful w ∙ ap (entries_of w) e.journals);
       states_are = c.reset_clocks.ensures;
     }
+
+pub returns-clause-history : goal.returns-clause-history
+returns-clause-history g c =
+    added_front c.args.history.now c.add_phase.new.self c.in_ok-journals.field-0.journals.items c.in_ok-add_phase.ensures.added
+
+pub returns-clause-stars : goal.returns-clause-stars
+returns-clause-stars g c =
+    let h = c.in_ok-add_phase.ensures in
+    added_stars c.args.history.now c.add_phase.new.self c.in_ok-journals.field-0.journals.items h.added h.lawful
+
+pub returns-clause-last : goal.returns-clause-last
+returns-clause-last g c =
+    last_merged c.args.history.now c.add_phase.new.self c.in_ok-journals.field-0.journals.items c.in_ok-add_phase.ensures.added

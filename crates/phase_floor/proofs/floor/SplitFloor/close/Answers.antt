@@ -1,9 +1,6 @@
-use Rattle.std.proofs.Common.{List, [], map, sym, ap, ◌∙◌, subst, arith}
-use Rattle.std.specs.List.{AllByRecursion}
+use Rattle.std.proofs.Common.{List, [], map, sym, ap, ◌∙◌, subst}
 use Rattle.auction_rows.specs.declared.numbers.Opening.{Opening}
-use Rattle.auction_rows.specs.declared.rows.Entry.{Entry}
 use Rattle.auction_rows.specs.History.{book_after}
-use Rattle.item_shards.specs.Limits.{GivesStars}
 use Rattle.shard_boxes.specs.States.{state_of}
 use Rattle.worker_journals.specs.Merged.{added}
 use Rattle.phase_desks.specs.declared.counters.Counters.{Counters}
@@ -12,7 +9,6 @@ use Rattle.phase_closing.proofs.CommitLemmas.{commits_grow}
 use Rattle.phase_closing.proofs.ReplayLemmas.{entries_replay}
 use Rattle.phase_floor.specs.Closings.{phase_of}
 use Rattle.phase_floor.specs.States.{IsKept}
-use Rattle.phase_floor.proofs.Every.{from_end}
 use Rattle.phase_floor.proofs.Kept.{kept_after, counted}
 use Rattle.phase_floor.proofs.Lawfully.{reconciled_lawful}
 use Rattle.phase_floor.proofs.Reconciled.{as_many, ready, stand_after}
@@ -21,10 +17,9 @@ use Rattle.phase_floor.proofs.floor.SplitFloor.close.Goals as goal
 pub invariant_of-state : goal.invariant_of-state
 invariant_of-state g c =
     let opening = g.N.PhaseName.opening in let workers = g.N.PhaseName.workers in let floor = c.args.self in let receipts = c.args.receipts.items in
-    let e = c.in_ok-opening.ensures in let left = c.in_ok-opening.field-0 in let entries = added c.args.history.now.items c.settle.new.history.items in
+    let e = c.in_ok-opening.ensures in let left = c.in_ok-opening.field-0 in let entries = added c.args.history.now.entries c.settle.new.history.entries in
     let given = e.closed.given in let closed = e.closed.closed in let states = map state_of left.shards.items in
-    let tail = from_end c.args.history.now.items c.deref.result.now c.settle.new.history.items c.len-before.result (omega (arith, c.len-before.ensures, c.args.history.now.ok.0)) c.deref.ensures.value in
-    let stars = subst (AllByRecursion (λ (entry : Entry). GivesStars entry.request)) tail c.know_stars.ensures in
+    let stars = e.stars in
     let kept = kept_after opening workers floor e.open receipts c.requires given entries closed e.limit stars left.shards.items
     (as_many opening workers floor e.open receipts c.requires given entries closed e.closed.order e.closed.each states e.closed.states_are)
     (ready opening workers floor e.open receipts c.requires given entries closed e.closed.order e.closed.each states e.closed.states_are)
@@ -33,26 +28,25 @@ invariant_of-state g c =
 
 pub returns-clause-lawful : goal.returns-clause-lawful
 returns-clause-lawful g c =
-    let e = c.in_ok-opening.ensures in let left = c.in_ok-opening.field-0 in let entries = added c.args.history.now.items c.settle.new.history.items in
+    let e = c.in_ok-opening.ensures in let left = c.in_ok-opening.field-0 in let entries = added c.args.history.now.entries c.settle.new.history.entries in
     reconciled_lawful g.N.PhaseName.opening c.args.self c.args.receipts.items (map state_of left.shards.items) entries e.closed
 
 pub returns-clause-commits : goal.returns-clause-commits
 returns-clause-commits g c = λ w below.
-    let e = c.in_ok-opening.ensures in let floor = c.args.self in let receipts = c.args.receipts.items in let left = c.in_ok-opening.field-0 in let entries = added c.args.history.now.items c.settle.new.history.items in
-    let tail = from_end c.args.history.now.items c.deref.result.now c.settle.new.history.items c.len-before.result (omega (arith, c.len-before.ensures, c.args.history.now.ok.0)) c.deref.ensures.value in
-    let stars = subst (AllByRecursion (λ (entry : Entry). GivesStars entry.request)) tail c.know_stars.ensures in
+    let e = c.in_ok-opening.ensures in let floor = c.args.self in let receipts = c.args.receipts.items in let left = c.in_ok-opening.field-0 in let entries = added c.args.history.now.entries c.settle.new.history.entries in
+    let stars = e.stars in
     ap (λ (cs : List Counters). (counters_at cs w).commits) e.counters
     ∙ sym (ap (λ (cs : Counters). cs.commits) (counted g.N.PhaseName.opening g.N.PhaseName.workers floor e.open receipts c.requires e.closed.given entries e.closed.closed e.limit stars w below))
     ∙ commits_grow (phase_of g.N.PhaseName.opening floor receipts e.closed.given entries) e.closed.closed w below
 
 pub returns-clause-replays : goal.returns-clause-replays
 returns-clause-replays g c = λ book holds.
-    let e = c.in_ok-opening.ensures in let entries = added c.args.history.now.items c.settle.new.history.items in
+    let e = c.in_ok-opening.ensures in let entries = added c.args.history.now.entries c.settle.new.history.entries in
     entries_replay (phase_of g.N.PhaseName.opening c.args.self c.args.receipts.items e.closed.given entries) e.closed.closed book holds
 
 pub returns-clause-stands : goal.returns-clause-stands
 returns-clause-stands g c = λ book holds.
-    let e = c.in_ok-opening.ensures in let left = c.in_ok-opening.field-0 in let entries = added c.args.history.now.items c.settle.new.history.items in let floor = c.args.self in
+    let e = c.in_ok-opening.ensures in let left = c.in_ok-opening.field-0 in let entries = added c.args.history.now.entries c.settle.new.history.entries in let floor = c.args.self in
     subst (λ (cs : List Counters). StandFor (map state_of left.shards.items) cs (book_after floor.opening book entries) []) (sym e.counters)
     (stand_after g.N.PhaseName.opening g.N.PhaseName.workers floor e.open c.args.receipts.items c.requires e.closed.given entries e.closed.closed e.closed.order e.closed.each
     (map state_of left.shards.items) e.closed.states_are book holds)

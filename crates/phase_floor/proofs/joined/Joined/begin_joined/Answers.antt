@@ -11,9 +11,9 @@ no_two = tt
 
 pub invariant_of-floor : goal.invariant_of-floor
 invariant_of-floor g c =
-    let is = c.self-2.view_is ∙ c.take_spare-spare.ensures in
-    let states : map state_of c.self-2.inside.shards.items ≡ g.N.PhaseName.opening = ap states_of is ∙ c.requires.shards in record {
-      kept = subst (λ s. IsKept c.self-2.inside.opening s c.self-2.inside.counters.items) states c.self-2.invariant;
+    let is = c.self.view_is in
+    let states : map state_of c.self.inside.shards.items ≡ g.N.PhaseName.opening = ap states_of is ∙ c.requires.shards in record {
+      kept = subst (λ s. IsKept c.self.inside.opening s c.self.inside.counters.items) states c.self.invariant;
       boxes_are = c.in-Ok-new.ensures.boxes;
       workers_are = ap (λ (s : JoinedState). length s.counters) is ∙ c.requires.workers;
       stocks_are = record { exist = tt; distinct = no_two; stocked = tt; read = tt };

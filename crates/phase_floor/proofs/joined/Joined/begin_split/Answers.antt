@@ -16,11 +16,11 @@ at_most n h = omega (arith, h)
 
 pub invariant_of-floor : goal.invariant_of-floor
 invariant_of-floor g c =
-    let is = c.self-2.view_is ∙ c.take_spare-spare.ensures in
-    let states : map state_of c.self-2.inside.shards.items ≡ g.N.PhaseName.opening = ap states_of is ∙ c.requires.shards in
+    let is = c.self.view_is in
+    let states : map state_of c.self.inside.shards.items ≡ g.N.PhaseName.opening = ap states_of is ∙ c.requires.shards in
     let o = c.in-Ok.ensures in let stocks = c.in-Ok.stocks.items in
     let there : IsTrue c.do_exist.result = search in record {
-      kept = subst (λ s. IsKept c.self-2.inside.opening s c.self-2.inside.counters.items) states c.self-2.invariant;
+      kept = subst (λ s. IsKept c.self.inside.opening s c.self.inside.counters.items) states c.self.invariant;
       boxes_are = c.in-Ok-new.ensures.boxes;
       workers_are = ap (λ (s : JoinedState). length s.counters) is ∙ c.requires.workers;
       stocks_are = record {
@@ -37,10 +37,10 @@ invariant_of-floor g c =
 pub give-permits-requires-clause-fits : goal.give-permits-requires-clause-fits
 give-permits-requires-clause-fits g c = λ w below.
     let short : ¬ IsTooLong c.deref.result.now [] c.args.quotas.now = λ long. false≢true (sym c.if-is_over_quota.false ∙ c.is_over_quota.ensures.1 long) in
-    let is = c.self-2.view_is ∙ c.take_spare-spare.ensures in
+    let is = c.self.view_is in
     let many = ap (λ (s : JoinedState). length s.counters) is ∙ c.requires.workers in
-    let counters : c.deref.result.now ≡ c.self-2.inside.counters.items = c.deref.ensures.value ∙ ap (λ (s : JoinedState). s.counters) (c.self.view_is ∙ sym is) in
-    at_most (asked_in_all c.self-2.inside.counters.items [] c.args.quotas.now w) (λ more. subst (λ cs. ¬ IsTooLong cs [] c.args.quotas.now) counters short (w, omega (arith, below, many), more))
+    let counters : c.deref.result.now ≡ c.self.inside.counters.items = c.deref.ensures.value ∙ ap (λ (s : JoinedState). s.counters) (c.self.view_is ∙ sym is) in
+    at_most (asked_in_all c.self.inside.counters.items [] c.args.quotas.now w) (λ more. subst (λ cs. ¬ IsTooLong cs [] c.args.quotas.now) counters short (w, omega (arith, below, many), more))
 
 pub returns-in-Ok-new-clause-fits : goal.returns-in-Ok-new-clause-fits
 returns-in-Ok-new-clause-fits g c =

@@ -1,10 +1,16 @@
-use Rattle.std.proofs.Common.{refl, subst, sym}
-use Rattle.worker_journals.specs.Journals.{JournalView, ComesAfter}
-use Rattle.worker_journals.proofs.JournalLemmas.{lawful_after}
+use Rattle.worker_journals.proofs.GrowthLemmas.{pushed_shown, pushed_kept, some_left}
 use Rattle.worker_journals.proofs.journal.Journal.push.Goals as goal
 
 pub invariant_of-self : goal.invariant_of-self
 invariant_of-self c =
-    let after = subst (λ (j : JournalView). ComesAfter j.entries c.args.number) (sym c.self.view_is) c.requires.after in
-    rw (c.push_reserved.ensures.items, c.push_reserved.ensures.capacity)
-    (lawful_after _ _ c.self.invariant.0 (refl, refl) after, c.self.invariant.1)
+    let kept = c.keep-request.ensures in
+    pushed_kept _ _ _ _ _ _ _ _ _ _ _ c.self.invariant (some_left _ _ _ _ _ c.self.view_is c.requires.room) c.push_reserved.ensures.items
+    c.push_reserved.ensures.capacity kept.kept kept.request kept.reply _ c.self.view_is c.requires.after kept.stars
+
+pub returns : goal.returns
+returns c =
+    let kept = c.keep-request.ensures in
+    record {
+      pushed = pushed_shown _ _ _ _ _ _ _ _ _ _ _ c.self.invariant (some_left _ _ _ _ _ c.self.view_is c.requires.room) c.push_reserved.ensures.items
+          c.push_reserved.ensures.capacity kept.kept kept.request kept.reply _ c.self.view_is;
+    }

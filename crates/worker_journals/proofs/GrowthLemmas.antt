@@ -1,0 +1,161 @@
+-- One more commit: what the heads before it say stays.
+use Rattle.std.proofs.Common.{◌≡◌, ◌<◌, ◌≤◌, ◌+◌, ℕ, List, [], ◌∷◌, ◌++◌, map, length, take, drop, refl, sym, ap, ◌∙◌, subst, arith, length-append, length-drop}
+use Rattle.std.specs.List.{AllByRecursion}
+use Rattle.std.proofs.lemmas.List.{get_or_append_left, drop-append-le, take-append-le, map-append, length-map}
+use Rattle.phase_laws.proofs.OrderLemmas.{all_push, all-weaker}
+use Rattle.auction_rows.specs.declared.requests.Facts.{Facts}
+use Rattle.auction_rows.specs.declared.requests.Request.{Request}
+use Rattle.auction_rows.specs.declared.requests.Request.TheVariants.{StoreItem}
+use Rattle.auction_rows.specs.declared.replies.BidShown.{BidShown}
+use Rattle.auction_rows.specs.declared.replies.ItemShown.{ItemShown}
+use Rattle.auction_rows.specs.declared.replies.Reply.{Reply}
+use Rattle.auction_rows.specs.declared.replies.Reply.TheVariants.{BidsSeen, CategorySeen}
+use Rattle.auction_rows.specs.declared.rows.Entry.{Entry}
+use Rattle.auction_rows.specs.Stars.{GivesStars}
+use Rattle.worker_journals.specs.declared.heads.Head.{Head}
+use Rattle.worker_journals.specs.declared.heads.ShortRequest.{ShortRequest}
+use Rattle.worker_journals.specs.declared.heads.ShortRequest.TheVariants as ask
+use Rattle.worker_journals.specs.declared.heads.ShortReply.{ShortReply}
+use Rattle.worker_journals.specs.declared.heads.ShortReply.TheVariants as told
+use Rattle.worker_journals.specs.declared.heads.ItemSeen.{ItemSeen as SeenItem}
+use Rattle.worker_journals.specs.declared.heads.UserSeen.{UserSeen as SeenUser}
+use Rattle.worker_journals.specs.Journals.{JournalView, ComesAfter, IsLawful, seen, with_commit}
+use Rattle.worker_journals.specs.Sides.{SideLists, request_from, reply_from, HasRequest, HasReply, SaysRequest, SaysReply, with_commit_of, item_reply, user_reply}
+use Rattle.worker_journals.specs.Entries.{entry_from, HasHead, shown, IsKept}
+use Rattle.worker_journals.proofs.JournalLemmas.{lawful_after}
+
+request_stays : (all more : List Facts) (short : ShortRequest) → HasRequest all short → SaysRequest (all ++ more) short (request_from all short)
+request_stays all more (ask.StoreItem facts time) h = record {
+  within = omega (arith, length-append all more, h);
+  is = ap (λ f. StoreItem f time) (get_or_append_left all more _ facts h);
+}
+request_stays all more (ask.StoreBid bidder item amount time) h = record { within = tt; is = refl }
+request_stays all more (ask.StoreComment author about item stars) h = record { within = tt; is = refl }
+request_stays all more (ask.BuyNow buyer item quantity time) h = record { within = tt; is = refl }
+request_stays all more (ask.ViewItem item) h = record { within = tt; is = refl }
+request_stays all more (ask.ViewBids item) h = record { within = tt; is = refl }
+request_stays all more (ask.ViewCategory category) h = record { within = tt; is = refl }
+request_stays all more (ask.ViewUser user) h = record { within = tt; is = refl }
+
+part_stays : {X : Type 0} (xs more : List X) (place count : ℕ) → place + count ≤ length xs →
+    take count (drop place (xs ++ more)) ≡ take count (drop place xs)
+part_stays xs more place count h =
+    ap (take count) (drop-append-le place xs more (omega arith))
+    ∙ take-append-le count (drop place xs) more (omega (arith, length-drop place xs))
+
+module _ (items items' : List SeenItem) (users users' : List SeenUser) (bids bids' : List BidShown) (latest latest' : List ItemShown) where
+  reply_stays : (short : ShortReply) → HasReply items users bids latest short →
+      SaysReply (items ++ items') (users ++ users') (bids ++ bids') (latest ++ latest') short (reply_from items users bids latest short)
+  reply_stays (told.ItemStored id) h = record { within = tt; is = refl }
+  reply_stays (told.BidStored id) h = record { within = tt; is = refl }
+  reply_stays (told.CommentStored id) h = record { within = tt; is = refl }
+  reply_stays (told.Bought id) h = record { within = tt; is = refl }
+  reply_stays (told.ItemSeen place) h = record {
+    within = omega (arith, length-append items items', h);
+    is = ap item_reply (get_or_append_left items items' _ place h);
+  }
+  reply_stays (told.BidsSeen place count) h = record {
+    within = (h.0, omega (arith, length-append bids bids', h.1));
+    is = ap BidsSeen (part_stays bids bids' place count h.1);
+  }
+  reply_stays (told.CategorySeen place count) h = record {
+    within = (h.0, omega (arith, length-append latest latest', h.1));
+    is = ap CategorySeen (part_stays latest latest' place count h.1);
+  }
+  reply_stays (told.UserSeen place) h = record {
+    within = omega (arith, length-append users users', h);
+    is = ap user_reply (get_or_append_left users users' _ place h);
+  }
+  reply_stays (told.Refused reason) h = record { within = tt; is = refl }
+
+-- an entry by the request and the reply of its head
+abbrev entry_by : ℕ → ℕ → Head → Request → Reply → Entry
+entry_by phase worker head request reply =
+    record { phase = phase; number = head.number; worker = worker; index = head.index; request = request; reply = reply }
+
+module _ (phase worker : ℕ) (sides : SideLists) (request : Request) (reply : Reply) where
+  abbrev after : SideLists
+  after = with_commit_of sides request reply
+
+  head_stays : (head : Head) → HasHead sides head → HasHead after head × (entry_from phase worker after head ≡ entry_from phase worker sides head)
+  head_stays head h =
+      let asked = request_stays sides.facts _ head.request h.0 in
+      let answered = reply_stays sides.items _ sides.users _ sides.bids _ sides.latest _ head.reply h.1 in (
+        (asked.within, answered.within),
+        ap (λ r. entry_by phase worker head r (reply_from after.items after.users after.bids after.latest head.reply)) asked.is
+            ∙ ap (entry_by phase worker head (request_from sides.facts head.request)) answered.is,
+      )
+
+  heads_stay : (heads : List Head) → AllByRecursion (HasHead sides) heads →
+      map (entry_from phase worker after) heads ≡ map (entry_from phase worker sides) heads
+  heads_stay [] all = refl
+  heads_stay (head ∷ heads) all =
+      ap (λ e. e ∷ map (entry_from phase worker after) heads) (head_stays head all.0).1
+      ∙ ap (λ es. entry_from phase worker sides head ∷ es) (heads_stay heads all.1)
+
+  -- a head that says the commit, at the end of the heads
+  module _ (heads : List Head) (head : Head) (capacity : ℕ) (kept : IsKept phase worker heads capacity sides) (some : 0 < sides.left)
+      (asked : SaysRequest after.facts head.request request) (answered : SaysReply after.items after.users after.bids after.latest head.reply reply) where
+    abbrev said : Entry
+    said = entry_by phase worker head request reply
+
+    says : entry_from phase worker after head ≡ said
+    says =
+        ap (λ r. entry_by phase worker head r (reply_from after.items after.users after.bids after.latest head.reply)) asked.is
+        ∙ ap (entry_by phase worker head request) answered.is
+
+    entries_after : map (entry_from phase worker after) (heads ++ head ∷ []) ≡ map (entry_from phase worker sides) heads ++ said ∷ []
+    entries_after =
+        map-append (entry_from phase worker after) heads (head ∷ [])
+        ∙ ap (λ es. es ++ entry_from phase worker after head ∷ []) (heads_stay heads kept.within)
+        ∙ ap (λ e. map (entry_from phase worker sides) heads ++ e ∷ []) says
+
+    room_after : length (heads ++ head ∷ []) + after.left ≡ length heads + sides.left
+    room_after = omega (arith, length-append heads (head ∷ []))
+
+    pub shown_after : shown phase worker (heads ++ head ∷ []) after ≡ with_commit (shown phase worker heads sides) head.number head.index request reply
+    shown_after =
+        ap (seen phase worker (length (heads ++ head ∷ []) + after.left)) entries_after
+        ∙ ap (λ n. seen phase worker n (map (entry_from phase worker sides) heads ++ said ∷ [])) room_after
+
+    pub kept_after : ComesAfter (map (entry_from phase worker sides) heads) head.number → GivesStars request → IsKept phase worker (heads ++ head ∷ []) capacity after
+    kept_after comes given = record {
+      lawful = subst IsLawful (sym shown_after) (lawful_after (shown phase worker heads sides) _ kept.lawful (refl, refl) comes given);
+      within = all_push (HasHead after) heads head (all-weaker (HasHead sides) (HasHead after) (λ h has. (head_stays h has).0) heads kept.within) (asked.within, answered.within);
+      room = omega (arith, kept.room, length-append heads (head ∷ []));
+    }
+
+-- the same, of a journal that shows this, and side lists and heads that are equal to these
+module _ (phase worker : ℕ) (heads new : List Head) (capacity capacity' : ℕ) (sides sides' : SideLists) (head : Head) (request : Request) (reply : Reply)
+    (kept : IsKept phase worker heads capacity sides) (some : 0 < sides.left) (pushed : new ≡ heads ++ head ∷ []) (same : capacity' ≡ capacity)
+    (grown : sides' ≡ with_commit_of sides request reply) (asked : SaysRequest sides'.facts head.request request)
+    (answered : SaysReply sides'.items sides'.users sides'.bids sides'.latest head.reply reply) where
+  asked' : SaysRequest (with_commit_of sides request reply).facts head.request request
+  asked' = subst (λ (s : SideLists). SaysRequest s.facts head.request request) grown asked
+
+  answered' : SaysReply (with_commit_of sides request reply).items (with_commit_of sides request reply).users (with_commit_of sides request reply).bids
+      (with_commit_of sides request reply).latest head.reply reply
+  answered' = subst (λ (s : SideLists). SaysReply s.items s.users s.bids s.latest head.reply reply) grown answered
+
+  pub pushed_shown : (journal : JournalView) → shown phase worker heads sides ≡ journal →
+      shown phase worker new sides' ≡ with_commit journal head.number head.index request reply
+  pushed_shown journal is =
+      ap (λ hs. shown phase worker hs sides') pushed ∙ ap (λ s. shown phase worker (heads ++ head ∷ []) s) grown
+      ∙ shown_after phase worker sides request reply heads head capacity kept some asked' answered'
+      ∙ ap (λ j. with_commit j head.number head.index request reply) is
+
+  pub pushed_kept : (journal : JournalView) → shown phase worker heads sides ≡ journal → ComesAfter journal.entries head.number → GivesStars request →
+      IsKept phase worker new capacity' sides'
+  pushed_kept journal is comes given =
+      let after = subst (λ (j : JournalView). ComesAfter j.entries head.number) (sym is) comes in
+      let here = kept_after phase worker sides request reply heads head capacity kept some asked' answered' after given in
+      subst (λ hs. IsKept phase worker hs capacity' sides') (sym pushed)
+      (subst (λ n. IsKept phase worker (heads ++ head ∷ []) n sides') (sym same)
+      (subst (λ s. IsKept phase worker (heads ++ head ∷ []) capacity s) (sym grown) here))
+
+-- where there is room for more entries than there are, some room is left
+pub some_left : (phase worker : ℕ) (heads : List Head) (sides : SideLists) (journal : JournalView) → shown phase worker heads sides ≡ journal →
+    length journal.entries < journal.room → 0 < sides.left
+some_left phase worker heads sides journal is room =
+    let here = subst (λ (j : JournalView). length j.entries < j.room) (sym is) room in
+    omega (arith, here, length-map heads (entry_from phase worker sides))

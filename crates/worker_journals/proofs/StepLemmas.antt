@@ -1,0 +1,188 @@
+-- One step of the merging of a phase's journals.
+use Rattle.std.proofs.Common.{◌≡◌, ◌<◌, ◌+◌, ℕ, zero, suc, List, [], ◌∷◌, map, length, take, drop, get_or, set, refl, sym, ap, ◌∙◌, subst, arith}
+use Rattle.std.specs.Prelude.{Option, None, Some, slice_get, option_map, replicate}
+use Rattle.std.specs.List.{AllByRecursion}
+use Rattle.std.specs.Iterator.{MakesProgress, item_count}
+use Rattle.std.proofs.Math.Seq.{take-set-lt, drop-nil}
+use Rattle.std.proofs.lemmas.List.{length-map, length-set, length-take-le}
+use Rattle.std.proofs.lemmas.Option.{slice_get-map, slice_get_within}
+use Rattle.phase_laws.specs.Order.{IsOrderedBy}
+use Rattle.auction_rows.specs.declared.rows.Entry.{Entry}
+use Rattle.auction_rows.specs.Stars.{GivesStars}
+use Rattle.worker_journals.specs.Journals.{JournalView, entry_number, IsOf, IsLawful}
+use Rattle.worker_journals.specs.Merged.{merged, AreByWorker}
+use Rattle.worker_journals.specs.Places.{left_of, number_at, first_number, IsLeast, IsLeastOf, AreMerging}
+use Rattle.worker_journals.proofs.TakingLemmas.{without_first, first_of, merged_taken, merged_none}
+
+-- an iterator that gave the first of what was left goes on
+pub goes_on : (can : List Entry → Type 0) → ((l : List Entry) → can l) → (s t : List Entry) (x : Entry) → s ≡ x ∷ t →
+    MakesProgress can (item_count (λ left. left)) s (Some x) t
+goes_on can always s t x is = record {
+  on = λ _. (always t, tt, subst (λ l. length t < length l) (sym is) (omega arith));
+  keeps = always t;
+  rests = λ _. tt;
+}
+
+-- What is left.
+
+all_drop : {X : Type 0} (P : X → Type 0) (n : ℕ) (xs : List X) → AllByRecursion P xs → AllByRecursion P (drop n xs)
+all_drop P zero xs all = all
+all_drop P (suc n) [] all = tt
+all_drop P (suc n) (x ∷ xs) all = all_drop P n xs all.1
+
+ordered_drop : {X : Type 0} (R : X → X → Type 0) (n : ℕ) (xs : List X) → IsOrderedBy R xs → IsOrderedBy R (drop n xs)
+ordered_drop R zero xs up = up
+ordered_drop R (suc n) [] up = tt
+ordered_drop R (suc n) (x ∷ xs) up = ordered_drop R n xs up.1
+
+pub left_length : (journals : List JournalView) (places : List ℕ) → length (left_of journals places) ≡ length journals
+left_length [] places = refl
+left_length (journal ∷ journals) [] = refl
+left_length (journal ∷ journals) (place ∷ places) = ap suc (left_length journals places)
+
+pub left_lawful : (journals : List JournalView) (places : List ℕ) → AllByRecursion IsLawful journals → AllByRecursion IsLawful (left_of journals places)
+left_lawful [] places lawful = tt
+left_lawful (journal ∷ journals) [] lawful = lawful
+left_lawful (journal ∷ journals) (place ∷ places) lawful = (
+  record {
+    own = all_drop (IsOf journal.phase journal.worker) place journal.entries lawful.0.own;
+    ascending = ordered_drop (λ (x y : Entry). x.number < y.number) place journal.entries lawful.0.ascending;
+    stars = all_drop (λ (e : Entry). GivesStars e.request) place journal.entries lawful.0.stars;
+  },
+  left_lawful journals places lawful.1,
+)
+
+left_later : (w : ℕ) (journals : List JournalView) (places : List ℕ) → AllByRecursion (λ j. w < j.worker) journals →
+    AllByRecursion (λ j. w < j.worker) (left_of journals places)
+left_later w [] places later = tt
+left_later w (journal ∷ journals) [] later = later
+left_later w (journal ∷ journals) (place ∷ places) later = (later.0, left_later w journals places later.1)
+
+pub left_by_worker : (journals : List JournalView) (places : List ℕ) → AreByWorker journals → AreByWorker (left_of journals places)
+left_by_worker [] places up = tt
+left_by_worker (journal ∷ journals) [] up = up
+left_by_worker (journal ∷ journals) (place ∷ places) up =
+    (left_later journal.worker journals places up.0, left_by_worker journals places up.1)
+
+-- before anything is taken
+pub left_all : (journals : List JournalView) (n : ℕ) → left_of journals (replicate n 0) ≡ journals
+left_all [] n = refl
+left_all (journal ∷ journals) zero = refl
+left_all (journal ∷ journals) (suc n) = ap (λ js. journal ∷ js) (left_all journals n)
+
+-- The i-th journal.
+
+get_drop : {X : Type 0} (xs : List X) (n : ℕ) → slice_get (drop n xs) 0 ≡ slice_get xs n
+get_drop xs zero = refl
+get_drop [] (suc n) = refl
+get_drop (x ∷ xs) (suc n) = get_drop xs n
+
+map_drop : {X Y : Type 0} (f : X → Y) (xs : List X) (n : ℕ) → map f (drop n xs) ≡ drop n (map f xs)
+map_drop f xs zero = refl
+map_drop f [] (suc n) = refl
+map_drop f (x ∷ xs) (suc n) = map_drop f xs n
+
+pub drop_one : {X : Type 0} (xs : List X) (n : ℕ) → drop (n + 1) xs ≡ drop 1 (drop n xs)
+drop_one xs zero = refl
+drop_one [] (suc n) = drop-nil (suc n + 1)
+drop_one (x ∷ xs) (suc n) = let next : suc n + 1 ≡ suc (n + 1) = omega arith in ap (λ k. drop k (x ∷ xs)) next ∙ drop_one xs n
+
+number_left : (journal : JournalView) (place : ℕ) → first_number (record journal { entries = drop place journal.entries }) ≡ number_at place journal
+number_left journal place =
+    ap (λ ns. slice_get ns 0) (map_drop entry_number journal.entries place) ∙ get_drop (map entry_number journal.entries) place
+
+lane_number : (journals : List JournalView) (places : List ℕ) (i : ℕ) (journal : JournalView) → i < length journals → i < length places →
+    journal ≡ get_or journals i journal → get_or (map first_number (left_of journals places)) i None ≡ number_at (get_or places i 0) journal
+lane_number [] places i journal within there is = absurd (omega arith)
+lane_number (j ∷ journals) [] i journal within there is = absurd (omega arith)
+lane_number (j ∷ journals) (place ∷ places) zero journal within there is = number_left j place ∙ ap (number_at place) (sym is)
+lane_number (j ∷ journals) (place ∷ places) (suc i) journal within there is = lane_number journals places i journal (omega arith) (omega arith) is
+
+lane_first : (journals : List JournalView) (places : List ℕ) (i : ℕ) (journal : JournalView) → i < length journals → i < length places →
+    journal ≡ get_or journals i journal → first_of (left_of journals places) i ≡ slice_get journal.entries (get_or places i 0)
+lane_first [] places i journal within there is = absurd (omega arith)
+lane_first (j ∷ journals) [] i journal within there is = absurd (omega arith)
+lane_first (j ∷ journals) (place ∷ places) zero journal within there is =
+    get_drop j.entries place ∙ ap (λ (k : JournalView). slice_get k.entries place) (sym is)
+lane_first (j ∷ journals) (place ∷ places) (suc i) journal within there is = lane_first journals places i journal (omega arith) (omega arith) is
+
+-- a step on
+lane_step : (journals : List JournalView) (places : List ℕ) (i : ℕ) → i < length places →
+    left_of journals (set places i (get_or places i 0 + 1)) ≡ without_first (left_of journals places) i
+lane_step [] places i there = refl
+lane_step (j ∷ journals) [] i there = absurd (omega arith)
+lane_step (j ∷ journals) (place ∷ places) zero there =
+    ap (λ es. record j { entries = es } ∷ left_of journals places) (drop_one j.entries place)
+lane_step (j ∷ journals) (place ∷ places) (suc i) there =
+    ap (λ js. record j { entries = drop place j.entries } ∷ js) (lane_step journals places i (omega arith))
+
+numbers_step : (journals : List JournalView) (places : List ℕ) (i : ℕ) (journal : JournalView) → i < length journals → i < length places →
+    journal ≡ get_or journals i journal →
+    map first_number (left_of journals (set places i (get_or places i 0 + 1)))
+    ≡ set (map first_number (left_of journals places)) i (number_at (get_or places i 0 + 1) journal)
+numbers_step [] places i journal within there is = absurd (omega arith)
+numbers_step (j ∷ journals) [] i journal within there is = absurd (omega arith)
+numbers_step (j ∷ journals) (place ∷ places) zero journal within there is =
+    ap (λ n. n ∷ map first_number (left_of journals places)) (number_left j (place + 1) ∙ ap (number_at (place + 1)) (sym is))
+numbers_step (j ∷ journals) (place ∷ places) (suc i) journal within there is =
+    ap (λ ns. first_number (record j { entries = drop place j.entries }) ∷ ns) (numbers_step journals places i journal (omega arith) (omega arith) is)
+
+-- The step.
+
+module _ (journals : List JournalView) (places : List ℕ) (numbers : List (Option ℕ)) (kept : AreMerging journals places numbers) where
+  taken_length : length (take (length journals) numbers) ≡ length journals
+  taken_length = length-take-le (length journals) numbers (omega (arith, kept.each_number, kept.phase.few))
+
+  -- no number is next
+  pub all_told : ((k : ℕ) → k < length (take (length journals) numbers) → get_or (take (length journals) numbers) k None ≡ None) →
+      merged (left_of journals places) ≡ []
+  all_told none = merged_none (left_of journals places) (λ k within.
+      ap (λ ns. get_or ns k None) (sym kept.are_next) ∙ none k (omega (arith, taken_length, left_length journals places)))
+
+  module _ (i : ℕ) (journal : JournalView) (of : IsLeastOf (take (length journals) numbers) i) (at : journal ≡ get_or journals i journal) where
+    within_journals : i < length journals
+    within_journals = omega (arith, of.least.within, taken_length)
+
+    within_places : i < length places
+    within_places = omega (arith, within_journals, kept.each_place, kept.phase.few)
+
+    next_number : number_at (get_or places i 0) journal ≡ Some of.number
+    next_number =
+        sym (lane_number journals places i journal within_journals within_places at)
+        ∙ ap (λ ns. get_or ns i None) (sym kept.are_next) ∙ of.least.is
+
+    pub has_entry : get_or places i 0 < length journal.entries
+    has_entry = omega (
+      arith,
+      slice_get_within (map entry_number journal.entries) (get_or places i 0) of.number next_number,
+      length-map journal.entries entry_number,
+    )
+
+    least_left : IsLeast (map first_number (left_of journals places)) (length (left_of journals places)) i of.number
+    least_left =
+        let here = subst (λ ns. IsLeast ns (length (take (length journals) numbers)) i of.number) kept.are_next of.least in
+        subst (λ n. IsLeast (map first_number (left_of journals places)) n i of.number) (taken_length ∙ sym (left_length journals places)) here
+
+    -- the entry is the first of those left, and the others are left
+    pub one_told : (e : Entry) → slice_get journal.entries (get_or places i 0) ≡ Some e →
+        merged (left_of journals places) ≡ e ∷ merged (left_of journals (set places i (get_or places i 0 + 1)))
+    one_told e is =
+        let numbered : Some e.number ≡ Some of.number =
+        sym (ap (option_map entry_number) is) ∙ sym (slice_get-map entry_number journal.entries (get_or places i 0)) ∙ next_number in
+        let same : of.number ≡ e.number = cc in
+        merged_taken (left_of journals places) i e (left_by_worker journals places kept.phase.by_worker)
+        (left_lawful journals places kept.phase.lawful)
+        (lane_first journals places i journal within_journals within_places at ∙ is)
+        (subst (IsLeast (map first_number (left_of journals places)) (length (left_of journals places)) i) same least_left)
+        ∙ ap (λ js. e ∷ merged js) (sym (lane_step journals places i within_places))
+
+    pub merging_on : (number : Option ℕ) → number ≡ number_at (get_or places i 0 + 1) journal →
+        AreMerging journals (set places i (get_or places i 0 + 1)) (set numbers i number)
+    merging_on number is = record {
+      phase = kept.phase;
+      each_place = length-set places i (get_or places i 0 + 1) ∙ kept.each_place;
+      each_number = length-set numbers i number ∙ kept.each_number;
+      are_next = take-set-lt (length journals) numbers i number within_journals ∙ ap (λ ns. set ns i number) kept.are_next
+          ∙ ap (set (map first_number (left_of journals places)) i) is
+          ∙ sym (numbers_step journals places i journal within_journals within_places at);
+    }

@@ -1,0 +1,5 @@
+use Rattle.worker_journals.proofs.LeastLemmas.{LeastSoFar}
+use Rattle.worker_journals.proofs.merging.least_of.Given as goal
+
+abbrev pub invariant-loop-i : goal.invariant-loop-i
+invariant-loop-i l = LeastSoFar l.numbers l.i l.least

@@ -1,0 +1,177 @@
+-- What a journal keeps beside its heads, and what a head says with it.
+use Rattle.std.specs.Prelude.{◌≡◌, ℕ, pos, ◌+◌, ◌-◌, ◌<◌, ◌≤◌, List, [], ◌∷◌, ◌++◌, ⊤, None, length, take, drop, slice_index_or}
+use Rattle.auction_rows.specs.declared.requests.Facts.{Facts}
+use Rattle.auction_rows.specs.declared.requests.Request.{Request}
+use Rattle.auction_rows.specs.declared.requests.Request.TheVariants.{StoreItem, StoreBid, StoreComment, BuyNow, ViewItem, ViewBids, ViewCategory, ViewUser}
+use Rattle.auction_rows.specs.declared.replies.BidShown.{BidShown}
+use Rattle.auction_rows.specs.declared.replies.ItemShown.{ItemShown}
+use Rattle.auction_rows.specs.declared.replies.Reply.{Reply}
+use Rattle.auction_rows.specs.declared.replies.Reply.TheVariants.{ItemStored, BidStored, CommentStored, Bought, ItemSeen, BidsSeen, CategorySeen, UserSeen, Refused}
+use Rattle.worker_journals.specs.declared.heads.ShortRequest.{ShortRequest}
+use Rattle.worker_journals.specs.declared.heads.ShortRequest.TheVariants as ask
+use Rattle.worker_journals.specs.declared.heads.ShortReply.{ShortReply}
+use Rattle.worker_journals.specs.declared.heads.ShortReply.TheVariants as told
+use Rattle.worker_journals.specs.declared.heads.ItemSeen.{ItemSeen as SeenItem}
+use Rattle.worker_journals.specs.declared.heads.UserSeen.{UserSeen as SeenUser}
+
+-- the side lists of a journal: the facts that its requests store, and what its views show;
+-- and for how many commits more there is room
+pub record SideLists : Type 0 where
+  pub facts : List Facts
+  pub items : List SeenItem
+  pub users : List SeenUser
+  pub bids : List BidShown
+  pub latest : List ItemShown
+  pub left : ℕ
+
+-- side lists before the first commit
+abbrev pub no_sides : ℕ → SideLists
+no_sides room = record { facts = []; items = []; users = []; bids = []; latest = []; left = room }
+
+-- the facts that a request stores, if it does
+abbrev pub facts_in : Request → List Facts
+facts_in (StoreItem facts time) = facts ∷ []
+facts_in (StoreBid bidder item amount time) = []
+facts_in (StoreComment author about item stars) = []
+facts_in (BuyNow buyer item quantity time) = []
+facts_in (ViewItem item) = []
+facts_in (ViewBids item) = []
+facts_in (ViewCategory category) = []
+facts_in (ViewUser user) = []
+
+-- what a reply shows of each kind
+abbrev pub items_in : Reply → List SeenItem
+items_in (ItemStored id) = []
+items_in (BidStored id) = []
+items_in (CommentStored id) = []
+items_in (Bought id) = []
+items_in (ItemSeen seller category name start closes highest bidder bids left) =
+    record { seller = seller; category = category; name = name; left = left; start = start; closes = closes; bids = bids; highest = highest; bidder = bidder } ∷ []
+items_in (BidsSeen bids) = []
+items_in (CategorySeen items) = []
+items_in (UserSeen rating comments) = []
+items_in (Refused reason) = []
+
+abbrev pub users_in : Reply → List SeenUser
+users_in (ItemStored id) = []
+users_in (BidStored id) = []
+users_in (CommentStored id) = []
+users_in (Bought id) = []
+users_in (ItemSeen seller category name start closes highest bidder bids left) = []
+users_in (BidsSeen bids) = []
+users_in (CategorySeen items) = []
+users_in (UserSeen rating comments) = record { rating = rating; comments = comments } ∷ []
+users_in (Refused reason) = []
+
+abbrev pub bids_in : Reply → List BidShown
+bids_in (ItemStored id) = []
+bids_in (BidStored id) = []
+bids_in (CommentStored id) = []
+bids_in (Bought id) = []
+bids_in (ItemSeen seller category name start closes highest bidder bids left) = []
+bids_in (BidsSeen bids) = bids
+bids_in (CategorySeen items) = []
+bids_in (UserSeen rating comments) = []
+bids_in (Refused reason) = []
+
+abbrev pub latest_in : Reply → List ItemShown
+latest_in (ItemStored id) = []
+latest_in (BidStored id) = []
+latest_in (CommentStored id) = []
+latest_in (Bought id) = []
+latest_in (ItemSeen seller category name start closes highest bidder bids left) = []
+latest_in (BidsSeen bids) = []
+latest_in (CategorySeen items) = items
+latest_in (UserSeen rating comments) = []
+latest_in (Refused reason) = []
+
+-- the side lists with what a request stores and a reply shows, each at the end of its list
+abbrev pub with_commit_of : SideLists → Request → Reply → SideLists
+with_commit_of sides request reply = record {
+  facts = sides.facts ++ facts_in request;
+  items = sides.items ++ items_in reply;
+  users = sides.users ++ users_in reply;
+  bids = sides.bids ++ bids_in reply;
+  latest = sides.latest ++ latest_in reply;
+  left = sides.left - 1;
+}
+
+-- what lies at a place; past the end these, which no head says
+abbrev pub facts_at : List Facts → ℕ → Facts
+facts_at facts place =
+    slice_index_or facts place (record { seller = 0; category = 0; name = []; quantity = 0; start = 0; closes = 0 })
+
+abbrev pub item_at : List SeenItem → ℕ → SeenItem
+item_at items place =
+    slice_index_or items place
+    (record { seller = 0; category = 0; name = []; left = 0; start = 0; closes = 0; bids = 0; highest = None; bidder = None })
+
+abbrev pub user_at : List SeenUser → ℕ → SeenUser
+user_at users place = slice_index_or users place (record { rating = pos 0; comments = 0 })
+
+-- what the view of an item or a user shows, as a reply
+abbrev pub item_reply : SeenItem → Reply
+item_reply seen =
+    ItemSeen seen.seller seen.category seen.name seen.start seen.closes seen.highest seen.bidder seen.bids seen.left
+
+abbrev pub user_reply : SeenUser → Reply
+user_reply seen = UserSeen seen.rating seen.comments
+
+-- the request of a head
+abbrev pub request_from : List Facts → ShortRequest → Request
+request_from all (ask.StoreItem facts time) = StoreItem (facts_at all facts) time
+request_from all (ask.StoreBid bidder item amount time) = StoreBid bidder item amount time
+request_from all (ask.StoreComment author about item stars) = StoreComment author about item stars
+request_from all (ask.BuyNow buyer item quantity time) = BuyNow buyer item quantity time
+request_from all (ask.ViewItem item) = ViewItem item
+request_from all (ask.ViewBids item) = ViewBids item
+request_from all (ask.ViewCategory category) = ViewCategory category
+request_from all (ask.ViewUser user) = ViewUser user
+
+-- the reply of a head
+abbrev pub reply_from : List SeenItem → List SeenUser → List BidShown → List ItemShown → ShortReply → Reply
+reply_from items users bids latest (told.ItemStored id) = ItemStored id
+reply_from items users bids latest (told.BidStored id) = BidStored id
+reply_from items users bids latest (told.CommentStored id) = CommentStored id
+reply_from items users bids latest (told.Bought id) = Bought id
+reply_from items users bids latest (told.ItemSeen place) = item_reply (item_at items place)
+reply_from items users bids latest (told.BidsSeen place count) = BidsSeen (take count (drop place bids))
+reply_from items users bids latest (told.CategorySeen place count) = CategorySeen (take count (drop place latest))
+reply_from items users bids latest (told.UserSeen place) = user_reply (user_at users place)
+reply_from items users bids latest (told.Refused reason) = Refused reason
+
+-- the places of a head lie within the lists
+abbrev pub HasRequest : List Facts → ShortRequest → Type 0
+HasRequest all (ask.StoreItem facts time) = facts < length all
+HasRequest all (ask.StoreBid bidder item amount time) = ⊤
+HasRequest all (ask.StoreComment author about item stars) = ⊤
+HasRequest all (ask.BuyNow buyer item quantity time) = ⊤
+HasRequest all (ask.ViewItem item) = ⊤
+HasRequest all (ask.ViewBids item) = ⊤
+HasRequest all (ask.ViewCategory category) = ⊤
+HasRequest all (ask.ViewUser user) = ⊤
+
+abbrev pub HasReply : List SeenItem → List SeenUser → List BidShown → List ItemShown → ShortReply → Type 0
+HasReply items users bids latest (told.ItemStored id) = ⊤
+HasReply items users bids latest (told.BidStored id) = ⊤
+HasReply items users bids latest (told.CommentStored id) = ⊤
+HasReply items users bids latest (told.Bought id) = ⊤
+HasReply items users bids latest (told.ItemSeen place) = place < length items
+HasReply items users bids latest (told.BidsSeen place count) = (count ≤ 10) × (place + count ≤ length bids)
+HasReply items users bids latest (told.CategorySeen place count) = (count ≤ 10) × (place + count ≤ length latest)
+HasReply items users bids latest (told.UserSeen place) = place < length users
+HasReply items users bids latest (told.Refused reason) = ⊤
+
+-- a short request says a request, with the facts that are kept
+pub record SaysRequest (all : List Facts) (short : ShortRequest) (request : Request) : Type 0 where
+  pub within : HasRequest all short
+  pub is : request_from all short ≡ request
+
+-- a short reply says a reply, with what is kept of views
+pub record SaysReply (items : List SeenItem) (users : List SeenUser) (bids : List BidShown) (latest : List ItemShown) (short : ShortReply) (reply : Reply) : Type 0 where
+  pub within : HasReply items users bids latest short
+  pub is : reply_from items users bids latest short ≡ reply
+
+-- a list of such a length and capacity has room for so many more, whose places are numbers of 32 bits
+abbrev pub HasRoom : ℕ → ℕ → ℕ → Type 0
+HasRoom more len capacity = (len + more ≤ capacity) × (len + more ≤ 4294967295)

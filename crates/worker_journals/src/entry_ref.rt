@@ -1,0 +1,112 @@
+//! An entry of a journal, where it lies.
+ghost use Rattle.std.specs.Prelude.{◌≡◌, ◌+◌, ◌<◌, ◌^◌, Some, length, slice_get};
+ghost use Rattle.auction_rows.specs.Choosing.{written_by};
+ghost use Rattle.auction_rows.specs.History.{row_of_entry};
+ghost use Rattle.auction_rows.specs.StoreReplies.{is_refusal, store_reply};
+
+use crate::journal::Journal;
+use auction_rows::{Entry, Object, Request, Row, StoreReply, row_of_store};
+use std::marker::Model;
+
+/// An entry of a journal, where it lies: what is asked of it makes no more than is answered. Contracts see the entry.
+#[derive(Drop)]
+pub struct EntryRef<'a> {
+    journal: &'a Journal,
+    place: usize,
+}
+
+impl<'a> Model for EntryRef<'a> {
+    ghost use Rattle.std.specs.Prelude.{◌<◌, length};
+    ghost use Rattle.auction_rows.specs.declared.rows.Entry.{Entry};
+    ghost use Rattle.worker_journals.specs.Places.{entry_at};
+
+    ghost Value = { Entry };
+
+    ghost view = { λ e. entry_at e.place e.journal.now.entries };
+
+    ghost invariant = { λ e. e.place < length e.journal.now.entries };
+}
+
+impl<'a> EntryRef<'a> {
+    /// That of a journal's entry at a place. The place after it is a `usize` too.
+    pub(crate) fn of(journal: &'a Journal, place: usize) -> EntryRef<'a>
+        requires { place < length journal.now.entries }
+        ensures entry { slice_get journal.now.entries place ≡ Some result }
+        ensures next { place + 1 < 2 ^ 64 }
+    {
+        let _fits = journal.len();
+        EntryRef { journal, place }
+    }
+
+    /// The phase in which it was committed.
+    pub fn phase(&self) -> u64
+        ensures { result ≡ self.now.phase }
+    {
+        let _lawful = self.journal.len();
+        self.journal.phase()
+    }
+
+    /// Its commit number.
+    pub fn number(&self) -> u64
+        ensures { result ≡ self.now.number }
+    {
+        self.journal.number(self.place)
+    }
+
+    /// The worker whose commit it is.
+    pub fn worker(&self) -> u32
+        ensures { result ≡ self.now.worker }
+    {
+        let _lawful = self.journal.len();
+        self.journal.worker()
+    }
+
+    /// The index of its request.
+    pub fn index(&self) -> u32
+        ensures { result ≡ self.now.index }
+    {
+        self.journal.index(self.place)
+    }
+
+    /// What was asked.
+    pub fn request(&self) -> Request
+        ensures { result ≡ self.now.request }
+    {
+        self.journal.request(self.place)
+    }
+
+    /// The reply, where it is one to a store or a refusal: None where it shows what a view asked for.
+    pub fn store_reply(&self) -> Option<StoreReply>
+        ensures { result ≡ store_reply self.now.reply }
+    {
+        self.journal.store_reply(self.place)
+    }
+
+    /// Whether it is refused.
+    pub fn is_refused(&self) -> bool
+        ensures { result ≡ is_refusal self.now.reply }
+    {
+        self.journal.is_refused(self.place)
+    }
+
+    /// The object that it writes, where it is an accepted splittable store.
+    pub fn object_written(&self) -> Option<Object>
+        ensures { result ≡ written_by self.now }
+    {
+        self.journal.object_written(self.place)
+    }
+
+    /// The row that it adds, where it is an accepted store.
+    pub fn row(&self) -> Option<Row>
+        ensures { result ≡ row_of_entry self.now }
+    {
+        row_of_store(self.worker(), self.request(), self.store_reply()?)
+    }
+
+    /// The entry, made whole.
+    pub fn to_entry(&self) -> Entry
+        ensures { result ≡ self.now }
+    {
+        self.journal.to_entry(self.place)
+    }
+}

@@ -1,0 +1,269 @@
+//! The commits of all phases that have closed.
+ghost use Rattle.std.specs.Prelude.{◌≡◌, ℕ, ◌+◌, ◌<◌, ◌^◌, ◌==◌, ◌≤◌, length, map, slice_get, vec_len, OnOk, OnErr, OnSome, IfSome};
+ghost use Rattle.std.specs.List.{AllByRecursion};
+ghost use Rattle.std.specs.Iterator.{YieldsFirst, item_count};
+ghost use Rattle.phase_laws.specs.Order.{part};
+ghost use Rattle.worker_journals.specs.Journals.{IsLawful, closed_journal, entry_worker};
+ghost use Rattle.worker_journals.specs.Merged.{AreByWorker, entries_of, entry_count, merged};
+ghost use Rattle.worker_journals.specs.Histories.{ArePhase, no_history, with_phase};
+
+use crate::entry_ref::EntryRef;
+use crate::journal::Journal;
+use crate::merging::Merging;
+use std::alloc::{AllocError, Global};
+use std::marker::Model;
+
+/// The commits of all phases that have closed: one phase after the other, those of a phase by number, and those of one number
+/// by worker. Contracts see these entries, and the journals of the last phase.
+///
+/// It keeps the journals of each phase as they were written: no entry is copied into it, and the entries are merged while they
+/// are read.
+#[derive(Drop)]
+pub struct History {
+    phases: Vec<Vec<Journal>>,
+    len: usize,
+}
+
+impl Model for History {
+    ghost use Rattle.worker_journals.specs.Histories.{HistoryView, IsHistory, journals_of, shown};
+
+    ghost Value = { HistoryView };
+
+    ghost view = { λ h. shown (journals_of h.phases.items) };
+
+    ghost invariant = { λ h. IsHistory (journals_of h.phases.items) h.len };
+}
+
+impl History {
+    /// No phase.
+    pub fn new(alloc: Global) -> History
+        ensures { result ≡ no_history }
+    {
+        History {
+            phases: Vec::new(alloc),
+            len: 0,
+        }
+    }
+
+    /// Adds a phase at the end, by the journals of its at most 16 workers, in the order of these. Memory that they don't fill is
+    /// given back. Where memory is refused, the history stays as it was; a count of entries past 64 bits is want of memory.
+    pub fn add_phase(&mut self, journals: Vec<Journal>) -> Result<(), AllocError>
+        requires few { vec_len journals ≤ 16 }
+        requires by_worker { AreByWorker journals.items }
+        ensures added { OnOk result (self.new ≡ with_phase self.old journals.items) }
+        ensures lawful { OnOk result (AllByRecursion IsLawful journals.items) }
+        ensures refused { OnErr result (self.new ≡ self.old) }
+    {
+        let count = count_of(&journals).ok_or(AllocError)?;
+        let len = self.len.checked_add(count).ok_or(AllocError)?;
+        let mut journals = journals;
+        close_all(&mut journals);
+        self.phases.push(journals)?;
+        self.len = len;
+        Ok(())
+    }
+
+    /// How many entries there are.
+    pub fn len(&self) -> usize
+        ensures { result ≡ length self.now.entries }
+    {
+        self.len
+    }
+
+    /// Whether there is no entry.
+    pub fn is_empty(&self) -> bool
+        ensures { result ≡ (length self.now.entries == 0) }
+    {
+        self.len == 0
+    }
+
+    /// The journals of the last phase, in the order of their workers: none before the first phase.
+    pub fn last_phase(&self) -> &[Journal]
+        ensures last { result.now ≡ self.now.last }
+        ensures phase { ArePhase result.now }
+    {
+        match self.phases.last() {
+            Some(journals) => journals.as_slice(),
+            None => &[],
+        }
+    }
+
+    /// The last worker with a journal, 0 where there is none: no entry is of a later one.
+    pub fn last_worker(&self) -> u32
+        ensures { AllByRecursion (λ entry. entry.worker ≤ result) self.now.entries }
+    {
+        let mut last = 0;
+        for journals in &self.phases {
+            last = last_of_phase(journals.as_slice(), last);
+        }
+        last
+    }
+
+    /// The entries, one phase after the other, those of a phase by number, and those of one number by worker.
+    pub fn iter(&self) -> Entries<'_>
+        ensures { result ≡ self.now.entries }
+    {
+        Entries {
+            phase: Merging::of(&[]),
+            phases: &self.phases,
+        }
+    }
+
+    /// The entries of the last phase, by number, and those of one number by worker.
+    pub fn last_entries(&self) -> Entries<'_>
+        ensures { result ≡ merged self.now.last }
+    {
+        Entries {
+            phase: Merging::of(self.last_phase()),
+            phases: &[],
+        }
+    }
+
+    /// A worker's entries, in the order in which it committed them.
+    pub fn of_worker(&self, worker: u32) -> WorkerEntries<'_>
+        ensures { result ≡ part entry_worker worker self.now.entries }
+    {
+        WorkerEntries {
+            worker,
+            place: 0,
+            phases: &self.phases,
+        }
+    }
+}
+
+/// The entries of a history that are left. It takes no memory.
+#[derive(Drop)]
+pub struct Entries<'a> {
+    phase: Merging<'a>,
+    phases: &'a [Vec<Journal>],
+}
+
+impl<'a> Model for Entries<'a> {
+    ghost use Rattle.std.specs.Prelude.{List, ◌++◌};
+    ghost use Rattle.std.specs.List.{AllByRecursion};
+    ghost use Rattle.auction_rows.specs.declared.rows.Entry.{Entry};
+    ghost use Rattle.worker_journals.specs.Histories.{ArePhase, entries_in, journals_of};
+
+    ghost Value = { List Entry };
+
+    ghost view = { λ e. e.phase ++ entries_in (journals_of e.phases.now) };
+
+    ghost invariant = { λ e. AllByRecursion ArePhase (journals_of e.phases.now) };
+}
+
+impl<'a> Iterator for Entries<'a> {
+    type Item = EntryRef<'a>;
+
+    ghost next_gives = { YieldsFirst (λ left. left) };
+
+    ghost remaining = { item_count (λ left. left) };
+
+    fn next(&mut self) -> Option<EntryRef<'a>> {
+        while let Some((first, rest)) = self.phases.split_first() {
+            if let Some(entry) = self.phase.next() {
+                return Some(entry);
+            }
+            self.phase = Merging::of(first.as_slice());
+            self.phases = rest;
+        }
+        self.phase.next()
+    }
+}
+
+/// The entries of a worker that are left of a history. It takes no memory.
+#[derive(Drop)]
+pub struct WorkerEntries<'a> {
+    worker: u32,
+    // The place of the next entry in the worker's journal of the first of these phases.
+    place: usize,
+    phases: &'a [Vec<Journal>],
+}
+
+impl<'a> Model for WorkerEntries<'a> {
+    ghost use Rattle.std.specs.Prelude.{List};
+    ghost use Rattle.auction_rows.specs.declared.rows.Entry.{Entry};
+    ghost use Rattle.worker_journals.specs.Histories.{journals_of};
+    ghost use Rattle.worker_journals.specs.Places.{own_from};
+
+    ghost Value = { List Entry };
+
+    ghost view = { λ e. own_from e.worker e.place (journals_of e.phases.now) };
+}
+
+impl<'a> Iterator for WorkerEntries<'a> {
+    type Item = EntryRef<'a>;
+
+    ghost next_gives = { YieldsFirst (λ left. left) };
+
+    ghost remaining = { item_count (λ left. left) };
+
+    fn next(&mut self) -> Option<EntryRef<'a>> {
+        while let Some((first, rest)) = self.phases.split_first() {
+            if let Some(entry) = entry_of(first.as_slice(), self.worker, self.place) {
+                self.place += 1;
+                return Some(entry);
+            }
+            self.place = 0;
+            self.phases = rest;
+        }
+        None
+    }
+}
+
+// The entry at a place of a worker's journal, if there is one.
+fn entry_of(journals: &[Journal], worker: u32, place: usize) -> Option<EntryRef<'_>>
+    ensures entry { result ≡ slice_get (entries_of worker journals.now) place }
+    ensures next { IfSome result (λ _. place + 1 < 2 ^ 64) }
+{
+    for journal in journals {
+        if journal.worker() == worker {
+            return if place < journal.len() {
+                Some(EntryRef::of(journal, place))
+            } else {
+                None
+            };
+        }
+    }
+    None
+}
+
+// The last of a worker and those of these journals.
+fn last_of_phase(journals: &[Journal], before: u32) -> u32
+    ensures { (worker : ℕ) → result ≤ worker →
+        (before ≤ worker) × AllByRecursion (λ journal. journal.worker ≤ worker) journals.now }
+{
+    let mut last = before;
+    for journal in journals {
+        last = later(last, journal.worker());
+    }
+    last
+}
+
+// The later of two workers.
+fn later(worker: u32, other: u32) -> u32
+    ensures first { worker ≤ result }
+    ensures second { other ≤ result }
+{
+    if worker < other { other } else { worker }
+}
+
+// Closes all journals.
+fn close_all(journals: &mut [Journal])
+    ensures { journals.new ≡ map closed_journal journals.old }
+{
+    for journal in journals.iter_mut() {
+        journal.close();
+    }
+}
+
+// How many entries the journals have: None past 64 bits.
+fn count_of(journals: &[Journal]) -> Option<usize>
+    ensures count { IfSome result (λ count. count ≡ entry_count journals.now) }
+    ensures lawful { OnSome result (AllByRecursion IsLawful journals.now) }
+{
+    let mut count: usize = 0;
+    for journal in journals {
+        count = count.checked_add(journal.len())?;
+    }
+    Some(count)
+}

@@ -1,0 +1,357 @@
+//! What a journal keeps beside its heads.
+ghost use Rattle.std.specs.Prelude.{◌≡◌, ◌+◌, ◌<◌, ◌≤◌, ◌++◌, ◌∷◌, [], length, take, drop, option_to_list, vec_len, vec_capacity, IfOk};
+ghost use Rattle.auction_rows.specs.Stars.{GivesStars};
+ghost use Rattle.worker_journals.specs.Sides.{HasRoom, SaysReply, SaysRequest, facts_in, items_in, users_in, bids_in, latest_in, item_reply};
+
+use crate::heads::{ItemSeen, ShortReply, ShortRequest, UserSeen};
+use auction_rows::{BidShown, Facts, ItemShown, Object, Reply, Request, Ten};
+use std::alloc::{AllocError, Global};
+use std::marker::Model;
+
+// Past so many commits the places of bids and items are no numbers of 32 bits.
+const MOST: usize = 400_000_000;
+
+// How many bids or items a view shows at most.
+const SHOWN: usize = 10;
+
+/// The facts that the requests of a journal store, and what its views show, with room for those of `left` commits more.
+#[derive(Drop)]
+pub(crate) struct Sides {
+    facts: Vec<Facts>,
+    items: Vec<ItemSeen>,
+    users: Vec<UserSeen>,
+    bids: Vec<BidShown>,
+    latest: Vec<ItemShown>,
+    left: usize,
+}
+
+impl Model for Sides {
+    ghost use Rattle.std.specs.Prelude.{◌*◌, vec_len, vec_capacity};
+    ghost use Rattle.worker_journals.specs.Sides.{SideLists, HasRoom};
+
+    ghost Value = { SideLists };
+
+    ghost view = { λ s. record { facts = s.facts.items; items = s.items.items; users = s.users.items; bids = s.bids.items; latest = s.latest.items; left = s.left } };
+
+    ghost invariant = { λ s. HasRoom s.left (vec_len s.facts) (vec_capacity s.facts)
+        × HasRoom s.left (vec_len s.items) (vec_capacity s.items)
+        × HasRoom s.left (vec_len s.users) (vec_capacity s.users)
+        × HasRoom (10 * s.left) (vec_len s.bids) (vec_capacity s.bids)
+        × HasRoom (10 * s.left) (vec_len s.latest) (vec_capacity s.latest) };
+}
+
+impl Sides {
+    ghost use Rattle.auction_rows.specs.Choosing.{written_by};
+    ghost use Rattle.auction_rows.specs.History.{commit};
+    ghost use Rattle.worker_journals.specs.Sides.{HasReply, HasRequest, SaysReply, SaysRequest, no_sides, reply_from, request_from, with_commit_of};
+
+    /// Empty lists with room for those of so many commits.
+    pub(crate) fn with_room(alloc: Global, room: usize) -> Result<Sides, AllocError>
+        ensures { IfOk result (λ sides. sides ≡ no_sides room) }
+    {
+        if room > MOST {
+            return Err(AllocError);
+        }
+        Ok(Sides {
+            facts: Vec::with_capacity(alloc, room)?,
+            items: Vec::with_capacity(alloc, room)?,
+            users: Vec::with_capacity(alloc, room)?,
+            bids: Vec::with_capacity(alloc, room * SHOWN)?,
+            latest: Vec::with_capacity(alloc, room * SHOWN)?,
+            left: room,
+        })
+    }
+
+    /// For how many commits more there is room.
+    pub(crate) fn left(&self) -> usize
+        ensures { result ≡ self.now.left }
+    {
+        self.left
+    }
+
+    /// Gives back the memory that is not filled: there is no more room then.
+    pub(crate) fn close(&mut self)
+        ensures { self.new ≡ record self.old { left = 0 } }
+    {
+        self.facts.shrink_to_fit();
+        self.items.shrink_to_fit();
+        self.users.shrink_to_fit();
+        self.bids.shrink_to_fit();
+        self.latest.shrink_to_fit();
+        self.left = 0;
+    }
+
+    /// Keeps what is large of a commit, and gives what is small with the places of the rest. It takes no memory.
+    pub(crate) fn keep(&mut self, request: &Request, reply: &Reply) -> (ShortRequest, ShortReply)
+        requires { 0 < self.old.left }
+        ensures kept { self.new ≡ with_commit_of self.old request.now reply.now }
+        ensures request { SaysRequest self.new.facts result.0 request.now }
+        ensures stars { GivesStars request.now }
+        ensures reply { SaysReply self.new.items self.new.users self.new.bids self.new.latest result.1 reply.now }
+    {
+        let short_request = keep_request(&mut self.facts, request);
+        let short_reply = keep_reply(
+            &mut self.items,
+            &mut self.users,
+            &mut self.bids,
+            &mut self.latest,
+            reply,
+        );
+        self.left -= 1;
+        (short_request, short_reply)
+    }
+
+    /// The request of a head of this journal.
+    pub(crate) fn request(&self, short: ShortRequest) -> Request
+        requires { HasRequest self.now.facts short }
+        ensures { result ≡ request_from self.now.facts short }
+    {
+        match short {
+            ShortRequest::StoreItem(facts, time) => Request::StoreItem {
+                facts: self.facts[facts as usize],
+                time,
+            },
+            ShortRequest::StoreBid(bidder, item, amount, time) => Request::StoreBid {
+                bidder,
+                item,
+                amount,
+                time,
+            },
+            ShortRequest::StoreComment(author, about, item, stars) => Request::StoreComment {
+                author,
+                about,
+                item,
+                stars,
+            },
+            ShortRequest::BuyNow(buyer, item, quantity, time) => Request::BuyNow {
+                buyer,
+                item,
+                quantity,
+                time,
+            },
+            ShortRequest::ViewItem(item) => Request::ViewItem { item },
+            ShortRequest::ViewBids(item) => Request::ViewBids { item },
+            ShortRequest::ViewCategory(category) => Request::ViewCategory { category },
+            ShortRequest::ViewUser(user) => Request::ViewUser { user },
+        }
+    }
+
+    /// The reply of a head of this journal.
+    pub(crate) fn reply(&self, short: ShortReply) -> Reply
+        requires { HasReply self.now.items self.now.users self.now.bids self.now.latest short }
+        ensures { result ≡ reply_from self.now.items self.now.users self.now.bids self.now.latest short }
+    {
+        match short {
+            ShortReply::ItemStored(id) => Reply::ItemStored(id),
+            ShortReply::BidStored(id) => Reply::BidStored(id),
+            ShortReply::CommentStored(id) => Reply::CommentStored(id),
+            ShortReply::Bought(id) => Reply::Bought(id),
+            ShortReply::ItemSeen(place) => item_reply(&self.items[place as usize]),
+            ShortReply::BidsSeen(place, count) => Reply::BidsSeen(part_of(
+                &self.bids, place, count,
+            )),
+            ShortReply::CategorySeen(place, count) => {
+                Reply::CategorySeen(part_of(&self.latest, place, count))
+            }
+            ShortReply::UserSeen(place) => {
+                let seen = self.users[place as usize];
+                Reply::UserSeen {
+                    rating: seen.rating,
+                    comments: seen.comments,
+                }
+            }
+            ShortReply::Refused(reason) => Reply::Refused(reason),
+        }
+    }
+
+    /// The object that a head of this journal writes, where it is an accepted splittable store of the worker.
+    pub(crate) fn object_written(
+        &self,
+        worker: u32,
+        request: ShortRequest,
+        reply: ShortReply,
+    ) -> Option<Object>
+        requires { HasRequest self.now.facts request }
+        ensures { result ≡ written_by (commit worker (request_from self.now.facts request)
+            (reply_from self.now.items self.now.users self.now.bids self.now.latest reply)) }
+    {
+        match (request, reply) {
+            (ShortRequest::StoreItem(facts, _), ShortReply::ItemStored(id))
+                if id.worker == worker => {
+                Some(Object::Category(self.facts[facts as usize].category))
+            }
+            (ShortRequest::StoreBid(_, item, ..), ShortReply::BidStored(id))
+                if id.worker == worker => { Some(Object::Item(item)) }
+            (ShortRequest::StoreComment(_, about, ..), ShortReply::CommentStored(id))
+                if id.worker == worker => { Some(Object::User(about)) }
+            _ => None,
+        }
+    }
+}
+
+// Puts a value at the end of a list, and gives its place. It takes no memory.
+fn keep_one<T>(list: &mut Vec<T>, value: T) -> u32
+    requires { HasRoom 1 (vec_len list.old) (vec_capacity list.old) }
+    ensures place { result ≡ vec_len list.old }
+    ensures kept { list.new.items ≡ list.old.items ++ value ∷ [] }
+    ensures capacity { vec_capacity list.new ≡ vec_capacity list.old }
+{
+    let place = list.len() as u32;
+    list.push_reserved(value);
+    place
+}
+
+// Puts the values that a view shows at the end of a list, and gives the place of the first. It takes no memory.
+fn keep_all<T: Copy>(list: &mut Vec<T>, shown: &Ten<T>) -> u32
+    requires { HasRoom 10 (vec_len list.old) (vec_capacity list.old) }
+    ensures place { result ≡ vec_len list.old }
+    ensures kept { list.new.items ≡ list.old.items ++ shown.now }
+    ensures capacity { vec_capacity list.new ≡ vec_capacity list.old }
+{
+    let start = list.len() as u32;
+    for place in 0..shown.len() {
+        list.push_reserved(shown.get(place).unwrap());
+    }
+    start
+}
+
+// The values of a list from a place on, as a view shows them.
+fn part_of<T: Copy>(list: &[T], place: u32, count: u8) -> Ten<T>
+    requires few { count ≤ 10 }
+    requires within { place + count ≤ length list.now }
+    ensures { result ≡ take count (drop place list.now) }
+{
+    let start = place as usize;
+    let mut shown = Ten::new();
+    for value in &list[start..start + count as usize] {
+        shown.push(*value);
+    }
+    shown
+}
+
+// A request, with the facts that it stores at the end of the facts.
+fn keep_request(all: &mut Vec<Facts>, request: &Request) -> ShortRequest
+    requires { HasRoom 1 (vec_len all.old) (vec_capacity all.old) }
+    ensures kept { all.new.items ≡ all.old.items ++ facts_in request.now }
+    ensures capacity { vec_capacity all.new ≡ vec_capacity all.old }
+    ensures says { SaysRequest all.new.items result request.now }
+    ensures stars { GivesStars request.now }
+{
+    match *request {
+        Request::StoreItem { facts, time } => ShortRequest::StoreItem(keep_one(all, facts), time),
+        Request::StoreBid {
+            bidder,
+            item,
+            amount,
+            time,
+        } => ShortRequest::StoreBid(bidder, item, amount, time),
+        Request::StoreComment {
+            author,
+            about,
+            item,
+            stars,
+        } => {
+            // From -5 to 5.
+            let _known = stars.value();
+            ShortRequest::StoreComment(author, about, item, stars)
+        }
+        Request::BuyNow {
+            buyer,
+            item,
+            quantity,
+            time,
+        } => ShortRequest::BuyNow(buyer, item, quantity, time),
+        Request::ViewItem { item } => ShortRequest::ViewItem(item),
+        Request::ViewBids { item } => ShortRequest::ViewBids(item),
+        Request::ViewCategory { category } => ShortRequest::ViewCategory(category),
+        Request::ViewUser { user } => ShortRequest::ViewUser(user),
+    }
+}
+
+// What the view of an item shows: None of another reply.
+fn item_seen(reply: &Reply) -> Option<ItemSeen>
+    ensures { option_to_list result ≡ items_in reply.now }
+{
+    if let Reply::ItemSeen {
+        seller,
+        category,
+        name,
+        start,
+        closes,
+        highest,
+        bidder,
+        bids,
+        left,
+    } = *reply
+    {
+        return Some(ItemSeen {
+            seller,
+            category,
+            name,
+            left,
+            start,
+            closes,
+            bids,
+            highest,
+            bidder,
+        });
+    }
+    None
+}
+
+// A reply, with what it shows at the end of what views of its kind show.
+fn keep_reply(
+    items: &mut Vec<ItemSeen>,
+    users: &mut Vec<UserSeen>,
+    bids: &mut Vec<BidShown>,
+    latest: &mut Vec<ItemShown>,
+    reply: &Reply,
+) -> ShortReply
+    requires items { HasRoom 1 (vec_len items.old) (vec_capacity items.old) }
+    requires users { HasRoom 1 (vec_len users.old) (vec_capacity users.old) }
+    requires bids { HasRoom 10 (vec_len bids.old) (vec_capacity bids.old) }
+    requires latest { HasRoom 10 (vec_len latest.old) (vec_capacity latest.old) }
+    ensures items { items.new.items ≡ items.old.items ++ items_in reply.now }
+    ensures users { users.new.items ≡ users.old.items ++ users_in reply.now }
+    ensures bids { bids.new.items ≡ bids.old.items ++ bids_in reply.now }
+    ensures latest { latest.new.items ≡ latest.old.items ++ latest_in reply.now }
+    ensures says { SaysReply items.new.items users.new.items bids.new.items latest.new.items result reply.now }
+    ensures capacities { (vec_capacity items.new ≡ vec_capacity items.old) × (vec_capacity users.new ≡ vec_capacity users.old)
+        × (vec_capacity bids.new ≡ vec_capacity bids.old) × (vec_capacity latest.new ≡ vec_capacity latest.old) }
+{
+    if let Some(seen) = item_seen(reply) {
+        return ShortReply::ItemSeen(keep_one(items, seen));
+    }
+    match *reply {
+        Reply::ItemStored(id) => ShortReply::ItemStored(id),
+        Reply::BidStored(id) => ShortReply::BidStored(id),
+        Reply::CommentStored(id) => ShortReply::CommentStored(id),
+        Reply::Bought(id) => ShortReply::Bought(id),
+        Reply::ItemSeen { .. } => unreachable!(),
+        Reply::BidsSeen(shown) => ShortReply::BidsSeen(keep_all(bids, &shown), shown.len() as u8),
+        Reply::CategorySeen(shown) => {
+            ShortReply::CategorySeen(keep_all(latest, &shown), shown.len() as u8)
+        }
+        Reply::UserSeen { rating, comments } => {
+            ShortReply::UserSeen(keep_one(users, UserSeen { rating, comments }))
+        }
+        Reply::Refused(reason) => ShortReply::Refused(reason),
+    }
+}
+
+// What the view of an item shows, as a reply.
+fn item_reply(seen: &ItemSeen) -> Reply
+    ensures { result ≡ item_reply seen.now }
+{
+    Reply::ItemSeen {
+        seller: seen.seller,
+        category: seen.category,
+        name: seen.name,
+        start: seen.start,
+        closes: seen.closes,
+        highest: seen.highest,
+        bidder: seen.bidder,
+        bids: seen.bids,
+        left: seen.left,
+    }
+}
