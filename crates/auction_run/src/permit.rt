@@ -29,6 +29,9 @@ pub(crate) trait Permit<N: PhaseName> {
     /// By the receipt it is not: a call of it met the fault.
     ghost has_stopped: { Task → PermitState → Fault → Type 0 };
 
+    /// How many requests it is to perform.
+    fn requests(&self) -> u64;
+
     /// Does the worker's task. After a fault, which is the first, it performs nothing more.
     fn do_all<R: Wait, G: Gate>(
         &mut self,
@@ -59,6 +62,10 @@ impl<N: PhaseName> Permit<N> for JoinedPermit<N> {
 
     ghost has_stopped = { λ t. HasStopped N.opening (stashed t.permit ++ calls_for t) t.permit };
 
+    fn requests(&self) -> u64 {
+        u64::from(self.left()).saturating_add(self.stashed() as u64)
+    }
+
     fn do_all<R: Wait, G: Gate>(
         &mut self,
         rt: &R,
@@ -85,6 +92,10 @@ impl<N: PhaseName> Permit<N> for SplitPermit<N> {
     ghost is_done = { IsDoneSplit };
 
     ghost has_stopped = { λ t. HasStoppedSplit N.opening (calls_for t) t.permit };
+
+    fn requests(&self) -> u64 {
+        u64::from(self.left())
+    }
 
     fn do_all<R: Wait, G: Gate>(
         &mut self,

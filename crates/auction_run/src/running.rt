@@ -51,8 +51,8 @@ pub struct Outcome {
     pub state: Joined,
 }
 
-/// Performs the scripts of 1 to 16 workers in joined and split phases by turns, from an opening book on, each worker on a
-/// thread of its own in each phase. The history serves the scripts, and replays from the book on an auction of one thread.
+/// Performs the scripts of 1 to 16 workers in joined and split phases by turns, from an opening book on, each worker but
+/// the first on a thread of its own in each phase. The history serves the scripts, and replays from the book on an auction of one thread.
 /// The first four faults are found first, in their order, exactly for their causes. In a phase `Spawn` goes before the fault
 /// of the least worker, and this before that of the close; a fault gives no part of a history.
 pub fn run<R: Threads + Wait + Sync, G: Gate + Sync>(

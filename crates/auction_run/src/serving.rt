@@ -1,4 +1,4 @@
-//! The workers of a phase: each does its task on a thread of its own.
+//! The workers of a phase: each but the first does its task on a thread of its own, but where the phase is short.
 ghost use Rattle.std.specs.Prelude.{◌≡◌, ◌≤◌, Some, length, map, vec_len, vec_capacity, IfOk, IfErr, OnOk};
 ghost use Rattle.std.specs.List.{AllByRecursion, AllZip};
 ghost use Rattle.std.specs.Vec.Iter.{into_iter_items, into_iter_len};
@@ -10,7 +10,7 @@ use crate::fault::RunFault;
 use crate::gate::Gate;
 use crate::permit::Permit;
 use crate::round::Round;
-use crate::threads::{Job, work_all};
+use crate::threads::{Job, work};
 use crate::worker::Post;
 use auction_rows::Request;
 use phase_permits::PermitFault;
@@ -19,6 +19,9 @@ use std::alloc::{AllocError, Global};
 use std::sync::Wait;
 use std::thread::Threads;
 use std::vec::IntoIter;
+
+// A phase of at most so many requests takes no longer on one thread than the start of others takes.
+const SHORT_PHASE: u64 = 256;
 
 /// What a worker gives at the end of a phase: the receipt of its permit, and the fault that stopped it, if any.
 #[derive(Drop)]
@@ -77,8 +80,9 @@ impl<'a, N: PhaseName, P: Permit<N>, R: Wait, G: Gate> Job for WorkerTask<'a, N,
     }
 }
 
-/// Does each worker's task of a round by a thread of its own, and gives their receipts in order. Where a thread can't be
-/// started the fault is Spawn, else that of the least worker that met one; all threads have ended, and all permits are spent.
+/// Does the first worker's task of a round, and each other's by a thread of its own, or all in turn where the round is short and
+/// the gate needs no threads, and gives their receipts in order. Where a thread can't be started the fault is Spawn, else that of
+/// the least worker that met one; all threads have ended, and all permits are spent.
 pub(crate) fn serve_all<N, P, R, G>(
     rt: &R,
     alloc: Global,
@@ -106,9 +110,20 @@ where
         spend_all(permits);
         return Err(RunFault::Memory);
     };
+    let gate = round.gate;
     let own_tasks = own_tasks(rt, alloc, boxes, permits, round)?;
-    let answers = work_all(rt, alloc, own_tasks)?;
+    let in_turn = !gate.needs_threads() && requests_of(&own_tasks) <= SHORT_PHASE;
+    let answers = work(rt, alloc, own_tasks, in_turn)?;
     Ok(receipts_of(answers, room)?)
+}
+
+// How many requests the tasks are to perform.
+fn requests_of<N: PhaseName, P: Permit<N>, R, G>(tasks: &[WorkerTask<'_, N, P, R, G>]) -> u64 {
+    let mut requests = 0u64;
+    for own in tasks {
+        requests = requests.saturating_add(own.permit.requests());
+    }
+    requests
 }
 
 // The task of each worker.

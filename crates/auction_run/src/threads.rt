@@ -1,10 +1,10 @@
-//! Work done by real threads.
-ghost use Rattle.std.specs.Prelude.{◌≡◌, ◌≤◌, length, map, vec_len, vec_capacity, IfOk, IfErr};
+//! Work done in turn, or by real threads.
+ghost use Rattle.std.specs.Prelude.{◌≡◌, ◌≤◌, ◌+◌, ◌++◌, List, length, map, vec_len, vec_capacity, IfOk, IfErr};
 ghost use Rattle.std.specs.List.{AllByRecursion, AllZip};
 ghost use Rattle.auction_run.specs.Threads.{job_of, IsUnstarted};
 
 use crate::fault::RunFault;
-use std::alloc::Global;
+use std::alloc::{AllocError, Global};
 use std::snapshot::Snapshot;
 use std::sync::Wait;
 use std::thread;
@@ -37,9 +37,43 @@ impl<J: Job> Promise<J::Answer> for JobPromise<J> {
     ghost kept_by = { λ promise answer. J.keeps promise.job.value answer };
 }
 
-/// Does each job by a thread of its own, and waits for them all. All memory is asked for before a thread is started. Where
-/// one can't be started, whatever the cause, it and those after it are let go.
-pub(crate) fn work_all<J: Job + Send, R: Threads + Wait + Sync>(
+/// Does the jobs: in turn on the thread that calls, or side by side, each but the first by a thread of its own.
+pub(crate) fn work<J: Job + Send, R: Threads + Wait + Sync>(
+    rt: &R,
+    alloc: Global,
+    jobs: Vec<J>,
+    in_turn: bool,
+) -> Result<Vec<J::Answer>, RunFault>
+where
+    J::Answer: Send + Drop,
+    requires { AllByRecursion J.can_work jobs.items }
+    ensures answers { IfOk result (λ answers. AllZip J.keeps jobs.items answers.items) }
+    ensures fault { IfErr result IsUnstarted }
+{
+    if in_turn {
+        Ok(work_in_turn(alloc, jobs)?)
+    } else {
+        work_all(rt, alloc, jobs)
+    }
+}
+
+// The jobs one after the other, on the thread that calls. All memory is asked for before the first is begun.
+fn work_in_turn<J: Job>(alloc: Global, jobs: Vec<J>) -> Result<Vec<J::Answer>, AllocError>
+where
+    J::Answer: Drop,
+    requires { AllByRecursion J.can_work jobs.items }
+    ensures { IfOk result (λ answers. AllZip J.keeps jobs.items answers.items) }
+{
+    let mut answers = Vec::with_capacity(alloc, jobs.len())?;
+    for job in jobs {
+        answers.push_reserved(job.work());
+    }
+    Ok(answers)
+}
+
+// The first job on the thread that calls, and each other by a thread of its own; it waits for them all. All memory is asked
+// for before a thread is started. Where one can't be started, whatever the cause, it, those after it and the first are let go.
+fn work_all<J: Job + Send, R: Threads + Wait + Sync>(
     rt: &R,
     alloc: Global,
     jobs: Vec<J>,
@@ -59,11 +93,32 @@ where
             requires room { (vec_len room ≡ 0) × (length jobs.items ≤ vec_capacity room) }
             ensures answers { IfOk result (λ answers. AllZip J.keeps jobs.items answers.items) }
             ensures fault { IfErr result IsUnstarted }
-        {
-            let handles = start_all(scope, alloc, jobs)?;
-            Ok(join_all(rt, handles, room))
-        },
+        { work_in(scope, rt, alloc, jobs, room) },
     )
+}
+
+// The first job, with a thread in a scope for each other.
+fn work_in<'s, E: 's, J: Job + Send + 's, R: Threads>(
+    scope: &Scope<'s, E>,
+    rt: &R,
+    alloc: Global,
+    mut jobs: Vec<J>,
+    mut answers: Vec<J::Answer>,
+) -> Result<Vec<J::Answer>, RunFault>
+where
+    J::Answer: Send + Drop + 's,
+    requires can { AllByRecursion J.can_work jobs.items }
+    requires room { (vec_len answers ≡ 0) × (length jobs.items ≤ vec_capacity answers) }
+    ensures answers { IfOk result (λ answers. AllZip J.keeps jobs.items answers.items) }
+    ensures fault { IfErr result IsUnstarted }
+{
+    if jobs.is_empty() {
+        return Ok(answers);
+    }
+    let first = jobs.remove(0);
+    let handles = start_all(scope, alloc, jobs)?;
+    answers.push_reserved(first.work());
+    Ok(join_all(rt, handles, answers))
 }
 
 // A thread for each job.
@@ -97,7 +152,7 @@ where
     Ok(handles)
 }
 
-// What each thread gives, in order.
+// The answers so far, and what each thread gives, in order.
 fn join_all<J: Job, R: Threads>(
     rt: &R,
     handles: Vec<PromisedHandle<J::Answer, JobPromise<J>>>,
@@ -105,9 +160,9 @@ fn join_all<J: Job, R: Threads>(
 ) -> Vec<J::Answer>
 where
     J::Answer: Drop,
-    requires empty { vec_len answers ≡ 0 }
-    requires room { vec_len handles ≤ vec_capacity answers }
-    ensures { AllZip J.keeps (map job_of handles.items) result.items }
+    requires room { vec_len answers + vec_len handles ≤ vec_capacity answers }
+    ensures { (done : List J) → AllZip J.keeps done answers.items →
+        AllZip J.keeps (done ++ map job_of handles.items) result.items }
 {
     for handle in handles {
         answers.push_reserved(handle.join(rt));

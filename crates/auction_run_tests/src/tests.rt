@@ -178,9 +178,10 @@ fn items_come_before_users_and_these_before_categories(rt: HostRuntime) -> Resul
 }
 
 #[test]
-fn free_gate_lets_pass(_rt: HostRuntime) -> Result<(), Fail> {
+fn free_gate_lets_pass_and_needs_no_threads(rt: HostRuntime) -> Result<(), Fail> {
     FreeGate.arrive(1, 2, 3);
     FreeGate.leave(1, 2, 3);
+    assert!(rt; !FreeGate.needs_threads());
     Ok(())
 }
 

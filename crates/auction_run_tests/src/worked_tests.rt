@@ -387,11 +387,21 @@ fn workers_run_side_by_side(rt: HostRuntime) -> Result<(), Fail> {
     let first_waits = Meeting::new([true, false], true);
     let second_waits = Meeting::new([false, true], true);
     for (gate, met) in [(&side_by_side, 15), (&first_waits, 5), (&second_waits, 10)] {
+        assert!(rt; gate.needs_threads());
         let outcome = run_of(&rt, rt.alloc(), &scripts, 1, 1, gate)?;
         assert_same(&rt, &outcome.history.len(), &4);
         assert_same(&rt, &gate.met.load(Ordering::SeqCst), &met);
     }
     Ok(())
+}
+
+// A gate that only asks for threads.
+struct Threaded;
+
+impl Gate for Threaded {
+    fn arrive(&self, _phase: u64, _worker: u32, _index: u32) {}
+
+    fn leave(&self, _phase: u64, _worker: u32, _index: u32) {}
 }
 
 // Whether each entry has the reply that the plain program gives from the rows of the entries before it.
@@ -413,14 +423,15 @@ fn is_replayed(alloc: Global, history: &History) -> Result<bool, Fail> {
 }
 
 // How many entries a run with these quotas has, all of them replayed: None where some are not.
-fn count_replayed<R: Threads + Wait + Sync>(
+fn count_replayed<R: Threads + Wait + Sync, G: Gate + Sync>(
     rt: &R,
     alloc: Global,
     scripts: &[&[Request]],
-    joined_quota: u32,
-    split_quota: u32,
+    quotas: (u32, u32),
+    gate: &G,
 ) -> Result<Option<usize>, Fail> {
-    let outcome = run_of(rt, alloc, scripts, joined_quota, split_quota, &FreeGate)?;
+    let (joined_quota, split_quota) = quotas;
+    let outcome = run_of(rt, alloc, scripts, joined_quota, split_quota, gate)?;
     let replayed = is_replayed(alloc, &outcome.history)?;
     Ok(replayed.then_some(outcome.history.len()))
 }
@@ -451,10 +462,12 @@ fn histories_replay_on_the_plain_program(rt: HostRuntime) -> Result<(), Fail> {
         VIEW,
     ];
     let third = [bid(3, 40, 5), LOOK, bid(3, 45, 5), buy, bid(3, 50, 6), VIEW];
-    for (joined, split) in [(1, 1), (2, 3), (3, 2), (6, 1), (1, 5)] {
+    for quotas in [(1, 1), (2, 3), (3, 2), (6, 1), (1, 5)] {
         let scripts = [first.as_slice(), second.as_slice(), third.as_slice()];
-        let replayed = count_replayed(&rt, alloc, &scripts, joined, split)?;
-        assert_same(&rt, &replayed, &Some(18));
+        let side_by_side = count_replayed(&rt, alloc, &scripts, quotas, &Threaded)?;
+        assert_same(&rt, &side_by_side, &Some(18));
+        let in_turn = count_replayed(&rt, alloc, &scripts, quotas, &FreeGate)?;
+        assert_same(&rt, &in_turn, &Some(18));
     }
     Ok(())
 }

@@ -1,5 +1,7 @@
+pub mod KindLemmas
 pub mod ListedLemmas
 pub mod NameLemmas
+pub mod NumberLemmas
 pub mod NumberedLemmas
 pub mod PartLemmas
 pub mod RecordsLeft
@@ -7,3 +9,4 @@ pub mod ReplyOrder
 pub mod RowsFirst
 pub mod SoFar
 pub mod SortLemmas
+pub mod StoredReplies

@@ -1,38 +1,46 @@
 //! What one field of a record says.
-ghost use Rattle.std.specs.Prelude.{◌≡◌, ◌≤◌, ◌<◌, ◌^◌, true, length, IfSome, MatchOption};
+ghost use Rattle.std.specs.Prelude.{◌≡◌, ◌≤◌, ◌<◌, ◌^◌, true, false, length, IfSome, MatchOption};
 ghost use Rattle.std.specs.List.{list_all, position};
 ghost use Rattle.std.specs.Char.{is_ascii_digit};
 ghost use Rattle.std.specs.Str.Parse.{digits_value};
-ghost use Rattle.auction_text.specs.Fields.{is_numeral, is_point, item_id, name, number, quantity, stars};
+ghost use Rattle.auction_text.specs.Fields.{is_point, item_id, name, number, quantity, stars};
 
 use auction_rows::{ItemId, Name, Quantity, Stars};
 
-fn are_digits(bytes: &[u8]) -> bool
-    ensures { result ≡ list_all is_ascii_digit bytes.now }
-{
-    bytes.iter().all(|byte| byte.is_ascii_digit())
-}
+// A number of so many digits fits in 64 bits.
+const SURE_DIGITS: usize = 19;
 
-fn is_numeral_text(field: &[u8]) -> bool
-    ensures { result ≡ is_numeral field.now }
+// The number that a few digits write; none where a byte is no digit.
+#[tactic(auto, using(crate::proofs::NumberLemmas::next_digit, crate::proofs::NumberLemmas::digits_more))]
+fn short_number(bytes: &[u8]) -> Option<u64>
+    requires { length bytes.now ≤ 19 }
+    ensures { MatchOption result (list_all is_ascii_digit bytes.now ≡ false) (λ n.
+        (list_all is_ascii_digit bytes.now ≡ true) × (n ≡ digits_value 10 bytes.now)) }
 {
-    match field {
-        [] => false,
-        [b'0', rest @ ..] => rest.is_empty(),
-        _ => are_digits(field),
+    let mut value = 0;
+    for byte in bytes {
+        if !byte.is_ascii_digit() {
+            return None;
+        }
+        value = value * 10 + u64::from(*byte - b'0');
     }
+    Some(value)
 }
 
-// The number that digits write; none where it doesn't fit.
-fn digits_number(digits: &[u8]) -> Option<u64>
-    requires { list_all is_ascii_digit digits.now ≡ true }
-    ensures { MatchOption result (2 ^ 64 ≤ digits_value 10 digits.now) (λ n. n ≡ digits_value 10 digits.now) }
+// The number that digits write; none where it doesn't fit or a byte is no digit.
+#[cold]
+#[inline(never)]
+#[tactic(auto, using(crate::proofs::NumberLemmas::next_digit, crate::proofs::NumberLemmas::digits_more))]
+fn long_number(bytes: &[u8]) -> Option<u64>
+    ensures { MatchOption result (list_all is_ascii_digit bytes.now ≡ true → 2 ^ 64 ≤ digits_value 10 bytes.now) (λ n.
+        (list_all is_ascii_digit bytes.now ≡ true) × (n ≡ digits_value 10 bytes.now)) }
 {
     let mut value = 0u64;
-    for digit in digits {
-        value = value
-            .checked_mul(10)?
-            .checked_add(u64::from(*digit - b'0'))?;
+    for byte in bytes {
+        if !byte.is_ascii_digit() {
+            return None;
+        }
+        value = value.checked_mul(10)?.checked_add(u64::from(*byte - b'0'))?;
     }
     Some(value)
 }
@@ -41,10 +49,12 @@ fn digits_number(digits: &[u8]) -> Option<u64>
 pub fn read_u64(field: &[u8]) -> Option<u64>
     ensures { result ≡ number 64 field.now }
 {
-    if !is_numeral_text(field) {
-        return None;
+    match field {
+        [b'0'] => Some(0),
+        [] | [b'0', ..] => None,
+        _ if field.len() <= SURE_DIGITS => short_number(field),
+        _ => long_number(field),
     }
-    digits_number(field)
 }
 
 /// A number of 32 bits, with no sign and no leading zero.

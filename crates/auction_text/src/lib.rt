@@ -11,6 +11,7 @@ mod replies;
 mod report;
 mod row_lines;
 mod scripts;
+mod short_text;
 mod text;
 mod text_laws;
 mod writing;

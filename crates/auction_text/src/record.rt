@@ -1,7 +1,7 @@
 //! One record: a worker's request, or a row, or the first fault.
 ghost use Rattle.std.specs.Prelude.{◌≡◌, ◌<◌, IfOk};
 ghost use Rattle.csv.specs.Records.{fields_of};
-ghost use Rattle.auction_text.specs.Records.{checked, field, item_at, kind_in, name_at, number_at, put_up, quantity_at, read_record, request_of, stars_at};
+ghost use Rattle.auction_text.specs.Records.{field, item_at, kind_in, name_at, number_at, put_up, quantity_at, read_record, request_of, stars_at};
 
 use crate::faults::{Cause, ReadFault};
 use crate::fields::{read_item_id, read_name, read_quantity, read_stars, read_u32, read_u64};
@@ -73,6 +73,8 @@ fn put_up(fields: &ByteRecord) -> Result<Quantity, Cause>
     }
 }
 
+// Apart from the others, which write fewer fields: their requests can stay in registers.
+#[inline(never)]
 fn store_item(fields: &ByteRecord) -> Result<Request, Cause>
     ensures { result ≡ request_of RequestKind.Item (fields_of fields.now) }
 {
@@ -191,26 +193,6 @@ fn kind_in(fields: &ByteRecord) -> Result<Kind, Cause>
     kind_named(field_of(fields, 1)).ok_or(Cause::Kind)
 }
 
-// What a record of this worker says; `begun` tells whether a request stands before it.
-fn checked(fields: &ByteRecord, worker: u32, begun: bool) -> Result<Record, Cause>
-    ensures value { result ≡ checked begun worker (fields_of fields.now) }
-    ensures worker { IfOk result (λ said. said.worker ≡ worker) }
-{
-    let kind = kind_in(fields)?;
-    if kind.is_row && begun {
-        return Err(Cause::Late);
-    }
-    if !has_count(kind.request, fields.len()) {
-        return Err(Cause::Fields);
-    }
-    let request = request_of(kind.request, fields)?;
-    Ok(Record {
-        is_row: kind.is_row,
-        worker,
-        request,
-    })
-}
-
 /// What the record with the number `place` says, or its first fault. `begun` tells whether a request
 /// stands before it: a row is late then.
 pub fn read_record(
@@ -228,8 +210,22 @@ pub fn read_record(
     if worker >= workers {
         return Err(ReadFault::Worker(place));
     }
-    match checked(fields, worker, begun) {
-        Ok(said) => Ok(said),
+    let kind = match kind_in(fields) {
+        Ok(kind) => kind,
+        Err(cause) => return Err(ReadFault::Line(place, cause)),
+    };
+    if kind.is_row && begun {
+        return Err(ReadFault::Line(place, Cause::Late));
+    }
+    if !has_count(kind.request, fields.len()) {
+        return Err(ReadFault::Line(place, Cause::Fields));
+    }
+    match request_of(kind.request, fields) {
+        Ok(request) => Ok(Record {
+            is_row: kind.is_row,
+            worker,
+            request,
+        }),
         Err(cause) => Err(ReadFault::Line(place, cause)),
     }
 }

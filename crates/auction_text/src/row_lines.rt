@@ -5,7 +5,8 @@ ghost use Rattle.auction_rows.specs.History.{row_of_entry, rows_of};
 ghost use Rattle.auction_text.specs.Replies.{lines};
 ghost use Rattle.auction_text.specs.RowLines.{bid_row_text, buy_row_text, byte_in_quotes, comment_row_text, item_row_text, offer_text, quoted, row_line, row_text, terms_text};
 
-use crate::text::{push_labelled, push_labelled_id, push_number, push_signed, push_text};
+use crate::short_text::ShortText;
+use crate::text::{push_number, push_text};
 use auction_rows::{BidRow, BuyRow, CommentRow, Facts, ItemRow, Row};
 use std::alloc::AllocError;
 use worker_journals::{EntryRef, History};
@@ -40,19 +41,23 @@ fn push_quoted(text: &mut Vec<u8>, bytes: &[u8]) -> Result<(), AllocError>
 fn push_offer(text: &mut Vec<u8>, facts: &Facts) -> Result<(), AllocError>
     ensures { OnOk result (text.new.items ≡ text.old.items ++ offer_text facts.now) }
 {
-    push_labelled(text, b",+item,", u64::from(facts.seller))?;
-    push_labelled(text, b",", u64::from(facts.category))?;
-    push_text(text, b",")?;
+    let mut offer = ShortText::new();
+    offer.prepend(b",");
+    offer.prepend_labelled(b",", u64::from(facts.category));
+    offer.prepend_labelled(b",+item,", u64::from(facts.seller));
+    push_text(text, offer.bytes())?;
     push_quoted(text, facts.name.bytes())
 }
 
 fn push_terms(text: &mut Vec<u8>, row: &ItemRow) -> Result<(), AllocError>
     ensures { OnOk result (text.new.items ≡ text.old.items ++ terms_text row.now) }
 {
-    push_labelled(text, b",", row.facts.start)?;
-    push_labelled(text, b",", row.facts.closes)?;
-    push_labelled(text, b",", row.time)?;
-    push_labelled(text, b",", u64::from(row.facts.quantity.value()))
+    let mut terms = ShortText::new();
+    terms.prepend_labelled(b",", u64::from(row.facts.quantity.value()));
+    terms.prepend_labelled(b",", row.time);
+    terms.prepend_labelled(b",", row.facts.closes);
+    terms.prepend_labelled(b",", row.facts.start);
+    push_text(text, terms.bytes())
 }
 
 fn push_item_row(text: &mut Vec<u8>, row: &ItemRow) -> Result<(), AllocError>
@@ -66,31 +71,37 @@ fn push_item_row(text: &mut Vec<u8>, row: &ItemRow) -> Result<(), AllocError>
 fn push_bid_row(text: &mut Vec<u8>, row: &BidRow) -> Result<(), AllocError>
     ensures { OnOk result (text.new.items ≡ text.old.items ++ bid_row_text row.now) }
 {
-    push_number(text, u64::from(row.id.worker))?;
-    push_labelled(text, b",+bid,", u64::from(row.bidder))?;
-    push_labelled_id(text, b",", row.item.worker, row.item.serial)?;
-    push_labelled(text, b",", row.amount)?;
-    push_labelled(text, b",", row.time)
+    let mut line = ShortText::new();
+    line.prepend_labelled(b",", row.time);
+    line.prepend_labelled(b",", row.amount);
+    line.prepend_id(b",", row.item.worker, row.item.serial);
+    line.prepend_labelled(b",+bid,", u64::from(row.bidder));
+    line.prepend_number(u64::from(row.id.worker));
+    push_text(text, line.bytes())
 }
 
 fn push_comment_row(text: &mut Vec<u8>, row: &CommentRow) -> Result<(), AllocError>
     ensures { OnOk result (text.new.items ≡ text.old.items ++ comment_row_text row.now) }
 {
-    push_number(text, u64::from(row.id.worker))?;
-    push_labelled(text, b",+comment,", u64::from(row.author))?;
-    push_labelled(text, b",", u64::from(row.about))?;
-    push_labelled_id(text, b",", row.item.worker, row.item.serial)?;
-    push_signed(text, b",", row.stars.value())
+    let mut line = ShortText::new();
+    line.prepend_signed(b",", row.stars.value());
+    line.prepend_id(b",", row.item.worker, row.item.serial);
+    line.prepend_labelled(b",", u64::from(row.about));
+    line.prepend_labelled(b",+comment,", u64::from(row.author));
+    line.prepend_number(u64::from(row.id.worker));
+    push_text(text, line.bytes())
 }
 
 fn push_buy_row(text: &mut Vec<u8>, row: &BuyRow) -> Result<(), AllocError>
     ensures { OnOk result (text.new.items ≡ text.old.items ++ buy_row_text row.now) }
 {
-    push_number(text, u64::from(row.id.worker))?;
-    push_labelled(text, b",+buynow,", u64::from(row.buyer))?;
-    push_labelled_id(text, b",", row.item.worker, row.item.serial)?;
-    push_labelled(text, b",", u64::from(row.quantity.value()))?;
-    push_labelled(text, b",", row.time)
+    let mut line = ShortText::new();
+    line.prepend_labelled(b",", row.time);
+    line.prepend_labelled(b",", u64::from(row.quantity.value()));
+    line.prepend_id(b",", row.item.worker, row.item.serial);
+    line.prepend_labelled(b",+buynow,", u64::from(row.buyer));
+    line.prepend_number(u64::from(row.id.worker));
+    push_text(text, line.bytes())
 }
 
 fn push_row(text: &mut Vec<u8>, row: &Row) -> Result<(), AllocError>

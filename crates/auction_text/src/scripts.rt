@@ -65,18 +65,15 @@ fn empty_input(alloc: Global, workers: u32) -> Result<Input, ReadFault>
 }
 
 // Puts a row at the end of the rows, and a request at the end of its worker's script.
-fn add_record(input: &mut Input, said: Record) -> Result<(), ReadFault>
-    requires { said.worker < vec_len input.old.scripts }
-    ensures adds { OnOk result (asked_by input.new ≡ with_record said (asked_by input.old)) }
+fn add_record(input: &mut Input, said: &Record) -> Result<(), ReadFault>
+    requires { said.now.worker < vec_len input.old.scripts }
+    ensures adds { OnOk result (asked_by input.new ≡ with_record said.now (asked_by input.old)) }
     ensures count { vec_len input.new.scripts ≡ vec_len input.old.scripts }
     ensures fails { IfErr result (λ fault. IsInputFault fault → ⊥) }
 {
-    let Record {
-        is_row,
-        worker,
-        request,
-    } = said;
-    let refused = if is_row {
+    let worker = said.worker;
+    let request = said.request;
+    let refused = if said.is_row {
         input.rows.push(Opened { worker, request }).is_err()
     } else {
         let script = &mut input.scripts[worker as usize];
@@ -119,7 +116,7 @@ pub fn read_scripts<R: Read + Drop>(
         }
         let said = read_record(&fields, workers, count + 1, begun)?;
         begun |= !said.is_row;
-        add_record(&mut input, said)?;
+        add_record(&mut input, &said)?;
     }
     if read_next(&mut records, &mut fields)? {
         return Err(ReadFault::Long);

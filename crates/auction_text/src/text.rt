@@ -1,7 +1,6 @@
 //! A text that is made in memory.
 ghost use Rattle.std.specs.Prelude.{◌≡◌, ◌++◌, OnOk, decimal};
-ghost use Rattle.std.specs.Fmt.{signed_decimal};
-ghost use Rattle.auction_text.specs.Replies.{id_text, labelled, labelled_id, labelled_optional, optional_text};
+ghost use Rattle.auction_text.specs.Replies.{labelled, labelled_id};
 
 use itoa::Buffer;
 use std::alloc::AllocError;
@@ -20,49 +19,12 @@ pub fn push_number(text: &mut Vec<u8>, number: u64) -> Result<(), AllocError>
     text.extend_from_slice(Buffer::new().format(number).as_bytes())
 }
 
-/// Adds a label and a number that may be negative.
-pub fn push_signed(text: &mut Vec<u8>, label: &[u8], number: i64) -> Result<(), AllocError>
-    ensures { OnOk result (text.new.items ≡ text.old.items ++ (label.now ++ signed_decimal number)) }
-{
-    push_text(text, label)?;
-    text.extend_from_slice(Buffer::new().format(number).as_bytes())
-}
-
-fn push_optional(text: &mut Vec<u8>, number: Option<u64>) -> Result<(), AllocError>
-    ensures { OnOk result (text.new.items ≡ text.old.items ++ optional_text number) }
-{
-    match number {
-        Some(number) => push_number(text, number),
-        None => push_text(text, b"-"),
-    }
-}
-
-fn push_id(text: &mut Vec<u8>, worker: u32, serial: u32) -> Result<(), AllocError>
-    ensures { OnOk result (text.new.items ≡ text.old.items ++ id_text worker serial) }
-{
-    push_number(text, u64::from(worker))?;
-    push_text(text, b".")?;
-    push_number(text, u64::from(serial))
-}
-
 /// Adds a label and a number.
 pub fn push_labelled(text: &mut Vec<u8>, label: &[u8], number: u64) -> Result<(), AllocError>
     ensures { OnOk result (text.new.items ≡ text.old.items ++ labelled label.now number) }
 {
     push_text(text, label)?;
     push_number(text, number)
-}
-
-/// Adds a label and a number, or `-` where there is none.
-pub fn push_labelled_optional(
-    text: &mut Vec<u8>,
-    label: &[u8],
-    number: Option<u64>,
-) -> Result<(), AllocError>
-    ensures { OnOk result (text.new.items ≡ text.old.items ++ labelled_optional label.now number) }
-{
-    push_text(text, label)?;
-    push_optional(text, number)
 }
 
 /// Adds a label and an id: a worker, a point and a serial.
@@ -74,6 +36,6 @@ pub fn push_labelled_id(
 ) -> Result<(), AllocError>
     ensures { OnOk result (text.new.items ≡ text.old.items ++ labelled_id label.now worker serial) }
 {
-    push_text(text, label)?;
-    push_id(text, worker, serial)
+    push_labelled(text, label, u64::from(worker))?;
+    push_labelled(text, b".", u64::from(serial))
 }

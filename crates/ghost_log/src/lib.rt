@@ -5,6 +5,7 @@ ghost use Rattle.std.specs.Prelude.{◌≡◌, List, [], ◌∷◌, ◌++◌};
 ghost use Rattle.std.specs.Borrow.{ftrue};
 
 use std::marker::{Model, PhantomData};
+use std::snapshot::Snapshot;
 
 /// A list of pairs that stands in proofs alone: it has no bytes, and its methods do nothing at run time.
 #[derive(Drop)]
@@ -18,7 +19,7 @@ impl<A, B> Model for Log<A, B> {
 }
 
 // It owns nothing.
-unsafe impl<A: Send, B: Send> Send for Log<A, B> {}
+unsafe impl<A, B> Send for Log<A, B> {}
 
 impl<A, B> Log<A, B> {
     /// The empty list.
@@ -33,5 +34,28 @@ impl<A, B> Log<A, B> {
         ensures { result.items ≡ self.now.items ++ (first.now, second.now) ∷ [] }
     {
         Log { of: PhantomData }
+    }
+}
+
+/// A value that stands in proofs alone: it has no bytes. Contracts see the value.
+#[derive(Drop)]
+pub struct Ghost<T> {
+    of: Snapshot<T>,
+}
+
+impl<T> Model for Ghost<T> {
+    ghost Value = { T };
+
+    ghost view = { λ g. g.of.value };
+}
+
+impl<T> Ghost<T> {
+    /// What a reference shows.
+    pub fn of(value: &T) -> Ghost<T>
+        ensures { result ≡ value.now }
+    {
+        Ghost {
+            of: Snapshot::of(value),
+        }
     }
 }

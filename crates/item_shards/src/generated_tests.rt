@@ -108,9 +108,9 @@ fn shard_with(alloc: Global, number: u32, rows: &[Row]) -> Result<Shard, Fail>
     let mut shard = Shard::new(alloc, number, 3, OPENING)?;
     for row in rows {
         for (object, act) in acts_of(row) {
-            if let Act::AddItem(id, _) = act {
-                if shard.has(Object::Item(id)) {
-                    shard.prepare_item(id)?;
+            if let Act::AddItem(id, _) = &act {
+                if shard.has(Object::Item(*id)) {
+                    shard.prepare_item(*id)?;
                 }
             }
             if shard.has(object) {

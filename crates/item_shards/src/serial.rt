@@ -129,7 +129,7 @@ impl SerialAuction {
             result ≡ refusal (opening_of self.now) book request }
     {
         let request = &request;
-        if let Some(reason) = number_refusal(self.shard.opening, *request) {
+        if let Some(reason) = number_refusal(self.shard.parts.opening, *request) {
             return Some(reason);
         }
         let item = item_of(*request)?;

@@ -16,20 +16,20 @@ impl Shard {
     pub(crate) fn has(&self, object: Object) -> bool
         ensures { IsTrue result → LiesIn self.now object }
     {
-        shard_of(object, self.shards) == self.number
+        shard_of(object, self.parts.shards) == self.parts.number
     }
 
     fn has_room(&self, item: ItemId) -> bool
         ensures { result ≡ rooms self.now item }
     {
-        self.items.contains_key(&item)
+        self.parts.items.contains_key(&item)
     }
 
     fn bids_of(&self, item: ItemId) -> u64
         requires { LiesIn self.now (Item item) }
         ensures { result ≡ (shelf self.now (Item item)).bids.bids }
     {
-        match self.items.get(&item) {
+        match self.parts.items.get(&item) {
             Some(record) => record.bids.bids.value(),
             None => 0,
         }
@@ -57,7 +57,7 @@ impl Shard {
         match *act {
             Act::AddItem(item, _) => self.has(Object::Item(item)) && self.has_room(item),
             Act::ListItem(category, _) => {
-                self.has(Object::Category(category)) && category < self.opening.categories
+                self.has(Object::Category(category)) && category < self.parts.opening.categories
             }
             Act::Bid(item, _) => {
                 self.has(Object::Item(item))
@@ -66,7 +66,7 @@ impl Shard {
             }
             Act::Comment(user, stars) => {
                 self.has(Object::User(user))
-                    && user < self.opening.users
+                    && user < self.parts.opening.users
                     && self.rating_of(user).checked_add(stars.value()).is_some()
                     && self.comments_of(user) < u64::MAX
             }
@@ -86,7 +86,7 @@ impl Shard {
             if !self.can_act(act) {
                 return Err(Fail::from("an act that can't be done"));
             }
-            self.act(*act);
+            self.act(act);
         }
         Ok(())
     }
@@ -118,7 +118,7 @@ impl Shard {
 
     pub(crate) fn merge_comments(&mut self, user: u32, slice: UserSlice) -> Result<(), Fail> {
         if self.has(Object::User(user))
-            && user < self.opening.users
+            && user < self.parts.opening.users
             && self
                 .rating_of(user)
                 .checked_add(slice.rating.value())
@@ -133,7 +133,7 @@ impl Shard {
     }
 
     pub(crate) fn merge_items(&mut self, category: u32, slice: CategorySlice) -> Result<(), Fail> {
-        if self.has(Object::Category(category)) && category < self.opening.categories {
+        if self.has(Object::Category(category)) && category < self.parts.opening.categories {
             self.merge_category(category, slice);
             return Ok(());
         }

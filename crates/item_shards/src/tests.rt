@@ -5,6 +5,7 @@ use auction_rows::{
     BidEntry, BidId, BidShown, Facts, ItemEntry, ItemId, ItemShown, Name, Object, Opening,
     Quantity, Refusal, Reply, Request, Stars, Ten,
 };
+use ghost_log::Ghost;
 use split_records::Splittable;
 use std::alloc::Global;
 use std::process::Abort;
@@ -135,7 +136,8 @@ fn stored_vase(rt: HostRuntime) -> Result<(), Fail> {
     let mut shard = with_vase(rt.alloc(), 10, 1)?;
     let vase = vase(10, 1)?;
     let vase = &vase;
-    shard.play(&[Act::Look(Shown::Left(FIRST, Some((*vase, 1))))])?;
+    let left = Ghost::of(&Some((*vase, 1)));
+    shard.play(&[Act::Look(Shown::Left(FIRST, left))])?;
     if !shard.has(Object::Item(FIRST)) {
         return Err(Fail::from("the item lies elsewhere"));
     }

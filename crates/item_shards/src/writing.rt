@@ -28,8 +28,8 @@ impl Shard {
                     id: row.id,
                 };
                 self.prepare_item(row.id)?;
-                self.act(Act::AddItem(row.id, row.facts));
-                self.act(Act::ListItem(row.facts.category, entry));
+                self.act(&Act::AddItem(row.id, row.facts));
+                self.act(&Act::ListItem(row.facts.category, entry));
             }
             Row::Bid(row) => {
                 let entry = BidEntry {
@@ -38,10 +38,10 @@ impl Shard {
                     id: row.id,
                     bidder: row.bidder,
                 };
-                self.act(Act::Bid(row.item, entry));
+                self.act(&Act::Bid(row.item, entry));
             }
-            Row::Comment(row) => self.act(Act::Comment(row.about, row.stars)),
-            Row::Buy(row) => self.act(Act::Buy(row.item, row.quantity)),
+            Row::Comment(row) => self.act(&Act::Comment(row.about, row.stars)),
+            Row::Buy(row) => self.act(&Act::Buy(row.item, row.quantity)),
         }
         Ok(())
     }

@@ -2,6 +2,7 @@
 use Rattle.std.specs.Prelude.{◌≡◌, ℕ, Option, MatchOption}
 use Rattle.auction_rows.specs.declared.ids.BidEntry.{BidEntry}
 use Rattle.auction_rows.specs.declared.ids.BidId.{BidId}
+use Rattle.auction_rows.specs.declared.replies.Refusal.{Refusal}
 use Rattle.auction_rows.specs.declared.replies.Reply.{Reply}
 use Rattle.auction_rows.specs.declared.replies.Reply.TheVariants.{BidStored, CommentStored, Refused}
 use Rattle.auction_rows.specs.declared.requests.Facts.{Facts}
@@ -28,14 +29,15 @@ IsBidReply desk stock bid answer =
 abbrev pub comment_request : Comment → Request
 comment_request comment = StoreComment comment.author comment.about comment.item comment.stars
 
--- the reply to a comment on a stored item: the worker's next id, or the reason
-abbrev pub IsCommentReply : DeskState → Comment → Reply → Type 0
-IsCommentReply desk comment answer =
-    MatchOption (number_refusal desk.opening (comment_request comment)) (answer ≡ CommentStored (record { worker = desk.journal.worker; serial = desk.counters.comments }))
-    (λ reason. answer ≡ Refused reason)
+-- the reply to a comment that is refused for this reason, if any: the worker's next id, or the reason
+abbrev pub IsCommentReplyIf : DeskState → Option Refusal → Reply → Type 0
+IsCommentReplyIf desk refused answer =
+    MatchOption refused (answer ≡ CommentStored (record { worker = desk.journal.worker; serial = desk.counters.comments })) (λ reason. answer ≡ Refused reason)
 
--- the reply to a comment by what was seen of its item: the worker's next id, or the reason
+-- the reply to a comment on a stored item
+abbrev pub IsCommentReply : DeskState → Comment → Reply → Type 0
+IsCommentReply desk comment answer = IsCommentReplyIf desk (number_refusal desk.opening (comment_request comment)) answer
+
+-- the reply to a comment by what was seen of its item
 abbrev pub IsCommentReplyBy : DeskState → Option (Facts × ℕ) → Comment → Reply → Type 0
-IsCommentReplyBy desk stock comment answer =
-    MatchOption (refusal_by desk.opening stock (comment_request comment)) (answer ≡ CommentStored (record { worker = desk.journal.worker; serial = desk.counters.comments }))
-    (λ reason. answer ≡ Refused reason)
+IsCommentReplyBy desk stock comment answer = IsCommentReplyIf desk (refusal_by desk.opening stock (comment_request comment)) answer

@@ -3,15 +3,15 @@ ghost use Rattle.std.specs.Prelude.{◌≡◌, ◌<◌, ◌+◌};
 
 use crate::desk::Desk;
 use crate::found::Found;
-use crate::slices::Slices;
 use crate::split::{Comment, SplitDesk};
-use auction_rows::{Facts, ItemId, Object, Reply, Request};
+use auction_rows::{Facts, ItemId, Object, Refusal, Reply, Request};
 
 impl SplitDesk {
     ghost use Rattle.auction_rows.specs.declared.ids.Object.TheVariants.{Item, User};
     ghost use Rattle.auction_rows.specs.Replies.{row_of};
     ghost use Rattle.item_shards.specs.Writing.{writes_if};
     ghost use Rattle.phase_desks.specs.Bids.{comment_request, IsCommentReplyBy};
+    ghost use Rattle.phase_desks.specs.Deeds.{refusal_by};
     ghost use Rattle.phase_desks.specs.Desks.{after_commit, with_one_less};
     ghost use Rattle.phase_desks.specs.Slicing.{stocks_of, stock_of, after_acts};
     ghost use Rattle.phase_desks.specs.Splits.{IsHot};
@@ -60,15 +60,17 @@ impl SplitDesk {
         self.desk.commit(number, index, request, reply, found);
     }
 
-    /// Commits a comment about a hot user, at a number after the clock, by what was found of its item on a shard: the
-    /// user's slice has it where it is accepted. It takes no memory.
+    /// Commits a comment about a hot user, at a number after the clock, by what was found of its item on a shard, which may
+    /// refuse it: the user's slice has it where it is accepted. It takes no memory.
     pub fn commit_comment(
         &mut self,
         number: u64,
         index: u32,
         comment: &Comment,
+        refused: Option<Refusal>,
         found: &Found,
     ) -> Reply
+        requires refused { refused ≡ refusal_by self.old.desk.opening found.now.stock (comment_request comment.now) }
         requires hot { IsHot self.old (User comment.now.about) }
         requires left { 0 < self.old.desk.left }
         requires after { self.old.desk.clock < number }
@@ -83,45 +85,9 @@ impl SplitDesk {
         };
         let reply = self
             .desk
-            .answer_comment_by(&mut self.slices, place, comment, found.stock);
+            .answer_comment(&mut self.slices, place, comment, refused);
         self.desk
             .commit(number, index, &comment.request(), &reply, found);
         reply
-    }
-}
-
-impl Desk {
-    ghost use Rattle.auction_rows.specs.declared.ids.Object.TheVariants.{User};
-    ghost use Rattle.auction_rows.specs.Replies.{row_of};
-    ghost use Rattle.item_shards.specs.Writing.{writes_if};
-    ghost use Rattle.phase_desks.specs.Slicing.{IsAt, AreFew, after_acts};
-    ghost use Rattle.phase_desks.specs.Bids.{comment_request, IsCommentReplyBy};
-
-    // The reply to a comment about the user at a place, by what was seen of its item: it is applied to the user's slice
-    // where it is accepted.
-    fn answer_comment_by(
-        &self,
-        slices: &mut Slices,
-        place: usize,
-        comment: &Comment,
-        stock: Option<(Facts, u32)>,
-    ) -> Reply
-        requires at { IsAt slices.old place (User comment.now.about) }
-        requires few { AreFew self.now.counters.commits slices.old }
-        requires left { 0 < self.now.left }
-        ensures reply { IsCommentReplyBy self.now stock comment.now result }
-        ensures slices { slices.new ≡ after_acts slices.old
-            (writes_if (row_of self.now.journal.worker (comment_request comment.now) result)) }
-        ensures few { AreFew (self.now.counters.commits + 1) slices.new }
-    {
-        let _room = self.left;
-        match self.refusal(&comment.request(), stock) {
-            Some(reason) => Reply::Refused(reason),
-            None => {
-                let _known = comment.stars.value();
-                slices.comment(place, comment.stars);
-                Reply::CommentStored(self.next_comment())
-            }
-        }
     }
 }

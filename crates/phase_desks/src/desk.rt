@@ -242,7 +242,7 @@ impl Desk {
     {
         let number = self.next_number(0)?;
         let reply = Reply::Refused(reason);
-        self.commit(number, index, request, &reply, &Found::NOTHING);
+        self.commit(number, index, request, &reply, &Found::nothing());
         Some(reply)
     }
 

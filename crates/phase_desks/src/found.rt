@@ -1,18 +1,27 @@
 //! What a transaction finds.
+ghost use Rattle.std.specs.Prelude.{◌≡◌};
+
 use auction_rows::Facts;
+use ghost_log::Ghost;
 
 /// What a transaction finds, which proofs alone read: of the item that it needs, if its shard is taken, the facts and
 /// how many are left, where it is stored; and of each shard that is taken the number and the clock.
-#[derive(Clone, Copy, PartialEq, Eq, Debug)]
+#[derive(Drop)]
 pub struct Found {
-    pub stock: Option<(Facts, u32)>,
+    pub stock: Ghost<Option<(Facts, u32)>>,
     pub clocks: [Option<(u32, u64)>; 2],
 }
 
 impl Found {
+    ghost use Rattle.phase_desks.specs.Splits.{nothing};
+
     /// What is found where no shard is taken.
-    pub const NOTHING: Found = Found {
-        stock: None,
-        clocks: [None, None],
-    };
+    pub fn nothing() -> Found
+        ensures { result ≡ nothing }
+    {
+        Found {
+            stock: Ghost::of(&None),
+            clocks: [None, None],
+        }
+    }
 }

@@ -124,6 +124,9 @@ impl Slices {
         ensures at { IfSome result (λ place. IsAt self.now place object) }
         ensures stocked { AllByRecursion IsStocked (stocks_of self.now) }
     {
+        if self.hot.is_empty() {
+            return None;
+        }
         self.hot.get_index_of(&object)
     }
 

@@ -1,5 +1,5 @@
 //! A desk with slices: what a split permit has beside its key.
-ghost use Rattle.std.specs.Prelude.{◌≡◌, ◌≤◌, ◌<◌, ◌+◌, ◌↔◌, [], length, IsNone, IfNone, IfSome};
+ghost use Rattle.std.specs.Prelude.{◌≡◌, ◌≤◌, ◌<◌, ◌+◌, ◌↔◌, [], length, is_some, IsNone, IfNone, IfSome};
 ghost use Rattle.item_shards.specs.CommitNumbers.{last_number};
 
 use crate::counters::Counters;
@@ -109,6 +109,14 @@ impl SplitDesk {
         self.slices.place_of(object).is_some()
     }
 
+    /// The place of an object among those that the slices are of: None exactly where it is not one of them.
+    pub fn place_of(&self, object: Object) -> Option<usize>
+        ensures hot { is_some result ≡ is_hot (objects_of self.now.slices) object }
+        ensures at { IfSome result (λ place. IsAt self.now.slices place object) }
+    {
+        self.slices.place_of(object)
+    }
+
     /// Its parts. No slice has more operations than the worker has commits.
     pub fn open(self) -> (Desk, Slices)
         ensures desk { result.0 ≡ self.desk }
@@ -136,13 +144,35 @@ impl SplitDesk {
         ensures stored { IfSome result (λ reply.
             HasStored self.old self.new (StoreBid bidder item amount time) index reply) }
     {
+        let place = self.slices.place_of(Object::Item(item))?;
+        self.bid_at(place, bidder, item, amount, time, index)
+    }
+
+    /// A bid on a hot item whose place is known: None exactly where the worker's clock is at the end of numbers, and
+    /// then nothing has changed. It takes no shard and no memory.
+    pub fn bid_at(
+        &mut self,
+        place: usize,
+        bidder: u32,
+        item: ItemId,
+        amount: u64,
+        time: u64,
+        index: u32,
+    ) -> Option<Reply>
+        requires at { IsAt self.old.slices place (Item item) }
+        requires hot { IsHot self.old (Item item) }
+        requires left { 0 < self.old.desk.left }
+        ensures none { IsNone result ↔ (last_number ≤ self.old.desk.clock) }
+        ensures unchanged { IfNone result (self.new ≡ self.old) }
+        ensures stored { IfSome result (λ reply.
+            HasStored self.old self.new (StoreBid bidder item amount time) index reply) }
+    {
         let bid = Bid {
             bidder,
             item,
             amount,
             time,
         };
-        let place = self.slices.place_of(Object::Item(item))?;
         self.store_bid(place, &bid, index)
     }
 
@@ -213,7 +243,7 @@ impl SplitDesk {
         let number = self.desk.next_number(0)?;
         let reply = Reply::Refused(reason);
         self.desk
-            .commit(number, index, request, &reply, &Found::NOTHING);
+            .commit(number, index, request, &reply, &Found::nothing());
         Some(reply)
     }
 
@@ -229,7 +259,7 @@ impl SplitDesk {
         let number = self.desk.next_number(0)?;
         let reply = self.desk.answer_bid(&mut self.slices, place, bid);
         self.desk
-            .commit(number, index, &bid.request(), &reply, &Found::NOTHING);
+            .commit(number, index, &bid.request(), &reply, &Found::nothing());
         Some(reply)
     }
 
@@ -246,9 +276,13 @@ impl SplitDesk {
             HasStored self.old self.new (comment_request comment.now) index reply) }
     {
         let number = self.desk.next_number(0)?;
-        let reply = self.desk.answer_comment(&mut self.slices, place, comment);
+        let request = comment.request();
+        let refused = number_refusal(self.desk.opening(), request);
+        let reply = self
+            .desk
+            .answer_comment(&mut self.slices, place, comment, refused);
         self.desk
-            .commit(number, index, &comment.request(), &reply, &Found::NOTHING);
+            .commit(number, index, &request, &reply, &Found::nothing());
         Some(reply)
     }
 }
@@ -258,7 +292,7 @@ impl Desk {
     ghost use Rattle.auction_rows.specs.Replies.{row_of};
     ghost use Rattle.item_shards.specs.Writing.{writes_if};
     ghost use Rattle.phase_desks.specs.Slicing.{IsAt, AreFew, stocks_of, stock_of, after_acts};
-    ghost use Rattle.phase_desks.specs.Bids.{bid_request, comment_request, IsBidReply, IsCommentReply};
+    ghost use Rattle.phase_desks.specs.Bids.{bid_request, comment_request, IsBidReply, IsCommentReplyIf};
 
     // The reply to a bid on the item at a place, which is applied to its slice where it is accepted.
     fn answer_bid(&self, slices: &mut Slices, place: usize, bid: &Bid) -> Reply
@@ -280,20 +314,28 @@ impl Desk {
         }
     }
 
-    // The reply to a comment on a stored item about the user at a place, which is applied to the user's slice where it
-    // is accepted.
-    fn answer_comment(&self, slices: &mut Slices, place: usize, comment: &Comment) -> Reply
+    // The reply to a comment about the user at a place, which is applied to the user's slice where it is accepted.
+    pub(crate) fn answer_comment(
+        &self,
+        slices: &mut Slices,
+        place: usize,
+        comment: &Comment,
+        refused: Option<Refusal>,
+    ) -> Reply
         requires at { IsAt slices.old place (User comment.now.about) }
         requires few { AreFew self.now.counters.commits slices.old }
-        requires limit { self.now.counters.commits < 1000000 }
-        ensures reply { IsCommentReply self.now comment.now result }
+        requires left { 0 < self.now.left }
+        ensures reply { IsCommentReplyIf self.now refused result }
         ensures slices { slices.new ≡ after_acts slices.old
             (writes_if (row_of self.now.journal.worker (comment_request comment.now) result)) }
         ensures few { AreFew (self.now.counters.commits + 1) slices.new }
     {
-        match number_refusal(self.opening, comment.request()) {
+        // Fewer commits than a worker may make.
+        let _room = self.left;
+        match refused {
             Some(reason) => Reply::Refused(reason),
             None => {
+                // From -5 to 5.
                 let _known = comment.stars.value();
                 slices.comment(place, comment.stars);
                 Reply::CommentStored(self.next_comment())

@@ -1,18 +1,23 @@
 -- What the receipts, the boxes and the journals of a phase come to.
-use Rattle.std.proofs.Common.{◌≡◌, ℕ, suc, ◌+◌, ◌<◌, List, [], ◌∷◌, map, length, refl, sym, ap, ◌∙◌, subst, arith}
+use Rattle.std.proofs.Common.{◌≡◌, ℕ, suc, ◌+◌, ◌<◌, List, [], ◌∷◌, map, length, refl, sym, ap, ◌∙◌, subst, arith, ◌++◌, drop}
+use Rattle.std.proofs.Math.Seq.{drop-append_seam}
 use Rattle.std.specs.List.{AllByRecursion}
-use Rattle.std.proofs.lemmas.List.{length-map}
+use Rattle.std.proofs.lemmas.List.{append-nil, length-map}
 use Rattle.std.proofs.Math.ListN.{get_or-map}
 use Rattle.auction_rows.specs.declared.rows.Entry.{Entry}
 use Rattle.phase_laws.specs.Order.{IsAscending, part}
 use Rattle.worker_journals.specs.Journals.{JournalView, entry_number, entry_worker}
-use Rattle.worker_journals.specs.Merged.{AreByWorker, entries_of}
+use Rattle.worker_journals.specs.Merged.{AreByWorker, added, entries_of}
 use Rattle.shard_boxes.specs.Closed.{AreClosed, AreSpent, IsSpent}
 use Rattle.shard_boxes.specs.States.{ShardState}
 use Rattle.phase_transactions.specs.Permits.{PermitState, IsWorth, first_of}
 use Rattle.phase_closing.specs.Phases.{receipt_at, key_of, journal_of, HasClosed}
 use Rattle.phase_floor.specs.Closings.{AreReceiptsOf, phase_of}
 use Rattle.phase_floor.specs.Floors.{FloorState, IsOpen}
+
+-- to a list that stays nothing is added
+pub nothing_added : {X : Type 0} (xs : List X) → xs ≡ xs ++ added xs xs
+nothing_added xs = sym (append-nil xs) ∙ ap (λ t. xs ++ t) (sym (drop-append_seam xs []) ∙ ap (drop (length xs)) (append-nil xs))
 
 -- journals of workers that count up from a number stand in the order of the workers
 all_later : (n : ℕ) (receipts : List PermitState) (from : ℕ) → n < from → ((w : ℕ) → w < length receipts → (journal_of (receipt_at receipts w)).worker ≡ from + w)

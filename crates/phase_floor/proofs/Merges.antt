@@ -54,7 +54,7 @@ room_if true (Some record_there) some = refl
 room_if false found some = absurd (false≢true some)
 
 pub has_room : (shard : Shard) (item : ItemId) → IsSome (shelf shard (Item item)).facts → HasRoom shard item
-has_room shard item some = room_if (shard_of (Item item) (shard_count shard) == shard_number shard) (get same_item shard.items item) some
+has_room shard item some = room_if (shard_of (Item item) (shard_count shard) == shard_number shard) (get same_item shard.parts.value.items item) some
 
 -- the shards with one changed at its place
 pub merged_at : (shards : List Shard) (object : Object) (slice : Slice) (old new : Shard) (place : ℕ) → place ≡ shard_of object (length (map state_of shards)) → state_of old ≡ state_at (map state_of shards) place

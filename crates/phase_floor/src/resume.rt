@@ -129,8 +129,8 @@ fn write(shards: &mut Vec<Shard>, count: u32, row: &Row) -> Result<(), AllocErro
             let place = shard_of(Object::Item(row.id), count) as usize;
             let listed = shard_of(Object::Category(row.facts.category), count) as usize;
             shards[place].prepare_item(row.id)?;
-            shards[place].act(Act::AddItem(row.id, row.facts));
-            shards[listed].act(Act::ListItem(row.facts.category, entry));
+            shards[place].act(&Act::AddItem(row.id, row.facts));
+            shards[listed].act(&Act::ListItem(row.facts.category, entry));
         }
         Row::Bid(row) => {
             let entry = BidEntry {
@@ -140,15 +140,15 @@ fn write(shards: &mut Vec<Shard>, count: u32, row: &Row) -> Result<(), AllocErro
                 bidder: row.bidder,
             };
             let place = shard_of(Object::Item(row.item), count) as usize;
-            shards[place].act(Act::Bid(row.item, entry));
+            shards[place].act(&Act::Bid(row.item, entry));
         }
         Row::Comment(row) => {
             let place = shard_of(Object::User(row.about), count) as usize;
-            shards[place].act(Act::Comment(row.about, row.stars));
+            shards[place].act(&Act::Comment(row.about, row.stars));
         }
         Row::Buy(row) => {
             let place = shard_of(Object::Item(row.item), count) as usize;
-            shards[place].act(Act::Buy(row.item, row.quantity));
+            shards[place].act(&Act::Buy(row.item, row.quantity));
         }
     }
     Ok(())

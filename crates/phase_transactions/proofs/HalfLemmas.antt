@@ -269,7 +269,7 @@ module _ (opening : List ShardState) (split : SplitState) (key back : KeyState) 
   abbrev pub for_item : ℕ
   for_item = shard_of (Item comment.item) (length opening)
 
-  pub item_commits : (new : SplitState) (number : ℕ) (found : Found) (reply : Reply) → HasLooked opening desk key back comment index (number, found)
+  pub item_commits : (new : SplitState) (number : ℕ) (found : Found) (reply : Reply) → HasLooked opening desk key back comment index number found
       → IsCommentReplyBy split.desk found.stock comment reply
       → new.desk ≡ with_one_less (after_commit split.desk number index (comment_request comment) reply found)
       → new.slices ≡ after_acts split.slices (writes_if (row_of split.desk.journal.worker (comment_request comment) reply))
@@ -282,7 +282,7 @@ module _ (opening : List ShardState) (split : SplitState) (key back : KeyState) 
       let user = hot_setting split.slices (User comment.about) hot_user in
       let acted = act_by (refusal_by split.desk.opening found.stock (comment_request comment)) reply stored (CommentOn comment.about comment.stars) answer in
       over_one_commits opening split new key back (comment_request comment) index reply for_item number found (comment_look comment found.stock ∷ Look shown.Nothing ∷ [])
-      (subst (λ (d : DeskState). HasLooked opening d key back comment index (number, found)) same looked)
+      (subst (λ (d : DeskState). HasLooked opening d key back comment index number found) same looked)
       (comment_prints shards split comment reply number index found allowed false true item user)
       (item_owed shards split comment reply number index found allowed item user found.stock acted.0 acted.1)
       committed sliced

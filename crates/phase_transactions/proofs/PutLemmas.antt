@@ -31,19 +31,20 @@ can_next old new first second same room shown can =
     (subst (λ (s : Shelf). CanActOn (opening old) (shard_number old) (shard_count old) (rooms old) s second) (sym shown) can))))
 
 -- the shard after two acts and a number may be put back with their line
-pub may_put : (old one two new : Shard) (taken : ShardState) (number before index : ℕ) (first second : Act) → state_of old ≡ taken → before ≡ clock old
+pub may_put : (old one two new : Shard) (taken : ShardState) (number before index : ℕ) (first second : Act) (acts : List Act) → acts ≡ first ∷ second ∷ [] → state_of old ≡ taken → before ≡ clock old
     → IsSameShard old one → IsSameShard one two → IsSameShard two new
     → shelf one ≡ after_act (shelf old) first → shelf two ≡ after_act (shelf one) second → shelf new ≡ shelf two → clock new ≡ number
     → clock old < number → AreTrueOf (shelf old) (first ∷ second ∷ [])
-    → MayPut taken (state_of new) (Some (record { number = number; before = before; index = index; acts = first ∷ second ∷ [] }))
-may_put old one two new taken number before index first second is found same same' same'' acted acted' kept clocked later looks =
+    → MayPut taken (state_of new) (Some (record { number = number; before = before; index = index; acts = acts }))
+may_put old one two new taken number before index first second acts acts_are is found same same' same'' acted acted' kept clocked later looks =
     let line : Line = record { number = number; before = before; index = index; acts = first ∷ second ∷ [] } in
     let numbers = same''.number ∙ same'.number ∙ same.number in
     let counts = same''.shards ∙ same'.shards ∙ same.shards in
     let openings = same''.opening ∙ same'.opening ∙ same.opening in
     let shelves = kept ∙ acted' ∙ ap (λ (s : Shelf). after_act s second) acted in
     let now : state_of new ≡ after_line (state_of old) line = λ i. record { number = numbers i; shards = counts i; opening = openings i; clock = clocked i; shelf = shelves i } in
-    subst (λ (t : ShardState). MayPut t (state_of new) (Some line)) is (record { found = found; later = later; looks = looks }, now)
+    subst (λ (both : List Act). MayPut taken (state_of new) (Some (record { number = number; before = before; index = index; acts = both }))) (sym acts_are)
+    (subst (λ (t : ShardState). MayPut t (state_of new) (Some line)) is (record { found = found; later = later; looks = looks }, now))
 
 -- the line of acts whose looks are true may follow the shard
 pub line_follows : (taken : ShardState) (shard : Shard) (number index : ℕ) (acts : List Act) → state_of shard ≡ taken → clock shard < number → AreTrueOf (shelf shard) acts

@@ -61,7 +61,7 @@ pub record HasCommentedUser (opening : List ShardState) (desk : DeskState) (old 
       (act ∷ Look shown.Nothing ∷ [])
 
 -- A comment has looked at its item on its shard, and done nothing more there.
-abbrev pub HasLooked : List ShardState → DeskState → KeyState → KeyState → Comment → ℕ → ℕ × Found → Type 0
-HasLooked opening desk old new comment index looked =
+abbrev pub HasLooked : List ShardState → DeskState → KeyState → KeyState → Comment → ℕ → ℕ → Found → Type 0
+HasLooked opening desk old new comment index number found =
     let shard = shard_of (Item comment.item) (length opening) in
-    IsOverOne opening desk.clock old new shard looked.0 index looked.1 (comment_look comment looked.1.stock ∷ Look shown.Nothing ∷ [])
+    IsOverOne opening desk.clock old new shard number index found (comment_look comment found.stock ∷ Look shown.Nothing ∷ [])

@@ -3,7 +3,7 @@ use auction_rows::Reply;
 use phase_desks::Found;
 
 /// What a transaction did on its shards, for the desk to commit.
-#[derive(Clone, Copy)]
+#[derive(Drop)]
 pub(crate) struct Commit {
     pub(crate) number: u64,
     pub(crate) reply: Reply,

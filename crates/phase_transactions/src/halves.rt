@@ -8,6 +8,7 @@ ghost use Rattle.item_shards.specs.CommitNumbers.{last_number};
 ghost use Rattle.item_shards.specs.ShardShelf.{clock};
 ghost use Rattle.shard_boxes.specs.Keys.{holds_at};
 ghost use Rattle.phase_desks.specs.Bids.{comment_request};
+ghost use Rattle.phase_desks.specs.Deeds.{refusal_by};
 ghost use Rattle.phase_desks.specs.Slicing.{objects_of};
 ghost use Rattle.phase_desks.specs.Splits.{IsHot};
 ghost use Rattle.phase_transactions.specs.declared.fault.PermitFault.TheVariants.{NumberFull};
@@ -20,7 +21,8 @@ ghost use Rattle.phase_transactions.specs.Halves.{permit, HasPutUser, IsUntouche
 use crate::commit::Commit;
 use crate::pairs::{alone, answer_comment, look_and};
 use crate::putting::put_with_line;
-use auction_rows::{Facts, Object, Reply, shard_of};
+use auction_rows::{Facts, Object, Refusal, Reply, shard_of};
+use ghost_log::Ghost;
 use item_shards::{Act, Shown};
 use phase_desks::{Comment, Desk, Found, SplitDesk};
 use shard_boxes::{Boxes, Held, Key, PhaseName, sums_fit};
@@ -52,7 +54,7 @@ fn comment_user_at<N: PhaseName, R: Wait>(
     let _known = comment.stars.value();
     sums_fit();
     let (reply, act) = answer_comment(desk, comment, stock);
-    let acts = alone(&act);
+    let acts = alone(act);
     put_with_line(rt, boxes, key, held, number, index, &acts);
     reply
 }
@@ -88,7 +90,7 @@ fn comment_over_user<N: PhaseName, R: Wait>(
     };
     let reply = comment_user_at(rt, boxes, key, desk, comment, stock, held, number, index);
     let found = Found {
-        stock: None,
+        stock: Ghost::of(&None),
         clocks: [Some((user, before)), None],
     };
     Some(Commit {
@@ -98,7 +100,7 @@ fn comment_over_user<N: PhaseName, R: Wait>(
     })
 }
 
-/// What a comment finds of its item on the item's shard, which it takes alone, and its number. None exactly where the
+/// What a comment finds of its item on the item's shard, which it takes alone, with its number and the reason to refuse it, if any. None exactly where the
 /// greater of the worker's clock and the shard's is at the end of numbers, and then nothing has changed but what the key
 /// has seen. It takes no memory.
 fn look_over_item<N: PhaseName, R: Wait>(
@@ -109,13 +111,15 @@ fn look_over_item<N: PhaseName, R: Wait>(
     comment: &Comment,
     item: u32,
     index: u32,
-) -> Option<(u64, Found)>
+) -> Option<(u64, Option<Refusal>, Found)>
     requires of { key.old.boxes ≡ boxes.now }
     requires seats { length key.old.seats ≡ length N.opening }
     requires idle { IsIdle key.old }
     requires item { item ≡ shard_of (Item comment.now.item) (length N.opening) }
     requires known { item < length N.opening }
-    ensures looked { IfSome result (HasLooked N.opening desk.now key.old key.new comment.now index) }
+    ensures looked { IfSome result (λ looked. HasLooked N.opening desk.now key.old key.new comment.now index looked.0 looked.2) }
+    ensures answered { IfSome result (λ looked. looked.1
+        ≡ refusal_by desk.now.opening looked.2.stock (comment_request comment.now)) }
     ensures refused { IfNone result (IsAsBefore N.opening desk.now desk.now key.old key.new item item) }
 {
     let held = boxes.take(rt, key, item);
@@ -125,13 +129,14 @@ fn look_over_item<N: PhaseName, R: Wait>(
         return None;
     };
     let stock = held.shard().stock(comment.item);
-    let acts = look_and(comment, &stock, &Act::Look(Shown::Nothing));
+    let refused = desk.refusal(&comment.request(), stock);
+    let acts = look_and(comment, &stock, Act::Look(Shown::Nothing));
     put_with_line(rt, boxes, key, held, number, index, &acts);
     let found = Found {
-        stock,
+        stock: Ghost::of(&stock),
         clocks: [Some((item, before)), None],
     };
-    Some((number, found))
+    Some((number, refused, found))
 }
 
 /// A comment on a hot item about a user who is not hot, that the opening does not refuse: over the user's shard alone.
@@ -194,6 +199,6 @@ pub(crate) fn comment_about_hot_user<N: PhaseName, R: Wait>(
 {
     let item = shard_of(Object::Item(comment.item), boxes.shards());
     let desk = split.desk();
-    let (number, found) = look_over_item(rt, boxes, key, desk, comment, item, index)?;
-    Some(split.commit_comment(number, index, comment, &found))
+    let (number, refused, found) = look_over_item(rt, boxes, key, desk, comment, item, index)?;
+    Some(split.commit_comment(number, index, comment, refused, &found))
 }

@@ -18,6 +18,7 @@ use crate::fault::PermitFault;
 use crate::pairs::{alone, put_both, put_both_back, take_both};
 use crate::putting::put_with_line;
 use auction_rows::{ItemId, Object, Reply, shard_of};
+use ghost_log::Ghost;
 use item_shards::{Act, Shown, next_number};
 use phase_desks::{Desk, Found, NewItem, SplitDesk};
 use shard_boxes::{Boxes, Held, Key, PhaseName};
@@ -47,7 +48,7 @@ fn add_over_one<N: PhaseName, R: Wait>(
     shard: u32,
     item: &NewItem,
     id: ItemId,
-    second: &Act,
+    second: Act,
     index: u32,
 ) -> Result<(u64, u64), PermitFault>
     requires of { key.old.boxes ≡ boxes.now }
@@ -55,9 +56,9 @@ fn add_over_one<N: PhaseName, R: Wait>(
     requires idle { IsIdle key.old }
     requires known { shard < length N.opening }
     requires home { shard ≡ shard_of (Item id) (length N.opening) }
-    requires second { CanAlwaysDo N.opening shard second.now }
+    requires second { CanAlwaysDo N.opening shard second }
     ensures added { IfOk result (λ at.
-        HasActed N.opening clock key.old key.new shard at.0 at.1 index (adds item.now id ∷ second.now ∷ [])) }
+        HasActed N.opening clock key.old key.new shard at.0 at.1 index (adds item.now id ∷ second ∷ [])) }
     ensures stayed { IfErr result (HasStayed N.opening clock key.old key.new shard shard) }
 {
     let mut held = boxes.take(rt, key, shard);
@@ -70,7 +71,7 @@ fn add_over_one<N: PhaseName, R: Wait>(
         boxes.put(rt, key, held, None);
         return Err(fault);
     }
-    let acts = [Act::AddItem(id, item.facts), *second];
+    let acts = [Act::AddItem(id, item.facts), second];
     put_with_line(rt, boxes, key, held, number, index, &acts);
     Ok((number, before))
 }
@@ -109,8 +110,8 @@ fn add_over_two<N: PhaseName, R: Wait>(
         put_both_back(rt, boxes, key, on_item, on_category);
         return Err(fault);
     }
-    let add = alone(&Act::AddItem(id, item.facts));
-    let list = alone(&Act::ListItem(item.facts.category, item.entry(id)));
+    let add = alone(Act::AddItem(id, item.facts));
+    let list = alone(Act::ListItem(item.facts.category, item.entry(id)));
     put_both(
         rt,
         boxes,
@@ -157,11 +158,11 @@ fn store_over_one<N: PhaseName, R: Wait>(
         shard,
         item,
         id,
-        &list,
+        list,
         index,
     )?;
     let found = Found {
-        stock: None,
+        stock: Ghost::of(&None),
         clocks: [Some((shard, before)), None],
     };
     Ok(Commit {
@@ -207,7 +208,7 @@ fn store_over_two<N: PhaseName, R: Wait>(
         index,
     )?;
     let found = Found {
-        stock: None,
+        stock: Ghost::of(&None),
         clocks: [Some((shards.0, first)), Some((shards.1, second))],
     };
     Ok(Commit {
@@ -316,11 +317,11 @@ pub(crate) fn store_in_hot_category<N: PhaseName, R: Wait>(
         home,
         item,
         id,
-        &nothing,
+        nothing,
         index,
     )?;
     let found = Found {
-        stock: None,
+        stock: Ghost::of(&None),
         clocks: [Some((home, before)), None],
     };
     Ok(split.store_item(number, index, item, &found))

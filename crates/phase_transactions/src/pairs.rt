@@ -19,6 +19,7 @@ ghost use Rattle.phase_transactions.specs.Pairs.{HoldsBoth, HasSameLines, Leaves
 use crate::commit::Commit;
 use crate::putting::put_with_line;
 use auction_rows::{Facts, Object, Reply, shard_of};
+use ghost_log::Ghost;
 use item_shards::{Act, Shown};
 use phase_desks::{Comment, Desk, Found};
 use shard_boxes::{Boxes, Held, Key, PhaseName, sums_fit};
@@ -122,21 +123,22 @@ pub(crate) fn answer_comment(
 }
 
 /// What a comment looks at, and a second act.
-pub(crate) fn look_and(comment: &Comment, seen: &Option<(Facts, u32)>, second: &Act) -> [Act; 2]
-    ensures { result ≡ comment_look comment.now seen.now ∷ second.now ∷ [] }
+pub(crate) fn look_and(comment: &Comment, seen: &Option<(Facts, u32)>, second: Act) -> [Act; 2]
+    ensures { result ≡ comment_look comment.now seen.now ∷ second ∷ [] }
 {
     let facts = match seen {
         Some((facts, _left)) => Some(*facts),
         None => None,
     };
-    [Act::Look(Shown::Facts(comment.item, facts)), *second]
+    let look = Shown::Facts(comment.item, Ghost::of(&facts));
+    [Act::Look(look), second]
 }
 
 /// An act alone.
-pub(crate) fn alone(act: &Act) -> [Act; 2]
-    ensures { result ≡ act.now ∷ Look shown.Nothing ∷ [] }
+pub(crate) fn alone(act: Act) -> [Act; 2]
+    ensures { result ≡ act ∷ Look shown.Nothing ∷ [] }
 {
-    [*act, Act::Look(Shown::Nothing)]
+    [act, Act::Look(Shown::Nothing)]
 }
 
 /// A comment at a number after the clocks of two shards that are as they were taken, that of its item and that of the
@@ -168,8 +170,8 @@ fn comment_at<N: PhaseName, R: Wait>(
     sums_fit();
     let seen = on_item.shard().stock(comment.item);
     let (reply, act) = answer_comment(desk, comment, seen);
-    let looks = look_and(comment, &seen, &Act::Look(Shown::Nothing));
-    let writes = alone(&act);
+    let looks = look_and(comment, &seen, Act::Look(Shown::Nothing));
+    let writes = alone(act);
     put_both(
         rt,
         boxes,
@@ -220,7 +222,7 @@ fn comment_over_two<N: PhaseName, R: Wait>(
     let held = (on_item, on_user);
     let (reply, seen) = comment_at(rt, boxes, key, desk, comment, held, number, index);
     let found = Found {
-        stock: seen,
+        stock: Ghost::of(&seen),
         clocks: [Some((item, first)), Some((user, second))],
     };
     Some(Commit {
@@ -257,7 +259,7 @@ fn comment_in_one<N: PhaseName, R: Wait>(
     sums_fit();
     let seen = held.shard().stock(comment.item);
     let (reply, act) = answer_comment(desk, comment, seen);
-    let acts = look_and(comment, &seen, &act);
+    let acts = look_and(comment, &seen, act);
     put_with_line(rt, boxes, key, held, number, index, &acts);
     (reply, seen)
 }
@@ -295,7 +297,7 @@ fn comment_over_one<N: PhaseName, R: Wait>(
     };
     let (reply, seen) = comment_in_one(rt, boxes, key, desk, comment, held, number, index);
     let found = Found {
-        stock: seen,
+        stock: Ghost::of(&seen),
         clocks: [Some((shard, before)), None],
     };
     Some(Commit {

@@ -9,7 +9,7 @@ ghost use Rattle.shard_boxes.specs.Helds.{taken_at};
 ghost use Rattle.phase_transactions.specs.Putting.{CanDo, line_of, IsPutWith};
 
 use item_shards::Act;
-use shard_boxes::{Boxes, Held, Key, Line, PhaseName};
+use shard_boxes::{Acts, Boxes, Held, Key, Line, PhaseName};
 use std::sync::Wait;
 
 /// Does two acts on a shard that is as it was taken, at a number after its clock, and puts it back with their line.
@@ -34,14 +34,14 @@ pub(crate) fn put_with_line<N: PhaseName, R: Wait>(
     let [first, second] = acts;
     let before = held.shard().clock();
     let shard = held.shard_mut();
-    shard.act(*first);
-    shard.act(*second);
+    shard.act(first);
+    shard.act(second);
     shard.set_clock(number);
     let line = Line {
         number,
         before,
         index,
-        acts: [*first, *second],
+        acts: Acts::of(acts),
     };
     boxes.put(rt, key, held, Some(line));
 }

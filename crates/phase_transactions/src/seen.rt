@@ -12,14 +12,15 @@ ghost use Rattle.phase_desks.specs.Deeds.{SuitsItem, SuitsBids};
 ghost use Rattle.phase_transactions.specs.Single.{only_object, HasSeen};
 
 use auction_rows::{BidEntry, BuyId, Facts, ItemId, Object, Quantity, Refusal, Reply, Request};
+use ghost_log::Ghost;
 use item_shards::{Act, Shard, Shown};
 use phase_desks::Desk;
 
-/// The facts and the number left of the item that a store needs, where it is stored; the reply; and
+/// The facts and the number left of the item that a store needs, where it is stored, for proofs alone; the reply; and
 /// the acts: a look, and what writes.
-#[derive(Clone, Copy)]
+#[derive(Drop)]
 pub(crate) struct Seen {
-    pub(crate) stock: Option<(Facts, u32)>,
+    pub(crate) stock: Ghost<Option<(Facts, u32)>>,
     pub(crate) reply: Reply,
     pub(crate) look: Act,
     pub(crate) write: Act,
@@ -33,9 +34,9 @@ impl Seen {
         ensures { result ≡ view_of object reply.now }
     {
         Seen {
-            stock: None,
+            stock: Ghost::of(&None),
             reply: *reply,
-            look: Act::Look(Shown::Reply(object, *reply)),
+            look: Act::Look(Shown::Reply(object, Ghost::of(reply))),
             write: Act::Look(Shown::Nothing),
         }
     }
@@ -45,9 +46,9 @@ impl Seen {
         ensures { result ≡ refusal_of item stock.now reason }
     {
         Seen {
-            stock: *stock,
+            stock: Ghost::of(stock),
             reply: Reply::Refused(reason),
-            look: Act::Look(Shown::Left(item, *stock)),
+            look: Act::Look(Shown::Left(item, Ghost::of(stock))),
             write: Act::Look(Shown::Nothing),
         }
     }
@@ -111,9 +112,9 @@ fn see_bid(desk: &Desk, shard: &Shard, bidder: u32, item: ItemId, amount: u64, t
         bidder,
     };
     Seen {
-        stock: *stock,
+        stock: Ghost::of(stock),
         reply: Reply::BidStored(id),
-        look: Act::Look(Shown::Left(item, *stock)),
+        look: Act::Look(Shown::Left(item, Ghost::of(stock))),
         write: Act::Bid(item, entry),
     }
 }
@@ -142,9 +143,9 @@ fn see_purchase(
     }
     let id = desk.next_buy();
     Seen {
-        stock: *stock,
+        stock: Ghost::of(stock),
         reply: Reply::Bought(id),
-        look: Act::Look(Shown::Left(item, *stock)),
+        look: Act::Look(Shown::Left(item, Ghost::of(stock))),
         write: Act::Buy(item, quantity),
     }
 }

@@ -7,7 +7,7 @@ ghost use Rattle.phase_transactions.specs.Single.{only_object, HaveOpening, HasD
 
 use crate::commit::Commit;
 use crate::putting::put_with_line;
-use crate::seen::see;
+use crate::seen::{Seen, see};
 use auction_rows::{Object, Reply, Request, shard_of};
 use phase_desks::{Desk, Found};
 use shard_boxes::{Boxes, Key, PhaseName};
@@ -43,16 +43,20 @@ pub(crate) fn transact_on<N: PhaseName, R: Wait>(
         boxes.put(rt, key, held, None);
         return None;
     };
-    let seen = see(desk, held.shard(), request);
-    let acts = [seen.look, seen.write];
-    put_with_line(rt, boxes, key, held, number, index, &acts);
+    let Seen {
+        stock,
+        reply,
+        look,
+        write,
+    } = see(desk, held.shard(), request);
+    put_with_line(rt, boxes, key, held, number, index, &[look, write]);
     let found = Found {
-        stock: seen.stock,
+        stock,
         clocks: [Some((shard, before)), None],
     };
     Some(Commit {
         number,
-        reply: seen.reply,
+        reply,
         found,
     })
 }

@@ -156,16 +156,16 @@ fn perform_single<N: PhaseName, R: Wait>(
         (permit split.old key.old) (permit split.new key.new) request.now NumberFull) }
     ensures untouched { IsUntouched (length N.opening) split.old request.now key.old key.new }
 {
-    if !split.is_hot(object) {
+    let Some(place) = split.place_of(object) else {
         return perform_cold(rt, boxes, key, split, request, object, index);
-    }
+    };
     match *request {
         Request::StoreBid {
             bidder,
             item,
             amount,
             time,
-        } => split.bid_hot(bidder, item, amount, time, index),
+        } => split.bid_at(place, bidder, item, amount, time, index),
         _ => unreachable!(),
     }
 }

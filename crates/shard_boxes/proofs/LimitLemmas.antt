@@ -17,7 +17,8 @@ use Rattle.item_shards.specs.Shelves.{Shelf, changed, with_facts, bid_on, bought
 use Rattle.shard_boxes.specs.declared.line.Line.{Line}
 use Rattle.shard_boxes.specs.States.{ShardState, IsWithin}
 use Rattle.shard_boxes.specs.Lines.{after_line}
-use Rattle.shard_boxes.specs.Limits.{ActGivesStars, SumsFit, IsWellFormed}
+use Rattle.shard_boxes.specs.GivenStars.{ActGivesStars}
+use Rattle.shard_boxes.specs.Limits.{SumsFit, IsWellFormed}
 
 -- counts of at most n, and ratings of at most r away from 0
 record WithinBy (n r : ℕ) (shelf : Shelf) : Type 0 where

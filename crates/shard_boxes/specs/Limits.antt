@@ -5,18 +5,9 @@ use Rattle.std.specs.List.{AllByRecursion}
 use Rattle.auction_rows.specs.declared.ids.Object.TheVariants.{Item, User}
 use Rattle.item_shards.specs.declared.acts.Act.{Act}
 use Rattle.item_shards.specs.declared.acts.Act.TheVariants.{AddItem, ListItem, Bid, Comment, Buy, Look}
-use Rattle.item_shards.specs.Limits.{AreStars}
 use Rattle.item_shards.specs.Shelves.{Shelf}
 use Rattle.shard_boxes.specs.declared.line.Line.{Line}
-
--- the stars that an act gives are from -5 to 5
-abbrev pub ActGivesStars : Act → Type 0
-ActGivesStars (AddItem id facts) = ⊤
-ActGivesStars (ListItem category entry) = ⊤
-ActGivesStars (Bid id entry) = ⊤
-ActGivesStars (Comment user stars) = AreStars stars
-ActGivesStars (Buy id quantity) = ⊤
-ActGivesStars (Look shown) = ⊤
+use Rattle.shard_boxes.specs.GivenStars.{ActGivesStars}
 
 -- the sums that an act makes fit their types
 abbrev pub SumsFit : Shelf → Act → Type 0

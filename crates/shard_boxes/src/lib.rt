@@ -4,6 +4,7 @@
 //! contracts see of each key which lines its worker has put and which list of lines it has seen.
 #![tactic(auto)]
 
+mod acts;
 mod boxes;
 mod close;
 mod held;
@@ -15,6 +16,7 @@ mod phase;
 mod place;
 mod rule;
 
+pub use acts::Acts;
 pub use boxes::Boxes;
 pub use held::Held;
 pub use key::Key;

@@ -1,14 +1,12 @@
 //! What one transaction did on one shard.
-ghost use Rattle.std.specs.Prelude.{◌≡◌, length};
-ghost use Rattle.std.specs.List.{AllByRecursion};
-ghost use Rattle.shard_boxes.specs.Limits.{ActGivesStars, IsWellFormedIfAny};
+ghost use Rattle.shard_boxes.specs.Limits.{IsWellFormedIfAny};
 
-use item_shards::Act;
+use crate::acts::Acts;
 use std::marker::Brand;
 
 /// What one transaction did on one shard: its number, the clock that it found there, its index in the worker's script, and
-/// its acts, with looks at nothing in the places that are left.
-#[derive(Clone, Copy, PartialEq, Eq, Debug)]
+/// its acts.
+#[derive(Drop)]
 pub struct Line {
     /// The number of the commit.
     pub number: u64,
@@ -17,7 +15,7 @@ pub struct Line {
     /// The index of the request in its worker's script.
     pub index: u32,
     /// What was done, in order.
-    pub acts: [Act; 2],
+    pub acts: Acts,
 }
 
 /// Names the line with which a shard is put back.
@@ -39,16 +37,6 @@ pub(crate) fn is_well_formed(line: &Option<Line>)
     ensures { IsWellFormedIfAny line.now }
 {
     if let Some(line) = line {
-        let [first, second] = &line.acts;
-        gives_stars(first);
-        gives_stars(second);
-    }
-}
-
-fn gives_stars(act: &Act)
-    ensures { ActGivesStars act.now }
-{
-    if let Act::Comment(_, stars) = act {
-        let _known = stars.value();
+        line.acts.are_well_formed();
     }
 }

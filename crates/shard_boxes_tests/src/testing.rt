@@ -12,8 +12,9 @@ ghost use Rattle.shard_boxes.specs.Helds.{MayPut};
 ghost use Rattle.shard_boxes.specs.Closed.{IsSpent, AreSpent};
 
 use auction_rows::{ItemId, Opening, Reply, Stars};
+use ghost_log::Ghost;
 use item_shards::{Act, Shard, Shown, next_number};
-use shard_boxes::{Boxes, Held, Key, Line, PhaseName, sums_fit};
+use shard_boxes::{Acts, Boxes, Held, Key, Line, PhaseName, sums_fit};
 use std::alloc::{AllocError, Global};
 use std::marker::Brand;
 use std::sync::Wait;
@@ -45,7 +46,7 @@ fn acts_of(shard: &Shard, item: ItemId, user: u32, stars: Stars) -> [Act; 2]
     ensures { result ≡ Look (Left item (stock (shelf shard.now (Item item)))) ∷ Comment user stars ∷ [] }
 {
     [
-        Act::Look(Shown::Left(item, shard.stock(item))),
+        Act::Look(Shown::Left(item, Ghost::of(&shard.stock(item)))),
         Act::Comment(user, stars),
     ]
 }
@@ -75,7 +76,7 @@ fn comment<N: PhaseName>(
     sums_fit();
     let before = held.shard().clock();
     let acts = acts_of(held.shard(), item, user, stars);
-    let [look, comment] = acts;
+    let [look, comment] = &acts;
     let shard = held.shard_mut();
     shard.act(look);
     shard.act(comment);
@@ -84,7 +85,7 @@ fn comment<N: PhaseName>(
         number,
         before,
         index,
-        acts,
+        acts: Acts::of(&acts),
     }
 }
 

@@ -57,7 +57,7 @@ put_with_line-requires-clause-taken g c =
 
 pub put_with_line-requires-clause-can : goal.put_with_line-requires-clause-can
 put_with_line-requires-clause-can g c =
-    can_add g.N.PhaseName.opening g.N.PhaseName.workers c.take-held.new.key c.args.shard c.take-held.result.shard c.prepare.new.held.shard c.args.item.now c.args.id c.args.second.now
+    can_add g.N.PhaseName.opening g.N.PhaseName.workers c.take-held.new.key c.args.shard c.take-held.result.shard c.prepare.new.held.shard c.args.item.now c.args.id c.args.second
     c.take-held.ensures.history c.prepare.ensures.state c.requires.home c.in_default-prepare.ensures.room c.requires.second
 
 pub put_with_line-requires-clause-looks : goal.put_with_line-requires-clause-looks

@@ -59,5 +59,5 @@ returns-clause-done g c =
           (c.take_both-on_item.ensures.numbers.0 ∙ c.requires.item) (c.take_both-on_item.ensures.numbers.1 ∙ c.requires.user)
           (λ i. comment_line number (first_is i) c.args.index (comment_look comment seen) (Look shown.Nothing))
           (λ i. comment_line number (second_is i) c.args.index c.comment_at-reply.ensures.act (Look shown.Nothing)) put;
-      committed = (λ i. with_one_less (after_commit desk number c.args.index (comment_request comment) reply (found_on_two seen (c.requires.item i, first) (c.requires.user i, second))));
+      committed = (λ i. with_one_less (after_commit desk number c.args.index (comment_request comment) reply (found_on_two (c.of.ensures i) (c.requires.item i, first) (c.requires.user i, second))));
     }

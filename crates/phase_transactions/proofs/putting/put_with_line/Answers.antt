@@ -28,8 +28,8 @@ put-requires-clause-may g c =
     let second = get_or c.args.acts.now 1 c.index-acts-1.result in
     let acts = two_of c.args.acts.now c.index-acts-0.result c.index-acts-1.result c.type_inv.acts in
     let lent = c.shard_mut-shard.ensures.value in
-    may_put old c.act.new.self c.act-2.new.self c.set_clock.new.self _ c.args.number c.clock-before.result c.args.index first second
-    c.requires.taken
+    may_put old c.act.new.self c.act-2.new.self c.set_clock.new.self _ c.args.number c.clock-before.result c.args.index first second c.of.result
+    (c.of.ensures ∙ acts) c.requires.taken
     (c.clock-before.ensures ∙ ap clock c.shard.ensures)
     (subst (λ (s : Shard). IsSameShard s c.act.new.self) lent c.act.ensures.same) c.act-2.ensures.same c.set_clock.ensures.same
     (c.act.ensures.shelf ∙ ap (λ (s : Shard). after_act (shelf s) first) lent) c.act-2.ensures.shelf c.set_clock.ensures.shelf c.set_clock.ensures.clock
@@ -38,14 +38,13 @@ put-requires-clause-may g c =
 
 pub returns : goal.returns
 returns g c =
-    let acts = two_of c.args.acts.now c.index-acts-0.result c.index-acts-1.result c.type_inv.acts in
     record {
       put = c.put.ensures
           ∙ (λ i. putting c.args.key.now c.args.held.number (Some (record {
             number = c.args.number;
             before = (c.clock-before.ensures ∙ ap clock c.shard.ensures) i;
             index = c.args.index;
-            acts = sym acts i;
+            acts = c.of.ensures i;
           })));
       follows = line_follows _ c.args.held.shard c.args.number c.args.index c.args.acts.now c.requires.taken c.requires.later c.requires.looks;
     }

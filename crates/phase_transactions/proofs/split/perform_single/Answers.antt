@@ -1,8 +1,9 @@
-use Rattle.std.proofs.Common.{sym}
+use Rattle.std.proofs.Common.{sym, ap, ◌∙◌}
+use Rattle.std.specs.Prelude.{is_some}
 use Rattle.phase_transactions.proofs.HalfLemmas.{bid_commits}
 use Rattle.phase_transactions.proofs.split.perform_single.Goals as goal
 
 pub returns-clause-committed : goal.returns-clause-committed
 returns-clause-committed g c =
-    bid_commits g.N.PhaseName.opening c.args.split.now c.bid_hot.new.self c.args.key.now c.args.request.now c.args.object c.in-StoreBid.bidder c.in-StoreBid.item c.in-StoreBid.amount c.in-StoreBid.time c.args.index c.bid_hot.result
-    c.in-StoreBid.is c.requires.only (sym c.if-not-is_hot.ensures) c.requires.idle c.bid_hot.ensures.none c.bid_hot.ensures.stored
+    bid_commits g.N.PhaseName.opening c.args.split.now c.bid_at.new.self c.args.key.now c.args.request.now c.args.object c.in-StoreBid.bidder c.in-StoreBid.item c.in-StoreBid.amount c.in-StoreBid.time c.args.index c.bid_at.result
+    c.in-StoreBid.is c.requires.only (sym c.place_of.ensures.hot ∙ ap is_some c.in-Some.is) c.requires.idle c.bid_at.ensures.none c.bid_at.ensures.stored

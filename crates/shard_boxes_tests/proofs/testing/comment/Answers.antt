@@ -1,4 +1,4 @@
-use Rattle.std.proofs.Common.{◌≡◌, ℕ, ◌<◌, ◌%◌, ℤ, List, [], ◌∷◌, slice_index_or, sym, ap, ◌∙◌, subst, arith}
+use Rattle.std.proofs.Common.{◌≡◌, ℕ, ◌<◌, ◌%◌, ℤ, List, [], ◌∷◌, Some, slice_index_or, sym, ap, ◌∙◌, subst, arith}
 use Rattle.auction_rows.specs.declared.ids.ItemId.{ItemId}
 use Rattle.auction_rows.specs.declared.ids.Object.TheVariants.{Item}
 use Rattle.auction_rows.specs.declared.numbers.Opening.{Opening}
@@ -14,6 +14,7 @@ use Rattle.item_shards.specs.Values.{stock}
 use Rattle.shard_boxes.specs.declared.line.Line.{Line}
 use Rattle.shard_boxes.specs.States.{state_of}
 use Rattle.shard_boxes.specs.Lines.{after_line, AreTrueOf}
+use Rattle.shard_boxes.specs.Helds.{MayPut}
 use Rattle.shard_boxes.specs.Limits.{SumsFit}
 use Rattle.shard_boxes.proofs.StateLemmas.{line_done}
 use Rattle.shard_boxes_tests.proofs.testing.comment.Goals as goal
@@ -52,13 +53,14 @@ returns-clause-may g c =
     let acts = c.acts_of-acts.ensures in
     let now = c.args.held.now.shard in
     let item : ItemId = record { worker = c.args.user; serial = 0 } in
-    let line : Line = record { number = c.args.number; before = c.clock-before.result; index = c.args.index; acts = c.acts_of-acts.result } in (
+    let line : List Act → Line = λ of. record { number = c.args.number; before = c.clock-before.result; index = c.args.index; acts = of } in
+    subst (λ of. MayPut (state_of now) (state_of c.set_clock.new.self) (Some (line of))) (sym c.of.ensures) (
       record {
         found = c.clock-before.ensures ∙ ap clock c.shard.ensures;
         later = c.requires.later;
         looks = subst (λ l. AreTrueOf (shelf now) l) (sym acts) (ap (λ s. stock (shelf s (Item item))) c.shard-2.ensures, (tt, tt));
       },
-      line_done held c.act.new.self c.act-2.new.self c.set_clock.new.self (slice_index_or c.acts_of-acts.result 0 c.index-acts-0.result) (slice_index_or c.acts_of-acts.result 1 c.index-acts-1.result) line c.act.ensures.shelf c.act.ensures.same c.act-2.ensures.shelf c.act-2.ensures.same c.set_clock.ensures.clock c.set_clock.ensures.shelf c.set_clock.ensures.same
+      line_done held c.act.new.self c.act-2.new.self c.set_clock.new.self (slice_index_or c.acts_of-acts.result 0 c.index-acts-0.result) (slice_index_or c.acts_of-acts.result 1 c.index-acts-1.result) (line c.acts_of-acts.result) c.act.ensures.shelf c.act.ensures.same c.act-2.ensures.shelf c.act-2.ensures.same c.set_clock.ensures.clock c.set_clock.ensures.shelf c.set_clock.ensures.same
           (two_of c.acts_of-acts.result (Look (Left item (stock (shelf c.shard-2.result.now (Item item))))) (Comment c.args.user c.args.stars) c.index-acts-0.result c.index-acts-1.result acts)
-          ∙ ap (λ s. after_line (state_of s) line) is,
+          ∙ ap (λ s. after_line (state_of s) (line c.acts_of-acts.result)) is,
     )

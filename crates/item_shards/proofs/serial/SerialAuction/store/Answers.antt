@@ -22,7 +22,7 @@ write-requires-clause-can c = λ rooms room.
     let b = c.requires.book in
     let r = c.args.row.now in
     let limits = subst IsWithinLimits (sym (after_own start b r c.requires.goes_on)) (limits_next b r c.requires.holds.limits c.requires.not_full c.requires.stars) in
-    writes_can_be_done start shard.number shard.shards rooms (shelf shard) c.args.self.now.has_all b r c.requires.holds.records c.requires.goes_on limits room
+    writes_can_be_done start shard.parts.value.number shard.parts.value.shards rooms (shelf shard) c.args.self.now.has_all b r c.requires.holds.records c.requires.goes_on limits room
 
 pub returns-in_err-write-clause-refused : goal.returns-in_err-write-clause-refused
 returns-in_err-write-clause-refused c = either_way c.from_residual.result (λ b holds. record {
@@ -47,7 +47,7 @@ returns-clause-stored c = λ b holds not_full.
     let old = c.args.self.now.stored in
     record {
       records = stands_moved shard c.write.new.self (after_acts (shelf shard) (writes_of r)) (b ++ r ∷ []) [] c.write.ensures.same c.in_ok-write.ensures.written
-          (stands_after start shard.number shard.shards (λ id. true) (shelf shard) c.args.self.now.has_all b r holds.records);
+          (stands_after start shard.parts.value.number shard.parts.value.shards (λ id. true) (shelf shard) c.args.self.now.has_all b r holds.records);
       counts = λ w within.
           (λ i. slice_get (set old (c.worker_of-worker.ensures i) ((c.count.ensures ∙ ap (λ v. counted r (get_or old v none)) c.worker_of-worker.ensures) i)) w)
           ∙ counts_next b r old none holds.counts c.requires.worker w within;

@@ -9,5 +9,5 @@ use Rattle.item_shards.proofs.shard.Shard.category_record.Goals as goal
 pub returns : goal.returns
 returns c =
     let shard = c.args.self.now in
-    let read = read_at no_items shard.categories.items _ c.index.result.now (search rules) c.index.ensures in
+    let read = read_at no_items shard.parts.value.categories.items _ c.index.result.now (search rules) (rw (c.deref.ensures, c.deref-2.ensures) at c.index.ensures) in
     sym (ap (λ (value : Value). value.items) (shelf_here shard (Category c.args.category) c.requires.here) ∙ read)

@@ -9,5 +9,5 @@ use Rattle.item_shards.proofs.shard.Shard.user_record.Goals as goal
 pub returns : goal.returns
 returns c =
     let shard = c.args.self.now in
-    let read = read_at no_comments shard.users.items _ c.index.result.now (search rules) c.index.ensures in
+    let read = read_at no_comments shard.parts.value.users.items _ c.index.result.now (search rules) (rw (c.deref.ensures, c.deref-2.ensures) at c.index.ensures) in
     sym (ap (λ (value : Value). value.comments) (shelf_here shard (User c.args.user) c.requires.here) ∙ read)

@@ -28,7 +28,7 @@ pub act-requires-in-Item : goal.act-requires-in-Item
 act-requires-in-Item c =
     let old = c.args.self.now in
     let listed = Category c.in-Item.row.facts.category in
-    let can = subst (λ r. AllByRecursion (CanActOn (opening old) old.number old.shards (λ id. true) (shelf old)) (writes_of r)) c.in-Item.is (c.requires.can (λ id. true) (λ id e here. refl)) in (
+    let can = subst (λ r. AllByRecursion (CanActOn (opening old) old.parts.value.number old.parts.value.shards (λ id. true) (shelf old)) (writes_of r)) c.in-Item.is (c.requires.can (λ id. true) (λ id e here. refl)) in (
       lies_as c.prepare_item.new.self c.act.new.self c.act.ensures.same listed
           (lies_as old c.prepare_item.new.self c.prepare_item.ensures.same listed (c.requires.has_all listed)),
       subst (λ (start : Opening). c.in-Item.row.facts.category < start.categories) (sym (c.act.ensures.same.opening ∙ c.prepare_item.ensures.same.opening)) can.1.0.1,
@@ -37,17 +37,17 @@ act-requires-in-Item c =
 pub act-requires-in-Bid : goal.act-requires-in-Bid
 act-requires-in-Bid c =
     let shard = c.args.self.now in
-    (subst (λ r. AllByRecursion (CanActOn (opening shard) shard.number shard.shards (λ id. true) (shelf shard)) (writes_of r)) c.in-Bid.is (c.requires.can (λ id. true) (λ id e here. refl))).0
+    (subst (λ r. AllByRecursion (CanActOn (opening shard) shard.parts.value.number shard.parts.value.shards (λ id. true) (shelf shard)) (writes_of r)) c.in-Bid.is (c.requires.can (λ id. true) (λ id e here. refl))).0
 
 pub act-requires-in-Comment : goal.act-requires-in-Comment
 act-requires-in-Comment c =
     let shard = c.args.self.now in
-    (subst (λ r. AllByRecursion (CanActOn (opening shard) shard.number shard.shards (λ id. true) (shelf shard)) (writes_of r)) c.in-Comment.is (c.requires.can (λ id. true) (λ id e here. refl))).0
+    (subst (λ r. AllByRecursion (CanActOn (opening shard) shard.parts.value.number shard.parts.value.shards (λ id. true) (shelf shard)) (writes_of r)) c.in-Comment.is (c.requires.can (λ id. true) (λ id e here. refl))).0
 
 pub act-requires-in-Buy : goal.act-requires-in-Buy
 act-requires-in-Buy c =
     let shard = c.args.self.now in
-    (subst (λ r. AllByRecursion (CanActOn (opening shard) shard.number shard.shards (λ id. true) (shelf shard)) (writes_of r)) c.in-Buy.is (c.requires.can (λ id. true) (λ id e here. refl))).0
+    (subst (λ r. AllByRecursion (CanActOn (opening shard) shard.parts.value.number shard.parts.value.shards (λ id. true) (shelf shard)) (writes_of r)) c.in-Buy.is (c.requires.can (λ id. true) (λ id e here. refl))).0
 
 pub returns-in_ok-prepare_item-in-Item-clause-written : goal.returns-in_ok-prepare_item-in-Item-clause-written
 returns-in_ok-prepare_item-in-Item-clause-written c =

@@ -7,8 +7,8 @@ use Rattle.phase_desks.proofs.split.SplitDesk.commit_comment.Goals as goal
 pub invariant_of-self : goal.invariant_of-self
 invariant_of-self c =
     let desk = c.self.inside.desk in
-    let answer = c.answer_comment_by-reply.result in
+    let answer = c.answer_comment-reply.result in
     let kept = c.self.invariant in
-    commit_keeps_split desk c.commit.new.self c.self.inside.slices c.answer_comment_by-reply.new.slices c.args.number c.args.index _ answer c.args.found.now
+    commit_keeps_split desk c.commit.new.self c.self.inside.slices c.answer_comment-reply.new.slices c.args.number c.args.index _ answer c.args.found.now
     (writes_if (row_of desk.journal.worker (comment_request c.args.comment.now) answer)) c.commit.ensures
-    c.answer_comment_by-reply.ensures.slices c.answer_comment_by-reply.ensures.few kept.1 kept.2
+    c.answer_comment-reply.ensures.slices c.answer_comment-reply.ensures.few kept.1 kept.2

@@ -3,7 +3,7 @@ use Rattle.auction_rows.specs.Replies.{row_of}
 use Rattle.item_shards.specs.Writing.{writes_if}
 use Rattle.phase_desks.specs.Bids.{bid_request}
 use Rattle.phase_desks.specs.Desks.{after_commit, with_one_less}
-use Rattle.phase_desks.specs.Splits.{SplitState, HasStored, IsHot, nothing}
+use Rattle.phase_desks.specs.Splits.{SplitState, HasStored, IsHot}
 use Rattle.phase_desks.proofs.DeskLemmas.{next_of_own}
 use Rattle.phase_desks.proofs.AnswerLemmas.{bid_answered, bid_right}
 use Rattle.phase_desks.proofs.StoredLemmas.{commit_keeps_split}
@@ -18,7 +18,7 @@ returns-clause-stored c =
     let number = next_of_own c.self.inside.desk.clock c.in_ok-number.number c.in_ok-number.ensures.number in
     let hot = subst (λ (s : SplitState). IsHot s (Rattle.auction_rows.specs.declared.ids.Object.TheVariants.Item bid.item)) (sym c.self.view_is) c.requires.hot in
     subst (λ (old : SplitState). HasStored old new (bid_request bid) c.args.index answer) c.self.view_is (record {
-      desk = c.commit.ensures ∙ (λ i. with_one_less (after_commit split.desk (number i) c.args.index (c.request.ensures i) answer nothing));
+      desk = c.commit.ensures ∙ (λ i. with_one_less (after_commit split.desk (number i) c.args.index (c.request.ensures i) answer (c.nothing.ensures i)));
       slices = c.answer_bid-reply.ensures.slices;
       answered = bid_answered split bid c.args.index answer hot c.answer_bid-reply.ensures.reply;
       right = bid_right split bid answer hot c.answer_bid-reply.ensures.reply;

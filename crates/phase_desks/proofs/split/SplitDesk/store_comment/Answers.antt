@@ -1,11 +1,12 @@
-use Rattle.std.proofs.Common.{sym, subst, ◌∙◌}
+use Rattle.std.proofs.Common.{sym, ap, subst, ◌∙◌}
 use Rattle.std.specs.List.{AllByRecursion}
 use Rattle.phase_desks.specs.Slicing.{stocks_of, IsStocked}
 use Rattle.auction_rows.specs.Replies.{row_of}
 use Rattle.item_shards.specs.Writing.{writes_if}
-use Rattle.phase_desks.specs.Bids.{comment_request}
+use Rattle.auction_rows.specs.Refusals.{number_refusal}
+use Rattle.phase_desks.specs.Bids.{comment_request, IsCommentReply, IsCommentReplyIf}
 use Rattle.phase_desks.specs.Desks.{after_commit, with_one_less}
-use Rattle.phase_desks.specs.Splits.{SplitState, HasStored, IsHot, nothing}
+use Rattle.phase_desks.specs.Splits.{SplitState, HasStored, IsHot}
 use Rattle.phase_desks.proofs.DeskLemmas.{next_of_own}
 use Rattle.phase_desks.proofs.AnswerLemmas.{comment_answered, comment_right, stock_known}
 use Rattle.phase_desks.proofs.StoredLemmas.{commit_keeps_split}
@@ -20,11 +21,13 @@ returns-clause-stored c =
     let number = next_of_own c.self.inside.desk.clock c.in_ok-number.number c.in_ok-number.ensures.number in
     let hot = subst (λ (s : SplitState). IsHot s (Rattle.auction_rows.specs.declared.ids.Object.TheVariants.Item comment.item)) (sym c.self.view_is) c.requires.item in
     let stored = stock_known c.self.inside.slices comment.item (subst (λ (s : SplitState). AllByRecursion IsStocked (stocks_of s.slices)) (sym c.self.view_is) c.requires.stocked) hot in
+    let replied : IsCommentReply split.desk comment answer = subst (λ refused. IsCommentReplyIf split.desk refused answer)
+    (c.number_refusal-refused.ensures ∙ (λ i. number_refusal (c.opening.ensures i) (c.request-request.ensures i))) c.answer_comment-reply.ensures.reply in
     subst (λ (old : SplitState). HasStored old new (comment_request comment) c.args.index answer) c.self.view_is (record {
-      desk = c.commit.ensures ∙ (λ i. with_one_less (after_commit split.desk (number i) c.args.index (c.request.ensures i) answer nothing));
+      desk = c.commit.ensures ∙ (λ i. with_one_less (after_commit split.desk (number i) c.args.index (c.request-request.ensures i) answer (c.nothing.ensures i)));
       slices = c.answer_comment-reply.ensures.slices;
-      answered = comment_answered split comment c.args.index answer hot stored c.answer_comment-reply.ensures.reply;
-      right = comment_right split comment answer hot stored c.answer_comment-reply.ensures.reply;
+      answered = comment_answered split comment c.args.index answer hot stored replied;
+      right = comment_right split comment answer hot stored replied;
     })
 
 pub invariant_of-self : goal.invariant_of-self

@@ -7,7 +7,7 @@ use Rattle.worker_journals.specs.Merged.{AreByWorker, entries_of, added}
 use Rattle.worker_journals.proofs.AddedLemmas.{added_front, last_merged, added_ascends, added_parts, added_stars}
 use Rattle.phase_closing.specs.Phases.{journal_of}
 use Rattle.phase_floor.specs.Floors.{FloorState, IsOpen}
-use Rattle.phase_floor.proofs.Closings.{in_order, are_spent, has_closed}
+use Rattle.phase_floor.proofs.Closings.{nothing_added, in_order, are_spent, has_closed}
 use Rattle.phase_floor.proofs.floor.JoinedFloor.settle.Goals as goal
 
 pub add_phase-requires-clause-few : goal.add_phase-requires-clause-few
@@ -56,3 +56,7 @@ returns-clause-stars g c =
 pub returns-clause-last : goal.returns-clause-last
 returns-clause-last g c =
     last_merged c.args.history.now c.add_phase.new.self c.in_ok-journals.field-0.journals.items c.in_ok-add_phase.ensures.added
+
+pub returns-in_err-journals-clause-history : goal.returns-in_err-journals-clause-history
+returns-in_err-journals-clause-history g c =
+    nothing_added c.args.history.now.entries

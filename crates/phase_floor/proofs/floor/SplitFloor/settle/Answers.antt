@@ -13,7 +13,7 @@ use Rattle.auction_rows.specs.declared.ids.Object.{Object}
 use Rattle.phase_closing.specs.Merging.{CanMerge, after_merge}
 use Rattle.phase_floor.specs.Closings.{AreKnown, at_start, from_the_last}
 use Rattle.phase_floor.specs.Floors.{FloorState, IsOpen}
-use Rattle.phase_floor.proofs.Closings.{in_order, are_spent, has_closed}
+use Rattle.phase_floor.proofs.Closings.{nothing_added, in_order, are_spent, has_closed}
 use Rattle.phase_floor.proofs.Reconciled.{order_of, all_once, given_one, given_known, given_can}
 use Rattle.phase_floor.proofs.floor.SplitFloor.settle.Goals as goal
 
@@ -102,3 +102,7 @@ returns-clause-stars g c =
 pub returns-clause-last : goal.returns-clause-last
 returns-clause-last g c =
     last_merged c.args.history.now c.add_phase.new.self c.in_ok-journals.field-0.journals.items c.in_ok-add_phase.ensures.added
+
+pub returns-in_err-journals-clause-history : goal.returns-in_err-journals-clause-history
+returns-in_err-journals-clause-history g c =
+    nothing_added c.args.history.now.entries

@@ -1,0 +1,22 @@
+use Rattle.std.proofs.Common.{Option, Some, None, IfSome, ap, sym, ◌∙◌, rules}
+use Rattle.std.specs.Prelude.{is_some}
+use Rattle.auction_rows.specs.declared.ids.Object.TheVariants.{Item}
+use Rattle.auction_rows.specs.declared.requests.Facts.{Facts}
+use Rattle.item_shards.specs.Values.{Value}
+use Rattle.item_shards.specs.ShardShelf.{HasRoom}
+use Rattle.item_shards.proofs.shard.Shard.facts.Goals as goal
+
+pub returns-in-Some-clause-shelf : goal.returns-in-Some-clause-shelf
+returns-in-Some-clause-shelf c = search rules
+
+pub returns-in-Some-clause-book : goal.returns-in-Some-clause-book
+returns-in-Some-clause-book c book hot stands cold =
+    returns-in-Some-clause-shelf c ∙ ap (λ (v : Value). v.facts) (stands (Item c.args.item) c.requires.here cold)
+
+pub returns-in-Some-clause-room : goal.returns-in-Some-clause-room
+returns-in-Some-clause-room c =
+    let room : HasRoom c.args.self.now c.args.item = sym (ap is_some (rw c.deref.ensures at c.in-Some.ensures.value)) in
+    at c.in-Some.record.now.facts room where
+      at : {P : Type 0} (o : Option Facts) → P → IfSome o (λ _. P)
+      at None p = tt
+      at (Some _) p = p

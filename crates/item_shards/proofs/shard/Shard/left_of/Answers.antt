@@ -1,0 +1,12 @@
+use Rattle.std.proofs.Common.{ap, ◌∙◌, rules}
+use Rattle.auction_rows.specs.declared.ids.Object.TheVariants.{Item}
+use Rattle.item_shards.specs.Values.{left}
+use Rattle.item_shards.proofs.AnswerLemmas.{left_is}
+use Rattle.item_shards.proofs.shard.Shard.left_of.Goals as goal
+
+pub returns-in-Some-clause-shelf : goal.returns-in-Some-clause-shelf
+returns-in-Some-clause-shelf c = search rules
+
+pub returns-in-Some-clause-book : goal.returns-in-Some-clause-book
+returns-in-Some-clause-book c book hot stands cold =
+    returns-in-Some-clause-shelf c ∙ ap left (stands (Item c.args.item) c.requires.here cold) ∙ left_is book c.args.item

@@ -1,0 +1,57 @@
+//! What was done on a shard, for proofs alone.
+ghost use Rattle.std.specs.Prelude.{◌≡◌, length};
+ghost use Rattle.std.specs.List.{AllByRecursion};
+ghost use Rattle.shard_boxes.specs.GivenStars.{ActGivesStars};
+
+use ghost_log::Ghost;
+use item_shards::Act;
+use std::marker::Model;
+
+/// The acts of a line, with looks at nothing in the places that are left. They stand in proofs alone: they have no bytes.
+#[derive(Drop)]
+pub struct Acts {
+    done: Ghost<[Act; 2]>,
+}
+
+impl Model for Acts {
+    ghost use Rattle.std.specs.Prelude.{◌≡◌, List, length};
+    ghost use Rattle.std.specs.List.{AllByRecursion};
+    ghost use Rattle.item_shards.specs.declared.acts.Act.{Act};
+    ghost use Rattle.shard_boxes.specs.GivenStars.{ActGivesStars};
+
+    ghost Value = { List Act };
+
+    ghost view = { λ a. a.done };
+
+    ghost invariant = { λ a. (length a.done ≡ 2) × AllByRecursion ActGivesStars a.done };
+}
+
+impl Acts {
+    /// These acts, in order.
+    pub fn of(acts: &[Act; 2]) -> Acts
+        ensures { result ≡ acts.now }
+    {
+        let [first, second] = acts;
+        gives_stars(first);
+        gives_stars(second);
+        Acts {
+            done: Ghost::of(acts),
+        }
+    }
+
+    // What the type keeps.
+    pub(crate) fn are_well_formed(&self)
+        ensures two { length self.now ≡ 2 }
+        ensures stars { AllByRecursion ActGivesStars self.now }
+    {
+        let _done = &self.done;
+    }
+}
+
+fn gives_stars(act: &Act)
+    ensures { ActGivesStars act.now }
+{
+    if let Act::Comment(_, stars) = act {
+        let _known = stars.value();
+    }
+}
