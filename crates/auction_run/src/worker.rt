@@ -102,7 +102,7 @@ fn perform_first<N: PhaseName, R: Wait, G: Gate>(
         return Ok(());
     };
     post.arrive(index);
-    let answer = permit.perform_stashed(rt, boxes);
+    let answer = permit.commit_stashed(rt, boxes);
     post.leave(index);
     answer?;
     Ok(())
@@ -155,7 +155,7 @@ fn perform_next<N: PhaseName, R: Wait, G: Gate>(
     ensures failed { IfErr result (HasFailed N.opening (with_try permit.old) permit.new request.now) }
 {
     post.arrive(index);
-    let reply = permit.perform(rt, boxes, request, index);
+    let reply = permit.commit(rt, boxes, request, index);
     post.leave(index);
     reply?;
     Ok(())
@@ -214,7 +214,7 @@ fn deal_with_next<N: PhaseName, R: Wait, G: Gate>(
     ensures failed { IfErr result (HasFailed N.opening (with_try permit.old) permit.new request.now) }
 {
     post.arrive(index);
-    let done = permit.perform(rt, boxes, request, index);
+    let done = permit.commit(rt, boxes, request, index);
     post.leave(index);
     done?;
     Ok(())

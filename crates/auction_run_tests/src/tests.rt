@@ -7,7 +7,7 @@ use auction_rows::{
 use auction_run::{FreeGate, Gate, RunFault, choose_hot};
 use std::alloc::Global;
 use std::test::Fail;
-use worker_journals::{History, Journal};
+use worker_journals::{Answer, History, Journal};
 
 const FIRST: ItemId = ItemId {
     worker: 0,
@@ -97,7 +97,8 @@ fn journal_of(alloc: Global, entries: &[Entry]) -> Result<Journal, Fail> {
     let mut number: u64 = 0;
     for entry in entries {
         number = number.checked_add(1).ok_or("too many entries")?;
-        journal.push(number, entry.index, &entry.request, &entry.reply);
+        let reply = Answer::of(&entry.reply);
+        journal.push(number, entry.index, &entry.request, &reply);
     }
     Ok(journal)
 }

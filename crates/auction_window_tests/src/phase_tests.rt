@@ -3,14 +3,14 @@ ghost use Rattle.std.specs.Prelude.{◌≡◌, [], false};
 ghost use Rattle.item_shards.specs.OpeningBooks.{opening_of, rows_of as opening_rows};
 
 use crate::testing::{FIRST, OPENING, VIEW, answers_none, bid, item, item_seen, shows, vases};
-use auction_rows::{BidId, BidRow, ItemId, ItemRow, Refusal, Reply, Request, Row};
+use auction_rows::{BidId, BidRow, ItemId, ItemRow, Refusal, Reply, Request, Row, StoreReply};
 use auction_window::{PhaseLog, Publisher, Window, WindowName, last_rows};
 use item_shards::OpeningBook;
 use std::alloc::Global;
 use std::marker::Brand;
 use std::sync::Wait;
 use std::test::Fail;
-use worker_journals::{History, Journal};
+use worker_journals::{Answer, History, Journal};
 
 // Whether both windows show this of the item.
 fn both_show<J: WindowName>(
@@ -143,13 +143,15 @@ const BID: BidId = BidId {
 fn two_phase_history(alloc: Global) -> Result<History, Fail> {
     let store = item(vases(1)?).request;
     let mut first = Journal::with_room(alloc, 0, 0, 1)?;
-    first.push(1, 0, &store, &Reply::ItemStored(FIRST));
+    first.push(1, 0, &store, &Answer::store(StoreReply::ItemStored(FIRST)));
     let mut last = Journal::with_room(alloc, 1, 0, 4)?;
-    last.push(1, 1, &store, &Reply::ItemStored(SECOND));
-    last.push(2, 2, &VIEW, &Reply::Refused(Refusal::NoSuchItem));
-    let low = bid(1, 9, 5).request;
-    last.push(3, 3, &low, &Reply::Refused(Refusal::BelowStart));
-    last.push(4, 4, &bid(1, 50, 7).request, &Reply::BidStored(BID));
+    last.push(1, 1, &store, &Answer::store(StoreReply::ItemStored(SECOND)));
+    let unknown = Answer::store(StoreReply::Refused(Refusal::NoSuchItem));
+    last.push(2, 2, &VIEW, &unknown);
+    let low = Answer::store(StoreReply::Refused(Refusal::BelowStart));
+    last.push(3, 3, &bid(1, 9, 5).request, &low);
+    let stored = Answer::store(StoreReply::BidStored(BID));
+    last.push(4, 4, &bid(1, 50, 7).request, &stored);
     let mut history = History::new(alloc);
     history.add_phase(vec![in alloc; first]?)?;
     history.add_phase(vec![in alloc; last]?)?;

@@ -16,6 +16,7 @@ mod opened;
 mod opening_book;
 #[cfg(test)]
 mod opening_tests;
+mod places;
 mod serial;
 mod shard;
 mod slices;

@@ -1,5 +1,5 @@
 -- What both kinds of permits have beside their key.
-use Rattle.std.specs.Prelude.{ℕ, ◌+◌, ◌-◌, ◌≤◌, List, [], ◌∷◌, ◌++◌, length}
+use Rattle.std.specs.Prelude.{ℕ, ◌+◌, ◌-◌, ◌≤◌, List, [], ◌∷◌, ◌++◌, Option, length, option_map, slice_get}
 use Rattle.phase_laws.specs.Numbers.{last_by}
 use Rattle.auction_rows.specs.declared.numbers.Opening.{Opening}
 use Rattle.auction_rows.specs.declared.replies.Reply.{Reply}
@@ -55,6 +55,10 @@ new_desk opening counters journal stash left clock = record {
 -- the next entry of a desk
 abbrev pub next_entry : DeskState → ℕ → ℕ → Request → Reply → Entry
 next_entry desk number index request reply = commit_in desk.journal number index request reply
+
+-- the reply of the last of some entries
+abbrev pub last_reply : List Entry → Option Reply
+last_reply entries = option_map (λ entry. entry.reply) (slice_get entries (length entries - 1))
 
 -- a desk after a commit
 abbrev pub after_commit : DeskState → ℕ → ℕ → Request → Reply → Found → DeskState

@@ -4,7 +4,8 @@ ghost use Rattle.std.specs.Prelude.{◌≡◌, ◌<◌, ◌+◌};
 use crate::desk::Desk;
 use crate::found::Found;
 use crate::split::{Comment, SplitDesk};
-use auction_rows::{Facts, ItemId, Object, Refusal, Reply, Request};
+use auction_rows::{Facts, ItemId, Object, Refusal, Request};
+use worker_journals::Answer;
 
 impl SplitDesk {
     ghost use Rattle.auction_rows.specs.declared.ids.Object.TheVariants.{Item, User};
@@ -49,7 +50,7 @@ impl SplitDesk {
         number: u64,
         index: u32,
         request: &Request,
-        reply: &Reply,
+        reply: &Answer<'_>,
         found: &Found,
     )
         requires left { 0 < self.old.desk.left }
@@ -69,7 +70,7 @@ impl SplitDesk {
         comment: &Comment,
         refused: Option<Refusal>,
         found: &Found,
-    ) -> Reply
+    ) -> Answer<'static>
         requires refused { refused ≡ refusal_by self.old.desk.opening found.now.stock (comment_request comment.now) }
         requires hot { IsHot self.old (User comment.now.about) }
         requires left { 0 < self.old.desk.left }

@@ -1,7 +1,8 @@
 //! What a worker has committed.
 ghost use Rattle.std.specs.Prelude.{◌≡◌, ◌<◌};
 
-use auction_rows::Reply;
+use auction_rows::StoreReply;
+use worker_journals::Answer;
 
 /// How many items, bids, comments and purchases a worker has had accepted over the whole run, and how many
 /// requests it has committed: each at most 1,000,000.
@@ -15,22 +16,34 @@ pub struct Counters {
 }
 
 impl Counters {
+    ghost use Rattle.auction_rows.specs.StoreReplies.{reply_of};
     ghost use Rattle.phase_desks.specs.Deeds.{counted};
     ghost use Rattle.phase_desks.specs.Desks.{AreCounted};
 
     // Counts a commit with this reply.
-    pub(crate) fn count(&mut self, reply: &Reply)
+    pub(crate) fn count(&mut self, reply: &Answer<'_>)
         requires counted { AreCounted self.old }
         requires limit { self.old.commits < 1000000 }
         ensures { self.new ≡ counted self.old reply.now }
     {
+        match reply.to_store() {
+            Some(reply) => self.count_store(reply),
+            None => self.commits += 1,
+        }
+    }
+
+    fn count_store(&mut self, reply: StoreReply)
+        requires counted { AreCounted self.old }
+        requires limit { self.old.commits < 1000000 }
+        ensures { self.new ≡ counted self.old (reply_of reply) }
+    {
         self.commits += 1;
         match reply {
-            Reply::ItemStored(_) => self.items += 1,
-            Reply::BidStored(_) => self.bids += 1,
-            Reply::CommentStored(_) => self.comments += 1,
-            Reply::Bought(_) => self.buys += 1,
-            _ => {}
+            StoreReply::ItemStored(_) => self.items += 1,
+            StoreReply::BidStored(_) => self.bids += 1,
+            StoreReply::CommentStored(_) => self.comments += 1,
+            StoreReply::Bought(_) => self.buys += 1,
+            StoreReply::Refused(_) => {}
         }
     }
 }

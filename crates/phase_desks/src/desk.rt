@@ -1,18 +1,18 @@
 //! What both kinds of permits have beside their key.
-ghost use Rattle.std.specs.Prelude.{◌≡◌, ◌+◌, ◌≤◌, ◌<◌, ◌↔◌, max, length, [], slice_get, IsNone, IfNone, IfSome};
+ghost use Rattle.std.specs.Prelude.{◌≡◌, ◌+◌, ◌≤◌, ◌<◌, ◌↔◌, max, length, [], slice_get, Some, IsNone, IfNone, IfSome};
 ghost use Rattle.item_shards.specs.CommitNumbers.{next_number, last_number};
 
 use crate::counters::Counters;
 use crate::found::Found;
 use crate::stash::Stash;
 use auction_rows::{
-    BidId, BuyId, CommentId, Entry, Facts, Opening, Refusal, Reply, Request, item_refusal,
-    number_refusal,
+    BidId, BuyId, CommentId, Entry, Facts, Opening, Refusal, Reply, Request, StoreReply,
+    item_refusal, number_refusal,
 };
 use ghost_log::Log;
 use item_shards::next_number;
 use std::marker::Model;
-use worker_journals::Journal;
+use worker_journals::{Answer, Journal};
 
 /// A worker's counters, journal and stash in a phase, with its quota and its clock.
 #[derive(Drop)]
@@ -43,7 +43,7 @@ impl Model for Desk {
 impl Desk {
     ghost use Rattle.phase_desks.specs.Deeds.{refusal_by};
     ghost use Rattle.phase_desks.specs.Splits.{HasRefused};
-    ghost use Rattle.phase_desks.specs.Desks.{AreCounted, HasRoom, new_desk, after_commit, after_putting_off, after_calling_first, with_one_less};
+    ghost use Rattle.phase_desks.specs.Desks.{AreCounted, HasRoom, last_reply, new_desk, after_commit, after_putting_off, after_calling_first, with_one_less};
 
     /// A worker's desk as a phase begins. It takes no memory.
     pub fn new(
@@ -188,6 +188,15 @@ impl Desk {
         next_number(self.clock, found)
     }
 
+    /// The reply of the worker's last commit in this phase.
+    pub fn last_reply(&self) -> Reply
+        requires { 0 < length self.now.journal.entries }
+        ensures { last_reply self.now.journal.entries ≡ Some result }
+    {
+        let last = self.journal.entry(self.journal.len() - 1);
+        last.to_entry().reply
+    }
+
     /// The id of the worker's next bid.
     pub fn next_bid(&self) -> BidId
         ensures { result ≡ record { worker = self.now.journal.worker; serial = self.now.counters.bids } }
@@ -233,7 +242,12 @@ impl Desk {
 
     /// Commits a request that the opening refuses, at the number after the clock: None exactly where that is past the
     /// end of numbers, and then nothing has changed. It takes no shard and no memory.
-    pub fn refuse(&mut self, request: &Request, reason: Refusal, index: u32) -> Option<Reply>
+    pub fn refuse(
+        &mut self,
+        request: &Request,
+        reason: Refusal,
+        index: u32,
+    ) -> Option<Answer<'static>>
         requires left { 0 < self.old.left }
         ensures none { IsNone result ↔ (last_number ≤ self.old.clock) }
         ensures unchanged { IfNone result (self.new ≡ self.old) }
@@ -241,7 +255,7 @@ impl Desk {
         ensures within { IfSome result (λ _. self.new.clock ≤ last_number) }
     {
         let number = self.next_number(0)?;
-        let reply = Reply::Refused(reason);
+        let reply = Answer::store(StoreReply::Refused(reason));
         self.commit(number, index, request, &reply, &Found::nothing());
         Some(reply)
     }
@@ -252,7 +266,7 @@ impl Desk {
         number: u64,
         index: u32,
         request: &Request,
-        reply: &Reply,
+        reply: &Answer<'_>,
         found: &Found,
     )
         requires left { 0 < self.old.left }
@@ -268,7 +282,7 @@ impl Desk {
             worker: self.journal.worker(),
             index,
             request: *request,
-            reply: *reply,
+            reply: reply.to_reply(),
         };
         self.deeds = self.deeds.and(&entry, found);
         self.journal.push(number, index, request, reply);

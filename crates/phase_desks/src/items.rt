@@ -4,7 +4,8 @@ ghost use Rattle.std.specs.Prelude.{◌≡◌, ◌<◌, false};
 use crate::desk::Desk;
 use crate::found::Found;
 use crate::split::SplitDesk;
-use auction_rows::{Facts, ItemEntry, ItemId, Object, Reply, Request};
+use auction_rows::{Facts, ItemEntry, ItemId, Object, Request, StoreReply};
+use worker_journals::Answer;
 
 /// An item that is asked to be stored.
 #[derive(Clone, Copy)]
@@ -71,7 +72,13 @@ impl SplitDesk {
 
     /// Commits the worker's next item in a hot category, whose slice gets it, at a number after the clock. It takes no
     /// memory.
-    pub fn store_item(&mut self, number: u64, index: u32, item: &NewItem, found: &Found) -> Reply
+    pub fn store_item(
+        &mut self,
+        number: u64,
+        index: u32,
+        item: &NewItem,
+        found: &Found,
+    ) -> Answer<'static>
         requires hot { IsHot self.old (Category item.now.facts.category) }
         requires left { 0 < self.old.desk.left }
         requires after { self.old.desk.clock < number }
@@ -84,7 +91,7 @@ impl SplitDesk {
         if let Some(place) = self.slices.place_of(Object::Category(item.facts.category)) {
             self.slices.list_item(place, item.entry(id));
         }
-        let reply = Reply::ItemStored(id);
+        let reply = Answer::store(StoreReply::ItemStored(id));
         self.desk
             .commit(number, index, &item.request(), &reply, found);
         reply

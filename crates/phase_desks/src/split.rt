@@ -1,5 +1,5 @@
 //! A desk with slices: what a split permit has beside its key.
-ghost use Rattle.std.specs.Prelude.{◌≡◌, ◌≤◌, ◌<◌, ◌+◌, ◌↔◌, [], length, is_some, IsNone, IfNone, IfSome};
+ghost use Rattle.std.specs.Prelude.{◌≡◌, ◌≤◌, ◌<◌, ◌+◌, ◌↔◌, [], length, is_some, Some, IsNone, IfNone, IfSome};
 ghost use Rattle.item_shards.specs.CommitNumbers.{last_number};
 
 use crate::counters::Counters;
@@ -8,11 +8,11 @@ use crate::found::Found;
 use crate::slices::Slices;
 use crate::stash::Stash;
 use auction_rows::{
-    BidEntry, BidId, ItemId, Object, Opening, Refusal, Reply, Request, Stars, is_splittable,
-    number_refusal, touches,
+    BidEntry, BidId, ItemId, Object, Opening, Refusal, Reply, Request, Stars, StoreReply,
+    is_splittable, number_refusal, touches,
 };
 use std::marker::Model;
-use worker_journals::Journal;
+use worker_journals::{Answer, Journal};
 
 /// A worker's desk in a split phase, with its slices of the hot objects.
 #[derive(Drop)]
@@ -42,7 +42,7 @@ impl SplitDesk {
     ghost use Rattle.std.specs.Option.{option_map_or};
     ghost use Rattle.auction_rows.specs.Refusals.{number_refusal};
     ghost use Rattle.phase_desks.specs.Deeds.{is_put_off};
-    ghost use Rattle.phase_desks.specs.Desks.{AreCounted, new_desk, after_putting_off};
+    ghost use Rattle.phase_desks.specs.Desks.{AreCounted, last_reply, new_desk, after_putting_off};
     ghost use Rattle.std.specs.List.{AllByRecursion};
     ghost use Rattle.phase_desks.specs.Bids.{bid_request, comment_request};
     ghost use Rattle.phase_desks.specs.Splits.{IsHot, AreStored, HasStored};
@@ -88,6 +88,14 @@ impl SplitDesk {
         self.desk.clock()
     }
 
+    /// The reply of the worker's last commit in this phase.
+    pub fn last_reply(&self) -> Reply
+        requires { 0 < length self.now.desk.journal.entries }
+        ensures { last_reply self.now.desk.journal.entries ≡ Some result }
+    {
+        self.desk.last_reply()
+    }
+
     /// How many requests were put off.
     pub fn stashed(&self) -> usize
         ensures { result ≡ length self.now.desk.stash.requests }
@@ -113,6 +121,7 @@ impl SplitDesk {
     pub fn place_of(&self, object: Object) -> Option<usize>
         ensures hot { is_some result ≡ is_hot (objects_of self.now.slices) object }
         ensures at { IfSome result (λ place. IsAt self.now.slices place object) }
+        ensures stocked { AllByRecursion IsStocked (stocks_of self.now.slices) }
     {
         self.slices.place_of(object)
     }
@@ -145,7 +154,8 @@ impl SplitDesk {
             HasStored self.old self.new (StoreBid bidder item amount time) index reply) }
     {
         let place = self.slices.place_of(Object::Item(item))?;
-        self.bid_at(place, bidder, item, amount, time, index)
+        let reply = self.bid_at(place, bidder, item, amount, time, index)?;
+        Some(reply.to_reply())
     }
 
     /// A bid on a hot item whose place is known: None exactly where the worker's clock is at the end of numbers, and
@@ -158,7 +168,7 @@ impl SplitDesk {
         amount: u64,
         time: u64,
         index: u32,
-    ) -> Option<Reply>
+    ) -> Option<Answer<'static>>
         requires at { IsAt self.old.slices place (Item item) }
         requires hot { IsHot self.old (Item item) }
         requires left { 0 < self.old.desk.left }
@@ -201,7 +211,8 @@ impl SplitDesk {
             stars,
         };
         let place = self.slices.place_of(Object::User(about))?;
-        self.store_comment(place, &comment, index)
+        let reply = self.comment_at(place, &comment, index)?;
+        Some(reply.to_reply())
     }
 
     /// Whether a request waits for the next joined phase: it can't be split, and touches a hot object.
@@ -232,7 +243,12 @@ impl SplitDesk {
 
     /// Commits a request that the opening refuses, at the number after the worker's clock: None exactly where that is
     /// at the end of numbers, and then nothing has changed. It takes no shard and no memory.
-    pub fn refuse(&mut self, request: &Request, reason: Refusal, index: u32) -> Option<Reply>
+    pub fn refuse(
+        &mut self,
+        request: &Request,
+        reason: Refusal,
+        index: u32,
+    ) -> Option<Answer<'static>>
         requires refused { number_refusal self.old.desk.opening request.now ≡ Some reason }
         requires not_put_off { is_put_off (objects_of self.old.slices) request.now ≡ false }
         requires left { 0 < self.old.desk.left }
@@ -241,14 +257,14 @@ impl SplitDesk {
         ensures stored { IfSome result (λ reply. HasStored self.old self.new request.now index reply) }
     {
         let number = self.desk.next_number(0)?;
-        let reply = Reply::Refused(reason);
+        let reply = Answer::store(StoreReply::Refused(reason));
         self.desk
             .commit(number, index, request, &reply, &Found::nothing());
         Some(reply)
     }
 
     // A bid on the item at a place.
-    fn store_bid(&mut self, place: usize, bid: &Bid, index: u32) -> Option<Reply>
+    fn store_bid(&mut self, place: usize, bid: &Bid, index: u32) -> Option<Answer<'static>>
         requires at { IsAt self.old.slices place (Item bid.now.item) }
         requires hot { IsHot self.old (Item bid.now.item) }
         requires left { 0 < self.old.desk.left }
@@ -263,8 +279,14 @@ impl SplitDesk {
         Some(reply)
     }
 
-    // A comment about the user at a place.
-    fn store_comment(&mut self, place: usize, comment: &Comment, index: u32) -> Option<Reply>
+    /// A comment on a hot item about a hot user whose place is known: None exactly where the worker's clock is at the end of
+    /// numbers, and then nothing has changed. It takes no shard and no memory.
+    pub fn comment_at(
+        &mut self,
+        place: usize,
+        comment: &Comment,
+        index: u32,
+    ) -> Option<Answer<'static>>
         requires at { IsAt self.old.slices place (User comment.now.about) }
         requires item { IsHot self.old (Item comment.now.item) }
         requires user { IsHot self.old (User comment.now.about) }
@@ -295,7 +317,7 @@ impl Desk {
     ghost use Rattle.phase_desks.specs.Bids.{bid_request, comment_request, IsBidReply, IsCommentReplyIf};
 
     // The reply to a bid on the item at a place, which is applied to its slice where it is accepted.
-    fn answer_bid(&self, slices: &mut Slices, place: usize, bid: &Bid) -> Reply
+    fn answer_bid(&self, slices: &mut Slices, place: usize, bid: &Bid) -> Answer<'static>
         requires at { IsAt slices.old place (Item bid.now.item) }
         requires few { AreFew self.now.counters.commits slices.old }
         requires limit { self.now.counters.commits < 1000000 }
@@ -305,11 +327,11 @@ impl Desk {
         ensures few { AreFew (self.now.counters.commits + 1) slices.new }
     {
         match self.refusal(&bid.request(), slices.stock_at(place)) {
-            Some(reason) => Reply::Refused(reason),
+            Some(reason) => Answer::store(StoreReply::Refused(reason)),
             None => {
                 let id = self.next_bid();
                 slices.bid(place, bid.entry(id));
-                Reply::BidStored(id)
+                Answer::store(StoreReply::BidStored(id))
             }
         }
     }
@@ -321,7 +343,7 @@ impl Desk {
         place: usize,
         comment: &Comment,
         refused: Option<Refusal>,
-    ) -> Reply
+    ) -> Answer<'static>
         requires at { IsAt slices.old place (User comment.now.about) }
         requires few { AreFew self.now.counters.commits slices.old }
         requires left { 0 < self.now.left }
@@ -333,12 +355,12 @@ impl Desk {
         // Fewer commits than a worker may make.
         let _room = self.left;
         match refused {
-            Some(reason) => Reply::Refused(reason),
+            Some(reason) => Answer::store(StoreReply::Refused(reason)),
             None => {
                 // From -5 to 5.
                 let _known = comment.stars.value();
                 slices.comment(place, comment.stars);
-                Reply::CommentStored(self.next_comment())
+                Answer::store(StoreReply::CommentStored(self.next_comment()))
             }
         }
     }

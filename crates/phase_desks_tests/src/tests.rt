@@ -400,6 +400,7 @@ fn store(rt: &impl Abort, desk: &mut SplitDesk, item: &NewItem, index: u32) -> R
     assert!(rt; desk.is_hot(Object::Category(item.facts.category)));
     let number = desk.clock().checked_add(1).expect(rt, "a number");
     desk.store_item(number, index, item, &Found::nothing())
+        .to_reply()
 }
 
 #[test]

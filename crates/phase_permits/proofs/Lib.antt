@@ -1,1 +1,2 @@
 pub mod StashedLemmas
+pub mod LastLemmas

@@ -2,6 +2,7 @@
 ghost use Rattle.std.specs.Prelude.{◌≡◌, ◌+◌, ◌≤◌, ◌<◌, [], ◌↔◌, length, slice_get, IsNone, IfSome, IfNone, IfOk, IfErr};
 
 use auction_rows::{Object, Opening, Refusal, Reply, Request, number_refusal};
+use ghost_log::Ghost;
 use phase_desks::{Comment, Counters, Desk, NewItem, Stash};
 use phase_transactions::{
     PermitFault, comment_in_joined, only_object, perform_on, store_in_joined,
@@ -47,7 +48,7 @@ impl<N: PhaseName> Model for JoinedReceipt<N> {
 }
 
 impl<N: PhaseName> JoinedPermit<N> {
-    ghost use Rattle.phase_desks.specs.Desks.{AreCounted, new_desk};
+    ghost use Rattle.phase_desks.specs.Desks.{AreCounted, last_reply, new_desk};
     ghost use Rattle.std.specs.Prelude.{Some, None};
     ghost use Rattle.auction_rows.specs.Refusals.{number_refusal};
     ghost use Rattle.item_shards.specs.CommitNumbers.{last_number};
@@ -88,7 +89,12 @@ impl<N: PhaseName> JoinedPermit<N> {
 
     // A request that the opening refuses, which takes no shard: None exactly where the worker's clock is at the end of
     // numbers, and then nothing has changed.
-    pub(crate) fn refuse(&mut self, request: &Request, reason: Refusal, index: u32) -> Option<Reply>
+    pub(crate) fn refuse(
+        &mut self,
+        request: &Request,
+        reason: Refusal,
+        index: u32,
+    ) -> Option<Ghost<Reply>>
         requires refused { number_refusal self.old.split.desk.opening request.now ≡ Some reason }
         requires left { 0 < self.old.split.desk.left }
         ensures none { IsNone result ↔ (last_number ≤ self.old.split.desk.clock) }
@@ -98,7 +104,8 @@ impl<N: PhaseName> JoinedPermit<N> {
         ensures key { self.new.key ≡ self.old.key }
     {
         let _worker = self.key.worker();
-        self.desk.refuse(request, reason, index)
+        let reply = self.desk.refuse(request, reason, index)?;
+        Some(Ghost::of(&reply.to_reply()))
     }
 
     // A request over the shard of the one object that it needs. At the end of numbers nothing has changed but what the key
@@ -110,7 +117,7 @@ impl<N: PhaseName> JoinedPermit<N> {
         request: &Request,
         object: Object,
         index: u32,
-    ) -> Option<Reply>
+    ) -> Option<Ghost<Reply>>
         requires of { self.old.key.boxes ≡ boxes.now }
         requires opening { HaveOpening N.opening self.old.split.desk.opening }
         requires only { only_object request.now ≡ Some object }
@@ -140,7 +147,7 @@ impl<N: PhaseName> JoinedPermit<N> {
         boxes: &Boxes<N>,
         comment: &Comment,
         index: u32,
-    ) -> Option<Reply>
+    ) -> Option<Ghost<Reply>>
         requires of { self.old.key.boxes ≡ boxes.now }
         requires opening { HaveOpening N.opening self.old.split.desk.opening }
         requires accepted { number_refusal self.old.split.desk.opening (comment_request comment.now) ≡ None }
@@ -160,7 +167,7 @@ impl<N: PhaseName> JoinedPermit<N> {
         boxes: &Boxes<N>,
         item: &NewItem,
         index: u32,
-    ) -> Result<Reply, PermitFault>
+    ) -> Result<Ghost<Reply>, PermitFault>
         requires of { self.old.key.boxes ≡ boxes.now }
         requires opening { HaveOpening N.opening self.old.split.desk.opening }
         requires accepted { number_refusal self.old.split.desk.opening (item_request item.now) ≡ None }
@@ -181,7 +188,7 @@ impl<N: PhaseName> JoinedPermit<N> {
         boxes: &Boxes<N>,
         request: &Request,
         index: u32,
-    ) -> Result<Reply, PermitFault>
+    ) -> Result<Ghost<Reply>, PermitFault>
         requires of { self.old.key.boxes ≡ boxes.now }
         requires opening { HaveOpening N.opening self.old.split.desk.opening }
         requires accepted { number_refusal self.old.split.desk.opening request.now ≡ None }
@@ -226,7 +233,7 @@ impl<N: PhaseName> JoinedPermit<N> {
         boxes: &Boxes<N>,
         request: &Request,
         index: u32,
-    ) -> Result<Reply, PermitFault>
+    ) -> Result<Ghost<Reply>, PermitFault>
         requires of { self.old.key.boxes ≡ boxes.now }
         requires opening { HaveOpening N.opening self.old.split.desk.opening }
         requires left { 0 < self.old.split.desk.left }
@@ -259,6 +266,26 @@ impl<N: PhaseName> JoinedPermit<N> {
             HasCommitted N.opening (with_try self.old) self.new request.now index reply) }
         ensures failed { IfErr result (HasFailed N.opening (with_try self.old) self.new request.now) }
     {
+        let _reply = self.commit(rt, boxes, request, index)?;
+        Ok(self.last_reply())
+    }
+
+    /// Performs a request of the quota, as `perform` does; its reply is left in the journal.
+    pub fn commit<R: Wait>(
+        &mut self,
+        rt: &R,
+        boxes: &Boxes<N>,
+        request: &Request,
+        index: u32,
+    ) -> Result<Ghost<Reply>, PermitFault>
+        requires of { self.old.key.boxes ≡ boxes.now }
+        requires opening { HaveOpening N.opening self.old.split.desk.opening }
+        requires left { 0 < self.old.split.desk.left }
+        requires tries { self.old.split.desk.tries < 1000000000 }
+        ensures committed { IfOk result (λ reply.
+            HasCommitted N.opening (with_try self.old) self.new request.now index reply) }
+        ensures failed { IfErr result (HasFailed N.opening (with_try self.old) self.new request.now) }
+    {
         self.count_try();
         self.perform_counted(rt, boxes, request, index)
     }
@@ -279,6 +306,27 @@ impl<N: PhaseName> JoinedPermit<N> {
             (HasPerformedFirst N.opening (with_try self.old) self.new)) }
         ensures failed { IfErr result (HasFailedFirst N.opening (with_try self.old) self.new) }
     {
+        match self.commit_stashed(rt, boxes)? {
+            Some(_reply) => Ok(Some(self.last_reply())),
+            None => Ok(None),
+        }
+    }
+
+    /// Performs the first stashed request, as `perform_stashed` does; its reply is left in the journal.
+    pub fn commit_stashed<R: Wait>(
+        &mut self,
+        rt: &R,
+        boxes: &Boxes<N>,
+    ) -> Result<Option<Ghost<Reply>>, PermitFault>
+        requires of { self.old.key.boxes ≡ boxes.now }
+        requires opening { HaveOpening N.opening self.old.split.desk.opening }
+        requires tries { self.old.split.desk.tries < 1000000000 }
+        ensures none { IfOk result (λ answer. IfNone answer (self.old.split.desk.stash.requests ≡ [])) }
+        ensures unchanged { IfOk result (λ answer. IfNone answer (self.new ≡ with_try self.old)) }
+        ensures performed { IfOk result (λ answer. IfSome answer
+            (HasPerformedFirst N.opening (with_try self.old) self.new)) }
+        ensures failed { IfErr result (HasFailedFirst N.opening (with_try self.old) self.new) }
+    {
         self.count_try();
         let Some((index, request)) = self.call_first() else {
             return Ok(None);
@@ -290,6 +338,14 @@ impl<N: PhaseName> JoinedPermit<N> {
                 Err(fault)
             }
         }
+    }
+
+    // The reply of the last commit.
+    fn last_reply(&self) -> Reply
+        requires { 0 < length self.now.split.desk.journal.entries }
+        ensures { last_reply self.now.split.desk.journal.entries ≡ Some result }
+    {
+        self.desk.last_reply()
     }
 
     // Counts a try.

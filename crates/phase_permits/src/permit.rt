@@ -3,6 +3,7 @@ ghost use Rattle.std.specs.Prelude.{◌≡◌, ◌+◌, ◌≤◌, ◌<◌, ◌�
 ghost use Rattle.item_shards.specs.CommitNumbers.{last_number};
 
 use auction_rows::{ItemId, Object, Opening, Reply, Request, Stars};
+use ghost_log::Ghost;
 use phase_desks::{Counters, Slices, SplitDesk, Stash};
 use phase_transactions::{Done, PermitFault, commit_in_split};
 use shard_boxes::{Boxes, Key, PhaseName};
@@ -50,12 +51,13 @@ impl<N: PhaseName> SplitPermit<N> {
     ghost use Rattle.auction_rows.specs.declared.requests.Request.TheVariants.{StoreBid, StoreComment};
     ghost use Rattle.auction_rows.specs.Footprint.{is_hot};
     ghost use Rattle.phase_desks.specs.Slicing.{objects_of, stocks_of, slices_of};
-    ghost use Rattle.phase_desks.specs.Desks.{AreCounted, new_desk};
+    ghost use Rattle.phase_desks.specs.Desks.{AreCounted, last_reply, new_desk};
     ghost use Rattle.phase_desks.specs.Splits.{IsHot, AreStored};
     ghost use Rattle.phase_desks.specs.Deeds.{is_put_off};
     ghost use Rattle.phase_transactions.specs.declared.fault.Done.TheVariants.{Stashed};
     ghost use Rattle.phase_transactions.specs.Halves.{IsUntouched};
-    ghost use Rattle.phase_transactions.specs.Performing.{HasDealtWith, HasFailed, with_try};
+    ghost use Rattle.std.specs.Prelude.{Some, None};
+    ghost use Rattle.phase_transactions.specs.Performing.{HasDealtWith, HasFailed, done_of, with_try};
     ghost use Rattle.phase_transactions.specs.Permits.{IsUnused, IsWorth, HasCommitted};
     ghost use Rattle.phase_transactions.specs.Single.{HaveOpening};
 
@@ -153,15 +155,46 @@ impl<N: PhaseName> SplitPermit<N> {
         ensures failed { IfErr result (HasFailed N.opening (with_try self.old) self.new request.now) }
         ensures untouched { IsUntouched (length N.opening) self.old.split request.now self.old.key self.new.key }
     {
+        match self.commit(rt, boxes, request, index)? {
+            Some(_reply) => Ok(Done::Committed(self.last_reply())),
+            None => Ok(Done::Stashed),
+        }
+    }
+
+    /// Performs a request of the quota, as `perform` does, None where it is put off; its reply is left in the journal.
+    pub fn commit<R: Wait>(
+        &mut self,
+        rt: &R,
+        boxes: &Boxes<N>,
+        request: &Request,
+        index: u32,
+    ) -> Result<Option<Ghost<Reply>>, PermitFault>
+        requires of { self.old.key.boxes ≡ boxes.now }
+        requires opening { HaveOpening N.opening self.old.split.desk.opening }
+        requires left { 0 < self.old.split.desk.left }
+        requires tries { self.old.split.desk.tries < 1000000000 }
+        ensures dealt { IfOk result (λ reply. HasDealtWith N.opening (with_try self.old) self.new request.now index (done_of reply)) }
+        ensures stashed { (result ≡ Ok None) ↔ (is_put_off (objects_of self.old.split.slices) request.now ≡ true) }
+        ensures failed { IfErr result (HasFailed N.opening (with_try self.old) self.new request.now) }
+        ensures untouched { IsUntouched (length N.opening) self.old.split request.now self.old.key self.new.key }
+    {
         let _worker = self.key.worker();
         self.split.count_try();
         if self.split.is_put_off(request) {
             self.split.put_off(index, request);
-            return Ok(Done::Stashed);
+            return Ok(None);
         }
         let key = &mut self.key;
         let reply = commit_in_split(rt, boxes, key, &mut self.split, request, index)?;
-        Ok(Done::Committed(reply))
+        Ok(Some(reply))
+    }
+
+    // The reply of the last commit.
+    fn last_reply(&self) -> Reply
+        requires { 0 < length self.now.split.desk.journal.entries }
+        ensures { last_reply self.now.split.desk.journal.entries ≡ Some result }
+    {
+        self.split.last_reply()
     }
 
     /// How many requests of the quota are not performed.

@@ -36,16 +36,16 @@ use Rattle.phase_transactions.proofs.SingleLemmas.{AreAbout, acts_about, done_co
 
 -- a comment over two shards, and over one
 module _ (opening : List ShardState) (desk : DeskState) (key back : KeyState) (comment : Comment) (index : ℕ) where
-  abbrev pub after : Commit → DeskState
+  abbrev pub after : Commit Reply → DeskState
   after done = done_at desk index (comment_request comment) done
 
-  pub cold_in_two : (result : Option Commit) → number_refusal desk.opening (comment_request comment) ≡ None
+  pub cold_in_two : (result : Option (Commit Reply)) → number_refusal desk.opening (comment_request comment) ≡ None
       → IfSome result (λ done. HasCommented opening desk (after done) key back comment index done.reply)
       → IfSome result (λ done. HasCommittedCold opening desk (after done) key back comment index done.reply)
   cold_in_two None allowed done = done
   cold_in_two (Some done) allowed is = cold_over_two opening desk (after done) key back comment index (Some done.reply) allowed is
 
-  pub cold_in_one : (result : Option Commit) → number_refusal desk.opening (comment_request comment) ≡ None
+  pub cold_in_one : (result : Option (Commit Reply)) → number_refusal desk.opening (comment_request comment) ≡ None
       → shard_of (Item comment.item) (length opening) < length key.seats → IsIdle key
       → IfSome result (λ done. HasCommentedInOne opening desk (after done) key back comment index done.reply)
       → IfSome result (λ done. HasCommittedCold opening desk (after done) key back comment index done.reply)
@@ -89,7 +89,7 @@ touched x xs ys P is none = absurd (cc)
 module _ (opening : List ShardState) (split : SplitState) (key back : KeyState) (request : Request) (object : Object) (index : ℕ) (desk : DeskState) (same : desk ≡ split.desk)
     (only : only_object request ≡ Some object) (allowed : number_refusal split.desk.opening request ≡ None) (cold : is_hot (objects_of split.slices) object ≡ false)
     (known : shard_of object (length opening) < length key.seats) (idle : IsIdle key) where
-  pub cold_commits : (new : SplitState) (done : Commit) → HasDone opening desk (done_at desk index request done) key back request object index done.reply
+  pub cold_commits : (new : SplitState) (done : Commit Reply) → HasDone opening desk (done_at desk index request done) key back request object index done.reply
       → new.desk ≡ done_at split.desk index request done → new.slices ≡ split.slices
       → HasCommitted opening (permit split key) (permit new back) request index done.reply
   cold_commits new done is committed sliced =
@@ -105,7 +105,7 @@ module _ (opening : List ShardState) (split : SplitState) (key back : KeyState) 
 module _ (opening : List ShardState) (split : SplitState) (key back : KeyState) (comment : Comment) (index : ℕ) (desk : DeskState) (same : desk ≡ split.desk)
     (allowed : number_refusal split.desk.opening (comment_request comment) ≡ None)
     (item : is_hot (objects_of split.slices) (Item comment.item) ≡ false) (user : is_hot (objects_of split.slices) (User comment.about) ≡ false) where
-  pub comment_cold_commits : (new : SplitState) (done : Commit) → HasCommittedCold opening desk (done_at desk index (comment_request comment) done) key back comment index done.reply
+  pub comment_cold_commits : (new : SplitState) (done : Commit Reply) → HasCommittedCold opening desk (done_at desk index (comment_request comment) done) key back comment index done.reply
       → new.desk ≡ done_at split.desk index (comment_request comment) done → new.slices ≡ split.slices
       → HasCommitted opening (permit split key) (permit new back) (comment_request comment) index done.reply
   comment_cold_commits new done is committed sliced =

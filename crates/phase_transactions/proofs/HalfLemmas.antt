@@ -39,13 +39,18 @@ use Rattle.phase_transactions.specs.declared.fault.PermitFault.TheVariants.{Numb
 use Rattle.phase_transactions.specs.Halves.{permit, done_at, IsOverOne, HasCommentedUser, HasLooked}
 use Rattle.phase_transactions.specs.Pairs.{IsCommentAnswer, IsAsBefore, comment_look}
 use Rattle.phase_transactions.specs.Performing.{HasFailed, entry_asked, shards_asked}
-use Rattle.phase_transactions.specs.Permits.{IsIdle, HasCommitted, deed_of}
+use Rattle.phase_transactions.specs.Permits.{PermitState, IsIdle, HasCommitted, deed_of}
 use Rattle.phase_transactions.specs.Putting.{clock_seen}
 use Rattle.phase_transactions.specs.Single.{only_object}
 use Rattle.phase_transactions.proofs.Hots.{stored_commits, had_number, bid_hot_commits}
 use Rattle.phase_transactions.proofs.KeyLemmas.{one_put, differs}
 use Rattle.phase_transactions.proofs.FailLemmas.{others_of_one}
 use Rattle.phase_transactions.proofs.PairLemmas.{its, Writes, written, replied, cold_acts, cold_written, cold_setting}
+
+-- a commit with a reply is one with any equal to it
+pub as_told : (opening : List ShardState) (old new : PermitState) (request : Request) (index : ℕ) (reply told : Reply) → told ≡ reply
+    → HasCommitted opening old new request index reply → HasCommitted opening old new request index told
+as_told opening old new request index reply told is = subst (HasCommitted opening old new request index) (sym is)
 
 greatest_one : (shard before : ℕ) → max (if shard == shard then before else 0) 0 ≡ before
 greatest_one shard before = ap (λ b. max (cond b before 0) 0) (eq-eqb shard shard refl) ∙ omega arith
@@ -231,7 +236,7 @@ module _ (opening : List ShardState) (split : SplitState) (key back : KeyState) 
   abbrev pub for_user : ℕ
   for_user = shard_of (User comment.about) (length opening)
 
-  pub user_commits : (new : SplitState) (done : Commit) → HasCommentedUser opening desk key back comment (stock_of (stocks_of split.slices) (Item comment.item)) index done
+  pub user_commits : (new : SplitState) (done : Commit Reply) → HasCommentedUser opening desk key back comment (stock_of (stocks_of split.slices) (Item comment.item)) index done
       → new.desk ≡ done_at split.desk index (comment_request comment) done → new.slices ≡ split.slices
       → for_user < length key.seats → IsIdle key
       → HasCommitted opening (permit split key) (permit new back) (comment_request comment) index done.reply

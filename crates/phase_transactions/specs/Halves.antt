@@ -28,7 +28,7 @@ abbrev pub permit : SplitState → KeyState → PermitState
 permit split key = record { split = split; key = key }
 
 -- a desk after the commit of what a transaction did
-abbrev pub done_at : DeskState → ℕ → Request → Commit → DeskState
+abbrev pub done_at : DeskState → ℕ → Request → Commit Reply → DeskState
 done_at desk index request commit = with_one_less (after_commit desk commit.number index request commit.reply commit.found)
 
 -- a request that takes no shard leaves the key
@@ -54,7 +54,7 @@ pub record HasPutUser (opening : List ShardState) (desk : DeskState) (comment : 
 
 -- A comment was done over the shard of the user whom it is about alone, by what is known of its item.
 pub record HasCommentedUser (opening : List ShardState) (desk : DeskState) (old new : KeyState) (comment : Comment) (stock : Option (Facts × ℕ))
-    (index : ℕ) (done : Commit) : Type 0 where
+    (index : ℕ) (done : Commit Reply) : Type 0 where
   pub act : Act
   pub answer : IsCommentAnswer desk stock comment done.reply act
   pub over : IsOverOne opening desk.clock old new (shard_of (User comment.about) (length opening)) done.number index done.found

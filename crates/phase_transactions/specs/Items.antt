@@ -70,7 +70,7 @@ pub record HasStayed (opening : List ShardState) (clock : ℕ) (key back : KeySt
   pub cause : IsCauseAt (max clock (max (clock_seen opening back one) (clock_seen opening back other))) fault
 
 -- a desk after the commit of what a new item's transaction did
-abbrev pub stored_at : DeskState → ℕ → NewItem → Commit → DeskState
+abbrev pub stored_at : DeskState → ℕ → NewItem → Commit Reply → DeskState
 stored_at desk index item done = with_one_less (after_commit desk done.number index (item_request item) done.reply done.found)
 
 -- neither the worker's next item nor its category is hot

@@ -1,6 +1,7 @@
 -- What is left when a request was performed, put off, or could not be performed.
-use Rattle.std.specs.Prelude.{◌≡◌, ℕ, max, ◌+◌, ◌<◌, ◌≤◌, Bool, true, false, List, length, None, ⊤}
+use Rattle.std.specs.Prelude.{◌≡◌, ℕ, max, ◌+◌, ◌<◌, ◌≤◌, Bool, true, false, List, length, Option, Some, None, ⊤}
 use Rattle.phase_laws.specs.Numbers.{greatest_by}
+use Rattle.auction_rows.specs.declared.replies.Reply.{Reply}
 use Rattle.auction_rows.specs.declared.replies.Reply.TheVariants.{ItemStored}
 use Rattle.auction_rows.specs.declared.requests.Request.{Request}
 use Rattle.auction_rows.specs.declared.requests.Request.TheVariants.{StoreItem, StoreBid, StoreComment, BuyNow, ViewItem, ViewBids, ViewCategory, ViewUser}
@@ -21,6 +22,11 @@ use Rattle.phase_transactions.specs.declared.fault.PermitFault.TheVariants.{Memo
 use Rattle.phase_transactions.specs.Pairs.{HasSameLines}
 use Rattle.phase_transactions.specs.Permits.{PermitState, IsIdle, HasCommitted}
 use Rattle.phase_transactions.specs.Putting.{clock_seen}
+
+-- what a permit did: a commit with this reply, or, where there is none, it put the request off
+abbrev pub done_of : Option Reply → Done
+done_of (Some reply) = Committed reply
+done_of None = Stashed
 
 -- a permit with one try more
 abbrev pub with_try : PermitState → PermitState

@@ -11,9 +11,9 @@ use Rattle.item_shards.specs.declared.acts.Shown.TheVariants as shown
 use Rattle.phase_transactions.specs.declared.seen.Seen.{Seen}
 
 -- a view looks at its reply
-abbrev pub view_of : Object → Reply → Seen
+abbrev pub view_of : Object → Reply → Seen Reply
 view_of object reply = record { stock = None; reply = reply; look = Look (shown.Reply object reply); write = Look shown.Nothing }
 
 -- a store that is refused looks at the item's facts and number left
-abbrev pub refusal_of : ItemId → Option (Facts × ℕ) → Refusal → Seen
+abbrev pub refusal_of : ItemId → Option (Facts × ℕ) → Refusal → Seen Reply
 refusal_of item stock reason = record { stock = stock; reply = Refused reason; look = Look (shown.Left item stock); write = Look shown.Nothing }

@@ -52,11 +52,11 @@ abbrev pub IsAnswerBy : DeskState → Request → Option (Facts × ℕ) → Repl
 IsAnswerBy desk request stock reply =
     MatchOption (reason_by desk.opening stock request) (Answers desk.counters desk.journal.worker request reply) (λ reason. reply ≡ Refused reason)
 
-abbrev pub acts_of : Seen → List Act
+abbrev pub acts_of : Seen Reply → List Act
 acts_of seen = seen.look ∷ seen.write ∷ []
 
 -- What a desk's request sees on a shard: its acts can be done there, they look at what is there, and its reply is the answer.
-pub record HasSeen (desk : DeskState) (shard : Shard) (request : Request) (seen : Seen) : Type 0 where
+pub record HasSeen (desk : DeskState) (shard : Shard) (request : Request) (seen : Seen Reply) : Type 0 where
   pub acts : acts_of seen ≡ acts_done desk.journal.worker request seen.stock seen.reply
   pub can : CanDo shard (acts_of seen)
   pub looks : AreTrueOf (shelf shard) (acts_of seen)

@@ -27,6 +27,7 @@ use item_shards::{Act, Shown};
 use phase_desks::{Comment, Desk, Found, SplitDesk};
 use shard_boxes::{Boxes, Held, Key, PhaseName, sums_fit};
 use std::sync::Wait;
+use worker_journals::Answer;
 
 /// A comment at a number after the clock of a shard that is as it was taken, that of the user whom it is about, by what
 /// is known of its item. It gives the reply.
@@ -40,7 +41,7 @@ fn comment_user_at<N: PhaseName, R: Wait>(
     held: Held<N>,
     number: u64,
     index: u32,
-) -> Reply
+) -> Answer<'static>
     requires of { key.old.boxes ≡ boxes.now }
     requires holder { holds_at key.old held.number ≡ true }
     requires taken { IsAsTaken N.opening N.workers key.old held }
@@ -71,7 +72,7 @@ fn comment_over_user<N: PhaseName, R: Wait>(
     stock: Option<(Facts, u32)>,
     user: u32,
     index: u32,
-) -> Option<Commit>
+) -> Option<Commit<Answer<'static>>>
     requires of { key.old.boxes ≡ boxes.now }
     requires seats { length key.old.seats ≡ length N.opening }
     requires idle { IsIdle key.old }
@@ -149,7 +150,7 @@ pub(crate) fn comment_on_hot_item<N: PhaseName, R: Wait>(
     split: &mut SplitDesk,
     comment: &Comment,
     index: u32,
-) -> Option<Reply>
+) -> Option<Ghost<Reply>>
     requires of { key.old.boxes ≡ boxes.now }
     requires seats { length key.old.seats ≡ length N.opening }
     requires idle { IsIdle key.old }
@@ -170,7 +171,7 @@ pub(crate) fn comment_on_hot_item<N: PhaseName, R: Wait>(
     let done = comment_over_user(rt, boxes, key, desk, comment, stock, user, index)?;
     let request = comment.request();
     split.commit_cold(done.number, index, &request, &done.reply, &done.found);
-    Some(done.reply)
+    Some(Ghost::of(&done.reply.to_reply()))
 }
 
 /// A comment about a hot user on an item that is not hot, that the opening does not refuse: over the item's shard alone,
@@ -183,7 +184,7 @@ pub(crate) fn comment_about_hot_user<N: PhaseName, R: Wait>(
     split: &mut SplitDesk,
     comment: &Comment,
     index: u32,
-) -> Option<Reply>
+) -> Option<Ghost<Reply>>
     requires of { key.old.boxes ≡ boxes.now }
     requires seats { length key.old.seats ≡ length N.opening }
     requires idle { IsIdle key.old }
@@ -200,5 +201,6 @@ pub(crate) fn comment_about_hot_user<N: PhaseName, R: Wait>(
     let item = shard_of(Object::Item(comment.item), boxes.shards());
     let desk = split.desk();
     let (number, refused, found) = look_over_item(rt, boxes, key, desk, comment, item, index)?;
-    Some(split.commit_comment(number, index, comment, refused, &found))
+    let reply = split.commit_comment(number, index, comment, refused, &found);
+    Some(Ghost::of(&reply.to_reply()))
 }

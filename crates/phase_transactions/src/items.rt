@@ -17,12 +17,13 @@ use crate::commit::Commit;
 use crate::fault::PermitFault;
 use crate::pairs::{alone, put_both, put_both_back, take_both};
 use crate::putting::put_with_line;
-use auction_rows::{ItemId, Object, Reply, shard_of};
+use auction_rows::{ItemId, Object, Reply, StoreReply, shard_of};
 use ghost_log::Ghost;
 use item_shards::{Act, Shown, next_number};
 use phase_desks::{Desk, Found, NewItem, SplitDesk};
 use shard_boxes::{Boxes, Held, Key, PhaseName};
 use std::sync::Wait;
+use worker_journals::Answer;
 
 /// Makes room for an item on its shard, which shows nothing of it.
 fn prepare<N: PhaseName>(held: &mut Held<N>, id: ItemId) -> Result<(), PermitFault>
@@ -134,7 +135,7 @@ fn store_over_one<N: PhaseName, R: Wait>(
     item: &NewItem,
     shard: u32,
     index: u32,
-) -> Result<Commit, PermitFault>
+) -> Result<Commit<Answer<'static>>, PermitFault>
     requires of { key.old.boxes ≡ boxes.now }
     requires seats { length key.old.seats ≡ length N.opening }
     requires idle { IsIdle key.old }
@@ -167,7 +168,7 @@ fn store_over_one<N: PhaseName, R: Wait>(
     };
     Ok(Commit {
         number,
-        reply: Reply::ItemStored(id),
+        reply: Answer::store(StoreReply::ItemStored(id)),
         found,
     })
 }
@@ -181,7 +182,7 @@ fn store_over_two<N: PhaseName, R: Wait>(
     item: &NewItem,
     shards: (u32, u32),
     index: u32,
-) -> Result<Commit, PermitFault>
+) -> Result<Commit<Answer<'static>>, PermitFault>
     requires of { key.old.boxes ≡ boxes.now }
     requires seats { length key.old.seats ≡ length N.opening }
     requires idle { IsIdle key.old }
@@ -213,7 +214,7 @@ fn store_over_two<N: PhaseName, R: Wait>(
     };
     Ok(Commit {
         number,
-        reply: Reply::ItemStored(id),
+        reply: Answer::store(StoreReply::ItemStored(id)),
         found,
     })
 }
@@ -228,7 +229,7 @@ pub(crate) fn store_over_shards<N: PhaseName, R: Wait>(
     desk: &Desk,
     item: &NewItem,
     index: u32,
-) -> Result<Commit, PermitFault>
+) -> Result<Commit<Answer<'static>>, PermitFault>
     requires of { key.old.boxes ≡ boxes.now }
     requires seats { length key.old.seats ≡ length N.opening }
     requires idle { IsIdle key.old }
@@ -259,7 +260,7 @@ pub fn store_in_joined<N: PhaseName, R: Wait>(
     desk: &mut Desk,
     item: &NewItem,
     index: u32,
-) -> Result<Reply, PermitFault>
+) -> Result<Ghost<Reply>, PermitFault>
     requires of { key.old.boxes ≡ boxes.now }
     requires seats { length key.old.seats ≡ length N.opening }
     requires idle { IsIdle key.old }
@@ -281,7 +282,7 @@ pub fn store_in_joined<N: PhaseName, R: Wait>(
         &done.reply,
         &done.found,
     );
-    Ok(done.reply)
+    Ok(Ghost::of(&done.reply.to_reply()))
 }
 
 /// Stores an item in a hot category: over the item's own shard, and in the category's slice.
@@ -292,7 +293,7 @@ pub(crate) fn store_in_hot_category<N: PhaseName, R: Wait>(
     split: &mut SplitDesk,
     item: &NewItem,
     index: u32,
-) -> Result<Reply, PermitFault>
+) -> Result<Ghost<Reply>, PermitFault>
     requires of { key.old.boxes ≡ boxes.now }
     requires seats { length key.old.seats ≡ length N.opening }
     requires idle { IsIdle key.old }
@@ -324,5 +325,6 @@ pub(crate) fn store_in_hot_category<N: PhaseName, R: Wait>(
         stock: Ghost::of(&None),
         clocks: [Some((home, before)), None],
     };
-    Ok(split.store_item(number, index, item, &found))
+    let reply = split.store_item(number, index, item, &found);
+    Ok(Ghost::of(&reply.to_reply()))
 }

@@ -18,12 +18,13 @@ ghost use Rattle.phase_transactions.specs.Pairs.{HoldsBoth, HasSameLines, Leaves
 
 use crate::commit::Commit;
 use crate::putting::put_with_line;
-use auction_rows::{Facts, Object, Reply, shard_of};
+use auction_rows::{Facts, Object, Reply, StoreReply, shard_of};
 use ghost_log::Ghost;
 use item_shards::{Act, Shown};
 use phase_desks::{Comment, Desk, Found};
 use shard_boxes::{Boxes, Held, Key, PhaseName, sums_fit};
 use std::sync::Wait;
+use worker_journals::Answer;
 
 /// Takes two shards, the lesser first.
 pub(crate) fn take_both<N: PhaseName, R: Wait>(
@@ -110,13 +111,16 @@ pub(crate) fn answer_comment(
     desk: &Desk,
     comment: &Comment,
     seen: Option<(Facts, u32)>,
-) -> (Reply, Act)
+) -> (Answer<'static>, Act)
     ensures { IsCommentAnswer desk.now seen comment.now result.0 result.1 }
 {
     match desk.refusal(&comment.request(), seen) {
-        Some(reason) => (Reply::Refused(reason), Act::Look(Shown::Nothing)),
+        Some(reason) => (
+            Answer::store(StoreReply::Refused(reason)),
+            Act::Look(Shown::Nothing),
+        ),
         None => (
-            Reply::CommentStored(desk.next_comment()),
+            Answer::store(StoreReply::CommentStored(desk.next_comment())),
             Act::Comment(comment.about, comment.stars),
         ),
     }
@@ -152,7 +156,7 @@ fn comment_at<N: PhaseName, R: Wait>(
     held: (Held<N>, Held<N>),
     number: u64,
     index: u32,
-) -> (Reply, Option<(Facts, u32)>)
+) -> (Answer<'static>, Option<(Facts, u32)>)
     requires of { key.old.boxes ≡ boxes.now }
     requires holds { HoldsBoth key.old held.0.number held.1.number }
     requires one { IsAsTaken N.opening N.workers key.old held.0 }
@@ -197,7 +201,7 @@ fn comment_over_two<N: PhaseName, R: Wait>(
     item: u32,
     user: u32,
     index: u32,
-) -> Option<Commit>
+) -> Option<Commit<Answer<'static>>>
     requires of { key.old.boxes ≡ boxes.now }
     requires seats { length key.old.seats ≡ length N.opening }
     requires idle { IsIdle key.old }
@@ -243,7 +247,7 @@ fn comment_in_one<N: PhaseName, R: Wait>(
     held: Held<N>,
     number: u64,
     index: u32,
-) -> (Reply, Option<(Facts, u32)>)
+) -> (Answer<'static>, Option<(Facts, u32)>)
     requires of { key.old.boxes ≡ boxes.now }
     requires holder { holds_at key.old held.number ≡ true }
     requires taken { IsAsTaken N.opening N.workers key.old held }
@@ -275,7 +279,7 @@ fn comment_over_one<N: PhaseName, R: Wait>(
     comment: &Comment,
     shard: u32,
     index: u32,
-) -> Option<Commit>
+) -> Option<Commit<Answer<'static>>>
     requires of { key.old.boxes ≡ boxes.now }
     requires seats { length key.old.seats ≡ length N.opening }
     requires idle { IsIdle key.old }
@@ -318,7 +322,7 @@ pub(crate) fn comment_over_shards<N: PhaseName, R: Wait>(
     desk: &Desk,
     comment: &Comment,
     index: u32,
-) -> Option<Commit>
+) -> Option<Commit<Answer<'static>>>
     requires of { key.old.boxes ≡ boxes.now }
     requires seats { length key.old.seats ≡ length N.opening }
     requires idle { IsIdle key.old }
@@ -350,7 +354,7 @@ pub fn comment_in_joined<N: PhaseName, R: Wait>(
     desk: &mut Desk,
     comment: &Comment,
     index: u32,
-) -> Option<Reply>
+) -> Option<Ghost<Reply>>
     requires of { key.old.boxes ≡ boxes.now }
     requires seats { length key.old.seats ≡ length N.opening }
     requires idle { IsIdle key.old }
@@ -367,5 +371,5 @@ pub fn comment_in_joined<N: PhaseName, R: Wait>(
     let done = comment_over_shards(rt, boxes, key, desk, comment, index)?;
     let request = comment.request();
     desk.commit(done.number, index, &request, &done.reply, &done.found);
-    Some(done.reply)
+    Some(Ghost::of(&done.reply.to_reply()))
 }

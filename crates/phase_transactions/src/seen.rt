@@ -1,9 +1,10 @@
 //! What a request sees on its one shard, and does there.
-ghost use Rattle.std.specs.Prelude.{◌≡◌, ◌<◌, Some, None};
+ghost use Rattle.std.specs.Prelude.{◌≡◌, ◌<◌, true, false, Some, None};
 ghost use Rattle.auction_rows.specs.declared.ids.Object.{Object};
 ghost use Rattle.auction_rows.specs.declared.ids.Object.TheVariants.{Item};
 ghost use Rattle.auction_rows.specs.declared.requests.Request.TheVariants.{StoreBid, BuyNow};
 ghost use Rattle.auction_rows.specs.Refusals.{number_refusal};
+ghost use Rattle.auction_rows.specs.Requests.{is_view};
 ghost use Rattle.item_shards.specs.CommitNumbers.{last_number};
 ghost use Rattle.item_shards.specs.Looking.{view_like};
 ghost use Rattle.item_shards.specs.ShardShelf.{clock, opening, shelf, LiesIn};
@@ -11,55 +12,61 @@ ghost use Rattle.shard_boxes.specs.States.{state_of, IsWithin};
 ghost use Rattle.phase_desks.specs.Deeds.{SuitsItem, SuitsBids};
 ghost use Rattle.phase_transactions.specs.Single.{only_object, HasSeen};
 
-use auction_rows::{BidEntry, BuyId, Facts, ItemId, Object, Quantity, Refusal, Reply, Request};
+use auction_rows::{
+    BidEntry, Facts, ItemId, Object, Quantity, Refusal, Reply, Request, StoreReply,
+};
 use ghost_log::Ghost;
 use item_shards::{Act, Shard, Shown};
 use phase_desks::Desk;
+use worker_journals::Answer;
 
 /// The facts and the number left of the item that a store needs, where it is stored, for proofs alone; the reply; and
 /// the acts: a look, and what writes.
 #[derive(Drop)]
-pub(crate) struct Seen {
+pub(crate) struct Seen<A> {
     pub(crate) stock: Ghost<Option<(Facts, u32)>>,
-    pub(crate) reply: Reply,
+    pub(crate) reply: A,
     pub(crate) look: Act,
     pub(crate) write: Act,
 }
 
-impl Seen {
-    ghost use Rattle.phase_transactions.specs.SeenOf.{view_of, refusal_of};
+impl Seen<Reply> {
+    ghost use Rattle.phase_transactions.specs.SeenOf.{view_of};
 
     // A view of an object.
-    fn view(object: Object, reply: &Reply) -> Seen
-        ensures { result ≡ view_of object reply.now }
+    fn view(object: Object, reply: Reply) -> Seen<Reply>
+        ensures { result ≡ view_of object reply }
     {
         Seen {
             stock: Ghost::of(&None),
-            reply: *reply,
-            look: Act::Look(Shown::Reply(object, Ghost::of(reply))),
+            look: Act::Look(Shown::Reply(object, Ghost::of(&reply))),
+            reply,
             write: Act::Look(Shown::Nothing),
         }
     }
+}
+
+impl Seen<Answer<'static>> {
+    ghost use Rattle.phase_transactions.specs.SeenOf.{refusal_of};
 
     // A store on an item that is refused.
-    fn refusal(item: ItemId, stock: &Option<(Facts, u32)>, reason: Refusal) -> Seen
+    fn refusal(item: ItemId, stock: &Option<(Facts, u32)>, reason: Refusal) -> Seen<Answer<'static>>
         ensures { result ≡ refusal_of item stock.now reason }
     {
         Seen {
             stock: Ghost::of(stock),
-            reply: Reply::Refused(reason),
+            reply: Answer::store(StoreReply::Refused(reason)),
             look: Act::Look(Shown::Left(item, Ghost::of(stock))),
             write: Act::Look(Shown::Nothing),
         }
     }
 }
 
-/// What a request sees on the shard of the one object that it needs, where the opening does not refuse it.
-pub(crate) fn see(desk: &Desk, shard: &Shard, request: &Request) -> Seen
+/// What a bid or a purchase sees on the shard of its item, where the opening does not refuse it.
+pub(crate) fn see_store(desk: &Desk, shard: &Shard, request: &Request) -> Seen<Answer<'static>>
     requires here { (object : Object) → only_object request.now ≡ Some object → LiesIn shard.now object }
     requires one { (only_object request.now ≡ None) → ⊥ }
-    requires opening { opening shard.now ≡ desk.now.opening }
-    requires accepted { number_refusal desk.now.opening request.now ≡ None }
+    requires store { is_view request.now ≡ false }
     requires within { IsWithin (state_of shard.now) }
     requires later { clock shard.now < last_number }
     ensures { HasSeen desk.now shard.now request.now result }
@@ -77,18 +84,39 @@ pub(crate) fn see(desk: &Desk, shard: &Shard, request: &Request) -> Seen
             quantity,
             time,
         } => see_purchase(desk, shard, buyer, item, quantity, time),
-        Request::ViewItem { item } => Seen::view(Object::Item(item), &item_seen(shard, item)),
-        Request::ViewBids { item } => Seen::view(Object::Item(item), &bids_seen(shard, item)),
+        _ => unreachable!(),
+    }
+}
+
+/// What a view sees on the shard of its object, where the opening does not refuse it.
+pub(crate) fn see_view(desk: &Desk, shard: &Shard, request: &Request) -> Seen<Reply>
+    requires here { (object : Object) → only_object request.now ≡ Some object → LiesIn shard.now object }
+    requires view { is_view request.now ≡ true }
+    requires opening { opening shard.now ≡ desk.now.opening }
+    requires accepted { number_refusal desk.now.opening request.now ≡ None }
+    ensures { HasSeen desk.now shard.now request.now result }
+{
+    let _desk = desk;
+    match *request {
+        Request::ViewItem { item } => Seen::view(Object::Item(item), item_seen(shard, item)),
+        Request::ViewBids { item } => Seen::view(Object::Item(item), bids_seen(shard, item)),
         Request::ViewCategory { category } => {
-            Seen::view(Object::Category(category), &shard.view_category(category))
+            Seen::view(Object::Category(category), shard.view_category(category))
         }
-        Request::ViewUser { user } => Seen::view(Object::User(user), &shard.view_user(user)),
-        Request::StoreItem { .. } | Request::StoreComment { .. } => unreachable!(),
+        Request::ViewUser { user } => Seen::view(Object::User(user), shard.view_user(user)),
+        _ => unreachable!(),
     }
 }
 
 // A bid: it is the worker's next where the item does not refuse it.
-fn see_bid(desk: &Desk, shard: &Shard, bidder: u32, item: ItemId, amount: u64, time: u64) -> Seen
+fn see_bid(
+    desk: &Desk,
+    shard: &Shard,
+    bidder: u32,
+    item: ItemId,
+    amount: u64,
+    time: u64,
+) -> Seen<Answer<'static>>
     requires here { LiesIn shard.now (Item item) }
     requires within { IsWithin (state_of shard.now) }
     requires later { clock shard.now < last_number }
@@ -113,7 +141,7 @@ fn see_bid(desk: &Desk, shard: &Shard, bidder: u32, item: ItemId, amount: u64, t
     };
     Seen {
         stock: Ghost::of(stock),
-        reply: Reply::BidStored(id),
+        reply: Answer::store(StoreReply::BidStored(id)),
         look: Act::Look(Shown::Left(item, Ghost::of(stock))),
         write: Act::Bid(item, entry),
     }
@@ -127,7 +155,7 @@ fn see_purchase(
     item: ItemId,
     quantity: Quantity,
     time: u64,
-) -> Seen
+) -> Seen<Answer<'static>>
     requires here { LiesIn shard.now (Item item) }
     ensures { HasSeen desk.now shard.now (BuyNow buyer item quantity time) result }
 {
@@ -144,7 +172,7 @@ fn see_purchase(
     let id = desk.next_buy();
     Seen {
         stock: Ghost::of(stock),
-        reply: Reply::Bought(id),
+        reply: Answer::store(StoreReply::Bought(id)),
         look: Act::Look(Shown::Left(item, Ghost::of(stock))),
         write: Act::Buy(item, quantity),
     }

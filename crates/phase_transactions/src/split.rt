@@ -17,11 +17,13 @@ use crate::fault::PermitFault;
 use crate::halves::{comment_about_hot_user, comment_on_hot_item};
 use crate::items::{store_in_hot_category, store_over_shards};
 use crate::pairs::comment_over_shards;
-use crate::single::{only_object, transact_on};
-use auction_rows::{Object, Reply, Request, number_refusal};
+use crate::single::{only_object, store_on, view_on};
+use auction_rows::{Object, Reply, Request, is_view, number_refusal};
+use ghost_log::Ghost;
 use phase_desks::{Comment, NewItem, SplitDesk};
 use shard_boxes::{Boxes, Key, PhaseName};
 use std::sync::Wait;
+use worker_journals::Answer;
 
 /// A request that needs one object alone, which is not hot, and that the opening does not refuse: over the object's shard.
 /// None exactly where the greater of the worker's clock and the shard's is at the end of numbers, and then nothing has
@@ -34,7 +36,7 @@ fn perform_cold<N: PhaseName, R: Wait>(
     request: &Request,
     object: Object,
     index: u32,
-) -> Option<Reply>
+) -> Option<Ghost<Reply>>
     requires of { key.old.boxes ≡ boxes.now }
     requires seats { length key.old.seats ≡ length N.opening }
     requires idle { IsIdle key.old }
@@ -51,9 +53,15 @@ fn perform_cold<N: PhaseName, R: Wait>(
 {
     let _shards = boxes.shards();
     let desk = split.desk();
-    let done = transact_on(rt, boxes, key, desk, request, object, index)?;
+    if is_view(*request) {
+        let done = view_on(rt, boxes, key, desk, request, object, index)?;
+        let reply = Answer::of(&done.reply);
+        split.commit_cold(done.number, index, request, &reply, &done.found);
+        return Some(Ghost::of(&done.reply));
+    }
+    let done = store_on(rt, boxes, key, desk, request, object, index)?;
     split.commit_cold(done.number, index, request, &done.reply, &done.found);
-    Some(done.reply)
+    Some(Ghost::of(&done.reply.to_reply()))
 }
 
 /// A comment of which neither the item nor the user is hot, and that the opening does not refuse: over their shards. None
@@ -66,7 +74,7 @@ fn comment_cold<N: PhaseName, R: Wait>(
     split: &mut SplitDesk,
     comment: &Comment,
     index: u32,
-) -> Option<Reply>
+) -> Option<Ghost<Reply>>
     requires of { key.old.boxes ≡ boxes.now }
     requires seats { length key.old.seats ≡ length N.opening }
     requires idle { IsIdle key.old }
@@ -85,7 +93,7 @@ fn comment_cold<N: PhaseName, R: Wait>(
     let done = comment_over_shards(rt, boxes, key, desk, comment, index)?;
     let request = comment.request();
     split.commit_cold(done.number, index, &request, &done.reply, &done.found);
-    Some(done.reply)
+    Some(Ghost::of(&done.reply.to_reply()))
 }
 
 /// A comment that the opening does not refuse: over the shards of those of its item and the user whom it is about that are
@@ -98,7 +106,7 @@ fn comment_in_split<N: PhaseName, R: Wait>(
     split: &mut SplitDesk,
     comment: &Comment,
     index: u32,
-) -> Option<Reply>
+) -> Option<Ghost<Reply>>
     requires of { key.old.boxes ≡ boxes.now }
     requires seats { length key.old.seats ≡ length N.opening }
     requires idle { IsIdle key.old }
@@ -112,21 +120,15 @@ fn comment_in_split<N: PhaseName, R: Wait>(
     ensures untouched { IsUntouched (length N.opening) split.old (comment_request comment.now) key.old key.new }
 {
     let item = split.is_hot(Object::Item(comment.item));
-    let user = split.is_hot(Object::User(comment.about));
-    if item && user {
-        split.comment_hot(
-            comment.author,
-            comment.about,
-            comment.item,
-            comment.stars,
-            index,
-        )
-    } else if item {
-        comment_on_hot_item(rt, boxes, key, split, comment, index)
-    } else if user {
-        comment_about_hot_user(rt, boxes, key, split, comment, index)
-    } else {
-        comment_cold(rt, boxes, key, split, comment, index)
+    let user = split.place_of(Object::User(comment.about));
+    match user {
+        Some(place) if item => {
+            let reply = split.comment_at(place, comment, index)?;
+            Some(Ghost::of(&reply.to_reply()))
+        }
+        Some(_) => comment_about_hot_user(rt, boxes, key, split, comment, index),
+        None if item => comment_on_hot_item(rt, boxes, key, split, comment, index),
+        None => comment_cold(rt, boxes, key, split, comment, index),
     }
 }
 
@@ -141,7 +143,7 @@ fn perform_single<N: PhaseName, R: Wait>(
     request: &Request,
     object: Object,
     index: u32,
-) -> Option<Reply>
+) -> Option<Ghost<Reply>>
     requires of { key.old.boxes ≡ boxes.now }
     requires seats { length key.old.seats ≡ length N.opening }
     requires idle { IsIdle key.old }
@@ -165,7 +167,10 @@ fn perform_single<N: PhaseName, R: Wait>(
             item,
             amount,
             time,
-        } => split.bid_at(place, bidder, item, amount, time, index),
+        } => {
+            let reply = split.bid_at(place, bidder, item, amount, time, index)?;
+            Some(Ghost::of(&reply.to_reply()))
+        }
         _ => unreachable!(),
     }
 }
@@ -179,7 +184,7 @@ fn store_in_split<N: PhaseName, R: Wait>(
     split: &mut SplitDesk,
     item: &NewItem,
     index: u32,
-) -> Result<Reply, PermitFault>
+) -> Result<Ghost<Reply>, PermitFault>
     requires of { key.old.boxes ≡ boxes.now }
     requires seats { length key.old.seats ≡ length N.opening }
     requires idle { IsIdle key.old }
@@ -200,7 +205,7 @@ fn store_in_split<N: PhaseName, R: Wait>(
     let done = store_over_shards(rt, boxes, key, desk, item, index)?;
     let request = item.request();
     split.commit_cold(done.number, index, &request, &done.reply, &done.found);
-    Ok(done.reply)
+    Ok(Ghost::of(&done.reply.to_reply()))
 }
 
 /// A request that is not put off: without a shard where the opening refuses it, and else over the shards of those of its
@@ -212,7 +217,7 @@ pub fn commit_in_split<N: PhaseName, R: Wait>(
     split: &mut SplitDesk,
     request: &Request,
     index: u32,
-) -> Result<Reply, PermitFault>
+) -> Result<Ghost<Reply>, PermitFault>
     requires of { key.old.boxes ≡ boxes.now }
     requires seats { length key.old.seats ≡ length N.opening }
     requires idle { IsIdle key.old }
@@ -226,8 +231,10 @@ pub fn commit_in_split<N: PhaseName, R: Wait>(
     ensures untouched { IsUntouched (length N.opening) split.old request.now key.old key.new }
 {
     if let Some(reason) = number_refusal(split.desk().opening(), *request) {
-        let reply = split.refuse(request, reason, index);
-        return reply.ok_or(PermitFault::NumberFull);
+        let Some(reply) = split.refuse(request, reason, index) else {
+            return Err(PermitFault::NumberFull);
+        };
+        return Ok(Ghost::of(&reply.to_reply()));
     }
     if let Some(object) = only_object(request) {
         let reply = perform_single(rt, boxes, key, split, request, object, index);

@@ -1,5 +1,6 @@
 pub mod Journals
 pub mod Sides
+pub mod Answers
 pub mod Entries
 pub mod Merged
 pub mod Histories

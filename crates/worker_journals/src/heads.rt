@@ -49,6 +49,23 @@ pub(crate) enum ShortReply {
 }
 
 impl ShortReply {
+    ghost use Rattle.auction_rows.specs.StoreReplies.{reply_of};
+    ghost use Rattle.worker_journals.specs.Sides.{SaysReply};
+
+    /// A reply that shows nothing.
+    pub(crate) fn of_store(reply: StoreReply) -> ShortReply
+        ensures { (items : List SeenItem) (users : List SeenUser) (bids : List BidShown) (latest : List ItemShown) →
+            SaysReply items users bids latest result (reply_of reply) }
+    {
+        match reply {
+            StoreReply::ItemStored(id) => ShortReply::ItemStored(id),
+            StoreReply::BidStored(id) => ShortReply::BidStored(id),
+            StoreReply::CommentStored(id) => ShortReply::CommentStored(id),
+            StoreReply::Bought(id) => ShortReply::Bought(id),
+            StoreReply::Refused(reason) => ShortReply::Refused(reason),
+        }
+    }
+
     /// The reply, where it shows nothing.
     pub(crate) fn as_store_reply(self) -> Option<StoreReply>
         ensures { (items : List SeenItem) (users : List SeenUser) (bids : List BidShown) (latest : List ItemShown) →

@@ -4,10 +4,11 @@ ghost use Rattle.auction_rows.specs.Choosing.{written_by};
 ghost use Rattle.worker_journals.specs.Journals.{IsLawful, ComesAfter, closed_journal, empty_journal, entry_index, entry_number, with_commit};
 ghost use Rattle.worker_journals.specs.Places.{entry_request, entry_store_reply, is_refused};
 
+use crate::answer::Answer;
 use crate::entry_ref::EntryRef;
 use crate::heads::Head;
 use crate::sides::Sides;
-use auction_rows::{Entry, Object, Reply, Request, StoreReply};
+use auction_rows::{Entry, Object, Request, StoreReply};
 use std::alloc::{AllocError, Global};
 use std::marker::Model;
 
@@ -57,7 +58,7 @@ impl Journal {
 
     /// Adds a commit of this worker in this phase, at a number greater than the last one's, where there
     /// is room. It takes no memory.
-    pub fn push(&mut self, number: u64, index: u32, request: &Request, reply: &Reply)
+    pub fn push(&mut self, number: u64, index: u32, request: &Request, reply: &Answer<'_>)
         requires room { length self.old.entries < self.old.room }
         requires after { ComesAfter self.old.entries number }
         ensures pushed { self.new ≡ with_commit self.old number index request.now reply.now }

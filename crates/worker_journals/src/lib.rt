@@ -1,6 +1,7 @@
 //! The journals of workers: what each worker commits in one phase, and the history of the phases' journals.
 #![tactic(auto)]
 
+mod answer;
 mod entry_ref;
 mod heads;
 mod history;
@@ -9,6 +10,7 @@ mod laws;
 mod merging;
 mod sides;
 
+pub use answer::Answer;
 pub use auction_rows::Entry;
 pub use entry_ref::EntryRef;
 pub use history::{Entries, History, WorkerEntries};

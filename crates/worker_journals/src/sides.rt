@@ -3,6 +3,7 @@ ghost use Rattle.std.specs.Prelude.{◌≡◌, ◌+◌, ◌<◌, ◌≤◌, ◌+
 ghost use Rattle.auction_rows.specs.Stars.{GivesStars};
 ghost use Rattle.worker_journals.specs.Sides.{HasRoom, SaysReply, SaysRequest, facts_in, items_in, users_in, bids_in, latest_in, item_reply};
 
+use crate::answer::{Answer, Told};
 use crate::heads::{ItemSeen, ShortReply, ShortRequest, UserSeen};
 use auction_rows::{BidShown, Facts, ItemShown, Object, Reply, Request, Ten};
 use std::alloc::{AllocError, Global};
@@ -82,7 +83,11 @@ impl Sides {
     }
 
     /// Keeps what is large of a commit, and gives what is small with the places of the rest. It takes no memory.
-    pub(crate) fn keep(&mut self, request: &Request, reply: &Reply) -> (ShortRequest, ShortReply)
+    pub(crate) fn keep(
+        &mut self,
+        request: &Request,
+        reply: &Answer<'_>,
+    ) -> (ShortRequest, ShortReply)
         requires { 0 < self.old.left }
         ensures kept { self.new ≡ with_commit_of self.old request.now reply.now }
         ensures request { SaysRequest self.new.facts result.0 request.now }
@@ -90,7 +95,7 @@ impl Sides {
         ensures reply { SaysReply self.new.items self.new.users self.new.bids self.new.latest result.1 reply.now }
     {
         let short_request = keep_request(&mut self.facts, request);
-        let short_reply = keep_reply(
+        let short_reply = keep_answer(
             &mut self.items,
             &mut self.users,
             &mut self.bids,
@@ -336,6 +341,32 @@ fn keep_reply(
             ShortReply::UserSeen(keep_one(users, UserSeen { rating, comments }))
         }
         Reply::Refused(reason) => ShortReply::Refused(reason),
+    }
+}
+
+// The same of the reply that a commit is told of.
+fn keep_answer(
+    items: &mut Vec<ItemSeen>,
+    users: &mut Vec<UserSeen>,
+    bids: &mut Vec<BidShown>,
+    latest: &mut Vec<ItemShown>,
+    reply: &Answer<'_>,
+) -> ShortReply
+    requires items { HasRoom 1 (vec_len items.old) (vec_capacity items.old) }
+    requires users { HasRoom 1 (vec_len users.old) (vec_capacity users.old) }
+    requires bids { HasRoom 10 (vec_len bids.old) (vec_capacity bids.old) }
+    requires latest { HasRoom 10 (vec_len latest.old) (vec_capacity latest.old) }
+    ensures items { items.new.items ≡ items.old.items ++ items_in reply.now }
+    ensures users { users.new.items ≡ users.old.items ++ users_in reply.now }
+    ensures bids { bids.new.items ≡ bids.old.items ++ bids_in reply.now }
+    ensures latest { latest.new.items ≡ latest.old.items ++ latest_in reply.now }
+    ensures says { SaysReply items.new.items users.new.items bids.new.items latest.new.items result reply.now }
+    ensures capacities { (vec_capacity items.new ≡ vec_capacity items.old) × (vec_capacity users.new ≡ vec_capacity users.old)
+        × (vec_capacity bids.new ≡ vec_capacity bids.old) × (vec_capacity latest.new ≡ vec_capacity latest.old) }
+{
+    match reply.told {
+        Told::Store(reply) => ShortReply::of_store(reply),
+        Told::Whole(reply) => keep_reply(items, users, bids, latest, reply),
     }
 }
 

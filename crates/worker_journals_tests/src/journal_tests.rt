@@ -1,12 +1,12 @@
 //! Journals that are filled and closed.
 use crate::testing::{PHASE, assert_journal, commit, journal_with};
 use auction_rows::{
-    BidId, BidShown, CommentId, Facts, ItemId, ItemShown, Name, Quantity, Refusal, Reply, Request,
-    Stars, Ten,
+    BidId, BidShown, CommentId, Entry, Facts, ItemId, ItemShown, Name, Quantity, Refusal, Reply,
+    Request, Stars, StoreReply, Ten,
 };
 use std::alloc::Global;
 use std::test::Fail;
-use worker_journals::Journal;
+use worker_journals::{Answer, Journal};
 
 const ITEM: ItemId = ItemId {
     worker: 3,
@@ -32,8 +32,10 @@ fn journal_starts_empty(rt: HostRuntime) -> Result<(), Fail> {
 fn push_adds_a_commit_of_the_worker(rt: HostRuntime) -> Result<(), Fail> {
     let mut journal = Journal::with_room(rt.alloc(), PHASE, 3, 2)?;
     let (first, second) = (commit(0, 3), commit(9, 3));
-    journal.push(first.number, first.index, &first.request, &first.reply);
-    journal.push(second.number, second.index, &second.request, &second.reply);
+    let reply = Answer::of(&first.reply);
+    journal.push(first.number, first.index, &first.request, &reply);
+    let reply = Answer::of(&second.reply);
+    journal.push(second.number, second.index, &second.request, &reply);
     assert_journal(&rt, &journal, &[first, second]);
     assert!(rt; journal.room() == 2);
     Ok(())
@@ -43,7 +45,8 @@ fn push_adds_a_commit_of_the_worker(rt: HostRuntime) -> Result<(), Fail> {
 fn a_closed_journal_has_its_entries_and_no_room(rt: HostRuntime) -> Result<(), Fail> {
     let mut journal = Journal::with_room(rt.alloc(), PHASE, 3, 1000)?;
     let entry = commit(4, 3);
-    journal.push(entry.number, entry.index, &entry.request, &entry.reply);
+    let reply = Answer::of(&entry.reply);
+    journal.push(entry.number, entry.index, &entry.request, &reply);
     journal.close();
     assert!(rt; journal.room() == 1);
     assert_journal(&rt, &journal, &[entry]);
@@ -157,5 +160,31 @@ fn entries_of_all_kinds_are_read_as_they_were_written(rt: HostRuntime) -> Result
     let mut journal = journal_with(rt.alloc(), &pairs)?;
     journal.close();
     assert!(rt; pairs_of(rt.alloc(), &journal)?.as_slice() == pairs.as_slice());
+    Ok(())
+}
+
+#[test]
+fn an_answer_tells_a_reply(rt: HostRuntime) -> Result<(), Fail> {
+    let stored = StoreReply::CommentStored(COMMENT);
+    let (refused, shown) = (Reply::Refused(Refusal::Closed), bids(2));
+    assert!(rt; Answer::store(stored).to_store() == Some(stored));
+    assert!(rt; Answer::store(stored).to_reply() == Reply::CommentStored(COMMENT));
+    assert!(rt; Answer::of(&refused).to_store() == Some(StoreReply::Refused(Refusal::Closed)));
+    assert!(rt; Answer::of(&refused).to_reply() == refused);
+    assert!(rt; Answer::of(&shown).to_store().is_none());
+    assert!(rt; Answer::of(&shown).to_reply() == shown);
+    Ok(())
+}
+
+#[test]
+fn a_store_told_in_few_bytes_is_read_as_a_reply(rt: HostRuntime) -> Result<(), Fail> {
+    let mut journal = Journal::with_room(rt.alloc(), PHASE, 3, 1)?;
+    let wanted = Entry {
+        reply: Reply::CommentStored(COMMENT),
+        ..commit(9, 3)
+    };
+    let reply = Answer::store(StoreReply::CommentStored(COMMENT));
+    journal.push(wanted.number, wanted.index, &wanted.request, &reply);
+    assert_journal(&rt, &journal, &[wanted]);
     Ok(())
 }

@@ -6,7 +6,7 @@ use auction_rows::{Entry, Reply, Request};
 use std::alloc::Global;
 use std::process::Abort;
 use std::test::Fail;
-use worker_journals::{History, Journal};
+use worker_journals::{Answer, History, Journal};
 
 pub(crate) const PHASE: u64 = 7;
 
@@ -46,7 +46,8 @@ pub(crate) fn journal_of(alloc: Global, worker: u32, numbers: &[u16]) -> Result<
         if entry.number <= last {
             return Err(Fail::from("numbers that don't ascend"));
         }
-        journal.push(entry.number, entry.index, &entry.request, &entry.reply);
+        let reply = Answer::of(&entry.reply);
+        journal.push(entry.number, entry.index, &entry.request, &reply);
         last = entry.number;
     }
     Ok(journal)
@@ -58,7 +59,7 @@ pub(crate) fn journal_with(alloc: Global, pairs: &[(Request, Reply)]) -> Result<
     let mut number: u64 = 0;
     for (request, reply) in pairs {
         number = number.checked_add(1).ok_or("too many numbers")?;
-        journal.push(number, 0, request, reply);
+        journal.push(number, 0, request, &Answer::of(reply));
     }
     Ok(journal)
 }

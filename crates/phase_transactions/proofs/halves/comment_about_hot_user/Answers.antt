@@ -1,7 +1,7 @@
-use Rattle.std.proofs.Common.{length}
+use Rattle.std.proofs.Common.{length, ◌∙◌}
 use Rattle.auction_rows.specs.declared.ids.Object.TheVariants.{Item}
 use Rattle.phase_transactions.proofs.ColdLemmas.{touched}
-use Rattle.phase_transactions.proofs.HalfLemmas.{seated, if_none, item_commits, item_fails, item_asked}
+use Rattle.phase_transactions.proofs.HalfLemmas.{seated, if_none, as_told, item_commits, item_fails, item_asked}
 use Rattle.phase_transactions.proofs.halves.comment_about_hot_user.Goals as goal
 
 pub returns-in_err-number-clause-full : goal.returns-in_err-number-clause-full
@@ -20,8 +20,9 @@ returns-clause-committed g c =
     let comment = c.args.comment.now in
     let key = c.args.key.now in
     let known = seated (Item comment.item) c.shard_of-item.result c.shards.result (length opening) (length key.seats) c.shard_of-item.ensures.shard c.shards.ensures.count c.shard_of-item.ensures.within c.requires.seats in
-    item_commits opening c.args.split.now key c.look_over_item.new.key comment c.args.index c.desk-desk.result.now c.desk-desk.ensures c.requires.allowed c.requires.item c.requires.user
-    c.commit_comment.new.self c.in_ok-number.number c.in_ok-number.found c.commit_comment.result c.in_ok-number.ensures.looked c.commit_comment.ensures.reply c.commit_comment.ensures.desk c.commit_comment.ensures.slices known.1 c.requires.idle
+    as_told _ _ _ _ _ _ _ (c.of.ensures ∙ c.to_reply.ensures)
+    (item_commits opening c.args.split.now key c.look_over_item.new.key comment c.args.index c.desk-desk.result.now c.desk-desk.ensures c.requires.allowed c.requires.item c.requires.user
+    c.commit_comment-reply.new.self c.in_ok-number.number c.in_ok-number.found c.commit_comment-reply.result c.in_ok-number.ensures.looked c.commit_comment-reply.ensures.reply c.commit_comment-reply.ensures.desk c.commit_comment-reply.ensures.slices known.1 c.requires.idle)
 
 pub returns-in_err-number-clause-untouched : goal.returns-in_err-number-clause-untouched
 returns-in_err-number-clause-untouched g c =

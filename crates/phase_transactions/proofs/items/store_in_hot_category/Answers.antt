@@ -7,6 +7,7 @@ use Rattle.phase_desks.specs.Desks.{after_commit, with_one_less}
 use Rattle.phase_desks.specs.Items.{item_request}
 use Rattle.phase_desks.specs.Slicing.{objects_of}
 use Rattle.phase_transactions.specs.Pairs.{found_on_one}
+use Rattle.phase_transactions.proofs.HalfLemmas.{as_told}
 use Rattle.phase_transactions.proofs.ItemLemmas.{err_as, item_fails, stayed_as, hot_stored}
 use Rattle.phase_transactions.proofs.items.store_in_hot_category.Goals as goal
 
@@ -26,9 +27,10 @@ returns-clause-committed g c =
     let opening = g.N.PhaseName.opening in
     let within : c.shard_of-home.result < length c.args.key.now.seats =
     subst (λ n. c.shard_of-home.result < n) (c.shards.ensures.count ∙ sym c.requires.seats) c.shard_of-home.ensures.within in
-    hot_stored opening c.args.split.now c.store_item.new.self c.args.key.now c.add_over_one.new.key c.args.item.now c.next_item-id.result c.clock.result c.shard_of-home.result c.args.index c.in_ok-number.number c.in_ok-number.before c.store_item.result
+    as_told _ _ _ _ _ _ _ (c.of-2.ensures ∙ c.to_reply.ensures)
+    (hot_stored opening c.args.split.now c.store_item-reply.new.self c.args.key.now c.add_over_one.new.key c.args.item.now c.next_item-id.result c.clock.result c.shard_of-home.result c.args.index c.in_ok-number.number c.in_ok-number.before c.store_item-reply.result
     c.requires.allowed c.next_item-id.ensures.cold c.requires.hot c.next_item-id.ensures.next c.clock.ensures (c.shard_of-home.ensures.shard ∙ ap (shard_of (Item c.next_item-id.result)) c.shards.ensures.count) within c.requires.idle
-    c.in_ok-number.ensures.added c.store_item.ensures.reply
-    (c.store_item.ensures.desk ∙ (λ i. with_one_less (after_commit c.args.split.now.desk c.in_ok-number.number c.args.index (item_request c.args.item.now) c.store_item.result
+    c.in_ok-number.ensures.added c.store_item-reply.ensures.reply
+    (c.store_item-reply.ensures.desk ∙ (λ i. with_one_less (after_commit c.args.split.now.desk c.in_ok-number.number c.args.index (item_request c.args.item.now) c.store_item-reply.result
     (found_on_one (c.of.ensures i) (c.shard_of-home.result, c.in_ok-number.before)))))
-    c.store_item.ensures.slices
+    c.store_item-reply.ensures.slices)

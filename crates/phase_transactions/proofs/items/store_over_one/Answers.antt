@@ -1,5 +1,6 @@
 use Rattle.std.proofs.Common.{◌<◌, ℕ, Option, ◌∷◌, [], length, sym, subst}
 use Rattle.auction_rows.specs.declared.ids.ItemEntry.{ItemEntry}
+use Rattle.auction_rows.specs.declared.replies.Reply.{Reply}
 use Rattle.auction_rows.specs.declared.replies.Reply.TheVariants.{ItemStored}
 use Rattle.auction_rows.specs.declared.requests.Facts.{Facts}
 use Rattle.item_shards.specs.declared.acts.Act.TheVariants.{ListItem}
@@ -18,13 +19,14 @@ returns-in_err-number-clause-failed g c =
 
 pub returns-clause-cold : goal.returns-clause-cold
 returns-clause-cold g c =
-    subst (λ (s : Option (Facts × ℕ)). HasStoredCold g.N.PhaseName.opening c.args.desk.now (stored_at c.args.desk.now c.args.index c.args.item.now (record {
+    let stored = λ (s : Option (Facts × ℕ)) (reply : Reply). HasStoredCold g.N.PhaseName.opening c.args.desk.now (stored_at c.args.desk.now c.args.index c.args.item.now (record {
       number = c.in_ok-number.number;
-      reply = ItemStored c.next_item-id.result;
+      reply = reply;
       found = found_on_one s (c.args.shard, c.in_ok-number.before);
-    })) c.args.key.now c.add_over_one.new.key c.args.item.now c.args.index (ItemStored c.next_item-id.result)) (sym c.of.ensures) (λ slices cold.
+    })) c.args.key.now c.add_over_one.new.key c.args.item.now c.args.index reply in
+    subst (stored c.of.result) (sym c.store.ensures) (subst (λ (s : Option (Facts × ℕ)). stored s (ItemStored c.next_item-id.result)) (sym c.of.ensures) (λ slices cold.
     let known : c.args.shard < length c.args.key.now.seats = subst (λ n. c.args.shard < n) (sym c.requires.seats) c.requires.known in
     let item = c.args.item.now in
     let listed = λ (entry : ItemEntry). HasActed g.N.PhaseName.opening c.clock.result c.args.key.now c.add_over_one.new.key c.args.shard c.in_ok-number.number c.in_ok-number.before c.args.index (adds item c.next_item-id.result ∷ ListItem item.facts.category entry ∷ []) in
     cold_stored_one g.N.PhaseName.opening c.args.desk.now c.args.key.now c.add_over_one.new.key c.args.item.now c.next_item-id.result c.clock.result c.args.index c.in_ok-number.number c.requires.allowed c.next_item-id.ensures c.clock.ensures slices cold
-    c.args.shard c.in_ok-number.before c.requires.home c.requires.listed known c.requires.idle (subst listed c.entry.ensures c.in_ok-number.ensures.added))
+    c.args.shard c.in_ok-number.before c.requires.home c.requires.listed known c.requires.idle (subst listed c.entry.ensures c.in_ok-number.ensures.added)))

@@ -1,4 +1,5 @@
 use Rattle.std.proofs.Common.{ℕ, Option, sym, subst}
+use Rattle.auction_rows.specs.declared.replies.Reply.{Reply}
 use Rattle.auction_rows.specs.declared.replies.Reply.TheVariants.{ItemStored}
 use Rattle.auction_rows.specs.declared.requests.Facts.{Facts}
 use Rattle.phase_transactions.specs.Items.{stored_at, HasStoredCold}
@@ -16,10 +17,11 @@ returns-in_err-number-clause-failed g c =
 
 pub returns-clause-cold : goal.returns-clause-cold
 returns-clause-cold g c =
-    subst (λ (s : Option (Facts × ℕ)). HasStoredCold g.N.PhaseName.opening c.args.desk.now (stored_at c.args.desk.now c.args.index c.args.item.now (record {
+    let stored = λ (s : Option (Facts × ℕ)) (reply : Reply). HasStoredCold g.N.PhaseName.opening c.args.desk.now (stored_at c.args.desk.now c.args.index c.args.item.now (record {
       number = c.in_ok-number.number;
-      reply = ItemStored c.next_item-id.result;
+      reply = reply;
       found = found_on_two s (c.args.shards.0, c.in_ok-number.first) (c.args.shards.1, c.in_ok-number.second);
-    })) c.args.key.now c.add_over_two.new.key c.args.item.now c.args.index (ItemStored c.next_item-id.result)) (sym c.of.ensures) (λ slices cold.
+    })) c.args.key.now c.add_over_two.new.key c.args.item.now c.args.index reply in
+    subst (stored c.of.result) (sym c.store.ensures) (subst (λ (s : Option (Facts × ℕ)). stored s (ItemStored c.next_item-id.result)) (sym c.of.ensures) (λ slices cold.
     cold_stored_two g.N.PhaseName.opening c.args.desk.now c.args.key.now c.add_over_two.new.key c.args.item.now c.next_item-id.result c.clock.result c.args.index c.in_ok-number.number c.requires.allowed c.next_item-id.ensures c.clock.ensures slices cold
-    c.args.shards.0 c.args.shards.1 c.in_ok-number.first c.in_ok-number.second c.requires.home c.requires.listed c.requires.apart c.in_ok-number.ensures.added)
+    c.args.shards.0 c.args.shards.1 c.in_ok-number.first c.in_ok-number.second c.requires.home c.requires.listed c.requires.apart c.in_ok-number.ensures.added))

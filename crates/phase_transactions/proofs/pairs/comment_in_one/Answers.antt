@@ -23,5 +23,5 @@ put_with_line-requires-clause-can g c =
     let known = subst (λ (o : Opening). comment.about < o.users) (sym opened) (about_known c.args.desk.now.opening comment c.requires.allowed) in
     let given : AreStars comment.stars = subst AreStars c.value-known.ensures.value (c.value-known.ensures.low, c.value-known.ensures.high) in
     let fits = (c.sums_fit.ensures (state_of shard) (Comment comment.about comment.stars) (Look shown.Nothing) taken.within (omega (arith, c.requires.later, c.requires.within)) given tt).0 in
-    let can = can_act shard comment.about comment.stars (refusal_by c.args.desk.now.opening c.stock-seen.result (comment_request comment)) c.answer_comment-act.result.0 _ c.answer_comment-act.result.1 lies known fits c.answer_comment-act.ensures in
+    let can = can_act shard comment.about comment.stars (refusal_by c.args.desk.now.opening c.stock-seen.result (comment_request comment)) c.answer_comment-reply.result.0 _ c.answer_comment-reply.result.1 lies known fits c.answer_comment-reply.ensures in
     subst (CanDo shard) (sym c.look_and-acts.ensures) (tt, (can, tt))

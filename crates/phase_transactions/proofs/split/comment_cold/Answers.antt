@@ -2,7 +2,7 @@ use Rattle.std.proofs.Common.{length, ◌∙◌}
 use Rattle.phase_transactions.specs.Halves.{done_at}
 use Rattle.phase_transactions.proofs.ColdLemmas.{comment_cold_commits, comment_cold_fails, touched}
 use Rattle.phase_transactions.proofs.FailLemmas.{two_asked}
-use Rattle.phase_transactions.proofs.HalfLemmas.{if_none}
+use Rattle.phase_transactions.proofs.HalfLemmas.{if_none, as_told}
 use Rattle.phase_transactions.proofs.split.comment_cold.Goals as goal
 
 pub returns-in_err-done-clause-full : goal.returns-in_err-done-clause-full
@@ -17,9 +17,10 @@ returns-in_err-done-clause-untouched g c =
 
 pub returns-clause-committed : goal.returns-clause-committed
 returns-clause-committed g c =
-    comment_cold_commits g.N.PhaseName.opening c.args.split.now c.args.key.now c.comment_over_shards.new.key c.args.comment.now c.args.index c.desk-desk.result.now c.desk-desk.ensures
+    as_told _ _ _ _ _ _ _ (c.of.ensures ∙ c.to_reply.ensures)
+    (comment_cold_commits g.N.PhaseName.opening c.args.split.now c.args.key.now c.comment_over_shards.new.key c.args.comment.now c.args.index c.desk-desk.result.now c.desk-desk.ensures
     c.requires.allowed c.requires.item c.requires.user c.commit_cold.new.self c.in_ok-done.done c.in_ok-done.ensures.cold
-    (c.commit_cold.ensures.desk ∙ (λ i. done_at c.args.split.now.desk c.args.index (c.request-request.ensures i) c.in_ok-done.done)) c.commit_cold.ensures.slices
+    (c.commit_cold.ensures.desk ∙ (λ i. done_at c.args.split.now.desk c.args.index (c.request-request.ensures i) c.in_ok-done.done)) c.commit_cold.ensures.slices)
 
 pub returns-clause-untouched : goal.returns-clause-untouched
 returns-clause-untouched g c =

@@ -15,7 +15,7 @@ returns-in-Some-clause-book c book hot stands cold =
 
 pub returns-in-Some-clause-room : goal.returns-in-Some-clause-room
 returns-in-Some-clause-room c =
-    let room : HasRoom c.args.self.now c.args.item = sym (ap is_some (rw c.deref.ensures at c.in-Some.ensures.value)) in
+    let room : HasRoom c.args.self.now c.args.item = sym (ap is_some c.in-Some.ensures) in
     at c.in-Some.record.now.facts room where
       at : {P : Type 0} (o : Option Facts) → P → IfSome o (λ _. P)
       at None p = tt

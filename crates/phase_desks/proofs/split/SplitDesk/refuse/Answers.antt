@@ -1,4 +1,5 @@
 use Rattle.std.proofs.Common.{◌≡◌, Some, false, sym, subst, ◌∙◌}
+use Rattle.auction_rows.specs.declared.replies.Reply.{Reply}
 use Rattle.auction_rows.specs.declared.replies.Reply.TheVariants.{Refused}
 use Rattle.auction_rows.specs.Refusals.{number_refusal}
 use Rattle.phase_desks.specs.Slicing.{objects_of}
@@ -18,9 +19,10 @@ returns-clause-stored c =
     let number = next_of_own split.desk.clock c.in_ok-number.number c.in_ok-number.ensures.number in
     let refused = subst (λ (s : SplitState). number_refusal s.desk.opening request ≡ Some reason) (sym c.self.view_is) c.requires.refused in
     let goes = subst (λ (s : SplitState). is_put_off (objects_of s.slices) request ≡ false) (sym c.self.view_is) c.requires.not_put_off in
-    subst (λ (old : SplitState). HasStored old new request c.args.index (Refused reason)) c.self.view_is (record {
-      desk = c.commit.ensures ∙ (λ i. with_one_less (after_commit split.desk (number i) c.args.index request (Refused reason) (c.nothing.ensures i)));
+    subst (λ (old : SplitState). HasStored old new request c.args.index c.store-reply.result) c.self.view_is
+    (subst (λ (reply : Reply). HasStored split new request c.args.index reply) (sym c.store-reply.ensures) (record {
+      desk = c.commit.ensures ∙ (λ i. with_one_less (after_commit split.desk (number i) c.args.index request (c.store-reply.ensures i) (c.nothing.ensures i)));
       slices = nothing_written split.slices split.desk.journal.worker request reason;
       answered = refusal_answered split request reason c.args.index refused goes;
       right = λ book counts stocks. refusal_right split.desk.opening book split.desk.journal.worker request reason refused;
-    })
+    }))

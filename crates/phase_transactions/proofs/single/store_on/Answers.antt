@@ -1,6 +1,6 @@
 use Rattle.std.proofs.Common.{sym, ap, ◌∙◌}
 use Rattle.shard_boxes.specs.Helds.{taken_at}
-use Rattle.phase_transactions.proofs.single.transact_on.Goals as goal
+use Rattle.phase_transactions.proofs.single.store_on.Goals as goal
 
 pub put_with_line-requires-clause-taken : goal.put_with_line-requires-clause-taken
 put_with_line-requires-clause-taken g c =

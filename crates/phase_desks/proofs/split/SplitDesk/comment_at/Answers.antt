@@ -10,7 +10,7 @@ use Rattle.phase_desks.specs.Splits.{SplitState, HasStored, IsHot}
 use Rattle.phase_desks.proofs.DeskLemmas.{next_of_own}
 use Rattle.phase_desks.proofs.AnswerLemmas.{comment_answered, comment_right, stock_known}
 use Rattle.phase_desks.proofs.StoredLemmas.{commit_keeps_split}
-use Rattle.phase_desks.proofs.split.SplitDesk.store_comment.Goals as goal
+use Rattle.phase_desks.proofs.split.SplitDesk.comment_at.Goals as goal
 
 pub returns-clause-stored : goal.returns-clause-stored
 returns-clause-stored c =

@@ -2,7 +2,7 @@ use Rattle.std.proofs.Common.{length}
 use Rattle.phase_transactions.specs.Halves.{permit}
 use Rattle.phase_transactions.proofs.Hots.{commit_worth}
 use Rattle.phase_transactions.proofs.PermitLemmas.{tried_worth}
-use Rattle.phase_permits.proofs.permit.SplitPermit.perform.Goals as goal
+use Rattle.phase_permits.proofs.permit.SplitPermit.commit.Goals as goal
 
 pub invariant_of-self-2 : goal.invariant_of-self-2
 invariant_of-self-2 g c =

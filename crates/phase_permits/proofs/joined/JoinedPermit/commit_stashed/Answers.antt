@@ -2,7 +2,7 @@ use Rattle.std.proofs.Common.{◌≡◌, None, subst}
 use Rattle.std.specs.Prelude.{slice_get}
 use Rattle.phase_transactions.specs.Permits.{PermitState}
 use Rattle.phase_permits.proofs.StashedLemmas.{no_first}
-use Rattle.phase_permits.proofs.joined.JoinedPermit.perform_stashed.Goals as goal
+use Rattle.phase_permits.proofs.joined.JoinedPermit.commit_stashed.Goals as goal
 
 pub returns-in_default-clause-none : goal.returns-in_default-clause-none
 returns-in_default-clause-none g c =

@@ -1,0 +1,95 @@
+//! Where the records of a shard's items lie.
+ghost use Rattle.std.specs.Prelude.{◌≡◌, ◌<◌, option_map, slice_get, Some, IfSome};
+ghost use Rattle.std.specs.HashMap.{get};
+
+use crate::items::ItemRecord;
+use crate::shard::Shard;
+use auction_rows::ItemId;
+use std::alloc::{AllocError, Global};
+
+// An auction has as many workers.
+const WORKERS: usize = 16;
+
+/// Of each worker, by an item's serial over the number of shards: its place in the map of items. A look-up there needs no
+/// hash. A place is a guess, and whoever asks looks at the id that is there: so it may be missing, and nothing relies on it.
+#[derive(Drop)]
+pub(crate) struct Places {
+    by_worker: Vec<Vec<u32>>,
+}
+
+impl Places {
+    /// No place is noted.
+    pub(crate) fn new(alloc: Global) -> Result<Places, AllocError> {
+        let mut by_worker = Vec::with_capacity(alloc, WORKERS)?;
+        for _worker in 0..WORKERS {
+            by_worker.push(Vec::new(alloc))?;
+        }
+        Ok(Places { by_worker })
+    }
+
+    /// The place that was noted for an item of one shard of so many.
+    fn noted(&self, item: ItemId, shards: u32) -> Option<usize>
+        requires { 0 < shards }
+    {
+        let places = self.by_worker.get(item.worker as usize)?;
+        let place = places.get((item.serial / shards) as usize)?;
+        Some(*place as usize)
+    }
+
+    /// Notes the place of an item of one shard of so many: where its worker's items before it are noted, and memory is left.
+    pub(crate) fn note(&mut self, item: ItemId, shards: u32, place: usize)
+        requires { 0 < shards }
+    {
+        let worker = item.worker as usize;
+        let Ok(place) = u32::try_from(place) else {
+            return;
+        };
+        if worker < self.by_worker.len() {
+            let places = &mut self.by_worker[worker];
+            if places.len() == (item.serial / shards) as usize {
+                let _noted = places.push(place);
+            }
+        }
+    }
+}
+
+impl Shard {
+    ghost use Rattle.auction_rows.specs.Book.{same_item};
+    ghost use Rattle.item_shards.specs.ShardShelf.{HasRoom, IsPlaceOf};
+
+    // The place of an item, and its record, where there is room for it.
+    fn find(&self, item: ItemId) -> Option<(usize, &ItemRecord)>
+        ensures record { option_map (λ found. found.1.now) result ≡ get same_item self.now.parts.value.items item }
+        ensures place { IfSome result (λ found. IsPlaceOf self.now.parts.value.items item found.0) }
+    {
+        let items = &self.parts.items;
+        if let Some(place) = self.parts.places.noted(item, self.parts.shards) {
+            if let Some((id, record)) = items.get_index(place) {
+                if *id == item {
+                    return Some((place, record));
+                }
+            }
+        }
+        let (place, _, record) = items.get_full(&item)?;
+        Some((place, record))
+    }
+
+    /// The record of an item, where there is room for it.
+    pub(crate) fn record(&self, item: ItemId) -> Option<&ItemRecord>
+        ensures { option_map (λ found. found.now) result ≡ get same_item self.now.parts.value.items item }
+    {
+        let (_, record) = self.find(item)?;
+        Some(record)
+    }
+
+    /// The place of an item in the map of items.
+    pub(crate) fn place_of(&self, item: ItemId) -> usize
+        requires room { HasRoom self.now item }
+        ensures { IsPlaceOf self.now.parts.value.items item result }
+    {
+        match self.find(item) {
+            Some((place, _)) => place,
+            None => unreachable!(),
+        }
+    }
+}
