@@ -1,0 +1,67 @@
+/* A shim for LD_PRELOAD that cuts or refuses reads, writes and threads.
+
+   READ_AT_MOST=n      a read of standard input gives n bytes at most
+   READ_FAILS_AT=k     reads of standard input fail after k bytes in all
+   WRITE_AT_MOST=n     a write to standard output takes n bytes at most
+   WRITE_FAILS_AT=k    writes to standard output fail after k bytes in all
+   WRITE_STOPS_AT=k    writes to standard output take nothing after k bytes in all
+   THREADS_AT_MOST=n   no more than n threads are started  */
+
+#define _GNU_SOURCE
+#include <dlfcn.h>
+#include <errno.h>
+#include <pthread.h>
+#include <stdatomic.h>
+#include <stdlib.h>
+#include <unistd.h>
+
+static long limit(const char *name) {
+    const char *text = getenv(name);
+    return text ? atol(text) : -1;
+}
+
+static size_t cut(size_t size, long most) {
+    return most >= 0 && size > (size_t)most ? (size_t)most : size;
+}
+
+static long left_of(long all, long done) {
+    return all < 0 ? -1 : all - done;
+}
+
+ssize_t read(int file, void *place, size_t size) {
+    static long done;
+    ssize_t (*original)(int, void *, size_t) = dlsym(RTLD_NEXT, "read");
+    if (file != STDIN_FILENO) return original(file, place, size);
+    long left = left_of(limit("READ_FAILS_AT"), done);
+    if (left == 0) {
+        errno = EIO;
+        return -1;
+    }
+    ssize_t given = original(file, place, cut(cut(size, left), limit("READ_AT_MOST")));
+    if (given > 0) done += given;
+    return given;
+}
+
+ssize_t write(int file, const void *place, size_t size) {
+    static long done;
+    ssize_t (*original)(int, const void *, size_t) = dlsym(RTLD_NEXT, "write");
+    if (file != STDOUT_FILENO) return original(file, place, size);
+    long left = left_of(limit("WRITE_FAILS_AT"), done);
+    long taken = left_of(limit("WRITE_STOPS_AT"), done);
+    if (taken == 0) return 0;
+    if (left == 0) {
+        errno = ENOSPC;
+        return -1;
+    }
+    ssize_t given = original(file, place, cut(cut(cut(size, left), taken), limit("WRITE_AT_MOST")));
+    if (given > 0) done += given;
+    return given;
+}
+
+int pthread_create(pthread_t *thread, const pthread_attr_t *attributes, void *(*start)(void *), void *argument) {
+    static atomic_long started;
+    int (*original)(pthread_t *, const pthread_attr_t *, void *(*)(void *), void *) = dlsym(RTLD_NEXT, "pthread_create");
+    long most = limit("THREADS_AT_MOST");
+    if (most >= 0 && atomic_fetch_add(&started, 1) >= most) return EAGAIN;
+    return original(thread, attributes, start, argument);
+}

@@ -1,0 +1,183 @@
+#!/usr/bin/env python3
+"""Shows what the built program does where memory is refused: the fault that docs/FORMATS.md names, or all of its output, and nothing else.
+
+    tests/refused_memory.py [PROGRAM]
+
+For each input below, the first allocation is refused, then the second, and so on, until a run asks for no more; then the same where all that come
+after are refused as well. Then the system grants so many bytes and no more, from few to many. A fault before the first byte leaves the output empty. Where only the report lacks memory, what stands before it has been
+written whole. A run that a signal ends, or that takes longer than 30 seconds, has failed. Needs `cc` and `sh`.
+"""
+
+import argparse
+import itertools
+import os
+import random
+import tempfile
+from collections import Counter
+from dataclasses import dataclass, replace
+from pathlib import Path
+
+from histories import Difference, check_printed
+from inputs import Text
+from model import Options, Outcome, expected, failed, open_auction
+from program import BUILT, EXAMPLES, Tally, build_shim, described, fault, run
+from records import Fault
+
+SECONDS = 30
+UNREACHED_IN_A_ROW = 3
+ENDLESS = 2**62
+
+VASE = b"0,+item,0,0,Vase,10,100,1\n"
+NO_MEMORY = [fault(status, "no memory") for status in (1, 2, 3, 4)]
+NO_THREAD = fault(3, "thread not started")
+
+
+@dataclass(frozen=True)
+class Case:
+    name: str
+    data: bytes
+    options: Options
+
+    def is_answer(self, got: Outcome) -> bool:
+        """Whether this is an outcome with ample memory."""
+        try:
+            asked, book = open_auction(self.data, self.options)
+        except Fault as wanted:
+            return got == failed(wanted)
+        if self.options.workers == 1:
+            return got == expected(self.data, self.options)
+        try:
+            check_printed(got.stdout.decode("ascii"), asked, book, self.options)
+        except Difference:
+            return False
+        return (got.status, got.stderr) == (0, b"")
+
+    def is_answer_without_report(self, got: Outcome) -> bool:
+        """Whether the report alone was refused memory."""
+        without = replace(self, options=replace(self.options, report=False))
+        return self.options.report and got == replace(NO_MEMORY[3], stdout=got.stdout) and without.is_answer(Outcome(0, got.stdout, b""))
+
+    def may_answer(self, got: Outcome) -> bool:
+        return got in NO_MEMORY or got == NO_THREAD or self.is_answer(got) or self.is_answer_without_report(got)
+
+
+class RefusedOptions(Case):
+    def is_answer(self, got: Outcome) -> bool:
+        """The words are the option parser's own."""
+        return got.status == 1 and got.stdout == b"" and got.stderr.startswith(b"error: ")
+
+
+def cases() -> list[Case]:
+    first = (EXAMPLES / "first_example.csv").read_bytes()
+    contended = (EXAMPLES / "contended.csv").read_bytes()
+    alone = Options(joined=2, split=2, threshold=1, users=10, categories=2)
+    both = Options(workers=2, joined=2, split=3, threshold=1, users=10, categories=2)
+    rows = Options(joined=8, split=8, threshold=1, users=5, categories=3)
+    three = replace(both, workers=3)
+    return [
+        Case("no request", b"", Options(report=True, categories=1)),
+        *each_output("one worker", first, alone),
+        *each_output("two workers, hot objects and a stash", contended, both),
+        *each_output("rows and a script", large(rows), rows),
+        *each_output("three workers, longer scripts", large(three), three),
+        Case("a fault of the third record", first.replace(b"viewitem", b"viewItem"), alone),
+        Case("a refused row", b"0,+bid,1,0.0,10,5\n", alone),
+        RefusedOptions("refused options", b"", Options(workers=17)),
+    ]
+
+
+def each_output(name: str, data: bytes, options: Options) -> list[Case]:
+    outputs = {"replies": {}, "history": {"history": True}, "rows": {"rows": True}}
+    return [
+        Case(f"{name}: {output}{' and report' if report else ''}", data, replace(options, report=report, **flags))
+        for output, flags in outputs.items()
+        for report in (False, True)
+    ]
+
+
+def large(options: Options) -> bytes:
+    """A random input of these options with rows and requests, the same each time."""
+    texts = (Text(random.Random(seed), options).made() for seed in itertools.count())
+    return next(text for text in texts if is_large(text, options))
+
+
+def is_large(data: bytes, options: Options) -> bool:
+    try:
+        asked, _ = open_auction(data, options)
+    except Fault:
+        return False
+    return len(asked.rows) > 5 and 30 < asked.requests() < 80
+
+
+class Refusing:
+    def __init__(self, program: Path, shim: Path):
+        self.program = program
+        self.shim = shim
+
+    def run(self, case: Case, first: int, last: int) -> tuple[Outcome, bool]:
+        """The outcome where the allocations from the first to the last are refused, and whether one was."""
+        told, tell = os.pipe()
+        environment = {"LD_PRELOAD": str(self.shim), "REFUSE_FROM": str(first), "REFUSE_TO": str(last), "REFUSE_TOLD": str(tell)}
+        os.set_blocking(tell, False)
+        command = [self.program, *case.options.words()]
+        outcome = run(command, case.data, SECONDS, env=os.environ | environment, pass_fds=[tell])
+        os.close(tell)
+        with open(told, "rb") as reader:
+            return outcome, bool(reader.read())
+
+
+def refuse_each(refusing: Refusing, case: Case, tally: Tally, and_all_after: bool) -> None:
+    outcomes: Counter[str] = Counter()
+    number = unreached = 0
+    while unreached < UNREACHED_IN_A_ROW:
+        number += 1
+        outcome, was_refused = refusing.run(case, number, ENDLESS if and_all_after else number)
+        right = case.may_answer(outcome) if was_refused else case.is_answer(outcome)
+        tally.check(right, f"{case.name}, allocation {number}{' and all after' if and_all_after else ''} refused: {described(outcome)}")
+        unreached = 0 if was_refused else unreached + 1
+        if was_refused:
+            outcomes[kind_of(outcome)] += 1
+    tell(f"{case.name}: each allocation{' and all after it' if and_all_after else ''} refused", outcomes)
+
+
+def tell(what: str, outcomes: Counter) -> None:
+    told = ", ".join(f"{count} times {outcome}" for outcome, count in sorted(outcomes.items()))
+    print(f"{what}: {told}", flush=True)
+
+
+def kind_of(outcome: Outcome) -> str:
+    text = outcome.stderr.decode("ascii", "replace").strip().removeprefix("rubis_auction: ")
+    return f"{outcome.status} ({text or 'answered'})"
+
+
+def limit_address_space(program: Path, tally: Tally) -> None:
+    """Four workers bid on one item, each bid is accepted, and the system grants ever more memory."""
+    bids = 50_000
+    data = VASE + b"".join(b"%d,bid,0,0.0,10,5\n" % worker * bids for worker in range(4))
+    lines = (f"{worker},{index},bid {worker}.{index}\n" for worker in range(4) for index in range(bids))
+    answer = Outcome(0, "".join(lines).encode("ascii"), b"")
+    outcomes: Counter[str] = Counter()
+    for megabytes in range(4, 124, 3):
+        limited = ["sh", "-c", 'ulimit -v "$0" && exec "$@"', str(megabytes * 1024), program, "--workers=4", "--split=4096"]
+        outcome = run(limited, data, SECONDS)
+        tally.check(outcome in (*NO_MEMORY, NO_THREAD, answer), f"{megabytes} MB granted: {described(outcome)}")
+        outcomes[kind_of(outcome)] += 1
+    tell("200,000 bids, with 4 to 121 MB granted", outcomes)
+
+
+def main() -> None:
+    words = argparse.ArgumentParser(description=__doc__, formatter_class=argparse.RawDescriptionHelpFormatter)
+    words.add_argument("program", nargs="?", type=Path, default=BUILT)
+    program = words.parse_args().program.resolve()
+    tally = Tally()
+    with tempfile.TemporaryDirectory() as folder:
+        refusing = Refusing(program, build_shim("refused_memory", folder))
+        for case in cases():
+            refuse_each(refusing, case, tally, and_all_after=False)
+            refuse_each(refusing, case, tally, and_all_after=True)
+    limit_address_space(program, tally)
+    tally.finish()
+
+
+if __name__ == "__main__":
+    main()
