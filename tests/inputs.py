@@ -39,16 +39,16 @@ def random_input(rng: random.Random) -> Input:
 
 
 def random_options(rng: random.Random) -> Options:
-    quotas = (1, 2, 3, 5, 8, 64, 1000, 1_000_000)
+    quotas = (1, 2, 3, 3, 5, 5, 8, 8, 64, 1000, 1_000_000)
     return Options(
         workers=rng.choice((1, 1, 1, 1, 2, 2, 3, 4, 8, rng.randint(1, 16), 16)),
         shards=rng.choice((1, 2, 3, 4, 5, 64, rng.randint(1, 64))),
         joined=rng.choice(quotas),
         split=rng.choice(quotas),
-        threshold=rng.choice((1, 1, 1, 2, 3, 8, 1_000_000)),
-        hot=rng.choice((0, 1, 2, 3, 8, 64)),
-        users=rng.choice((0, 1, 2, 3, 5, 100, 1_000_000)),
-        categories=rng.choice((0, 1, 1, 2, 3, 10)),
+        threshold=rng.choice((1, 1, 1, 1, 2, 2, 3, 8, 1_000_000)),
+        hot=rng.choice((0, 1, 2, 3, 8, 8, 64)),
+        users=rng.choice((1, 2, 3, 5, 5, 100, 1_000_000, rng.randint(0, 1))),
+        categories=rng.choice((1, 1, 2, 2, 3, 10, rng.randint(0, 1))),
         history=rng.random() < 0.5,
         rows=rng.random() < 0.2,
         report=rng.random() < 0.5,
@@ -62,7 +62,8 @@ class Text:
         self.rng = rng
         self.options = options
         self.weights = rng.choice(list(PROFILES.values()))
-        self.items = rng.choice((1, 2, 4))
+        self.owners = rng.sample(range(options.workers), rng.randint(1, min(options.workers, 2)))
+        self.items = rng.choice((1, 1, 2, 4))
         self.line_end = rng.choice(LINE_ENDS)
         self.quoting = rng.choice((0, 0, 0, 0.3, 1))
 
@@ -77,12 +78,12 @@ class Text:
     def rows(self) -> list[tuple[int, Request]]:
         """Rows that are rows at their places; now and then one that may be none."""
         book = Book(self.options.users, self.options.categories)
-        rows = []
-        for _ in range(self.rng.choice((0, 0, 1, 5, 20))):
-            worker, request = self.worker(), self.request(STORES, self.weights[:4])
-            if not is_refusal(book.perform(worker, request)) or self.rng.random() < 0.01:
-                rows.append((worker, request))
-        return rows
+        rows = self.first_items() if self.rng.random() < 0.7 else []
+        rows += [(self.worker(), self.request(STORES, self.weights[:4])) for _ in range(self.rng.choice((0, 0, 1, 5, 20)))]
+        return [row for row in rows if not is_refusal(book.perform(*row)) or self.rng.random() < 0.01]
+
+    def first_items(self) -> list[tuple[int, Request]]:
+        return [(owner, self.request((Item,), (1,))) for owner in self.owners for _ in range(self.items)]
 
     def requests(self) -> list[tuple[int, Request]]:
         most = self.rng.choices((0, 4, 15, 40, 100, 300), (4, 20, 45, 25, 5, 1))[0]
@@ -91,18 +92,17 @@ class Text:
         return asked
 
     def request(self, kinds, weights) -> Request:
-        kind = self.rng.choices(kinds, weights)[0]
-        if kind in (ViewItem, ViewBids):
-            return kind(self.item())
         makers = {
-            Item: lambda: Item(self.user(), self.category(), self.name(), self.price(), self.closing(), self.time(), self.quantity()),
-            Bid: lambda: Bid(self.user(), self.item(), self.price(), self.time()),
+            Item: lambda: Item(self.user(), self.category(), self.name(), self.number(3), self.closing(), self.time(), self.quantity()),
+            Bid: lambda: Bid(self.user(), self.item(), self.number(8), self.time()),
             Comment: lambda: Comment(self.user(), self.user(), self.item(), self.rng.randint(-5, 5)),
             BuyNow: lambda: BuyNow(self.user(), self.item(), self.quantity(), self.time()),
+            ViewItem: lambda: ViewItem(self.item()),
+            ViewBids: lambda: ViewBids(self.item()),
             ViewCategory: lambda: ViewCategory(self.category()),
             ViewUser: lambda: ViewUser(self.user()),
         }
-        return makers[kind]()
+        return makers[self.rng.choices(kinds, weights)[0]]()
 
     def worker(self) -> int:
         return self.rng.randrange(self.options.workers)
@@ -110,7 +110,7 @@ class Text:
     def item(self) -> Id:
         if self.rng.random() < 0.02:
             return Id(self.rng.choice((16, MAX_32)), self.rng.choice((0, MAX_32)))
-        return Id(self.worker() if self.items > 1 else 0, self.rng.randrange(self.items))
+        return Id(self.rng.choice(self.owners), self.rng.randrange(self.items))
 
     def below(self, count: int) -> int:
         """A number below a few, and mostly below the count."""
@@ -129,17 +129,14 @@ class Text:
             return self.rng.choice((MAX_32, MAX_32 + 1, MAX_64 - 1, MAX_64))
         return self.rng.randint(0, most)
 
-    def price(self) -> int:
-        return self.number(8)
-
     def time(self) -> int:
         return self.number(12)
 
     def closing(self) -> int:
-        return self.number(4) if self.rng.random() < 0.1 else self.rng.choice((8, 12, 16, MAX_64))
+        return self.number(4) if self.rng.random() < 0.1 else self.rng.choice((10, 16, 16, MAX_64))
 
     def quantity(self) -> int:
-        return self.rng.choice((1, 1, 1, 2, 3, 5, 40, MAX_QUANTITY))
+        return self.rng.choice((1, 1, 2, 3, 5, 40, MAX_QUANTITY))
 
     def name(self) -> str:
         length = self.rng.choice((1, 4, 32))

@@ -89,9 +89,10 @@ def examples(tester: Tester) -> None:
     """the examples of the documents"""
     both = Options(workers=2, joined=2, split=3, threshold=1, users=10, categories=2, history=True)
     contended = (EXAMPLES / "contended.csv").read_bytes()
+    history = (EXAMPLES / "contended.history").read_bytes()
     tester.same("the first example", tester.run(tester.example), Outcome(0, tester.replies, b""))
     for _ in range(20):
-        tester.same("the contended example", tester.run(contended, both), Outcome(0, (EXAMPLES / "contended.history").read_bytes(), b""))
+        tester.same("the contended example", tester.run(contended, both), Outcome(0, history, b""))
 
 
 def full_disks(tester: Tester) -> None:
@@ -168,12 +169,11 @@ def cut_writes(tester: Tester) -> None:
 
 def failing_reads(tester: Tester) -> None:
     """input that is a directory, or only for writing, or fails after k bytes; reads that give few bytes"""
-    directory = os.open("/", os.O_RDONLY)
-    write_only = os.open(os.devnull, os.O_WRONLY)
-    tester.same("a directory", tester.run(directory), UNREAD)
-    tester.same("only for writing", tester.run(write_only), UNREAD)
-    for options in each_output():
-        tester.same(f"a directory with {options.words()}", tester.run(directory, options), UNREAD)
+    for path, mode in (("/", os.O_RDONLY), (os.devnull, os.O_WRONLY)):
+        unreadable = os.open(path, mode)
+        for options in each_output():
+            tester.same(f"{path} with {options.words()}", tester.run(unreadable, options), UNREAD)
+        os.close(unreadable)
     for given in range(len(tester.example) + 1):
         tester.same(f"input fails after {given} bytes", tester.run_cut("READ_FAILS_AT", given, tester.example), UNREAD)
     for most, mark in product((1, 2, 3, 7), (b"", BYTE_ORDER_MARK)):
@@ -297,8 +297,8 @@ def numbers_in_fields(tester: Tester) -> None:
     for record, plus in product(RECORDS, (b"", b"+")):
         fields = [b"0", *(plus + record).split(b",")]
         for place, number in product(range(len(fields)), NUMBERS):
-            record = b",".join(fields[:place] + [number] + fields[place + 1 :]) + b"\n"
-            tester.as_model(f"{record!r}", row + record + views, replace(FEW, history=True))
+            text = b",".join(fields[:place] + [number] + fields[place + 1 :]) + b"\n"
+            tester.as_model(f"{text!r}", row + text + views, replace(FEW, history=True))
 
 
 OPTION_LIMITS = {
@@ -311,16 +311,17 @@ OPTION_LIMITS = {
     "users": (0, MILLION),
     "categories": (0, MILLION),
 }
-NO_OPTION_NUMBERS = ("", " 4", "4 ", "-1", "-0", "--4", "4.0", "0x4", "1e1", "four", "4,0", "4294967296", "4294967300", "18446744073709551615", "18446744073709551616", "9" * 100_000)
+BEYOND_OPTIONS = tuple(str(number) for number in (2**31, 2**32, 2**32 + 4, 2**63 - 1, 2**63, 2**64 - 1, 2**64, 2**64 + 4)) + ("9" * 100_000,)
+NO_OPTION_NUMBERS = ("", " 4", "4 ", "-1", "--4", "++4", "4.0", "0x4", "1e1", "four", "4,0", "1_0")
 
 
 def numbers_in_options(tester: Tester) -> None:
-    """numbers at every limit for every option; a plus and leading zeros are allowed in options"""
+    """numbers at every limit for every option; in options, unlike records, a plus and leading zeros may stand"""
     for option, (least, most) in OPTION_LIMITS.items():
         for number in {least, least + 1, 4, 7, most - 1, most}:
-            for text in (f"{number}", f"+{number}", f"00{number}"):
+            for text in (f"{number}", f"+{number}", f"00{number}", f"+0{number}"):
                 option_is_taken(tester, option, text, number)
-        for text in (str(least - 1), str(most + 1), *NO_OPTION_NUMBERS):
+        for text in (str(least - 1), str(most + 1), *BEYOND_OPTIONS, *NO_OPTION_NUMBERS):
             options_are_refused(tester, f"--{option}={text}")
         options_are_refused(tester, f"--{option}")
         options_are_refused(tester, f"--{option}=4", f"--{option}=4")

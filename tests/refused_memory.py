@@ -146,8 +146,13 @@ def tell(what: str, outcomes: Counter) -> None:
 
 
 def kind_of(outcome: Outcome) -> str:
-    text = outcome.stderr.decode("ascii", "replace").strip().removeprefix("rubis_auction: ")
+    text = outcome.stderr.decode("ascii", "replace").partition("\n")[0].removeprefix("rubis_auction: ")
     return f"{outcome.status} ({text or 'answered'})"
+
+
+def granted(megabytes: int, *command) -> list:
+    """A command that runs this one with so much memory at most."""
+    return ["sh", "-c", 'ulimit -v "$0" && exec "$@"', str(megabytes * 1024), *command]
 
 
 def limit_address_space(program: Path, tally: Tally) -> None:
@@ -158,11 +163,17 @@ def limit_address_space(program: Path, tally: Tally) -> None:
     answer = Outcome(0, "".join(lines).encode("ascii"), b"")
     outcomes: Counter[str] = Counter()
     for megabytes in range(4, 124, 3):
-        limited = ["sh", "-c", 'ulimit -v "$0" && exec "$@"', str(megabytes * 1024), program, "--workers=4", "--split=4096"]
-        outcome = run(limited, data, SECONDS)
+        outcome = run(granted(megabytes, program, "--workers=4", "--split=4096"), data, SECONDS)
         tally.check(outcome in (*NO_MEMORY, NO_THREAD, answer), f"{megabytes} MB granted: {described(outcome)}")
         outcomes[kind_of(outcome)] += 1
     tell("200,000 bids, with 4 to 121 MB granted", outcomes)
+
+
+def read_without_end(program: Path, tally: Tally) -> None:
+    with open("/dev/zero", "rb") as endless:
+        outcome = run(granted(100, program), endless, SECONDS)
+    tally.same("a field without an end, with 100 MB granted", outcome, NO_MEMORY[1])
+    tell("a field without an end", Counter([kind_of(outcome)]))
 
 
 def main() -> None:
@@ -176,6 +187,7 @@ def main() -> None:
             refuse_each(refusing, case, tally, and_all_after=False)
             refuse_each(refusing, case, tally, and_all_after=True)
     limit_address_space(program, tally)
+    read_without_end(program, tally)
     tally.finish()
 
 
