@@ -1,0 +1,203 @@
+#!/usr/bin/env python3
+"""Shows what the built program does where its ends fail, as docs/FORMATS.md says: output that cannot be written, input that cannot be read, threads
+that do not start.
+
+    tests/ends.py [PROGRAM]
+
+A run that leaves something running, or takes longer than ten minutes, has failed.
+"""
+
+import fcntl
+import os
+import resource
+import shutil
+import signal
+from dataclasses import replace
+from itertools import product
+from subprocess import SubprocessError
+
+from checks import SEEN, VIEW, Tester, each_output, main, with_shim
+from model import Options, Outcome, expected
+from program import fault, run
+from records import BYTE_ORDER_MARK
+
+UNREAD = fault(2, "input cannot be read")
+UNSTARTED = fault(3, "thread not started")
+FULL = "/dev/full"
+NOBODY = 65534
+
+
+def unwritten(taken: bytes) -> Outcome:
+    return replace(fault(4, "output cannot be written"), stdout=taken)
+
+
+# What is written.
+
+
+def full_disks(tester: Tester) -> None:
+    """a full disk"""
+    if not os.path.exists(FULL):
+        return tester.tally.skip(full_disks.__doc__, f"there is no {FULL}")
+    with open(FULL, "wb") as full:
+        for options in each_output():
+            tester.same(f"to {FULL} with {options.words()}", tester.run(tester.example, options, stdout=full), unwritten(b""))
+        tester.same(f"errors to {FULL}", tester.run(b"x", stderr=full), Outcome(2, b"", b""))
+        tester.same(f"nothing to {FULL}", tester.run(b"", stdout=full), Outcome(0, b"", b""))
+
+
+def closed_ends(tester: Tester) -> None:
+    """pipes that nobody reads, with the signal of pipes ignored and not; ends that are closed"""
+    for options, restore in product(each_output(), (False, True)):
+        reader, writer = os.pipe()
+        os.close(reader)
+        got = tester.run(tester.example, options, stdout=writer, restore_signals=restore)
+        os.close(writer)
+        tester.same(f"to a closed pipe with {options.words()}", got, unwritten(b""))
+    for number, wanted in ((0, UNREAD), (1, unwritten(b"")), (2, Outcome(0, tester.replies, b""))):
+        got = tester.run(tester.example, preexec_fn=lambda: os.close(number))
+        tester.same(f"descriptor {number} closed", got, wanted)
+    tester.same("a fault and no standard error", tester.run(b"x", preexec_fn=lambda: os.close(2)), Outcome(2, b"", b""))
+
+
+def full_pipes(tester: Tester) -> None:
+    """a full pipe that does not let its writer wait"""
+    data = VIEW * 10_000
+    wanted = expected(data, Options()).stdout
+    reader, writer = os.pipe()
+    room = fcntl.fcntl(writer, fcntl.F_SETPIPE_SZ, resource.getpagesize())
+    os.set_blocking(writer, False)
+    got = tester.run(data, stdout=writer)
+    os.close(writer)
+    with open(reader, "rb") as pipe:
+        taken = pipe.read()
+    tester.same("to a full pipe", got, unwritten(b""))
+    tester.tally.check(0 < len(taken) <= room and wanted.startswith(taken), "a full pipe has a front of the text")
+
+
+def file_size_limits(tester: Tester) -> None:
+    """a file that may have k bytes, for each k; the signal of this limit ends the program where it is not ignored"""
+    options = Options(report=True, categories=2)
+    text = expected(tester.example, options).stdout
+    signalled = Outcome(-signal.SIGXFSZ, b"", b"")
+    for most, handler in product(range(len(text) + 2), (signal.SIG_IGN, signal.SIG_DFL)):
+        with tester.output.open("wb") as limited:
+            got = tester.run(tester.example, options, stdout=limited, preexec_fn=lambda: limit_file_size(most, handler))
+        cut = unwritten(b"") if handler == signal.SIG_IGN else signalled
+        wanted = cut if most < len(text) else Outcome(0, b"", b"")
+        tester.same(f"to a file of {most} bytes, {handler.name}", replace(got, stdout=tester.output.read_bytes()), replace(wanted, stdout=text[:most]))
+
+
+def limit_file_size(most: int, handler: signal.Handlers) -> None:
+    signal.signal(signal.SIGXFSZ, handler)
+    resource.setrlimit(resource.RLIMIT_CORE, (0, 0))
+    resource.setrlimit(resource.RLIMIT_FSIZE, (most, most))
+
+
+@with_shim
+def cut_writes(tester: Tester) -> None:
+    """writes that take few bytes, none, or fail after k bytes"""
+    options = Options(history=True, report=True, categories=2)
+    text = expected(tester.example, options).stdout
+    for most in (1, 2, 3, len(text)):
+        tester.same(f"{most} bytes a write", tester.run_cut("WRITE_AT_MOST", most, tester.example, options), Outcome(0, text, b""))
+    for limit, taken in product(("WRITE_FAILS_AT", "WRITE_STOPS_AT"), range(len(text))):
+        tester.same(f"{limit} {taken}", tester.run_cut(limit, taken, tester.example, options), unwritten(text[:taken]))
+
+
+# What is read.
+
+
+def unreadable_inputs(tester: Tester) -> None:
+    """input that is a directory, or only for writing"""
+    for path, mode in (("/", os.O_RDONLY), (os.devnull, os.O_WRONLY)):
+        unreadable = os.open(path, mode)
+        for options in each_output():
+            tester.same(f"{path} with {options.words()}", tester.run(unreadable, options), UNREAD)
+        os.close(unreadable)
+
+
+@with_shim
+def cut_reads(tester: Tester) -> None:
+    """input that fails after k bytes; reads that give few bytes"""
+    for given in range(len(tester.example) + 1):
+        tester.same(f"input fails after {given} bytes", tester.run_cut("READ_FAILS_AT", given, tester.example), UNREAD)
+    for most, mark in product((1, 2, 3, 7), (b"", BYTE_ORDER_MARK)):
+        got = tester.run_cut("READ_AT_MOST", most, mark + tester.example)
+        tester.same(f"{most} bytes a read", got, Outcome(0, tester.replies, b""))
+
+
+# Threads.
+
+LONG_PHASES = Options(workers=4, joined=1000, split=1000)
+OF_EACH_WORKER = 2000
+NEEDED = 2 * 3
+
+
+def views(count: int) -> bytes:
+    return b"".join(b"%d,viewuser,0\n" % worker * count for worker in range(LONG_PHASES.workers))
+
+
+def views_seen(count: int) -> Outcome:
+    lines = (b"%d,%d,%s" % (worker, index, SEEN) for worker in range(LONG_PHASES.workers) for index in range(count))
+    return Outcome(0, b"".join(lines), b"")
+
+
+@with_shim
+def refused_threads(tester: Tester) -> None:
+    """no more than n threads, for each n: a long phase needs one for each worker but the first, a short one none"""
+    for most in range(NEEDED):
+        tester.same(f"{most} threads", tester.run_cut("THREADS_AT_MOST", most, views(OF_EACH_WORKER), LONG_PHASES), UNSTARTED)
+    got = tester.run_cut("THREADS_AT_MOST", NEEDED, views(OF_EACH_WORKER), LONG_PHASES)
+    tester.same(f"{NEEDED} threads", got, views_seen(OF_EACH_WORKER))
+    tester.same("short phases", tester.run_cut("THREADS_AT_MOST", 0, views(1), LONG_PHASES), views_seen(1))
+    tester.same("no request", tester.run_cut("THREADS_AT_MOST", 0, b"", LONG_PHASES), Outcome(0, b"", b""))
+
+
+def users_without_threads(tester: Tester) -> None:
+    """a user who may have no more threads"""
+    tester.folder.chmod(0o755)
+    command = [shutil.copy(tester.program, tester.folder / "program"), *LONG_PHASES.words()]
+    try:
+        long = run(command, views(OF_EACH_WORKER), preexec_fn=allow_no_thread)
+        short = run(command, views(1), preexec_fn=allow_no_thread)
+    except (SubprocessError, OSError) as refused:
+        return tester.tally.skip(users_without_threads.__doc__, f"there can be no such user here ({refused})")
+    tester.same("long phases of a user without threads", long, UNSTARTED)
+    tester.same("short phases of a user without threads", short, views_seen(1))
+
+
+def allow_no_thread() -> None:
+    """Forbids this process to start another. Root, whom no limit holds, becomes another user."""
+    if os.geteuid() == 0:
+        os.setgroups([])
+        os.setresgid(NOBODY, NOBODY, NOBODY)
+        os.setresuid(NOBODY, NOBODY, NOBODY)
+    resource.setrlimit(resource.RLIMIT_NPROC, (0, 0))
+    require_no_fork()
+
+
+def require_no_fork() -> None:
+    try:
+        child = os.fork()
+    except BlockingIOError:
+        return
+    if child == 0:
+        os._exit(0)
+    os.waitpid(child, 0)
+    raise OSError("the limit does not hold")
+
+
+CHECKS = (
+    full_disks,
+    closed_ends,
+    full_pipes,
+    file_size_limits,
+    cut_writes,
+    unreadable_inputs,
+    cut_reads,
+    refused_threads,
+    users_without_threads,
+)
+
+if __name__ == "__main__":
+    main(__doc__, CHECKS)
