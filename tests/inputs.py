@@ -2,7 +2,7 @@
 
 import random
 import re
-from dataclasses import dataclass, fields
+from dataclasses import dataclass, fields, replace
 
 from model import Book, Options, is_refusal
 from records import BYTE_ORDER_MARK, MAX_32, MAX_64, MAX_QUANTITY
@@ -32,10 +32,21 @@ class Input:
 
 def random_input(rng: random.Random) -> Input:
     options = random_options(rng)
-    data = Text(rng, options).made()
+    lengths = (0, rng.choices((0, 4, 15, 40, 100, 300), (4, 20, 45, 25, 5, 1))[0])
+    if rng.random() < 0.1:
+        options = crowded(rng, options)
+        lengths = (600 // options.workers, 1200 // options.workers)
+    data = Text(rng, options, lengths).made()
     if rng.random() < 0.2:
         data = damaged(rng, data)
     return Input(data, options)
+
+
+def crowded(rng: random.Random, options: Options) -> Options:
+    """Options of several workers with as many requests in a phase as make each worker a thread of its own."""
+    workers = rng.choice((2, 3, 4, 16))
+    joined, split = (rng.choice((320, 640)) // workers for _ in range(2))
+    return replace(options, workers=workers, joined=joined, split=split, history=True)
 
 
 def random_options(rng: random.Random) -> Options:
@@ -56,11 +67,12 @@ def random_options(rng: random.Random) -> Options:
 
 
 class Text:
-    """One random input in the making."""
+    """One random input in the making, with scripts of such lengths."""
 
-    def __init__(self, rng: random.Random, options: Options):
+    def __init__(self, rng: random.Random, options: Options, lengths: tuple[int, int]):
         self.rng = rng
         self.options = options
+        self.lengths = lengths
         self.weights = rng.choice(list(PROFILES.values()))
         self.owners = rng.sample(range(options.workers), rng.randint(1, min(options.workers, 2)))
         self.items = rng.choice((1, 1, 2, 4))
@@ -86,8 +98,8 @@ class Text:
         return [(owner, self.request((Item,), (1,))) for owner in self.owners for _ in range(self.items)]
 
     def requests(self) -> list[tuple[int, Request]]:
-        most = self.rng.choices((0, 4, 15, 40, 100, 300), (4, 20, 45, 25, 5, 1))[0]
-        asked = [(worker, self.request(KINDS, self.weights)) for worker in range(self.options.workers) for _ in range(self.rng.randint(0, most))]
+        workers = range(self.options.workers)
+        asked = [(worker, self.request(KINDS, self.weights)) for worker in workers for _ in range(self.rng.randint(*self.lengths))]
         self.rng.shuffle(asked)
         return asked
 

@@ -4,14 +4,16 @@
     tests/refused_memory.py [PROGRAM]
 
 For each input below, the first allocation is refused, then the second, and so on, until a run asks for no more; then the same where all that come
-after are refused as well. Then the system grants so many bytes and no more, from few to many. A fault before the first byte leaves the output empty. Where only the report lacks memory, what stands before it has been
-written whole. A run that a signal ends, or that takes longer than 30 seconds, has failed. Needs `cc` and `sh`.
+after are refused as well. Then the system grants so many bytes and no more, from few to many. A fault before the first byte leaves the output empty.
+Where only the report lacks memory, what stands before it has been written whole. A run that a signal ends, or that takes longer than ten minutes, has
+failed. Without a C compiler only the system refuses.
 """
 
 import argparse
 import itertools
 import os
 import random
+import resource
 import tempfile
 from collections import Counter
 from dataclasses import dataclass, replace
@@ -23,7 +25,6 @@ from model import Options, Outcome, expected, failed, open_auction
 from program import BUILT, EXAMPLES, Tally, build_shim, described, fault, run
 from records import Fault
 
-SECONDS = 30
 UNREACHED_IN_A_ROW = 3
 ENDLESS = 2**62
 
@@ -58,7 +59,8 @@ class Case:
         return self.options.report and got == replace(NO_MEMORY[3], stdout=got.stdout) and without.is_answer(Outcome(0, got.stdout, b""))
 
     def may_answer(self, got: Outcome) -> bool:
-        return got in NO_MEMORY or got == NO_THREAD or self.is_answer(got) or self.is_answer_without_report(got)
+        is_named = got in NO_MEMORY or (got == NO_THREAD and self.options.workers > 1)
+        return is_named or self.is_answer(got) or self.is_answer_without_report(got)
 
 
 class RefusedOptions(Case):
@@ -76,17 +78,18 @@ def cases() -> list[Case]:
     three = replace(both, workers=3)
     return [
         Case("no request", b"", Options(report=True, categories=1)),
-        *each_output("one worker", first, alone),
-        *each_output("two workers, hot objects and a stash", contended, both),
-        *each_output("rows and a script", large(rows), rows),
-        *each_output("three workers, longer scripts", large(three), three),
+        *with_each_output("one worker", first, alone),
+        *with_each_output("two workers, hot objects and a stash", contended, both),
+        *with_each_output("rows and a script", large(rows), rows),
+        *with_each_output("three workers, longer scripts", large(three), three),
+        Case("two workers in threads: history and report", *crowd()),
         Case("a fault of the third record", first.replace(b"viewitem", b"viewItem"), alone),
         Case("a refused row", b"0,+bid,1,0.0,10,5\n", alone),
         RefusedOptions("refused options", b"", Options(workers=17)),
     ]
 
 
-def each_output(name: str, data: bytes, options: Options) -> list[Case]:
+def with_each_output(name: str, data: bytes, options: Options) -> list[Case]:
     outputs = {"replies": {}, "history": {"history": True}, "rows": {"rows": True}}
     return [
         Case(f"{name}: {output}{' and report' if report else ''}", data, replace(options, report=report, **flags))
@@ -95,9 +98,16 @@ def each_output(name: str, data: bytes, options: Options) -> list[Case]:
     ]
 
 
+def crowd() -> tuple[bytes, Options]:
+    """Two workers bid on one item, in phases that are long enough for threads."""
+    calls = b"%d,bid,1,0.0,10,5\n" * 3 + b"%d,viewitem,0.0\n"
+    scripts = [(calls % ((worker,) * 4)) * 75 for worker in range(2)]
+    return VASE + b"".join(scripts), Options(workers=2, joined=150, split=150, threshold=1, history=True, report=True)
+
+
 def large(options: Options) -> bytes:
     """A random input of these options with rows and requests, the same each time."""
-    texts = (Text(random.Random(seed), options).made() for seed in itertools.count())
+    texts = (Text(random.Random(seed), options, (0, 60)).made() for seed in itertools.count())
     return next(text for text in texts if is_large(text, options))
 
 
@@ -120,7 +130,7 @@ class Refusing:
         environment = {"LD_PRELOAD": str(self.shim), "REFUSE_FROM": str(first), "REFUSE_TO": str(last), "REFUSE_TOLD": str(tell)}
         os.set_blocking(tell, False)
         command = [self.program, *case.options.words()]
-        outcome = run(command, case.data, SECONDS, env=os.environ | environment, pass_fds=[tell])
+        outcome = run(command, case.data, env=os.environ | environment, pass_fds=[tell])
         os.close(tell)
         with open(told, "rb") as reader:
             return outcome, bool(reader.read())
@@ -137,6 +147,7 @@ def refuse_each(refusing: Refusing, case: Case, tally: Tally, and_all_after: boo
         unreached = 0 if was_refused else unreached + 1
         if was_refused:
             outcomes[kind_of(outcome)] += 1
+    tally.check(bool(outcomes), f"{case.name}: no allocation was refused, so that nothing was tried")
     tell(f"{case.name}: each allocation{' and all after it' if and_all_after else ''} refused", outcomes)
 
 
@@ -150,9 +161,15 @@ def kind_of(outcome: Outcome) -> str:
     return f"{outcome.status} ({text or 'answered'})"
 
 
-def granted(megabytes: int, *command) -> list:
-    """A command that runs this one with so much memory at most."""
-    return ["sh", "-c", 'ulimit -v "$0" && exec "$@"', str(megabytes * 1024), *command]
+def run_granted(megabytes: int, command: list, stdin=b"") -> Outcome:
+    """A run to which the system grants so much memory at most."""
+    most = megabytes * 2**20
+    return run(command, stdin, preexec_fn=lambda: resource.setrlimit(resource.RLIMIT_AS, (most, most)))
+
+
+def least_granted(program: Path) -> int:
+    """How many megabytes an empty input needs. With less the system may not even load the program."""
+    return next(megabytes for megabytes in range(1, 1000) if run_granted(megabytes, [program]) == Outcome(0, b"", b""))
 
 
 def limit_address_space(program: Path, tally: Tally) -> None:
@@ -161,19 +178,31 @@ def limit_address_space(program: Path, tally: Tally) -> None:
     data = VASE + b"".join(b"%d,bid,0,0.0,10,5\n" % worker * bids for worker in range(4))
     lines = (f"{worker},{index},bid {worker}.{index}\n" for worker in range(4) for index in range(bids))
     answer = Outcome(0, "".join(lines).encode("ascii"), b"")
+    command = [program, "--workers=4", "--split=4096"]
     outcomes: Counter[str] = Counter()
-    for megabytes in range(4, 124, 3):
-        outcome = run(granted(megabytes, program, "--workers=4", "--split=4096"), data, SECONDS)
+    least = least_granted(program)
+    for megabytes in range(least, least + 120, 3):
+        outcome = run_granted(megabytes, command, data)
         tally.check(outcome in (*NO_MEMORY, NO_THREAD, answer), f"{megabytes} MB granted: {described(outcome)}")
         outcomes[kind_of(outcome)] += 1
-    tell("200,000 bids, with 4 to 121 MB granted", outcomes)
+    tell(f"200,000 bids, with {least} to {least + 117} MB granted", outcomes)
+    tally.same("200,000 bids, with no limit", run(command, data), answer)
 
 
 def read_without_end(program: Path, tally: Tally) -> None:
     with open("/dev/zero", "rb") as endless:
-        outcome = run(granted(100, program), endless, SECONDS)
+        outcome = run_granted(100, [program], endless)
     tally.same("a field without an end, with 100 MB granted", outcome, NO_MEMORY[1])
     tell("a field without an end", Counter([kind_of(outcome)]))
+
+
+def refuse_all(program: Path, tally: Tally) -> None:
+    with tempfile.TemporaryDirectory() as folder:
+        shim = build_shim("refused_memory", Path(folder))
+        if shim is None:
+            return tally.skip("each allocation refused", "there is no C compiler")
+        for case, and_all_after in itertools.product(cases(), (False, True)):
+            refuse_each(Refusing(program, shim), case, tally, and_all_after)
 
 
 def main() -> None:
@@ -181,11 +210,7 @@ def main() -> None:
     words.add_argument("program", nargs="?", type=Path, default=BUILT)
     program = words.parse_args().program.resolve()
     tally = Tally()
-    with tempfile.TemporaryDirectory() as folder:
-        refusing = Refusing(program, build_shim("refused_memory", folder))
-        for case in cases():
-            refuse_each(refusing, case, tally, and_all_after=False)
-            refuse_each(refusing, case, tally, and_all_after=True)
+    refuse_all(program, tally)
     limit_address_space(program, tally)
     read_without_end(program, tally)
     tally.finish()
