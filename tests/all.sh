@@ -1,6 +1,6 @@
 #!/bin/sh
-# Tests the built program from outside: refused memory, ends and limits, and two minutes of random inputs beside a model.
-# It builds nothing. Needs Python 3.11, `cc`, 4 GB of memory and some six minutes.
+# Tests the built program from outside: where its ends fail, at its limits, where memory is refused, and for two minutes beside a model.
+# It builds nothing. What it needs stands in tests/README.md.
 #
 #     tests/all.sh [PROGRAM]
 tests=$(dirname "$0")
@@ -10,8 +10,8 @@ if [ ! -x "$program" ]; then
     exit 1
 fi
 status=0
-for script in refused_memory limits second_opinion; do
-    echo "== $script"
-    python3 "$tests/$script.py" "$program" || status=1
+for script in ends limits refused_memory second_opinion; do
+    echo "== tests/$script.py"
+    python3 -B "$tests/$script.py" "$program" || status=1
 done
 exit $status

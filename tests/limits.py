@@ -51,6 +51,26 @@ def line_ends(tester: Tester) -> None:
     tester.same("half a mark", tester.run(BYTE_ORDER_MARK[:2] + VIEW), fault(2, "record 1: not a number"))
 
 
+def quotes(tester: Tester) -> None:
+    """quotes where they open and close a field, and where they do not"""
+    for written, name in {
+        b"Vase": b"Vase",
+        b'"Vase"': b"Vase",
+        b'"a,b"': b"a,b",
+        b'"a""b"': b'a"b',
+        b'""""': b'"',
+        b'a"b': b'a"b',
+        b'a"b"': b'a"b"',
+        b'"a"b': b"ab",
+        b'"a"b"c"': b'ab"c"',
+    }.items():
+        got = tester.run(b"0,item,0,0,%s,10,100,1\n0,viewitem,0.0\n" % written)
+        seen = b"0,1,viewitem seller=0 category=0 start=10 closes=100 highest=- bidder=- bids=0 left=1 name=" + name
+        tester.same(f"the name {written!r}", got, Outcome(0, b"0,0,item 0.0\n" + seen + b"\n", b""))
+    tester.same("a quote that is not closed", tester.run(b'0,viewuser,"0'), Outcome(0, b"0,0," + SEEN, b""))
+    tester.same("a line end in quotes", tester.run(b'0,viewuser,"0\n0,viewuser,0\n'), fault(2, "record 1: not a number"))
+
+
 def million_empty_lines(tester: Tester) -> None:
     """a million empty lines"""
     for end in (b"\n", b"\r\n", b"\r"):
@@ -276,6 +296,7 @@ CHECKS = (
     examples,
     fronts,
     line_ends,
+    quotes,
     million_empty_lines,
     every_byte,
     long_fields,
