@@ -213,7 +213,9 @@ def options_are_refused(tester: Tester, *words: str | bytes) -> None:
 
 def odd_words(tester: Tester) -> None:
     """words that are no option, and help"""
-    for words in (["--worker=2"], ["workers"], ["--history=1"], ["--history", "--history"], ["--rows", "--rows"], ["-"], ["--", "x"], ["-x"], ["--=4"], [""], [b"\xff"], [b"--workers=\xff"]):
+    for word in ("--worker=2", "workers", "--history=1", "-", "-x", "--=4", "", b"\xff", b"--workers=\xff"):
+        options_are_refused(tester, word)
+    for words in (("--history", "--history"), ("--rows", "--rows"), ("--", "x")):
         options_are_refused(tester, *words)
     options_are_refused(tester, *["--history"] * 1000)
     for word in ("--help", "-h"):
