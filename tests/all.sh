@@ -1,17 +1,37 @@
-#!/bin/sh
-# Tests the built program from outside: where its ends fail, at its limits, where memory is refused, and for two minutes beside a model.
-# It builds nothing. What it needs stands in tests/README.md.
+#!/usr/bin/env bash
+# All tests: `rt ci`, and then the scripts beside this one on the programs that it built. The last line counts them all.
 #
-#     tests/all.sh [PROGRAM]
-tests=$(dirname "$0")
-program=${1:-$tests/../crates/rubis_auction/out/rubis_auction}
-if [ ! -x "$program" ]; then
-    echo "There is no program at $program. To build it: (cd crates/rubis_auction && rt run < stdin)" >&2
-    exit 1
+#     tests/all.sh            all tests
+#     tests/all.sh --built    the scripts alone, on programs that are built
+#
+# The comparer runs beside the other scripts; what it said is printed after them.
+set -euo pipefail
+cd "$(dirname "$0")/.."
+said=$(mktemp -d)
+trap 'kill $(jobs -p) 2> /dev/null || true; rm -rf "$said"' EXIT
+
+if [ "${1:-}" != --built ]; then
+    rt ci | tee "$said/rt_ci"
 fi
-status=0
-for script in ends limits refused_memory second_opinion; do
+python3 -B tests/second_opinion.py > "$said/second_opinion" 2>&1 &
+for script in ends limits refused_memory; do
     echo "== tests/$script.py"
-    python3 -B "$tests/$script.py" "$program" || status=1
+    python3 -B "tests/$script.py" 2>&1 | tee "$said/$script" || true
 done
-exit $status
+echo "== tests/second_opinion.py"
+wait
+cat "$said/second_opinion"
+
+# A script that does not end with its count has failed.
+awk '
+    { last[FILENAME] = $0 }
+    END {
+        for (file = 1; file < ARGC; file++) {
+            counted = last[ARGV[file]] ~ /^[0-9]+ passed, [0-9]+ failed$/
+            split(last[ARGV[file]], words, " ")
+            passed += counted ? words[1] : 0
+            failed += counted ? words[3] : 1
+        }
+        print passed " passed, " failed " failed"
+        exit failed > 0
+    }' "$said"/*

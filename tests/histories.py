@@ -13,7 +13,8 @@ from model import Book, Entry, Options, Run, choose_hot, is_put_off, is_refusal,
 from records import Asked, Fault, Id, Item, Object, Request, item_object, read_input
 
 MOST_ROWS_LOOKED_AT = 1_000_000
-COUNTS = re.compile("phases [0-9]+\nrequests ([0-9]+)\nrefused ([0-9]+)\n")
+COUNTS = re.compile("phases ([0-9]+)\nrequests ([0-9]+)\nrefused ([0-9]+)\n")
+HOT_LINE = re.compile("hot ([0-9]+) (.+)\n")
 
 
 class Difference(Exception):
@@ -107,9 +108,13 @@ def check_phases(run: Run, options: Options) -> None:
         require(entry.phase == phase, f"this commits in phase {phase}: {entry.line()}")
 
 
-def commit_phase(index: int, request: Request, hot_sets: list[list[Object]], options: Options) -> int:
+def phase_reached(index: int, options: Options) -> int:
     rounds, place = divmod(index, options.joined + options.split)
-    reached = 2 * rounds + (place >= options.joined)
+    return 2 * rounds + (place >= options.joined)
+
+
+def commit_phase(index: int, request: Request, hot_sets: list[list[Object]], options: Options) -> int:
+    reached = phase_reached(index, options)
     hot = hot_sets[reached] if reached < len(hot_sets) else []
     return reached + is_put_off(request, hot)
 
@@ -245,7 +250,7 @@ def adds_row(entry: Entry) -> bool:
 
 
 def check_rows(printed: str, asked: Asked, book: Book, options: Options) -> None:
-    """Checks the rows of a run, and of the report after them the counts that rows tell and the views at the end."""
+    """Checks the rows of a run, and of the report after them what rows tell."""
     text, report = split_report(printed) if options.report else (printed, "")
     opening = rows_text(book)
     require(text.startswith(opening), "the text does not begin with the opening rows")
@@ -256,8 +261,9 @@ def check_rows(printed: str, asked: Asked, book: Book, options: Options) -> None
     require(rows_text(book) == text, "a row is not in its usual form")
     check_stored(added, asked.scripts)
     if options.report:
-        check_counts(report, asked, len(added))
-        require(report.endswith(views_text(book)), f"the report should end with\n{views_text(book)}and is\n{report}")
+        views = views_text(book)
+        require(report.endswith(views), f"the report should end with\n{views}and is\n{report}")
+        check_report_of_rows(report.removesuffix(views), asked, [request for _, request in added], options)
 
 
 def split_report(printed: str) -> tuple[str, str]:
@@ -283,10 +289,36 @@ def check_stored(added: list[tuple[int, Request]], scripts: list[list[Request]])
         require(in_order, f"worker {worker} has rows out of script order")
 
 
-def check_counts(report: str, asked: Asked, accepted: int) -> None:
+def check_report_of_rows(report: str, asked: Asked, added: list[Request], options: Options) -> None:
+    """Checks the counts and the hot sets of a report, as far as the rows that were added tell them."""
     counts = COUNTS.match(report)
     require(counts is not None, f"the counts are not there: {report}")
-    requests = asked.requests()
+    phases, requests, refused = map(int, counts.groups())
+    require(phases in phases_possible(asked, options), f"there are not so many phases: {report}")
+    require(requests == asked.requests(), f"there are {asked.requests()} requests: {report}")
     stores = sum(request.is_store for script in asked.scripts for request in script)
-    require(counts[1] == str(requests), f"there are {requests} requests: {report}")
-    require(stores - accepted <= int(counts[2]) <= requests - accepted, f"{accepted} rows were added: {report}")
+    require(stores - len(added) <= refused <= requests - len(added), f"{len(added)} rows were added: {report}")
+    check_hot_lines(report[counts.end() :], phases, added, options)
+
+
+def phases_possible(asked: Asked, options: Options) -> tuple[int, ...]:
+    """As many as the requests reach, and one more where the last of these is split and may have put something off."""
+    reached = [phase_reached(len(script) - 1, options) for script in asked.scripts if script]
+    if not reached:
+        return (0,)
+    last = max(reached)
+    return (last + 1, last + 2) if is_split(last) else (last + 1,)
+
+
+def check_hot_lines(text: str, phases: int, added: list[Request], options: Options) -> None:
+    """Each is of a later split phase than the one before it, and of objects that enough of the rows write."""
+    heat = Counter(str(request.writes()) for request in added if request.is_splittable)
+    latest = 0
+    for line in text.splitlines(keepends=True):
+        found = HOT_LINE.fullmatch(line)
+        require(found is not None, f"no line of a hot set: {line}")
+        phase, hot = int(found[1]), found[2].split(" ")
+        require(is_split(phase) and latest < phase < phases, f"there is no such hot set: {line}")
+        require(len(hot) == len(set(hot)) <= options.hot, f"too many objects are hot, or one twice: {line}")
+        require(all(heat[thing] >= options.threshold for thing in hot), f"something is not hot enough: {line}")
+        latest = phase

@@ -11,12 +11,20 @@ from subprocess import PIPE, Popen, TimeoutExpired, check_call
 from model import Outcome
 
 TESTS = Path(__file__).resolve().parent
-BUILT = TESTS.parent / "crates/rubis_auction/out/rubis_auction"
+CRATES = TESTS.parent / "crates"
 EXAMPLES = TESTS.parent / "examples"
 
 # What runs so long hangs. No run takes a tenth of it, so that a busy machine fails no test.
 SECONDS = 600
 MOST_FAILURES = 20
+
+
+def built(name: str) -> Path:
+    """The program of a crate, as `rt ci` and `rt run` build it."""
+    return CRATES / name / "out" / name
+
+
+BUILT = built("rubis_auction")
 
 
 def run(command: list, stdin=b"", **how) -> Outcome:

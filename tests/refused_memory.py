@@ -4,14 +4,13 @@
     tests/refused_memory.py [PROGRAM]
 
 For each input below, the first allocation is refused, then the second, and so on, until a run asks for no more; then the same where all that come
-after are refused as well. Then the system grants so many bytes and no more, from few to many. A fault before the first byte leaves the output empty.
+after are refused as well. The later the allocation, the later the part of the program whose fault it is. Then the system grants so many bytes and no more, from few to many. A fault before the first byte leaves the output empty.
 Where only the report lacks memory, what stands before it has been written whole. A run that a signal ends, or that takes longer than ten minutes, has
 failed. Without a C compiler only the system refuses.
 """
 
 import argparse
 import itertools
-import os
 import random
 import resource
 import tempfile
@@ -24,9 +23,7 @@ from inputs import Text
 from model import Options, Outcome, expected, failed, open_auction
 from program import BUILT, EXAMPLES, Tally, build_shim, described, fault, run
 from records import Fault
-
-UNREACHED_IN_A_ROW = 3
-ENDLESS = 2**62
+from refusing import Refusing
 
 VASE = b"0,+item,0,0,Vase,10,100,1\n"
 NO_MEMORY = [fault(status, "no memory") for status in (1, 2, 3, 4)]
@@ -58,12 +55,23 @@ class Case:
         without = replace(self, options=replace(self.options, report=False))
         return self.options.report and got == replace(NO_MEMORY[3], stdout=got.stdout) and without.is_answer(Outcome(0, got.stdout, b""))
 
+    def last_part(self) -> int:
+        """The last part of the program that is reached, by its status: options, reading, performing, writing."""
+        try:
+            open_auction(self.data, self.options)
+        except Fault as fault:
+            return fault.status
+        return 4
+
     def may_answer(self, got: Outcome) -> bool:
         is_named = got in NO_MEMORY or (got == NO_THREAD and self.options.workers > 1)
         return is_named or self.is_answer(got) or self.is_answer_without_report(got)
 
 
 class RefusedOptions(Case):
+    def last_part(self) -> int:
+        return 1
+
     def is_answer(self, got: Outcome) -> bool:
         """The words are the option parser's own."""
         return got.status == 1 and got.stdout == b"" and got.stderr.startswith(b"error: ")
@@ -119,40 +127,26 @@ def is_large(data: bytes, options: Options) -> bool:
     return len(asked.rows) > 5 and 30 < asked.requests() < 80
 
 
-class Refusing:
-    def __init__(self, program: Path, shim: Path):
-        self.program = program
-        self.shim = shim
-
-    def run(self, case: Case, first: int, last: int) -> tuple[Outcome, bool]:
-        """The outcome where the allocations from the first to the last are refused, and whether one was."""
-        told, tell = os.pipe()
-        environment = {"LD_PRELOAD": str(self.shim), "REFUSE_FROM": str(first), "REFUSE_TO": str(last), "REFUSE_TOLD": str(tell)}
-        os.set_blocking(tell, False)
-        command = [self.program, *case.options.words()]
-        outcome = run(command, case.data, env=os.environ | environment, pass_fds=[tell])
-        os.close(tell)
-        with open(told, "rb") as reader:
-            return outcome, bool(reader.read())
-
-
 def refuse_each(refusing: Refusing, case: Case, tally: Tally, and_all_after: bool) -> None:
-    outcomes: Counter[str] = Counter()
-    number = unreached = 0
-    while unreached < UNREACHED_IN_A_ROW:
-        number += 1
-        outcome, was_refused = refusing.run(case, number, ENDLESS if and_all_after else number)
-        right = case.may_answer(outcome) if was_refused else case.is_answer(outcome)
-        tally.check(right, f"{case.name}, allocation {number}{' and all after' if and_all_after else ''} refused: {described(outcome)}")
-        unreached = 0 if was_refused else unreached + 1
-        if was_refused:
-            outcomes[kind_of(outcome)] += 1
-    tally.check(bool(outcomes), f"{case.name}: no allocation was refused, so that nothing was tried")
-    tell(f"{case.name}: each allocation{' and all after it' if and_all_after else ''} refused", outcomes)
+    outcomes: list[Outcome] = []
+    for refusal in refusing.each(and_all_after):
+        outcome = refusal.outcome
+        right = case.may_answer(outcome) if refusal.was_reached else case.is_answer(outcome)
+        tally.check(right, f"{case.name}, {refusal}: {described(outcome)}")
+        if refusal.was_reached:
+            outcomes.append(outcome)
+    what = f"{case.name}: each allocation{' and all after it' if and_all_after else ''} refused"
+    tally.check(bool(outcomes), f"{what}: none was, so that nothing was tried")
+    faults = [outcome.status for outcome in outcomes if replace(outcome, stdout=b"") in (*NO_MEMORY, NO_THREAD)]
+    parts = [status for status, _ in itertools.groupby(faults)]
+    wanted = list(range(1, case.last_part() + 1))
+    tally.check(parts == wanted, f"{what}: faults come with the statuses {parts} and not {wanted}")
+    tell(what, outcomes)
 
 
-def tell(what: str, outcomes: Counter) -> None:
-    told = ", ".join(f"{count} times {outcome}" for outcome, count in sorted(outcomes.items()))
+def tell(what: str, outcomes: list[Outcome]) -> None:
+    kinds = Counter(map(kind_of, outcomes))
+    told = ", ".join(f"{count} times {kind}" for kind, count in sorted(kinds.items()))
     print(f"{what}: {told}", flush=True)
 
 
@@ -179,12 +173,12 @@ def limit_address_space(program: Path, tally: Tally) -> None:
     lines = (f"{worker},{index},bid {worker}.{index}\n" for worker in range(4) for index in range(bids))
     answer = Outcome(0, "".join(lines).encode("ascii"), b"")
     command = [program, "--workers=4", "--split=4096"]
-    outcomes: Counter[str] = Counter()
+    outcomes = []
     least = least_granted(program)
     for megabytes in range(least, least + 120, 3):
         outcome = run_granted(megabytes, command, data)
         tally.check(outcome in (*NO_MEMORY, NO_THREAD, answer), f"{megabytes} MB granted: {described(outcome)}")
-        outcomes[kind_of(outcome)] += 1
+        outcomes.append(outcome)
     tell(f"200,000 bids, with {least} to {least + 117} MB granted", outcomes)
     tally.same("200,000 bids, with no limit", run(command, data), answer)
 
@@ -193,7 +187,7 @@ def read_without_end(program: Path, tally: Tally) -> None:
     with open("/dev/zero", "rb") as endless:
         outcome = run_granted(100, [program], endless)
     tally.same("a field without an end, with 100 MB granted", outcome, NO_MEMORY[1])
-    tell("a field without an end", Counter([kind_of(outcome)]))
+    tell("a field without an end", [outcome])
 
 
 def refuse_all(program: Path, tally: Tally) -> None:
@@ -202,7 +196,7 @@ def refuse_all(program: Path, tally: Tally) -> None:
         if shim is None:
             return tally.skip("each allocation refused", "there is no C compiler")
         for case, and_all_after in itertools.product(cases(), (False, True)):
-            refuse_each(Refusing(program, shim), case, tally, and_all_after)
+            refuse_each(Refusing(shim, [program, *case.options.words()], case.data), case, tally, and_all_after)
 
 
 def main() -> None:
