@@ -3,6 +3,7 @@ ghost use Rattle.std.specs.Prelude.{◌≡◌, vec_len, IfOk};
 
 use auction_rows::{Facts, ItemId, Name, Quantity, Request};
 use auction_text::{Cause, Input, ReadFault, read_scripts};
+use item_shards::Opened;
 use std::alloc::{AllocError, Global};
 use std::io;
 use std::io::Read;
@@ -289,6 +290,42 @@ fn scripts_by_worker(rt: HostRuntime) -> Result<(), Fail> {
     assert!(rt; has_script(&input, 1, &[]));
     assert!(rt; has_script(&input, 2, &[view(0), view(2)]));
     assert!(rt; has_script(&input, 3, &[]));
+    Ok(())
+}
+
+fn repeated(alloc: Global, record: &[u8], count: usize) -> Result<Vec<u8>, AllocError> {
+    let mut text = Vec::new(alloc);
+    for _record in 0..count {
+        text.extend_from_slice(record)?;
+    }
+    Ok(text)
+}
+
+// Whether there are so many, each the same.
+fn are_all<T: PartialEq>(all: &[T], each: &T, count: usize) -> bool {
+    all.len() == count && all.iter().all(|one| one == each)
+}
+
+#[test]
+fn thousands_of_records(rt: HostRuntime) -> Result<(), Fail> {
+    let alloc = rt.alloc();
+    let mut text = repeated(alloc, b"0,+bid,1,0.0,10,5\n", 3_000)?;
+    let requests = repeated(alloc, b"0,viewitem,0.1\n1,viewitem,0.2\n", 3_000)?;
+    text.extend_from_slice(requests.as_slice())?;
+    let input = read_scripts(alloc, text.as_slice(), 2)?;
+    let bid = Opened {
+        worker: 0,
+        request: Request::StoreBid {
+            bidder: 1,
+            item: ItemId::default(),
+            amount: 10,
+            time: 5,
+        },
+    };
+    assert!(rt; are_all(&input.rows, &bid, 3_000));
+    for (script, serial) in input.scripts.iter().zip([1, 2]) {
+        assert!(rt; are_all(script, &view(serial), 3_000));
+    }
     Ok(())
 }
 

@@ -264,6 +264,60 @@ fn writer_that_takes_few_bytes(rt: HostRuntime) -> Result<(), Fail> {
     Ok(())
 }
 
+// Takes one byte a call, but fails at one call of `write`, and takes more after it. Counts what is called.
+#[derive(Drop)]
+struct Lapse {
+    held: Vec<u8>,
+    fails_at: usize,
+    writes: usize,
+    flushes: usize,
+}
+
+impl Write for Lapse {
+    fn write(&mut self, buf: &[u8]) -> io::Result<usize> {
+        let call = self.writes;
+        self.writes = call.saturating_add(1);
+        if call == self.fails_at {
+            return Err(io::Error::from(io::ErrorKind::Interrupted));
+        }
+        let most = buf.len().min(1);
+        self.held.extend_from_slice(&buf[..most])?;
+        Ok(most)
+    }
+
+    fn flush(&mut self) -> io::Result<()> {
+        self.flushes = self.flushes.saturating_add(1);
+        Ok(())
+    }
+}
+
+fn lapse_at(alloc: Global, fails_at: usize) -> Lapse {
+    Lapse {
+        held: Vec::new(alloc),
+        fails_at,
+        writes: 0,
+        flushes: 0,
+    }
+}
+
+#[test]
+fn first_failed_write_is_the_last_call(rt: HostRuntime) -> Result<(), Fail> {
+    let alloc = rt.alloc();
+    let history = history_of(alloc, &first_example().ok_or("replies")?)?;
+    for call in 0..OUTPUT.len() {
+        let mut writer = lapse_at(alloc, call);
+        let written = write_replies(alloc, &mut writer, &history);
+        assert_eq!(rt; written, Err(WriteFault::Write));
+        assert_eq!(rt; writer.held.as_slice(), &OUTPUT[..call]);
+        assert_eq!(rt; (writer.writes, writer.flushes), (call + 1, 0));
+    }
+    let mut writer = lapse_at(alloc, OUTPUT.len());
+    write_replies(alloc, &mut writer, &history)?;
+    assert_eq!(rt; writer.held.as_slice(), OUTPUT);
+    assert_eq!(rt; (writer.writes, writer.flushes), (OUTPUT.len(), 1));
+    Ok(())
+}
+
 fn has_text(alloc: Global, fault: WriteFault, want: &str) -> Result<bool, AllocError> {
     Ok(format!(in alloc; "{fault}")?.as_str() == want)
 }
