@@ -5,6 +5,7 @@ pub mod ChosenLemmas
 pub mod WorkLemmas
 pub mod ThreadLemmas
 pub mod TaskLemmas
+pub mod EndLemmas
 pub mod PhaseLemmas
 pub mod HotThere
 pub mod ScriptLemmas

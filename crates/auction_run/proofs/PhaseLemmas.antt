@@ -15,6 +15,7 @@ use Rattle.auction_rows.specs.Phases.{IsNumbered, is_put_off}
 use Rattle.phase_laws.specs.Order.{part}
 use Rattle.run_laws.specs.Phases.{is_split, quota}
 use Rattle.run_laws.specs.Turns.{numbered}
+use Rattle.run_laws.proofs.ListLemmas.{all-append}
 use Rattle.run_serving.specs.declared.policy.Policy.{Policy}
 use Rattle.run_serving.specs.Books.{ReplaysOn}
 use Rattle.run_serving.specs.Run.{first_index, calls_of, calls_given, HasPerformed}
@@ -23,6 +24,7 @@ use Rattle.shard_boxes.specs.Keys.{BoxId}
 use Rattle.shard_boxes.specs.States.{ShardState, state_of}
 use Rattle.phase_desks.specs.Slicing.{objects_of, stocks_of, slices_of}
 use Rattle.phase_desks.specs.Stashes.{StashState}
+use Rattle.phase_transactions.specs.declared.fault.PermitFault.TheVariants.{NumberFull}
 use Rattle.phase_transactions.specs.Permits.{PermitState}
 use Rattle.phase_transactions.specs.Single.{HaveOpening}
 use Rattle.phase_closing.specs.Phases.{HasClosed, no_receipt, receipt_at, journal_of, counters_of}
@@ -40,8 +42,9 @@ use Rattle.phase_floor.specs.States.{JoinedState, states_of, StandsFor}
 use Rattle.auction_run.specs.declared.phase.Closed.{Closed}
 use Rattle.auction_run.specs.Closed.{HasClosedPhase}
 use Rattle.auction_run.specs.Phases.{MayPerform, waiting_in, quota_of}
-use Rattle.auction_run.specs.Tasks.{Task, task, tasks, calls_for, CanBeDone, IsDoneJoined, IsDoneSplit}
-use Rattle.auction_run.specs.Working.{committed, stashed, hot_for, AreOfPhase, IsSamePermit, IsPermitOf, ArePermitsOf}
+use Rattle.auction_run.specs.Tasks.{Task, task, tasks, calls_for, CanBeDone, IsDoneJoined, IsDoneSplit, IsFirstFault}
+use Rattle.auction_run.specs.Working.{committed, stashed, hot_for, AreOfPhase, IsSamePermit, IsPermitOf, ArePermitsOf, IsCallOf, HasStopped, HasStoppedSplit, HasMetTheEnd}
+use Rattle.auction_run.proofs.EndLemmas.{calls_of_its, met_end, first_end}
 
 -- ---- tasks, by worker
 
@@ -220,6 +223,24 @@ module _ (policy : Policy) (scripts : List (List Request)) (state : JoinedState)
         given = subst (λ n. n ≤ length (script_of scripts w) - first) (sym left) fits;
         tries = omega (arith, left, waits, tries, few);
       })
+
+  -- where a worker met the end of numbers, it was at a call of its script
+  pub joined_end : ((w : ℕ) → AllByRecursion (IsCallOf (script_of scripts w)) (stash_at handed w).requests) →
+      IsFirstFault IsDoneJoined (λ t. HasStopped opening (stashed t.permit ++ calls_for t) t.permit) (tasks permits scripts first) NumberFull →
+      (worker : ℕ) × HasMetTheEnd (script_of scripts worker)
+  joined_end own = first_end IsDoneJoined (λ t. HasStopped opening (stashed t.permit ++ calls_for t) t.permit) (λ t. stashed t.permit ++ calls_for t)
+      (λ t receipt met its. met_end opening t.script (stashed t.permit ++ calls_for t) met.before met.call met.left receipt its met.calls_are met.cause)
+      permits scripts first (λ w below.
+      let less : w < length scripts = omega (arith, below, as_many) in
+      all-append (IsCallOf (script_of scripts w)) (stashed (receipt_at permits w)) (calls_for (task (receipt_at permits w) (script_of scripts w) first))
+      (subst (AllByRecursion (IsCallOf (script_of scripts w))) (sym (stash_is w less)) (own w))
+      (calls_of_its first (receipt_at permits w).split.desk.left (script_of scripts w)))
+
+  pub split_end : IsFirstFault IsDoneSplit (λ t. HasStoppedSplit opening (calls_for t) t.permit) (tasks permits scripts first) NumberFull →
+      (worker : ℕ) × HasMetTheEnd (script_of scripts worker)
+  split_end = first_end IsDoneSplit (λ t. HasStoppedSplit opening (calls_for t) t.permit) (λ t. calls_for t)
+      (λ t receipt met its. met_end opening t.script (calls_for t) met.before met.call met.left receipt its met.calls_are met.cause)
+      permits scripts first (λ w below. calls_of_its first (receipt_at permits w).split.desk.left (script_of scripts w))
 
   pub replays_on : (after : JoinedState) (entries : List Entry) →
       ((book : Book) → StandFor opening floor.counters book [] → ReplaysFrom floor.opening book entries) →

@@ -1,6 +1,6 @@
 -- Where a run begins, one phase more, and its end.
 use Rattle.std.proofs.Common.{◌≡◌, ℕ, zero, suc, ◌+◌, ◌-◌, ◌<◌, ◌≤◌, ◌^◌, ◌⊎◌, not, min, Bool, true, false, cond, List, [], ◌∷◌, ◌++◌, length, drop, refl, subst, sym, ap, ◌∙◌, inl, inr, arith}
-use Rattle.std.specs.List.{filter}
+use Rattle.std.specs.List.{filter, AllByRecursion}
 use Rattle.std.specs.HashSet.{HashSet}
 use Rattle.std.proofs.lemmas.Bool.{cases_Bool, cases_lt, false≢true}
 use Rattle.std.proofs.lemmas.List.{length-append}
@@ -15,7 +15,9 @@ use Rattle.auction_rows.specs.Phases.{is_put_off, IsNumbered}
 use Rattle.item_shards.specs.OpeningRows.{rows_by}
 use Rattle.phase_closing.specs.Standing.{counters_at}
 use Rattle.phase_floor.specs.States.{states_of, StandsFor, DoAllExist}
+use Rattle.phase_laws.proofs.OrderLemmas.{all-filter}
 use Rattle.run_laws.specs.Phases.{is_split, quota}
+use Rattle.run_laws.specs.Turns.{numbered}
 use Rattle.run_laws.proofs.QuotaLemmas.{given_length}
 use Rattle.run_laws.proofs.ReachLemmas.{first_next, split_then_joined}
 use Rattle.run_laws.proofs.TurnLemmas.{waiting_none}
@@ -33,6 +35,8 @@ use Rattle.auction_run.specs.Beginning.{AreShort}
 use Rattle.auction_run.specs.Outcomes.{IsOutcome}
 use Rattle.auction_run.specs.Phases.{hot_sets, waiting_in, quota_of, MayPerform}
 use Rattle.auction_run.specs.Running.{IsRunning, CanGoOn}
+use Rattle.auction_run.specs.Working.{IsCallOf}
+use Rattle.auction_run.proofs.EndLemmas.{own_calls}
 use Rattle.auction_run.proofs.HotThere.{chosen_exist}
 use Rattle.auction_run.proofs.ScriptLemmas.{past_end}
 
@@ -214,6 +218,8 @@ module _ (policy : Policy) (scripts : List (List Request)) (running : Running) (
         (run.counted w own) (on.short w own);
     joined = not_chosen;
     exist = hot_exist;
+    own = λ w. subst (AllByRecursion (IsCallOf (script_of scripts w))) (sym (run.run.stashed w))
+        (all-filter (IsCallOf (script_of scripts w)) _ (numbered 0 (script_of scripts w)) (own_calls (script_of scripts w)));
     split = λ split. nothing_waits policy scripts running.state.phase (hot_sets running.hot.items) running.history.entries (waiting_in running.stashes.items) run.run split;
   }
 
@@ -278,4 +284,6 @@ module _ (opening : Opening) (rows : Book) (policy : Policy) (some : 0 < policy.
     stands = run.replayed.stands;
     opening_is = run.opening_is;
     phases = phases_counted;
+    shards = run.shards_are;
+    counters = run.workers_are;
   }

@@ -12,7 +12,7 @@ use Rattle.run_serving.specs.Serving.{script_of}
 use Rattle.auction_run.specs.declared.fault.RunFault.{RunFault}
 use Rattle.auction_run.specs.declared.fault.RunFault.TheVariants as run
 use Rattle.auction_run.specs.declared.serving.WorkerAnswer.{WorkerAnswer}
-use Rattle.auction_run.specs.Phases.{lists, IsMet}
+use Rattle.auction_run.specs.Phases.{lists}
 use Rattle.auction_run.specs.Tasks.{Task, task, tasks, without_fault, fault_or, first_fault, met, IsFirstFault, IsFaultBy}
 use Rattle.auction_run.specs.Threads.{IsUnstarted}
 
@@ -88,27 +88,18 @@ module _ {D T : Type 0} (of : D → Task) (left : T → PermitState) (IsDone : T
       first_fault answers ≡ Some fault → map of owns ≡ ts → IsFirstFault IsDone HasMet ts fault
   fault_met owns answers ts fault kept is are = subst (λ us. IsFirstFault IsDone HasMet us fault) are (first_met owns answers fault kept is)
 
-pub met_by : (P : PermitFault → Type 0) (fault : PermitFault) → P fault → IsFaultBy P (met fault)
-met_by P permit.Memory is = tt
-met_by P permit.NumberFull is = is
+pub met_by : (workers : ℕ) (P : PermitFault → Type 0) (fault : PermitFault) → P fault → IsFaultBy workers P (met fault)
+met_by workers P permit.Memory is = tt
+met_by workers P permit.NumberFull is = is
 
-pub unstarted_by : (P : PermitFault → Type 0) (fault : RunFault) → IsUnstarted fault → IsFaultBy P fault
-unstarted_by P run.Spawn is = tt
-unstarted_by P run.Memory is = tt
-unstarted_by P run.NumberFull is = absurd is
-unstarted_by P run.Workers is = absurd is
-unstarted_by P run.Shards is = absurd is
-unstarted_by P run.Quota is = absurd is
-unstarted_by P run.TooLong is = absurd is
-
-pub is_met : (P : PermitFault → Type 0) (fault : RunFault) → IsFaultBy P fault → IsMet fault
-is_met P run.Spawn is = tt
-is_met P run.Memory is = tt
-is_met P run.NumberFull is = tt
-is_met P run.Workers is = absurd is
-is_met P run.Shards is = absurd is
-is_met P run.Quota is = absurd is
-is_met P run.TooLong is = absurd is
+pub unstarted_by : (jobs workers : ℕ) (P : PermitFault → Type 0) (fault : RunFault) → jobs ≤ workers → IsUnstarted jobs fault → IsFaultBy workers P fault
+unstarted_by jobs workers P run.Spawn few is = omega (arith, few, is)
+unstarted_by jobs workers P run.Memory few is = tt
+unstarted_by jobs workers P run.NumberFull few is = absurd is
+unstarted_by jobs workers P run.Workers few is = absurd is
+unstarted_by jobs workers P run.Shards few is = absurd is
+unstarted_by jobs workers P run.Quota few is = absurd is
+unstarted_by jobs workers P run.TooLong few is = absurd is
 
 pub zip_length : {A B : Type 0} (R : A → B → Type 0) (xs : List A) (ys : List B) → AllZip R xs ys → length ys ≡ length xs
 zip_length R [] [] all = refl

@@ -25,6 +25,9 @@ pub record IsOutcome (opening : Opening) (rows : Book) (policy : Policy) (script
   pub stands : StandsFor outcome.state (book_after opening rows outcome.history.entries)
   pub opening_is : outcome.state.opening ≡ opening
   pub phases : outcome.state.phase ≡ length outcome.hot.items
+  -- it has the policy's shards, and counters for each script
+  pub shards : length outcome.state.shards ≡ policy.shards
+  pub counters : length outcome.state.counters ≡ length scripts
 
 -- A board has all phases of a run, of an auction that was opened with these rows.
 abbrev pub HasShownAll : {B : Type 0} → (B → Opening → Book → List (List Row) → Type 0) → Opening → Book → B → Outcome → Type 0

@@ -1,6 +1,7 @@
 -- What a phase of a run begins with, and the faults that it meets.
 use Rattle.std.specs.declared.alloc.Global.{Global}
-use Rattle.std.specs.Prelude.{ℕ, ◌≡◌, ◌+◌, ◌<◌, ◌≤◌, ◌^◌, true, false, List, [], map, length, Vec, ⊤}
+use Rattle.std.specs.Prelude.{ℕ, ◌≡◌, ◌+◌, ◌<◌, ◌≤◌, ◌^◌, true, false, List, [], map, length, Vec, Result, IsErrOf, ⊤}
+use Rattle.std.specs.List.{AllByRecursion}
 use Rattle.std.specs.HashSet.{HashSet}
 use Rattle.auction_rows.specs.declared.ids.Object.{Object}
 use Rattle.auction_rows.specs.declared.requests.Request.{Request}
@@ -13,6 +14,7 @@ use Rattle.run_serving.specs.declared.policy.Policy.{Policy}
 use Rattle.run_serving.specs.Run.{first_index}
 use Rattle.run_serving.specs.Serving.{script_of}
 use Rattle.auction_run.specs.declared.round.Round.{Round}
+use Rattle.auction_run.specs.Working.{IsCallOf, HasMetTheEnd}
 use Rattle.auction_run.specs.declared.fault.RunFault.{RunFault}
 use Rattle.auction_run.specs.declared.fault.RunFault.TheVariants.{Workers, Shards, Quota, TooLong, Spawn, Memory, NumberFull}
 
@@ -52,15 +54,23 @@ pub record MayPerform (policy : Policy) (scripts : List (List Request)) (state :
   -- nothing is hot in a joined phase, and what is hot in a split one is there
   pub joined : is_split state.phase ≡ false → hot ≡ []
   pub exist : DoAllExist state.opening (states_of state) hot
+  -- what waits of a worker is of its script
+  pub own : (worker : ℕ) → AllByRecursion (IsCallOf (script_of scripts worker)) (waiting_in stashes worker)
   -- nothing waits in a split phase
   pub split : is_split state.phase ≡ true → (worker : ℕ) → waiting_in stashes worker ≡ []
 
--- a fault that workers and floors meet, and none of those that are found before a run begins
-abbrev pub IsMet : RunFault → Type 0
-IsMet Workers = ⊥
-IsMet Shards = ⊥
-IsMet Quota = ⊥
-IsMet TooLong = ⊥
-IsMet Spawn = ⊤
-IsMet Memory = ⊤
-IsMet NumberFull = ⊤
+-- Why a phase of such scripts fails: a thread, of those of all workers but the first, could not be started; or no memory was left; or
+-- numbers ended at a call of a script. None of the faults that are found before a run begins is met.
+abbrev pub IsMet : List (List Request) → RunFault → Type 0
+IsMet scripts Workers = ⊥
+IsMet scripts Shards = ⊥
+IsMet scripts Quota = ⊥
+IsMet scripts TooLong = ⊥
+IsMet scripts Spawn = 1 < length scripts
+IsMet scripts Memory = ⊤
+IsMet scripts NumberFull = (worker : ℕ) × HasMetTheEnd (script_of scripts worker)
+
+-- The last faults of a run but Memory, of which no clause can say when it comes, have their causes.
+pub record HasCause {T : Type 0} (result : Result T RunFault) (scripts : List (List Request)) : Type 0 where
+  pub spawn : IsErrOf result Spawn → 1 < length scripts
+  pub number_full : IsErrOf result NumberFull → (worker : ℕ) × HasMetTheEnd (script_of scripts worker)

@@ -1,5 +1,5 @@
 -- What the workers of a phase have to do, and what they have done.
-use Rattle.std.specs.Prelude.{◌≡◌, ℕ, ◌+◌, ◌-◌, ◌≤◌, ◌⊎◌, not, List, [], ◌∷◌, ◌++◌, length, Result, Ok, Err, Option, Some, None, ⊤}
+use Rattle.std.specs.Prelude.{◌≡◌, ℕ, ◌+◌, ◌-◌, ◌<◌, ◌≤◌, ◌⊎◌, not, List, [], ◌∷◌, ◌++◌, length, Result, Ok, Err, Option, Some, None, ⊤}
 use Rattle.std.specs.List.{filter}
 use Rattle.auction_rows.specs.declared.requests.Request.{Request}
 use Rattle.auction_rows.specs.Phases.{is_put_off}
@@ -78,12 +78,12 @@ abbrev pub met : PermitFault → RunFault
 met permit.Memory = run.Memory
 met permit.NumberFull = run.NumberFull
 
--- a thread could not be started, or no memory was left, or a worker met this fault
-abbrev pub IsFaultBy : (PermitFault → Type 0) → RunFault → Type 0
-IsFaultBy HasMet run.Spawn = ⊤
-IsFaultBy HasMet run.Memory = ⊤
-IsFaultBy HasMet run.NumberFull = HasMet permit.NumberFull
-IsFaultBy HasMet run.Workers = ⊥
-IsFaultBy HasMet run.Shards = ⊥
-IsFaultBy HasMet run.Quota = ⊥
-IsFaultBy HasMet run.TooLong = ⊥
+-- why so many workers' tasks are not done: a thread could not be started, or no memory was left, or a worker met this fault
+abbrev pub IsFaultBy : ℕ → (PermitFault → Type 0) → RunFault → Type 0
+IsFaultBy workers HasMet run.Spawn = 1 < workers
+IsFaultBy workers HasMet run.Memory = ⊤
+IsFaultBy workers HasMet run.NumberFull = HasMet permit.NumberFull
+IsFaultBy workers HasMet run.Workers = ⊥
+IsFaultBy workers HasMet run.Shards = ⊥
+IsFaultBy workers HasMet run.Quota = ⊥
+IsFaultBy workers HasMet run.TooLong = ⊥

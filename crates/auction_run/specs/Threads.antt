@@ -1,5 +1,5 @@
 -- What a thread's handle tells of its job, and why a job is not done.
-use Rattle.std.specs.Prelude.{⊤}
+use Rattle.std.specs.Prelude.{ℕ, ◌<◌, ⊤}
 use Rattle.std.specs.declared.thread.PromisedHandle.{PromisedHandle}
 use Rattle.auction_run.specs.declared.threads.JobPromise.{JobPromise}
 use Rattle.auction_run.specs.declared.fault.RunFault.{RunFault}
@@ -9,12 +9,12 @@ use Rattle.auction_run.specs.declared.fault.RunFault.TheVariants.{Workers, Shard
 abbrev pub job_of : {T J : Type 0} → PromisedHandle T (JobPromise J) → J
 job_of handle = handle.promise.job.value
 
--- a thread could not be started, or no memory was left
-abbrev pub IsUnstarted : RunFault → Type 0
-IsUnstarted Spawn = ⊤
-IsUnstarted Memory = ⊤
-IsUnstarted Workers = ⊥
-IsUnstarted Shards = ⊥
-IsUnstarted Quota = ⊥
-IsUnstarted TooLong = ⊥
-IsUnstarted NumberFull = ⊥
+-- why so many jobs are not done: a thread, of those of all but the first, could not be started, or no memory was left
+abbrev pub IsUnstarted : ℕ → RunFault → Type 0
+IsUnstarted jobs Spawn = 1 < jobs
+IsUnstarted jobs Memory = ⊤
+IsUnstarted jobs Workers = ⊥
+IsUnstarted jobs Shards = ⊥
+IsUnstarted jobs Quota = ⊥
+IsUnstarted jobs TooLong = ⊥
+IsUnstarted jobs NumberFull = ⊥

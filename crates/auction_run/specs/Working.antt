@@ -1,5 +1,5 @@
 -- What a worker does in a phase: which calls its permit has committed, and which wait.
-use Rattle.std.specs.Prelude.{ℕ, suc, ◌≡◌, not, List, [], ◌∷◌, ◌++◌, map, take, drop, ⊤}
+use Rattle.std.specs.Prelude.{ℕ, suc, ◌≡◌, not, List, [], ◌∷◌, ◌++◌, map, take, drop, slice_get, Some, ⊤}
 use Rattle.std.specs.List.{filter, AllByRecursion}
 use Rattle.auction_rows.specs.declared.ids.Object.{Object}
 use Rattle.auction_rows.specs.declared.requests.Request.{Request}
@@ -7,6 +7,7 @@ use Rattle.auction_rows.specs.Phases.{is_put_off}
 use Rattle.shard_boxes.specs.States.{ShardState}
 use Rattle.phase_desks.specs.Slicing.{objects_of, stocks_of}
 use Rattle.phase_transactions.specs.declared.fault.PermitFault.{PermitFault}
+use Rattle.phase_transactions.specs.declared.fault.PermitFault.TheVariants.{NumberFull}
 use Rattle.phase_transactions.specs.Performing.{IsCause}
 use Rattle.phase_transactions.specs.Permits.{PermitState}
 use Rattle.run_laws.specs.Turns.{numbered}
@@ -15,6 +16,10 @@ use Rattle.run_serving.specs.Serving.{call_of}
 -- so many calls of a script, from an index on
 abbrev pub calls_from : ℕ → ℕ → List Request → List (ℕ × Request)
 calls_from first count script = take count (drop first (numbered 0 script))
+
+-- a call of a script: its request stands there, at its index
+abbrev pub IsCallOf : List Request → ℕ × Request → Type 0
+IsCallOf script call = slice_get script call.0 ≡ Some call.1
 
 -- the calls that a permit has committed
 abbrev pub committed : PermitState → List (ℕ × Request)
@@ -73,3 +78,11 @@ pub record HasStoppedSplit (opening : List ShardState) (calls : List (ℕ × Req
   pub done : committed new ≡ committed old ++ filter (λ c. not (is_put_off (hot_for old) c.1)) before
   pub waits : stashed new ≡ stashed old ++ filter (λ c. is_put_off (hot_for old) c.1) before
   pub cause : IsCause opening new.split new.key call.1 fault
+
+-- A permit met the end of commit numbers at a call of a script.
+pub record HasMetTheEnd (script : List Request) : Type 0 where
+  pub call : ℕ × Request
+  pub is_its : IsCallOf script call
+  pub opening : List ShardState
+  pub permit : PermitState
+  pub full : IsCause opening permit.split permit.key call.1 NumberFull

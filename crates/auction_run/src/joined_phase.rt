@@ -43,7 +43,7 @@ where
     ensures last { OnOk result (merged history.new.last ≡ added history.old.entries history.new.entries) }
     ensures closed { IfOk result (HasClosedPhase round.entry.policy (lists round.entry.scripts.now) state stashes.items []
         (added history.old.entries history.new.entries)) }
-    ensures fault { IfErr result IsMet }
+    ensures fault { IfErr result (IsMet (lists round.entry.scripts.now)) }
 {
     let quotas = quotas(alloc, round.scripts, round.policy.joined_quota, round.first)?;
     let (floor, permits) = match state.begin_joined::<N, R>(rt, alloc, &quotas, stashes) {

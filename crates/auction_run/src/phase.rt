@@ -2,6 +2,7 @@
 ghost use Rattle.std.specs.Prelude.{◌≡◌, ◌++◌, IfOk, OnOk, IfErr};
 ghost use Rattle.phase_floor.specs.declared.fault.BeginFault.TheVariants.{Memory};
 ghost use Rattle.worker_journals.specs.Merged.{added, merged};
+ghost use Rattle.auction_run.specs.declared.fault.RunFault.{RunFault};
 ghost use Rattle.auction_run.specs.Closed.{HasClosedPhase};
 ghost use Rattle.auction_run.specs.Phases.{lists, IsRoundOf, MayPerform, IsMet};
 
@@ -43,7 +44,7 @@ pub(crate) fn perform_phase<R: Threads + Wait + Sync, G: Gate + Sync>(
     ensures last { OnOk result (merged history.new.last ≡ added history.old.entries history.new.entries) }
     ensures closed { IfOk result (HasClosedPhase round.entry.policy (lists round.entry.scripts.now) state stashes.items hot.now.keys
         (added history.old.entries history.new.entries)) }
-    ensures fault { IfErr result IsMet }
+    ensures fault { IfErr result (IsMet (lists round.entry.scripts.now)) }
 {
     if state.phase() % 2 == 0 {
         return perform_joined_phase::<Brand, R, G>(rt, alloc, history, state, stashes, round);
@@ -54,7 +55,7 @@ pub(crate) fn perform_phase<R: Threads + Wait + Sync, G: Gate + Sync>(
 /// What a run answers where a phase does not begin.
 pub(crate) fn begin_fault(fault: BeginFault) -> RunFault
     requires { fault ≡ Memory }
-    ensures { IsMet result }
+    ensures { result ≡ RunFault.Memory }
 {
     match fault {
         BeginFault::Memory => RunFault::Memory,

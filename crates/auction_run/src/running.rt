@@ -11,12 +11,13 @@ ghost use Rattle.run_laws.specs.Phases.{is_split};
 ghost use Rattle.worker_journals.specs.Merged.{merged};
 ghost use Rattle.run_serving.specs.Run.{HasLeft, AreChosen};
 ghost use Rattle.run_serving.specs.Serving.{script_of, Serves};
-ghost use Rattle.auction_run.specs.declared.fault.RunFault.TheVariants.{Workers, Shards, Quota, TooLong};
+ghost use Rattle.auction_run.specs.declared.fault.RunFault.TheVariants.{Workers, Shards, Quota, TooLong, Spawn, NumberFull};
 ghost use Rattle.auction_run.specs.Boards.{CanShow};
 ghost use Rattle.auction_run.specs.Beginning.{HaveWorkers, HasShards, HasQuotas, AreShort, IsRefusedInOrder};
 ghost use Rattle.auction_run.specs.Outcomes.{HasShownAll, IsOutcome};
-ghost use Rattle.auction_run.specs.Phases.{lists, hot_sets, waiting_in, IsRoundOf, IsMet};
+ghost use Rattle.auction_run.specs.Phases.{lists, hot_sets, waiting_in, IsRoundOf, IsMet, HasCause};
 ghost use Rattle.auction_run.specs.Running.{IsRunning, CanGoOn};
+ghost use Rattle.auction_run.specs.Working.{HasMetTheEnd};
 
 use crate::board::{Board, NoBoard};
 use crate::checking::check;
@@ -53,8 +54,10 @@ pub struct Outcome {
 
 /// Performs the scripts of 1 to 16 workers in joined and split phases by turns, from an opening book on, each worker but
 /// the first on a thread of its own in each phase. The history serves the scripts, and replays from the book on an auction of one thread.
-/// The first four faults are found first, in their order, exactly for their causes. In a phase `Spawn` goes before the fault
-/// of the least worker, and this before that of the close; a fault gives no part of a history.
+/// The first four faults are found first, in their order, exactly for their causes. `Spawn` comes only where there is a thread to
+/// start, `NumberFull` only where a worker met the end of numbers at a request of its script; a fault gives no part of a history.
+/// No clause says when memory is refused, nor which of several faults of a phase is told: it is `Spawn` before that of the
+/// least worker, and this before that of the close.
 pub fn run<R: Threads + Wait + Sync, G: Gate + Sync>(
     rt: &R,
     alloc: Global,
@@ -74,6 +77,8 @@ pub fn run<R: Threads + Wait + Sync, G: Gate + Sync>(
         StandsFor outcome.state (book_after (opening_of book.now) (rows_of book.now) outcome.history.entries)) }
     ensures opening { IfOk result (λ outcome. outcome.state.opening ≡ opening_of book.now) }
     ensures phases { IfOk result (λ outcome. outcome.state.phase ≡ length outcome.hot.items) }
+    ensures state_shards { IfOk result (λ outcome. length outcome.state.shards ≡ policy.shards) }
+    ensures state_counters { IfOk result (λ outcome. length outcome.state.counters ≡ length (lists scripts.items)) }
     ensures workers { IsErrOf result Workers ↔ ¬ HaveWorkers (rows_of book.now) (lists scripts.items) }
     ensures shards { IsErrOf result Shards
         ↔ (HaveWorkers (rows_of book.now) (lists scripts.items) × ¬ HasShards policy) }
@@ -82,6 +87,8 @@ pub fn run<R: Threads + Wait + Sync, G: Gate + Sync>(
     ensures too_long { IsErrOf result TooLong
         ↔ (HaveWorkers (rows_of book.now) (lists scripts.items) × (HasShards policy × (HasQuotas policy
         × ¬ AreShort (rows_of book.now) (lists scripts.items)))) }
+    ensures spawn { IsErrOf result Spawn → 1 < length (lists scripts.items) }
+    ensures number_full { IsErrOf result NumberFull → (worker : ℕ) × HasMetTheEnd (script_of (lists scripts.items) worker) }
 {
     run_shown(rt, alloc, book, scripts, policy, gate, &mut NoBoard)
 }
@@ -100,6 +107,7 @@ pub fn run_shown<R: Threads + Wait + Sync, G: Gate + Sync, B: Board>(
     requires { B.has board.old (opening_of book.now) (rows_of book.now) [] }
     ensures outcome { IfOk result (IsOutcome (opening_of book.now) (rows_of book.now) policy (lists scripts.items)) }
     ensures refused { IsRefusedInOrder result policy (rows_of book.now) (lists scripts.items) }
+    ensures cause { HasCause result (lists scripts.items) }
     ensures board { IfOk result (HasShownAll B.has (opening_of book.now) (rows_of book.now) board.new) }
 {
     check(book, &scripts, policy)?;
@@ -132,7 +140,7 @@ fn run_checked<R: Threads + Wait + Sync, G: Gate + Sync, B: Board>(
     requires short { AreShort (rows_of book.now) (lists scripts.now) }
     ensures board { IfOk result (HasShownAll B.has (opening_of book.now) (rows_of book.now) board.new) }
     ensures outcome { IfOk result (IsOutcome (opening_of book.now) (rows_of book.now) policy (lists scripts.now)) }
-    ensures fault { IfErr result IsMet }
+    ensures fault { IfErr result (IsMet (lists scripts.now)) }
 {
     let mut running = begin(alloc, book, scripts, policy)?;
     for _phase in 0..MOST_PHASES {
@@ -229,7 +237,7 @@ fn next_phase<R: Threads + Wait + Sync, G: Gate + Sync>(
         IsRunning opening rows round.entry.policy (lists round.entry.scripts.now) (suc running.state.phase) next) }
     ensures grown { IfOk result (λ next. next.history.entries
         ≡ running.history.entries ++ merged next.history.last) }
-    ensures fault { IfErr result IsMet }
+    ensures fault { IfErr result (IsMet (lists round.entry.scripts.now)) }
 {
     let hot_now = next_hot(alloc, &running, round.policy)?;
     let Running {

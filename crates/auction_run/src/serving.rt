@@ -102,7 +102,7 @@ where
     requires of { ArePermitsOf round.phase 0 (map P.shows permits.items) }
     ensures done { IfOk result (λ receipts.
         AllZip P.is_done (tasks (map P.shows permits.items) (lists round.entry.scripts.now) round.entry.first) (map P.left receipts.items)) }
-    ensures fault { IfErr result (IsFaultBy
+    ensures fault { IfErr result (IsFaultBy (length (lists round.entry.scripts.now))
         (IsFirstFault P.is_done P.has_stopped (tasks (map P.shows permits.items) (lists round.entry.scripts.now) round.entry.first))) }
 {
     let permits = permits.into_iter();

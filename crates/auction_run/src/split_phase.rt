@@ -46,7 +46,7 @@ where
     ensures last { OnOk result (merged history.new.last ≡ added history.old.entries history.new.entries) }
     ensures closed { IfOk result (HasClosedPhase round.entry.policy (lists round.entry.scripts.now) state stashes.items hot.now.keys
         (added history.old.entries history.new.entries)) }
-    ensures fault { IfErr result IsMet }
+    ensures fault { IfErr result (IsMet (lists round.entry.scripts.now)) }
 {
     let_go(stashes);
     let quotas = quotas(alloc, round.scripts, round.policy.split_quota, round.first)?;

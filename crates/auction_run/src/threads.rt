@@ -48,7 +48,7 @@ where
     J::Answer: Send + Drop,
     requires { AllByRecursion J.can_work jobs.items }
     ensures answers { IfOk result (λ answers. AllZip J.keeps jobs.items answers.items) }
-    ensures fault { IfErr result IsUnstarted }
+    ensures fault { IfErr result (IsUnstarted (length jobs.items)) }
 {
     if in_turn {
         Ok(work_in_turn(alloc, jobs)?)
@@ -82,7 +82,7 @@ where
     J::Answer: Send + Drop,
     requires { AllByRecursion J.can_work jobs.items }
     ensures answers { IfOk result (λ answers. AllZip J.keeps jobs.items answers.items) }
-    ensures fault { IfErr result IsUnstarted }
+    ensures fault { IfErr result (IsUnstarted (length jobs.items)) }
 {
     let room = Vec::with_capacity(alloc, jobs.len())?;
     thread::scope(
@@ -92,7 +92,7 @@ where
             requires can { AllByRecursion J.can_work jobs.items }
             requires room { (vec_len room ≡ 0) × (length jobs.items ≤ vec_capacity room) }
             ensures answers { IfOk result (λ answers. AllZip J.keeps jobs.items answers.items) }
-            ensures fault { IfErr result IsUnstarted }
+            ensures fault { IfErr result (IsUnstarted (length jobs.items)) }
         { work_in(scope, rt, alloc, jobs, room) },
     )
 }
@@ -110,7 +110,7 @@ where
     requires can { AllByRecursion J.can_work jobs.items }
     requires room { (vec_len answers ≡ 0) × (length jobs.items ≤ vec_capacity answers) }
     ensures answers { IfOk result (λ answers. AllZip J.keeps jobs.items answers.items) }
-    ensures fault { IfErr result IsUnstarted }
+    ensures fault { IfErr result (IsUnstarted (length jobs.items)) }
 {
     if jobs.is_empty() {
         return Ok(answers);
@@ -131,7 +131,7 @@ where
     J::Answer: Send + Drop + 's,
     requires { AllByRecursion J.can_work jobs.items }
     ensures started { IfOk result (λ handles. map job_of handles.items ≡ jobs.items) }
-    ensures fault { IfErr result IsUnstarted }
+    ensures fault { IfErr result (IsUnstarted (length jobs.items + 1)) }
 {
     let mut handles = Vec::with_capacity(alloc, jobs.len())?;
     for job in jobs {

@@ -8,13 +8,14 @@ use Rattle.run_laws.specs.Phases.{is_split}
 use Rattle.run_serving.specs.Run.{first_index}
 use Rattle.run_serving.specs.Serving.{script_of}
 use Rattle.phase_desks.specs.Slicing.{objects_of}
+use Rattle.phase_transactions.specs.declared.fault.PermitFault.TheVariants.{NumberFull}
 use Rattle.worker_journals.specs.Merged.{added}
 use Rattle.auction_run.specs.Phases.{lists, quota_of}
 use Rattle.auction_run.specs.Tasks.{tasks, calls_for, IsFirstFault, CanBeDone, IsDoneJoined}
 use Rattle.auction_run.specs.Working.{stashed, ArePermitsOf, HasStopped}
-use Rattle.auction_run.proofs.TaskLemmas.{is_met}
+use Rattle.auction_run.proofs.EndLemmas.{is_met}
 use Rattle.auction_run.proofs.WorkLemmas.{err_as}
-use Rattle.auction_run.proofs.PhaseLemmas.{permits_of, quota_is, same_list, plain, only_memory, not_too_long, can_all, joined_receipts, joined_closed}
+use Rattle.auction_run.proofs.PhaseLemmas.{permits_of, quota_is, same_list, plain, only_memory, not_too_long, can_all, joined_end, joined_receipts, joined_closed}
 use Rattle.auction_run.proofs.joined_phase.perform_joined_phase.Goals as goal
 
 pub begin_fault-requires : goal.begin_fault-requires
@@ -92,6 +93,18 @@ serve_all-requires-clause-of g c κs within =
 
 pub returns-in_err-receipts-clause-fault : goal.returns-in_err-receipts-clause-fault
 returns-in_err-receipts-clause-fault g c =
+    let begun = c.in-Ok.ensures in
+    let may = c.requires.may in
+    let scripts : List (List Request) = lists c.args.round.scripts.now in
+    let mapped : length (lists c.args.round.scripts.now) ≡ length c.args.round.scripts.now = simp length-map in
+    let quotas_are : (w : ℕ) → w < length (lists c.args.round.scripts.now) → slice_index c.deref.result.now w ≡ quota_of c.args.round.policy c.args.state.phase (script_of (lists c.args.round.scripts.now) w) =
+    λ w less. quota_is c.args.round.policy c.args.state.phase c.args.round.policy.joined_quota (length (script_of (lists c.args.round.scripts.now) w)) (first_index c.args.round.policy c.args.state.phase) c.args.round.first
+    (slice_index c.deref.result.now w) (ap (λ qs. slice_index qs w) c.deref.ensures.value ∙ c.in_ok-quotas.ensures.each w (omega (arith, less, mapped)))
+    (cond-false (is_split c.args.state.phase) c.args.round.policy.split_quota c.args.round.policy.joined_quota c.requires.joined) c.requires.round.1 in
     err_as c.from_residual-in_err-receipts.result c.in_err-receipts.field-0.0 _ c.from_residual-in_err-receipts.ensures.1
-    (is_met (IsFirstFault IsDoneJoined (λ t. HasStopped g.N.PhaseName.opening (stashed t.permit ++ calls_for t) t.permit) (tasks (map (λ x. x) c.in-Ok.begun.1.items) (lists c.args.round.scripts.now) c.args.round.first))
-    c.in_err-receipts.field-0.0 c.in_err-receipts.ensures.fault)
+    (is_met scripts (IsFirstFault IsDoneJoined (λ t. HasStopped g.N.PhaseName.opening (stashed t.permit ++ calls_for t) t.permit) (tasks (map (λ x. x) c.in-Ok.begun.1.items) scripts c.args.round.first))
+    c.in_err-receipts.field-0.0
+    (λ first. joined_end c.args.round.policy scripts c.args.state c.args.stashes.items c.args.stashes.items [] c.args.round.first c.requires.round.1 may g.N.PhaseName.opening c.in-Ok.begun.0 c.deref.result.now c.in-Ok.begun.1.items
+    c.requires.shards begun.opening begun.phase begun.counters quotas_are begun.permits may.own
+    (subst (λ ps. IsFirstFault IsDoneJoined (λ t. HasStopped g.N.PhaseName.opening (stashed t.permit ++ calls_for t) t.permit) (tasks ps scripts c.args.round.first) NumberFull) (same_list c.in-Ok.begun.1.items) first))
+    c.in_err-receipts.ensures.fault)

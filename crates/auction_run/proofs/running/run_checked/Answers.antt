@@ -4,9 +4,10 @@ use Rattle.item_shards.specs.OpeningBooks.{opening_of, rows_of}
 use Rattle.run_serving.specs.Run.{HasLeft}
 use Rattle.run_serving.specs.Serving.{script_of, segment_of}
 use Rattle.auction_run.specs.Boards.{HasShown, phase_rows}
-use Rattle.auction_run.specs.Phases.{lists, waiting_in}
+use Rattle.auction_run.specs.Phases.{lists, waiting_in, IsMet}
 use Rattle.auction_run.specs.Running.{IsRunning}
 use Rattle.auction_run.proofs.BoardLemmas.{begins_shown, can_show, has_shown, next_runs}
+use Rattle.auction_run.proofs.WorkLemmas.{err_as}
 use Rattle.auction_run.proofs.RunLemmas.{left_over, few_phases_so_far, ended, phases_counted}
 use Rattle.auction_run.proofs.running.run_checked.Goals as goal
 
@@ -77,3 +78,8 @@ unreachable-requires g c =
     let few = few_phases_so_far (opening_of c.args.book.now) (rows_of c.args.book.now) c.args.policy (omega (arith, c.requires.quotas.joined)) (lists c.args.scripts.now) c.requires.short c.loop-phase._phase c.loop-phase.running
     c.loop-phase.invariant.running in
     omega (arith, few, c.loop-phase-test.false)
+
+pub returns-in_err-running-2-clause-fault : goal.returns-in_err-running-2-clause-fault
+returns-in_err-running-2-clause-fault g c =
+    err_as c.from_residual-in_err-running-2.result c.in_err-running-2.field-0.0 (IsMet (lists c.args.scripts.now)) c.from_residual-in_err-running-2.ensures.1
+    (subst (λ scripts. IsMet (lists scripts) c.in_err-running-2.field-0.0) c.new-round.ensures.scripts c.in_err-running-2.ensures.fault)

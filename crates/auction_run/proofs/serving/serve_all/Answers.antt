@@ -1,4 +1,5 @@
-use Rattle.std.proofs.Common.{◌∙◌, map, arith}
+use Rattle.std.proofs.Common.{◌≡◌, ◌∙◌, map, length, arith}
+use Rattle.std.proofs.lemmas.List.{length-map}
 use Rattle.auction_run.specs.Phases.{lists}
 use Rattle.auction_run.specs.Tasks.{task, tasks, met, IsFirstFault}
 use Rattle.auction_run.proofs.TaskLemmas.{all_done, fault_met, met_by, unstarted_by, zip_length, tasks_of_few}
@@ -20,13 +21,16 @@ returns-clause-done g c =
 pub returns-in_err-answers-clause-fault : goal.returns-in_err-answers-clause-fault
 returns-in_err-answers-clause-fault g c =
     err_as c.from_residual-in_err-answers.result c.in_err-answers.field-0.0 _ c.from_residual-in_err-answers.ensures.1
-    (unstarted_by (IsFirstFault g.P.Permit.is_done g.P.Permit.has_stopped (tasks (map g.P.Permit.shows c.args.permits.items) (lists c.args.round.scripts.now) c.args.round.first))
-    c.in_err-answers.field-0.0 c.in_err-answers.ensures.fault)
+    (let few = tasks_of_few (λ own. task (g.P.Permit.shows own.permit) own.script.now own.first) c.in_ok-own_tasks.own_tasks.items _ c.args.round.scripts.now c.args.round.first c.in_ok-own_tasks.ensures.tasks in
+    let mapped : length (lists c.args.round.scripts.now) ≡ length c.args.round.scripts.now = simp length-map in
+    unstarted_by (length c.in_ok-own_tasks.own_tasks.items) (length (lists c.args.round.scripts.now))
+    (IsFirstFault g.P.Permit.is_done g.P.Permit.has_stopped (tasks (map g.P.Permit.shows c.args.permits.items) (lists c.args.round.scripts.now) c.args.round.first))
+    c.in_err-answers.field-0.0 (omega (arith, few, mapped)) c.in_err-answers.ensures.fault)
 
 pub returns-in_err-receipts_of-clause-fault : goal.returns-in_err-receipts_of-clause-fault
 returns-in_err-receipts_of-clause-fault g c =
     err_as c.from_residual-in_err-receipts_of.result (met c.in_err-receipts_of.field-0.0) _ c.from_residual-in_err-receipts_of.ensures.1
-    (met_by (IsFirstFault g.P.Permit.is_done g.P.Permit.has_stopped (tasks (map g.P.Permit.shows c.args.permits.items) (lists c.args.round.scripts.now) c.args.round.first))
+    (met_by (length (lists c.args.round.scripts.now)) (IsFirstFault g.P.Permit.is_done g.P.Permit.has_stopped (tasks (map g.P.Permit.shows c.args.permits.items) (lists c.args.round.scripts.now) c.args.round.first))
     c.in_err-receipts_of.field-0.0 (fault_met (λ own. task (g.P.Permit.shows own.permit) own.script.now own.first) g.P.Permit.left g.P.Permit.is_done g.P.Permit.has_stopped
     c.in_ok-own_tasks.own_tasks.items c.in_ok-answers.answers.items _ c.in_err-receipts_of.field-0.0 c.in_ok-answers.ensures.answers c.in_err-receipts_of.ensures.fault
     (c.in_ok-own_tasks.ensures.tasks ∙ (λ i. tasks (map g.P.Permit.shows (c.into_iter-permits.ensures.rest i)) (lists c.args.round.scripts.now) c.args.round.first))))
