@@ -1,5 +1,5 @@
 -- What is said of an input, from what its parts answered.
-use Rattle.std.proofs.Common.{◌≡◌, ℕ, List, Option, Some, None, IfSome, Result, Ok, Err, IfErr, sym, ap, subst, ◌∙◌}
+use Rattle.std.proofs.Common.{◌≡◌, ℕ, ◌<◌, List, length, Option, Some, None, IfSome, Result, Ok, Err, IfErr, sym, ap, subst, ◌∙◌}
 use Rattle.std.specs.Prelude.{◌↔◌, IsTrue}
 use Rattle.std.specs.Result.{IsErr, IsErrAnd}
 use Rattle.auction_rows.specs.declared.ids.Object.{Object}
@@ -13,11 +13,13 @@ use Rattle.item_shards.specs.declared.opened.Opened.{Opened}
 use Rattle.item_shards.specs.declared.opening_book.ResumeFault.{ResumeFault}
 use Rattle.item_shards.specs.declared.opening_book.ResumeFault.TheVariants as resume
 use Rattle.run_serving.specs.Answers.{IsAnswer}
+use Rattle.run_serving.specs.Serving.{script_of}
 use Rattle.run_serving.specs.declared.policy.Policy.{Policy}
 use Rattle.auction_text.specs.declared.faults.WriteFault.{WriteFault}
-use Rattle.auction_program.specs.Execution.{added_text, commits_text, Answers, IsCausedBy, IsNotPerformed, IsNotRun, IsRefused, OfInput}
+use Rattle.auction_program.specs.Execution.{added_text, commits_text, Answers, IsAllowed, IsCausedBy, IsNotPerformed, IsNotRun, IsRefused, OfInput}
 use Rattle.auction_program.specs.Options.{opening_of, policy_of}
 use Rattle.auction_run.specs.Beginning.{HaveWorkers, HasShards, HasQuotas, AreShort}
+use Rattle.auction_run.specs.Working.{HasMetTheEnd}
 use Rattle.auction_run.specs.declared.fault.RunFault.{RunFault}
 use Rattle.auction_run.specs.declared.fault.RunFault.TheVariants as run
 use Rattle.auction_program.specs.declared.faults.Fault.{Fault}
@@ -49,20 +51,26 @@ refused start rows result resume.TooLong is long bad = long.0 is
 refused start rows result (resume.BadRow n) is long bad = (λ many. absurd (let no = sym is ∙ long.1 many in cc), bad n is)
 refused start rows result resume.Memory is long bad = λ many. absurd (let no = sym is ∙ long.1 many in cc)
 
+-- rows of which there is a book are not too many
+pub not_long : {T : Type 0} (rows : List Opened) (result : Result T ResumeFault) (book : T) → result ≡ Ok book → (result ≡ Err resume.TooLong ↔ IsTooLong rows) → ¬ IsTooLong rows
+not_long rows result book is long = λ many. absurd (let no = sym is ∙ long.1 many in cc)
+
 -- why the scripts were not performed
 pub not_run : {T : Type 0} (policy : Policy) (book : Book) (scripts : List (List Request)) (result : Result T RunFault) (fault : RunFault) → result ≡ Err fault
     → (result ≡ Err run.Workers ↔ ¬ HaveWorkers book scripts)
     → (result ≡ Err run.Shards ↔ (HaveWorkers book scripts × ¬ HasShards policy))
     → (result ≡ Err run.Quota ↔ (HaveWorkers book scripts × (HasShards policy × ¬ HasQuotas policy)))
     → (result ≡ Err run.TooLong ↔ (HaveWorkers book scripts × (HasShards policy × (HasQuotas policy × ¬ AreShort book scripts))))
+    → (result ≡ Err run.Spawn → 1 < length scripts)
+    → (result ≡ Err run.NumberFull → (worker : ℕ) × HasMetTheEnd (script_of scripts worker))
     → IsNotRun policy fault book scripts
-not_run policy book scripts result run.Workers is workers shards quotas short = workers.0 is
-not_run policy book scripts result run.Shards is workers shards quotas short = shards.0 is
-not_run policy book scripts result run.Quota is workers shards quotas short = quotas.0 is
-not_run policy book scripts result run.TooLong is workers shards quotas short = short.0 is
-not_run policy book scripts result run.Spawn is workers shards quotas short = tt
-not_run policy book scripts result run.Memory is workers shards quotas short = tt
-not_run policy book scripts result run.NumberFull is workers shards quotas short = tt
+not_run policy book scripts result run.Workers is workers shards quotas short spawn full = workers.0 is
+not_run policy book scripts result run.Shards is workers shards quotas short spawn full = shards.0 is
+not_run policy book scripts result run.Quota is workers shards quotas short spawn full = quotas.0 is
+not_run policy book scripts result run.TooLong is workers shards quotas short spawn full = short.0 is
+not_run policy book scripts result run.Spawn is workers shards quotas short spawn full = spawn is
+not_run policy book scripts result run.Memory is workers shards quotas short spawn full = tt
+not_run policy book scripts result run.NumberFull is workers shards quotas short spawn full = full is
 
 -- the book of the rows, and the policy, are those of the options
 module _ (options : Options) (rows : List Opened) (scripts : List (List Request)) (remaining : Option (List ℕ))
@@ -87,7 +95,8 @@ module _ (options : Options) (rows : List Opened) (scripts : List (List Request)
 
   module _ (start : Opening) (book shown : Book) (history : List Entry) (hot : List (List Object)) (starts : start ≡ opening_of options)
       (opens : book ≡ opening_rows start rows) (shows : shown ≡ book) (are : AreRows start rows)
-      (runs : IsAnswer (opening_of options) book (policy_of options) scripts hot history) where
+      (runs : IsAnswer (opening_of options) book (policy_of options) scripts hot history)
+      (few : ¬ IsTooLong rows) (allowed : IsAllowed (policy_of options) book scripts) where
     opened : book ≡ opening_rows (opening_of options) rows
     opened = opens ∙ ap (λ o. opening_rows o rows) starts
 
@@ -105,6 +114,8 @@ module _ (options : Options) (rows : List Opened) (scripts : List (List Request)
             history = history;
             hot = hot;
             asks = record { reads = asks; are_rows = subst (λ o. AreRows o rows) starts are };
+            few = few;
+            allowed = subst (λ (b : Book). IsAllowed (policy_of options) b scripts) opened allowed;
             runs = subst (λ (b : Book). IsAnswer (opening_of options) b (policy_of options) scripts hot history) opened runs;
             text_is = ap (λ (b : Book). commits_text options b history) (shows ∙ opened);
             added_is = ap (λ (b : Book). added_text options b history hot) (shows ∙ opened);

@@ -1,5 +1,5 @@
 -- What the program answers.
-use Rattle.std.specs.Prelude.{ℕ, ◌≡◌, ◌⊎◌, List, [], ◌++◌, Option, Ok, Err, IfSome, IsTrue, if◌then◌else◌}
+use Rattle.std.specs.Prelude.{ℕ, ◌≡◌, ◌<◌, ◌⊎◌, List, [], ◌++◌, length, Option, Ok, Err, IfSome, IsTrue, if◌then◌else◌}
 use Rattle.std.specs.Io.KnownBytes.{Appends, Keeps}
 use Rattle.auction_rows.specs.declared.ids.Object.{Object}
 use Rattle.auction_rows.specs.declared.numbers.Opening.{Opening}
@@ -18,11 +18,13 @@ use Rattle.item_shards.specs.declared.opened.Opened.{Opened}
 use Rattle.item_shards.specs.declared.opening_book.ResumeFault.{ResumeFault}
 use Rattle.item_shards.specs.declared.opening_book.ResumeFault.TheVariants as resume
 use Rattle.run_serving.specs.Answers.{IsAnswer}
+use Rattle.run_serving.specs.Serving.{script_of}
 use Rattle.run_serving.specs.declared.policy.Policy.{Policy}
 use Rattle.auction_program.specs.Options.{opening_of, policy_of}
 use Rattle.auction_program.specs.Report.{report_of, AreViews}
 use Rattle.auction_run.specs.Beginning.{HaveWorkers, HasShards, HasQuotas, AreShort}
 use Rattle.auction_run.specs.Phases.{hot_sets}
+use Rattle.auction_run.specs.Working.{HasMetTheEnd}
 use Rattle.auction_run.specs.declared.fault.RunFault.{RunFault}
 use Rattle.auction_run.specs.declared.fault.RunFault.TheVariants as run
 use Rattle.auction_run.specs.declared.running.Outcome.{Outcome}
@@ -47,6 +49,10 @@ pub record AsksFor (options : Options) (input : List ℕ) (rows : List Opened) (
   pub reads : input_of options.workers input ≡ Ok (record { rows = rows; scripts = scripts })
   pub are_rows : AreRows (opening_of options) rows
 
+-- A run of these scripts from a book is within the limits: none of the four causes for which one is refused.
+abbrev pub IsAllowed : Policy → Book → List (List Request) → Type 0
+IsAllowed policy book scripts = HaveWorkers book scripts × (HasShards policy × (HasQuotas policy × AreShort book scripts))
+
 -- Two texts answer an input: what the options ask for of a run of its scripts, from the book of its rows, and what is added.
 pub record IsAnsweredBy (options : Options) (input : List ℕ) (text added : List ℕ) : Type 0 where
   pub rows : List Opened
@@ -54,6 +60,9 @@ pub record IsAnsweredBy (options : Options) (input : List ℕ) (text added : Lis
   pub history : List Entry
   pub hot : List (List Object)
   pub asks : AsksFor options input rows scripts
+  -- neither the rows nor the run are past a limit
+  pub few : ¬ IsTooLong rows
+  pub allowed : IsAllowed (policy_of options) (opening_rows (opening_of options) rows) scripts
   pub runs : IsAnswer (opening_of options) (opening_rows (opening_of options) rows) (policy_of options) scripts hot history
   pub text_is : text ≡ commits_text options (opening_rows (opening_of options) rows) history
   pub added_is : added ≡ added_text options (opening_rows (opening_of options) rows) history hot
@@ -90,15 +99,16 @@ IsRefused opening resume.TooLong rows = IsTooLong rows
 IsRefused opening (resume.BadRow n) rows = (¬ IsTooLong rows) × IsFirstBad opening rows n
 IsRefused opening resume.Memory rows = ¬ IsTooLong rows
 
--- why a run of scripts from a book was refused, by the first that doesn't hold; the last three faults are met while it goes on
+-- why a run of scripts from a book was refused, by the first that doesn't hold; the last three faults are met while it goes on: Spawn where
+-- there is a thread to start, NumberFull at a call of a script
 abbrev pub IsNotRun : Policy → RunFault → Book → List (List Request) → Type 0
 IsNotRun policy run.Workers book scripts = ¬ HaveWorkers book scripts
 IsNotRun policy run.Shards book scripts = HaveWorkers book scripts × ¬ HasShards policy
 IsNotRun policy run.Quota book scripts = HaveWorkers book scripts × (HasShards policy × ¬ HasQuotas policy)
 IsNotRun policy run.TooLong book scripts = HaveWorkers book scripts × (HasShards policy × (HasQuotas policy × ¬ AreShort book scripts))
-IsNotRun policy run.Spawn book scripts = Unit {0}
+IsNotRun policy run.Spawn book scripts = 1 < length scripts
 IsNotRun policy run.Memory book scripts = Unit {0}
-IsNotRun policy run.NumberFull book scripts = Unit {0}
+IsNotRun policy run.NumberFull book scripts = (worker : ℕ) × HasMetTheEnd (script_of scripts worker)
 
 -- the outcome of a run answers these scripts, from a book
 abbrev pub AnswersScripts : Options → Book → List (List Request) → Outcome → Type 0

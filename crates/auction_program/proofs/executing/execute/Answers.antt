@@ -5,7 +5,7 @@ use Rattle.auction_program.specs.Execution.{ArePartWritten, AreWritten, IsCaused
 use Rattle.auction_program.specs.Options.{opening_of}
 use Rattle.auction_run.specs.Phases.{lists}
 use Rattle.auction_program.specs.declared.faults.Fault.TheVariants.{Resume, Write}
-use Rattle.auction_program.proofs.Answering.{answered, error_is, not_performed, of_input, refused, write_is}
+use Rattle.auction_program.proofs.Answering.{answered, error_is, not_long, not_performed, of_input, refused, write_is}
 use Rattle.auction_program.proofs.executing.execute.Goals as goal
 
 pub returns-in_err-book-clause-cause : goal.returns-in_err-book-clause-cause
@@ -34,14 +34,16 @@ returns-in_err-performed-clause-cause g c =
 pub returns-in_err-write_texts-clause-part : goal.returns-in_err-write_texts-clause-part
 returns-in_err-write_texts-clause-part g c = λ is.
     answered c.args.options.now _ _ (g.I.Read.remaining c.args.reader) c.in_ok-input.ensures.input _ _ _ _ _ c.opening.ensures c.in_ok-book.ensures.rows c.rows.ensures.rows
-    c.in_ok-book.ensures.accepted c.in_ok-performed.ensures.answer (ArePartWritten (g.W.Write.contents c.args.writer.now) (g.W.Write.contents c.write_texts.new.writer))
+    c.in_ok-book.ensures.accepted c.in_ok-performed.ensures.answer
+    (not_long c.in_ok-input.input.rows.items c.new.result c.in_ok-book.book c.in_ok-book.was c.new.ensures.too_long) c.in_ok-performed.ensures.allowed (ArePartWritten (g.W.Write.contents c.args.writer.now) (g.W.Write.contents c.write_texts.new.writer))
     (c.in_err-write_texts.ensures.part (write_is _ _ _ c.from_residual-in_err-write_texts.ensures is))
 
 pub returns-in_err-write_texts-clause-memory : goal.returns-in_err-write_texts-clause-memory
 returns-in_err-write_texts-clause-memory g c = λ is.
     let options = c.args.options.now in
     answered options _ _ (g.I.Read.remaining c.args.reader) c.in_ok-input.ensures.input _ _ _ _ _ c.opening.ensures c.in_ok-book.ensures.rows c.rows.ensures.rows
-    c.in_ok-book.ensures.accepted c.in_ok-performed.ensures.answer (IsOneWritten options (g.W.Write.contents c.args.writer.now) (g.W.Write.contents c.write_texts.new.writer))
+    c.in_ok-book.ensures.accepted c.in_ok-performed.ensures.answer
+    (not_long c.in_ok-input.input.rows.items c.new.result c.in_ok-book.book c.in_ok-book.was c.new.ensures.too_long) c.in_ok-performed.ensures.allowed (IsOneWritten options (g.W.Write.contents c.args.writer.now) (g.W.Write.contents c.write_texts.new.writer))
     (c.in_err-write_texts.ensures.memory (write_is _ _ _ c.from_residual-in_err-write_texts.ensures is))
 
 pub returns-in_err-write_texts-clause-cause : goal.returns-in_err-write_texts-clause-cause
@@ -51,10 +53,12 @@ returns-in_err-write_texts-clause-cause g c =
     error_is c.from_residual-in_err-write_texts.result (Write c.in_err-write_texts.field-0.0) (λ f. IfSome remaining (λ input. IsCausedBy options input f))
     c.from_residual-in_err-write_texts.ensures
     (answered options _ _ remaining c.in_ok-input.ensures.input _ _ _ _ _ c.opening.ensures c.in_ok-book.ensures.rows c.rows.ensures.rows
-    c.in_ok-book.ensures.accepted c.in_ok-performed.ensures.answer (λ text added. Unit {0}) tt)
+    c.in_ok-book.ensures.accepted c.in_ok-performed.ensures.answer
+    (not_long c.in_ok-input.input.rows.items c.new.result c.in_ok-book.book c.in_ok-book.was c.new.ensures.too_long) c.in_ok-performed.ensures.allowed (λ text added. Unit {0}) tt)
 
 pub returns-clause-answers : goal.returns-clause-answers
 returns-clause-answers g c =
     answered c.args.options.now _ _ (g.I.Read.remaining c.args.reader) c.in_ok-input.ensures.input _ _ _ _ _ c.opening.ensures c.in_ok-book.ensures.rows c.rows.ensures.rows
-    c.in_ok-book.ensures.accepted c.in_ok-performed.ensures.answer (AreWritten (g.W.Write.contents c.args.writer.now) (g.W.Write.contents c.write_texts.new.writer))
+    c.in_ok-book.ensures.accepted c.in_ok-performed.ensures.answer
+    (not_long c.in_ok-input.input.rows.items c.new.result c.in_ok-book.book c.in_ok-book.was c.new.ensures.too_long) c.in_ok-performed.ensures.allowed (AreWritten (g.W.Write.contents c.args.writer.now) (g.W.Write.contents c.write_texts.new.writer))
     c.in_ok-write_texts.ensures.whole
