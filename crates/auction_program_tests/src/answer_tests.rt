@@ -1,7 +1,7 @@
 use auction_program::{Fault, Options, execute};
 use auction_text::{Cause, ReadFault};
 use item_shards::ResumeFault;
-use std::alloc::Global;
+use std::alloc::{AllocError, Global};
 use std::process::Abort;
 use std::sync::Wait;
 use std::test::Fail;
@@ -77,6 +77,41 @@ pub fn texts_are<R: Threads + Wait + Abort + Sync>(
         let text = answer_to(rt, alloc, input, options)?;
         assert_eq!(rt; text.as_slice(), *wanted, "at {input:?}");
     }
+    Ok(())
+}
+
+fn push_records(text: &mut Vec<u8>, record: &[u8], count: usize) -> Result<(), AllocError> {
+    for _record in 0..count {
+        text.extend_from_slice(record)?;
+    }
+    Ok(())
+}
+
+// A row of an item, and thousands of rows and requests that bid on it.
+fn thousands_of_bids(alloc: Global) -> Result<Vec<u8>, AllocError> {
+    let mut input = b"0,+item,0,0,Vase,10,100,1,1\n".to_vec(alloc)?;
+    push_records(&mut input, b"0,+bid,1,0.0,10,5\n", 2_000)?;
+    push_records(&mut input, b"0,bid,1,0.0,10,5\n", 2_000)?;
+    Ok(input)
+}
+
+// A bid gets the number of bids before it.
+fn thousands_of_replies(alloc: Global) -> Result<String, AllocError> {
+    let mut replies = String::new(alloc);
+    for index in 0..2_000u32 {
+        let reply = format!(in alloc; "0,{index},bid 0.{}\n", 2_000 + index)?;
+        replies.push_str(reply.as_str())?;
+    }
+    Ok(replies)
+}
+
+#[test]
+fn performs_thousands_of_requests(rt: HostRuntime) -> Result<(), Fail> {
+    let alloc = rt.alloc();
+    let input = thousands_of_bids(alloc)?;
+    let text = answer_to(&rt, alloc, input.as_slice(), &USUAL)?;
+    let wanted = thousands_of_replies(alloc)?;
+    assert!(rt; text.as_slice() == wanted.as_bytes());
     Ok(())
 }
 

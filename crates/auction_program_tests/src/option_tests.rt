@@ -1,6 +1,7 @@
 use crate::answer_tests::USUAL;
-use auction_program::{Options, UsageFault, read_options};
+use auction_program::{Options, UsageFault, read_options, words_fault};
 use std::alloc::{AllocError, Global};
+use std::io;
 use std::test::Fail;
 
 const LEAST: Options = Options {
@@ -137,5 +138,40 @@ fn refuses_numbers_out_of_range(rt: HostRuntime) -> Result<(), Fail> {
         let refused = options_of(rt.alloc(), &[word])?;
         assert!(rt; matches!(refused, Err(UsageFault::Text(_))), "at {word}");
     }
+    Ok(())
+}
+
+// What is said of a word that is refused.
+fn said_of(alloc: Global, word: &str) -> Result<String, Fail> {
+    match options_of(alloc, &[word])? {
+        Err(UsageFault::Text(text)) => Ok(text),
+        _ => Err(Fail::from("no text")),
+    }
+}
+
+#[test]
+fn refused_words_are_told_why(rt: HostRuntime) -> Result<(), Fail> {
+    for (word, wanted) in [
+        ("--workers=17", "17 is not in 1..=16"),
+        ("--shards=0", "0 is not in 1..=64"),
+        ("--hot=65", "invalid value '65' for '--hot"),
+        ("--split=x", "invalid value 'x' for '--split"),
+        ("--windows=1", "unexpected argument '--windows' found"),
+        ("--help", "Usage: rubis_auction"),
+    ] {
+        let said = said_of(rt.alloc(), word)?;
+        assert!(rt; said.as_str().contains(wanted), "{word}: {said}");
+    }
+    Ok(())
+}
+
+#[test]
+fn words_that_are_no_text_are_told_why(rt: HostRuntime) -> Result<(), Fail> {
+    let unread = io::Error::from(io::ErrorKind::InvalidData);
+    let UsageFault::Text(said) = words_fault(rt.alloc(), &unread) else {
+        return Err(Fail::from("no text"));
+    };
+    let wanted = format!(in rt.alloc(); "error: {unread}\n")?;
+    assert_eq!(rt; said.as_str(), wanted.as_str());
     Ok(())
 }
