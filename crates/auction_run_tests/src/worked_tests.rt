@@ -1,8 +1,8 @@
 //! Whole runs. Users 10, categories 2; the expected values are worked from the rules by hand.
 use crate::testing::assert_same;
 use auction_rows::{
-    BidId, Entry, Facts, ItemId, Name, Object, Opening, Quantity, Reply, Request, Row, Stars,
-    reply_to, row_of,
+    BidId, BuyId, Entry, Facts, ItemId, Name, Object, Opening, Quantity, Refusal, Reply, Request,
+    Row, Stars, reply_to, row_of,
 };
 use auction_run::{FreeGate, Gate, Outcome, Policy, run};
 use item_shards::OpeningBook;
@@ -53,6 +53,25 @@ fn bid(bidder: u32, amount: u64, time: u64) -> Request {
         amount,
         time,
     }
+}
+
+// A bid on an item of the first worker.
+fn bid_on(serial: u32, bidder: u32, amount: u64) -> Request {
+    Request::StoreBid {
+        bidder,
+        item: ItemId { worker: 0, serial },
+        amount,
+        time: 1,
+    }
+}
+
+fn buy_one() -> Result<Request, Fail> {
+    Ok(Request::BuyNow {
+        buyer: 4,
+        item: FIRST,
+        quantity: Quantity::new(1).ok_or("no quantity")?,
+        time: 9,
+    })
 }
 
 fn comment(author: u32, stars: i64) -> Result<Request, Fail> {
@@ -322,6 +341,64 @@ fn sixteen_workers_share_a_shard(rt: HostRuntime) -> Result<(), Fail> {
     Ok(())
 }
 
+const MANY: u32 = 63;
+
+// Bids on that many items of the first worker.
+fn push_bids(script: &mut Vec<Request>, bidder: u32, amount: u64) -> Result<(), AllocError> {
+    for serial in 0..MANY {
+        script.push(bid_on(serial, bidder, amount))?;
+    }
+    Ok(())
+}
+
+// Stores of the items and a bid on each, bids on each in the next phase, and views of each.
+fn script_of_many(alloc: Global) -> Result<Vec<Request>, Fail> {
+    let mut script = Vec::new(alloc);
+    for _item in 0..MANY {
+        script.push(item()?)?;
+    }
+    push_bids(&mut script, 0, 10)?;
+    push_bids(&mut script, 1, 20)?;
+    for serial in 0..MANY {
+        let item = ItemId { worker: 0, serial };
+        script.push(Request::ViewItem { item })?;
+    }
+    Ok(script)
+}
+
+// In that next phase.
+fn script_beside_it(alloc: Global) -> Result<Vec<Request>, AllocError> {
+    let mut script = Vec::from_slice(alloc, &[LOOK; 126])?;
+    push_bids(&mut script, 2, 15)?;
+    Ok(script)
+}
+
+#[test]
+fn sixty_four_objects_are_hot(rt: HostRuntime) -> Result<(), Fail> {
+    let alloc = rt.alloc();
+    let policy = Policy {
+        shards: 4,
+        joined_quota: 126,
+        split_quota: 63,
+        threshold: 1,
+        hot_max: 64,
+    };
+    let mut scripts = Vec::new(alloc);
+    scripts.push(script_of_many(alloc)?)?;
+    scripts.push(script_beside_it(alloc)?)?;
+    let book = OpeningBook::empty(OPENING);
+    let outcome = run(&rt, alloc, &book, scripts, policy, &FreeGate)?;
+    let hot = outcome.hot.get(1).ok_or("no split phase")?;
+    assert_same(&rt, &hot.len(), &64);
+    assert!(rt; hot.contains(&Object::Category(0)));
+    let views = entries_from(alloc, &outcome.history, 2)?;
+    assert_same(&rt, &views.len(), &63);
+    for view in &views {
+        assert_same(&rt, &view.reply, &seen(20, 1, 3)?);
+    }
+    Ok(())
+}
+
 // Two workers who wait in each phase: the one of this number until the other has begun or, where it waits for the end, until
 // it has ended its request of that phase.
 #[derive(Drop)]
@@ -395,6 +472,78 @@ fn workers_run_side_by_side(rt: HostRuntime) -> Result<(), Fail> {
     Ok(())
 }
 
+// In each of three phases the second worker waits at its first request until the first worker has left its own, and the first
+// stays there until the second has gone on: what the gate is told too soon is performed too late.
+#[derive(Drop)]
+struct Turns {
+    left: AtomicU64,
+    gone_on: AtomicU64,
+}
+
+fn tell_phase(phases: &AtomicU64, phase: u64) {
+    phases.store(phase.saturating_add(1), Ordering::SeqCst);
+}
+
+fn wait_for_phase(phases: &AtomicU64, phase: u64) {
+    for _turn in 0..1_000_000_000u64 {
+        if phases.load(Ordering::SeqCst) > phase {
+            return;
+        }
+    }
+}
+
+impl Gate for Turns {
+    fn arrive(&self, phase: u64, worker: u32, index: u32) {
+        match (phase, worker, index) {
+            (0, 1, 0) | (1, 1, 2) | (2, 1, 4) => wait_for_phase(&self.left, phase),
+            (0, 1, 1) | (1, 1, 3) | (2, 1, 5) => tell_phase(&self.gone_on, phase),
+            _ => {}
+        }
+    }
+
+    fn leave(&self, phase: u64, worker: u32, index: u32) {
+        if matches!((phase, worker, index), (0, 0, 0) | (1, 0, 2) | (2, 0, 3)) {
+            tell_phase(&self.left, phase);
+            wait_for_phase(&self.gone_on, phase);
+        }
+    }
+}
+
+fn reply_at(history: &History, worker: u32, index: u32) -> Option<Reply> {
+    for entry in history.iter().map(|entry| entry.to_entry()) {
+        if entry.worker == worker && entry.index == index {
+            return Some(entry.reply);
+        }
+    }
+    None
+}
+
+#[test]
+fn gate_is_told_once_a_request_is_performed(rt: HostRuntime) -> Result<(), Fail> {
+    let buy = buy_one()?;
+    let first = [item()?, LOOK, item()?, buy];
+    let second = [bid(1, 10, 1), LOOK, bid_on(1, 1, 10), LOOK, buy, LOOK];
+    let turns = Turns {
+        left: AtomicU64::new(0),
+        gone_on: AtomicU64::new(0),
+    };
+    let outcome = run_of(&rt, rt.alloc(), &[&first, &second], 2, 2, &turns)?;
+    let bought = Reply::Bought(BuyId {
+        worker: 0,
+        serial: 0,
+    });
+    for (worker, index, reply) in [
+        (1, 0, bid_stored(1, 0)),
+        (1, 2, bid_stored(1, 1)),
+        (0, 3, bought),
+        (1, 4, Reply::Refused(Refusal::NotEnough)),
+    ] {
+        let answered = reply_at(&outcome.history, worker, index);
+        assert_same(&rt, &answered, &Some(reply));
+    }
+    Ok(())
+}
+
 // A gate that only asks for threads.
 struct Threaded;
 
@@ -439,12 +588,7 @@ fn count_replayed<R: Threads + Wait + Sync, G: Gate + Sync>(
 #[test]
 fn histories_replay_on_the_plain_program(rt: HostRuntime) -> Result<(), Fail> {
     let alloc = rt.alloc();
-    let buy = Request::BuyNow {
-        buyer: 4,
-        item: FIRST,
-        quantity: Quantity::new(1).ok_or("no quantity")?,
-        time: 9,
-    };
+    let buy = buy_one()?;
     let first = [
         item()?,
         bid(0, 10, 1),
