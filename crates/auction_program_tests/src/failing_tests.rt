@@ -1,4 +1,4 @@
-use crate::answer_tests::{FIRST_EXAMPLE, FIRST_REPLIES, REPLIES, USUAL, answer_to};
+use crate::testing::{FIRST_EXAMPLE, FIRST_REPLIES, REPLIES, USUAL, answer_to};
 use auction_program::{Fault, Options, UsageFault, execute, status, write_fault};
 use auction_run::RunFault;
 use auction_text::{Cause, ReadFault, WriteFault};

@@ -2,10 +2,10 @@
 #![tactic(auto)]
 
 #[cfg(test)]
-mod answer_tests;
-#[cfg(test)]
 mod failing_tests;
+#[cfg(test)]
+mod long_tests;
 #[cfg(test)]
 mod option_tests;
 #[cfg(test)]
-mod phase_tests;
+mod testing;

@@ -1,4 +1,4 @@
-use crate::answer_tests::USUAL;
+use crate::testing::USUAL;
 use auction_program::{Options, UsageFault, read_options, words_fault};
 use std::alloc::{AllocError, Global};
 use std::io;

@@ -1,8 +1,8 @@
 //! Whole runs. Users 10, categories 2; the expected values are worked from the rules by hand.
 use crate::testing::assert_same;
 use auction_rows::{
-    BidId, BuyId, Entry, Facts, ItemId, Name, Object, Opening, Quantity, Refusal, Reply, Request,
-    Row, Stars, reply_to, row_of,
+    BidId, Entry, Facts, ItemId, Name, Object, Opening, Quantity, Reply, Request, Row, Stars,
+    reply_to, row_of,
 };
 use auction_run::{FreeGate, Gate, Outcome, Policy, run};
 use item_shards::OpeningBook;
@@ -19,14 +19,14 @@ const OPENING: Opening = Opening {
     categories: 2,
 };
 
-const FIRST: ItemId = ItemId {
+pub(crate) const FIRST: ItemId = ItemId {
     worker: 0,
     serial: 0,
 };
 
 const VIEW: Request = Request::ViewItem { item: FIRST };
 
-const LOOK: Request = Request::ViewUser { user: 0 };
+pub(crate) const LOOK: Request = Request::ViewUser { user: 0 };
 
 fn vase() -> Result<Facts, Fail> {
     Ok(Facts {
@@ -39,14 +39,14 @@ fn vase() -> Result<Facts, Fail> {
     })
 }
 
-fn item() -> Result<Request, Fail> {
+pub(crate) fn item() -> Result<Request, Fail> {
     Ok(Request::StoreItem {
         facts: vase()?,
         time: 1,
     })
 }
 
-fn bid(bidder: u32, amount: u64, time: u64) -> Request {
+pub(crate) fn bid(bidder: u32, amount: u64, time: u64) -> Request {
     Request::StoreBid {
         bidder,
         item: FIRST,
@@ -56,7 +56,7 @@ fn bid(bidder: u32, amount: u64, time: u64) -> Request {
 }
 
 // A bid on an item of the first worker.
-fn bid_on(serial: u32, bidder: u32, amount: u64) -> Request {
+pub(crate) fn bid_on(serial: u32, bidder: u32, amount: u64) -> Request {
     Request::StoreBid {
         bidder,
         item: ItemId { worker: 0, serial },
@@ -65,7 +65,7 @@ fn bid_on(serial: u32, bidder: u32, amount: u64) -> Request {
     }
 }
 
-fn buy_one() -> Result<Request, Fail> {
+pub(crate) fn buy_one() -> Result<Request, Fail> {
     Ok(Request::BuyNow {
         buyer: 4,
         item: FIRST,
@@ -98,12 +98,12 @@ fn seen(highest: u64, bidder: u32, bids: u64) -> Result<Reply, Fail> {
     })
 }
 
-fn bid_stored(worker: u32, serial: u32) -> Reply {
+pub(crate) fn bid_stored(worker: u32, serial: u32) -> Reply {
     Reply::BidStored(BidId { worker, serial })
 }
 
 // The run of such scripts over four shards, with up to eight hot objects and threshold 1.
-fn run_of<R: Threads + Wait + Sync, G: Gate + Sync>(
+pub(crate) fn run_of<R: Threads + Wait + Sync, G: Gate + Sync>(
     rt: &R,
     alloc: Global,
     scripts: &[&[Request]],
@@ -395,151 +395,6 @@ fn sixty_four_objects_are_hot(rt: HostRuntime) -> Result<(), Fail> {
     assert_same(&rt, &views.len(), &63);
     for view in &views {
         assert_same(&rt, &view.reply, &seen(20, 1, 3)?);
-    }
-    Ok(())
-}
-
-// Two workers who wait in each phase: the one of this number until the other has begun or, where it waits for the end, until
-// it has ended its request of that phase.
-#[derive(Drop)]
-struct Meeting {
-    waits: [bool; 2],
-    for_the_end: bool,
-    begun: AtomicU64,
-    ended: AtomicU64,
-    met: AtomicU64,
-}
-
-impl Meeting {
-    fn new(waits: [bool; 2], for_the_end: bool) -> Meeting {
-        Meeting {
-            waits,
-            for_the_end,
-            begun: AtomicU64::new(0),
-            ended: AtomicU64::new(0),
-            met: AtomicU64::new(0),
-        }
-    }
-}
-
-// A bit for each worker in each of two phases.
-fn bit(phase: u64, worker: u32) -> u64 {
-    match (phase, worker) {
-        (0, 0) => 1,
-        (0, _) => 2,
-        (_, 0) => 4,
-        _ => 8,
-    }
-}
-
-impl Gate for Meeting {
-    fn arrive(&self, phase: u64, worker: u32, _index: u32) {
-        self.begun.fetch_or(bit(phase, worker), Ordering::SeqCst);
-        if !self.waits[(worker % 2) as usize] {
-            return;
-        }
-        let other = bit(phase, 1 - worker % 2);
-        let mark = if self.for_the_end {
-            &self.ended
-        } else {
-            &self.begun
-        };
-        for _turn in 0..1_000_000_000u64 {
-            if mark.load(Ordering::SeqCst) & other == other {
-                self.met.fetch_or(bit(phase, worker), Ordering::SeqCst);
-                return;
-            }
-        }
-    }
-
-    fn leave(&self, phase: u64, worker: u32, _index: u32) {
-        self.ended.fetch_or(bit(phase, worker), Ordering::SeqCst);
-    }
-}
-
-#[test]
-fn workers_run_side_by_side(rt: HostRuntime) -> Result<(), Fail> {
-    let scripts = [[LOOK; 2].as_slice(), [LOOK; 2].as_slice()];
-    let side_by_side = Meeting::new([true, true], false);
-    let first_waits = Meeting::new([true, false], true);
-    let second_waits = Meeting::new([false, true], true);
-    for (gate, met) in [(&side_by_side, 15), (&first_waits, 5), (&second_waits, 10)] {
-        assert!(rt; gate.needs_threads());
-        let outcome = run_of(&rt, rt.alloc(), &scripts, 1, 1, gate)?;
-        assert_same(&rt, &outcome.history.len(), &4);
-        assert_same(&rt, &gate.met.load(Ordering::SeqCst), &met);
-    }
-    Ok(())
-}
-
-// In each of three phases the second worker waits at its first request until the first worker has left its own, and the first
-// stays there until the second has gone on: what the gate is told too soon is performed too late.
-#[derive(Drop)]
-struct Turns {
-    left: AtomicU64,
-    gone_on: AtomicU64,
-}
-
-fn tell_phase(phases: &AtomicU64, phase: u64) {
-    phases.store(phase.saturating_add(1), Ordering::SeqCst);
-}
-
-fn wait_for_phase(phases: &AtomicU64, phase: u64) {
-    for _turn in 0..1_000_000_000u64 {
-        if phases.load(Ordering::SeqCst) > phase {
-            return;
-        }
-    }
-}
-
-impl Gate for Turns {
-    fn arrive(&self, phase: u64, worker: u32, index: u32) {
-        match (phase, worker, index) {
-            (0, 1, 0) | (1, 1, 2) | (2, 1, 4) => wait_for_phase(&self.left, phase),
-            (0, 1, 1) | (1, 1, 3) | (2, 1, 5) => tell_phase(&self.gone_on, phase),
-            _ => {}
-        }
-    }
-
-    fn leave(&self, phase: u64, worker: u32, index: u32) {
-        if matches!((phase, worker, index), (0, 0, 0) | (1, 0, 2) | (2, 0, 3)) {
-            tell_phase(&self.left, phase);
-            wait_for_phase(&self.gone_on, phase);
-        }
-    }
-}
-
-fn reply_at(history: &History, worker: u32, index: u32) -> Option<Reply> {
-    for entry in history.iter().map(|entry| entry.to_entry()) {
-        if entry.worker == worker && entry.index == index {
-            return Some(entry.reply);
-        }
-    }
-    None
-}
-
-#[test]
-fn gate_is_told_once_a_request_is_performed(rt: HostRuntime) -> Result<(), Fail> {
-    let buy = buy_one()?;
-    let first = [item()?, LOOK, item()?, buy];
-    let second = [bid(1, 10, 1), LOOK, bid_on(1, 1, 10), LOOK, buy, LOOK];
-    let turns = Turns {
-        left: AtomicU64::new(0),
-        gone_on: AtomicU64::new(0),
-    };
-    let outcome = run_of(&rt, rt.alloc(), &[&first, &second], 2, 2, &turns)?;
-    let bought = Reply::Bought(BuyId {
-        worker: 0,
-        serial: 0,
-    });
-    for (worker, index, reply) in [
-        (1, 0, bid_stored(1, 0)),
-        (1, 2, bid_stored(1, 1)),
-        (0, 3, bought),
-        (1, 4, Reply::Refused(Refusal::NotEnough)),
-    ] {
-        let answered = reply_at(&outcome.history, worker, index);
-        assert_same(&rt, &answered, &Some(reply));
     }
     Ok(())
 }
