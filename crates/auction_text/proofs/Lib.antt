@@ -10,3 +10,4 @@ pub mod RowsFirst
 pub mod SoFar
 pub mod SortLemmas
 pub mod StoredReplies
+pub mod TurnLemmas

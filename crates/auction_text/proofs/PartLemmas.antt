@@ -1,18 +1,21 @@
 -- The entries of one worker after the other.
-use Rattle.std.proofs.Common.{◌≡◌, ◌<◌, ◌≤◌, ◌+◌, ◌==◌, ◌∙◌, ℕ, Bool, true, false, cond, nat_lt, not, List, [], ◌∷◌, ◌++◌, refl, sym, ap, arith, inl, inr, ◌⊎◌, eq-eqb}
-use Rattle.std.specs.Cmp.{nat_cmp_is}
+use Rattle.std.proofs.Common.{◌≡◌, ◌<◌, ◌≤◌, ◌+◌, ◌==◌, ◌∙◌, ℕ, Bool, true, false, cond, nat_lt, not, List, [], ◌∷◌, ◌++◌, refl, sym, ap, arith, inl, inr, eq-eqb}
+use Rattle.std.specs.Cmp.{IsStrictWeakOrder, nat_cmp_is}
 use Rattle.std.specs.List.{AllByRecursion, filter}
 use Rattle.std.specs.List.Sorted.{ties}
 use Rattle.std.specs.declared.cmp.Ordering.TheVariants.{Less}
 use Rattle.std.proofs.lemmas.Bool.{and_parts, cases_Bool, cases_order}
 use Rattle.std.proofs.lemmas.Bool.Decides.{nat_tests}
 use Rattle.std.proofs.lemmas.List.{append-nil}
+use Rattle.std.proofs.lemmas.List.Sorted.{ranks_by}
 use Rattle.std.proofs.lemmas.List.Elements.{filter-append}
 use Rattle.phase_laws.specs.Order.{part}
 use Rattle.auction_rows.specs.declared.rows.Entry.{Entry}
 use Rattle.worker_journals.specs.Journals.{entry_worker}
-use Rattle.auction_text.specs.Order.{comes_before}
-use Rattle.auction_text.proofs.SortLemmas.{not_false}
+use Rattle.auction_text.specs.Order.{comes_before, in_order}
+use Rattle.auction_text.proofs.ReplyOrder.{precedence_total}
+use Rattle.auction_text.proofs.SortLemmas.{NoneBefore, not_false, one_in_order, ties-sorted, up-sorted}
+use Rattle.auction_text.proofs.TurnLemmas.{sorted-append}
 
 less_first : (a b : Entry) → a.worker < b.worker → comes_before a b ≡ true
 less_first a b less = rw (sym (nat_cmp_is a.worker b.worker Less less)) refl
@@ -27,6 +30,13 @@ tie_worker t e tie = elim (cases_order e.worker t.worker) [
   | inr (inl less) ↦ absurd (never (comes_before e t) (less_first e t less) (and_parts _ _ tie).1)
   | inr (inr more) ↦ absurd (never (comes_before t e) (less_first t e more) (and_parts _ _ tie).0)
 ]
+
+-- the entries of the workers below this one
+abbrev pub below : ℕ → List Entry → List Entry
+below w es = filter (λ e. nat_lt e.worker w) es
+
+pub entry_order : IsStrictWeakOrder comes_before
+entry_order = ranks_by precedence_total (λ (e : Entry). e)
 
 module _ (t : Entry) where
   abbrev same : List Entry → List Entry
@@ -54,13 +64,6 @@ module _ (t : Entry) where
     | inr there ↦ rw there (lost w es own)
   ]
 
-  none_tie : (last : ℕ) (es : List Entry) → AllByRecursion (λ e. e.worker ≤ last) es → last < t.worker → same es ≡ []
-  none_tie last [] few later = refl
-  none_tie last (e ∷ es) few later = elim (cases_Bool (ties comes_before t e)) [
-    | inl tie ↦ let is = tie_worker t e tie in absurd (omega (arith, is, few.0, later))
-    | inr other ↦ rw other (none_tie last es few.1 later)
-  ]
-
   -- one worker more
   pub worker_more : (w next : ℕ) (es told : List Entry) → next ≡ w + 1 → same told ≡ cond (nat_lt t.worker w) (same es) [] →
       same (told ++ part entry_worker w es) ≡ cond (nat_lt t.worker next) (same es) []
@@ -79,13 +82,52 @@ module _ (t : Entry) where
         rw (so_far, not_yet, still, lost w es (λ own. omega (arith, own, more))) refl
   ]
 
-  -- all workers
-  pub workers_all : (last w : ℕ) (es told : List Entry) → last < w → AllByRecursion (λ e. e.worker ≤ last) es →
-      same told ≡ cond (nat_lt t.worker w) (same es) [] → same told ≡ same es
-  workers_all last w es told past few is = is ∙ go (cases_Bool (nat_lt t.worker w))
-    where
-      go : (nat_lt t.worker w ≡ true) ⊎ (nat_lt t.worker w ≡ false) → cond (nat_lt t.worker w) (same es) [] ≡ same es
-      go (inl here) = rw here refl
-      go (inr there) =
-          let beyond : last < t.worker = grind (arith, nat_tests) in
-          rw there (sym (none_tie last es few beyond))
+  below_ties : (w : ℕ) (es : List Entry) → same (below w es) ≡ cond (nat_lt t.worker w) (same es) []
+  below_ties w [] = elim (cases_Bool (nat_lt t.worker w)) [ inl here ↦ rw here refl | inr there ↦ rw there refl ]
+  below_ties w (e ∷ es) = elim (cases_Bool (ties comes_before t e)) [
+    | inl tie ↦
+        let is : nat_lt e.worker w ≡ nat_lt t.worker w = ap (λ (n : ℕ). nat_lt n w) (tie_worker t e tie) in
+        elim (cases_Bool (nat_lt t.worker w)) [
+          | inl here ↦ let kept : nat_lt e.worker w ≡ true = is ∙ here in rw (kept, tie, here) (ap (λ (l : List Entry). e ∷ l) (below_ties w es ∙ rw here refl))
+          | inr there ↦ let left : nat_lt e.worker w ≡ false = is ∙ there in rw (left, tie, there) (below_ties w es ∙ rw there refl)
+        ]
+    | inr other ↦ elim (cases_Bool (nat_lt e.worker w)) [
+      | inl kept ↦ rw (kept, other) (below_ties w es)
+      | inr left ↦ rw (left, other) (below_ties w es)
+    ]
+  ]
+
+none_in : (x : Entry) (w : ℕ) (es : List Entry) → x.worker < w → NoneBefore comes_before entry_order x (part entry_worker w es)
+none_in x w [] less = tt
+none_in x w (e ∷ es) less = elim (cases_Bool (e.worker == w)) [
+  | inl here ↦
+      let is : x.worker < e.worker = grind (arith, nat_tests) in
+      rw here (entry_order.one_way x e (less_first x e is), none_in x w es less)
+  | inr there ↦ rw there (none_in x w es less)
+]
+
+none_of_below : (w : ℕ) (es all : List Entry) → AllByRecursion (λ x. NoneBefore comes_before entry_order x (part entry_worker w all)) (below w es)
+none_of_below w [] all = tt
+none_of_below w (e ∷ es) all = elim (cases_Bool (nat_lt e.worker w)) [
+  | inl here ↦ let less : e.worker < w = grind (arith, nat_tests) in rw here (none_in e w all less, none_of_below w es all)
+  | inr there ↦ rw there (none_of_below w es all)
+]
+
+-- in order, the entries of one worker more stand after those of the workers below it
+pub in_order_more : (w next : ℕ) (es : List Entry) → next ≡ w + 1 → in_order (below w es) ++ in_order (part entry_worker w es) ≡ in_order (below next es)
+in_order_more w next es is =
+    sym (sorted-append comes_before entry_order (below w es) (part entry_worker w es) (none_of_below w es es))
+    ∙ one_in_order comes_before entry_order _ _ (up-sorted comes_before entry_order (below w es ++ part entry_worker w es)) (up-sorted comes_before entry_order (below next es))
+    (λ t. ties-sorted comes_before entry_order t (below w es ++ part entry_worker w es) ∙ worker_more t w next es (below w es) is (below_ties t w es)
+    ∙ sym (below_ties t next es) ∙ sym (ties-sorted comes_before entry_order t (below next es)))
+
+pub below_none : (es : List Entry) → below 0 es ≡ []
+below_none [] = refl
+below_none (e ∷ es) = let none : nat_lt e.worker 0 ≡ false = grind (arith, nat_tests) in rw none (below_none es)
+
+pub below_all : (last w : ℕ) (es : List Entry) → last < w → AllByRecursion (λ e. e.worker ≤ last) es → below w es ≡ es
+below_all last w [] past few = refl
+below_all last w (e ∷ es) past few =
+    let few_first = few.0 in
+    let here : nat_lt e.worker w ≡ true = grind (arith, nat_tests) in
+    rw here (ap (λ (l : List Entry). e ∷ l) (below_all last w es past few.1))

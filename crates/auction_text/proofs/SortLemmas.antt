@@ -30,7 +30,7 @@ first_kept P p [] x rest all e = absurd (cc e)
 first_kept P p (y ∷ ys) x rest all e = first_if P (p y) y x (filter p ys) rest all.0 (first_kept P p ys x rest all.1) e
 
 -- two neighbours that are not both kept may change places
-kept_either : {X : Type 0} (b c : Bool) (x y : X) (l : List X) → (b ≡ true → c ≡ true → false ≡ true) →
+pub kept_either : {X : Type 0} (b c : Bool) (x y : X) (l : List X) → (b ≡ true → c ≡ true → false ≡ true) →
     cond b (y ∷ cond c (x ∷ l) l) (cond c (x ∷ l) l) ≡ cond c (x ∷ cond b (y ∷ l) l) (cond b (y ∷ l) l)
 kept_either true true x y l never = absurd (cc (never refl refl))
 kept_either true false x y l never = refl
@@ -42,7 +42,7 @@ rest_if false x l m e = e
 
 module _ {X : Type 0} (lt : X → X → Bool) (order : IsStrictWeakOrder lt) where
   -- none of them comes before x
-  abbrev NoneBefore : X → List X → Type 0
+  abbrev pub NoneBefore : X → List X → Type 0
   NoneBefore x xs = AllByRecursion (λ y. lt y x ≡ false) xs
 
   -- each stands before none that comes before it
@@ -56,7 +56,7 @@ module _ {X : Type 0} (lt : X → X → Bool) (order : IsStrictWeakOrder lt) whe
   ties_itself : (x : X) → ties lt x x ≡ true
   ties_itself x = rw (itself x) refl
 
-  none_weaker : (x y : X) (xs : List X) → lt y x ≡ false → NoneBefore y xs → NoneBefore x xs
+  pub none_weaker : (x y : X) (xs : List X) → lt y x ≡ false → NoneBefore y xs → NoneBefore x xs
   none_weaker x y [] e none = tt
   none_weaker x y (z ∷ zs) e none = (order.chain z y x none.0 e, none_weaker x y zs e none.1)
 
@@ -100,7 +100,7 @@ module _ {X : Type 0} (lt : X → X → Bool) (order : IsStrictWeakOrder lt) whe
       ap (λ (x : X). x ∷ ys) first ∙ ap (λ (l : List X). z ∷ l) rests
 
   -- put_in keeps the order and the ties
-  none_put_in : (x y : X) (xs : List X) → lt x y ≡ false → NoneBefore y xs → NoneBefore y (put_in lt x xs)
+  pub none_put_in : (x y : X) (xs : List X) → lt x y ≡ false → NoneBefore y xs → NoneBefore y (put_in lt x xs)
   unfolding put_in
   none_put_in x y [] e none = (e, tt)
   none_put_in x y (z ∷ zs) e none = all-cond _ (lt z x) _ _ (none.0, none_put_in x y zs e none.1) (e, none)
@@ -142,12 +142,12 @@ module _ {X : Type 0} (lt : X → X → Bool) (order : IsStrictWeakOrder lt) whe
   sorted_once xs ys up stable = one_in_order ys (sorted lt xs) (up_from_sorted ys up) (up-sorted xs) (λ t. stable t ∙ sym (ties-sorted t xs))
 
   -- a list that is in order stays as it is
-  put_in-first : (x : X) (xs : List X) → NoneBefore x xs → put_in lt x xs ≡ x ∷ xs
+  pub put_in-first : (x : X) (xs : List X) → NoneBefore x xs → put_in lt x xs ≡ x ∷ xs
   unfolding put_in
   put_in-first x [] none = refl
   put_in-first x (y ∷ ys) none = rw none.0 refl
 
-  sorted-up : (xs : List X) → IsUp xs → sorted lt xs ≡ xs
+  pub sorted-up : (xs : List X) → IsUp xs → sorted lt xs ≡ xs
   unfolding sorted
   sorted-up [] up = refl
   sorted-up (x ∷ xs) up = ap (put_in lt x) (sorted-up xs up.1) ∙ put_in-first x xs up.0
@@ -156,6 +156,10 @@ module _ {X : Type 0} (lt : X → X → Bool) (order : IsStrictWeakOrder lt) whe
   sorted-already xs up = sorted-up xs (up_from_sorted xs up)
 
 module _ {X : Type 0} (lt : X → X → Bool) where
+  pub sorted-nil : sorted lt [] ≡ []
+  unfolding sorted
+  sorted-nil = refl
+
   permutation-put_in : (x : X) (xs : List X) → IsPermutation (x ∷ xs) (put_in lt x xs)
   unfolding put_in
   permutation-put_in x [] = IsPermutation-refl (x ∷ [])

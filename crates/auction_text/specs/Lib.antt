@@ -7,4 +7,5 @@ pub mod Replies
 pub mod Report
 pub mod RowLines
 pub mod Scripts
+pub mod Turns
 pub mod Writing

@@ -8,6 +8,7 @@ mod kinds;
 mod reading_laws;
 mod record;
 mod replies;
+mod reply_order;
 mod report;
 mod row_lines;
 mod scripts;

@@ -166,7 +166,7 @@ pub fn push_reply(text: &mut Vec<u8>, reply: &Reply) -> Result<(), AllocError>
     }
 }
 
-// Adds the rest of the line of an entry that shows what a view asked for: only such an entry is made whole.
+// Adds the rest of the line of an entry that shows what a view asked for: only such a reply is made whole.
 fn push_view_line(
     text: &mut Vec<u8>,
     begun: &ShortText,
@@ -175,7 +175,7 @@ fn push_view_line(
     ensures { OnOk result (text.new.items ≡ text.old.items ++ begun.now ++ reply_text entry.now.reply ++ codes "\n") }
 {
     push_text(text, begun.bytes())?;
-    push_reply(text, &entry.to_entry().reply)?;
+    push_reply(text, &entry.reply())?;
     push_text(text, b"\n")
 }
 

@@ -52,7 +52,12 @@ impl ShortText {
     {
         let end = self.start;
         self.start -= part.len();
-        self.bytes[self.start..end].copy_from_slice(part);
+        // Most parts are one byte, which is put down without a call.
+        if let [byte] = part {
+            self.bytes[self.start] = *byte;
+        } else {
+            self.bytes[self.start..end].copy_from_slice(part);
+        }
     }
 
     /// Puts a number in decimal before the text.

@@ -1,17 +1,14 @@
 //! The writing of texts.
 ghost use Rattle.std.specs.Prelude.{◌≡◌, ◌++◌, ◌↔◌, map, IfOk, IfErr, IsErr, IsOkAnd, OnOk};
 ghost use Rattle.std.specs.Io.KnownBytes.{Appends};
-ghost use Rattle.std.specs.List.Sorted.{IsStable};
-ghost use Rattle.phase_laws.specs.Order.{part};
-ghost use Rattle.worker_journals.specs.Journals.{entry_worker};
-ghost use Rattle.auction_text.specs.Order.{in_order, precedence};
 ghost use Rattle.auction_text.specs.Replies.{history_text, replies_text};
 ghost use Rattle.auction_text.specs.Report.{report_text};
 ghost use Rattle.auction_text.specs.RowLines.{rows_text};
 ghost use Rattle.auction_text.specs.Writing.{IsPartWritten};
 
 use crate::faults::WriteFault;
-use crate::replies::{push_history_line, push_reply_line};
+use crate::replies::push_history_line;
+use crate::reply_order::push_replies_of;
 use crate::report::{
     ReportLines, push_category_lines, push_counts, push_hot_lines, push_user_lines,
 };
@@ -20,7 +17,7 @@ use auction_rows::{Object, Row};
 use indexmap::IndexSet;
 use std::alloc::{AllocError, Global};
 use std::io::Write;
-use worker_journals::{EntryRef, History};
+use worker_journals::History;
 
 // The bytes that the line of a bid takes at most where numbers have six digits, among replies and elsewhere: so much room is
 // asked for ahead for each entry and row, and longer lines make a text grow.
@@ -66,48 +63,12 @@ fn write_made<W: Write>(writer: &mut W, made: Result<Vec<u8>, AllocError>) -> Re
     write_text(writer, text.as_slice())
 }
 
-// Adds a worker's entries, in the order of its commits.
-fn add_worker<'a>(
-    entries: &mut Vec<EntryRef<'a>>,
-    history: &'a History,
-    worker: u32,
-) -> Result<(), AllocError>
-    ensures { OnOk result (entries.new.items ≡ entries.old.items ++ part entry_worker worker history.now.entries) }
-{
-    for entry in history.of_worker(worker) {
-        entries.push(entry)?;
-    }
-    Ok(())
-}
-
-// The entries, worker by worker: they stay where they are.
-fn by_worker(alloc: Global, history: &History) -> Result<Vec<EntryRef<'_>>, AllocError>
-    ensures { IfOk result (λ entries. IsStable precedence history.now.entries entries.items) }
-{
-    let mut entries = Vec::with_capacity(alloc, history.len())?;
-    for worker in 0..u64::from(history.last_worker()) + 1 {
-        add_worker(&mut entries, history, worker as u32)?;
-    }
-    Ok(entries)
-}
-
-// The entries by worker, then index, then place. Worker by worker they are in order but for what was put off, so that the sort
-// has little to do.
-fn in_order(alloc: Global, history: &History) -> Result<Vec<EntryRef<'_>>, AllocError>
-    ensures { IfOk result (λ ordered. ordered.items ≡ in_order history.now.entries) }
-{
-    let mut ordered = by_worker(alloc, history)?;
-    ordered.sort_by_cached_key(|entry| (entry.worker(), entry.index()))?;
-    Ok(ordered)
-}
-
 fn replies_text(alloc: Global, history: &History) -> Result<Vec<u8>, AllocError>
     ensures { IfOk result (λ text. text.items ≡ replies_text history.now.entries) }
 {
-    let ordered = in_order(alloc, history)?;
-    let mut text = Vec::with_capacity(alloc, ordered.len().saturating_mul(ROOM_OF_A_REPLY))?;
-    for entry in &ordered {
-        push_reply_line(&mut text, entry)?;
+    let mut text = Vec::with_capacity(alloc, history.len().saturating_mul(ROOM_OF_A_REPLY))?;
+    for worker in 0..u64::from(history.last_worker()) + 1 {
+        push_replies_of(alloc, &mut text, history, worker as u32)?;
     }
     Ok(text)
 }

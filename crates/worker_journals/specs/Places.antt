@@ -2,6 +2,7 @@
 use Rattle.std.specs.Prelude.{◌≡◌, Bool, ℕ, ◌<◌, ◌≤◌, List, [], ◌∷◌, ◌++◌, Option, None, Some, map, take, drop, length, slice_get, slice_index_or, unwrap_or, IfSome, nat_lt, if◌then◌else◌}
 use Rattle.std.specs.List.{flat_map}
 use Rattle.auction_rows.specs.declared.replies.Refusal.TheVariants.{NoSuchItem}
+use Rattle.auction_rows.specs.declared.replies.Reply.{Reply}
 use Rattle.auction_rows.specs.declared.replies.Reply.TheVariants.{Refused}
 use Rattle.auction_rows.specs.declared.replies.StoreReply.{StoreReply}
 use Rattle.auction_rows.specs.declared.requests.Request.{Request}
@@ -57,6 +58,9 @@ lesser None i (Some next) = Some (i, next)
 lesser (Some now) i (Some next) = if nat_lt next now.1 then Some (i, next) else Some now
 
 -- what was asked, and the reply where it shows nothing
+abbrev pub entry_reply : Entry → Reply
+entry_reply entry = entry.reply
+
 abbrev pub entry_request : Entry → Request
 entry_request entry = entry.request
 

@@ -5,7 +5,7 @@ ghost use Rattle.auction_rows.specs.History.{row_of_entry};
 ghost use Rattle.auction_rows.specs.StoreReplies.{is_refusal, store_reply};
 
 use crate::journal::Journal;
-use auction_rows::{Entry, Object, Request, Row, StoreReply, row_of_store};
+use auction_rows::{Entry, Object, Reply, Request, Row, StoreReply, row_of_store};
 use std::marker::Model;
 
 /// An entry of a journal, where it lies: what is asked of it makes no more than is answered. Contracts see the entry.
@@ -73,6 +73,13 @@ impl<'a> EntryRef<'a> {
         ensures { result ≡ self.now.request }
     {
         self.journal.request(self.place)
+    }
+
+    /// The reply, made whole.
+    pub fn reply(&self) -> Reply
+        ensures { result ≡ self.now.reply }
+    {
+        self.journal.reply(self.place)
     }
 
     /// The reply, where it is one to a store or a refusal: None where it shows what a view asked for.

@@ -2,13 +2,13 @@
 ghost use Rattle.std.specs.Prelude.{◌≡◌, ◌<◌, ◌+◌, ◌^◌, ◌==◌, Some, length, map, slice_get, IfOk};
 ghost use Rattle.auction_rows.specs.Choosing.{written_by};
 ghost use Rattle.worker_journals.specs.Journals.{IsLawful, ComesAfter, closed_journal, empty_journal, entry_index, entry_number, with_commit};
-ghost use Rattle.worker_journals.specs.Places.{entry_request, entry_store_reply, is_refused};
+ghost use Rattle.worker_journals.specs.Places.{entry_reply, entry_request, entry_store_reply, is_refused};
 
 use crate::answer::Answer;
 use crate::entry_ref::EntryRef;
 use crate::heads::Head;
 use crate::sides::Sides;
-use auction_rows::{Entry, Object, Request, StoreReply};
+use auction_rows::{Entry, Object, Reply, Request, StoreReply};
 use std::alloc::{AllocError, Global};
 use std::marker::Model;
 
@@ -142,6 +142,14 @@ impl Journal {
         ensures { slice_get (map entry_request self.now.entries) place ≡ Some result }
     {
         self.sides.request(self.heads[place].request)
+    }
+
+    /// The reply at a place from 0, made whole.
+    pub(crate) fn reply(&self, place: usize) -> Reply
+        requires { place < length self.now.entries }
+        ensures { slice_get (map entry_reply self.now.entries) place ≡ Some result }
+    {
+        self.sides.reply(self.heads[place].reply)
     }
 
     /// The reply at a place from 0, where it shows nothing.
