@@ -21,7 +21,7 @@ use Rattle.shard_boxes.specs.Lines.{after, IsHistory}
 use Rattle.shard_boxes.specs.States.{ShardState, state_at, state_of}
 use Rattle.phase_desks.specs.declared.split.Comment.{Comment}
 use Rattle.phase_desks.specs.Bids.{comment_request}
-use Rattle.phase_desks.specs.Deeds.{hot_in, is_put_off}
+use Rattle.phase_desks.specs.Deeds.{hot_in}
 use Rattle.phase_desks.specs.Desks.{DeskState}
 use Rattle.phase_desks.specs.Slicing.{objects_of}
 use Rattle.phase_desks.specs.Splits.{SplitState, setting_of}
@@ -58,18 +58,6 @@ next_within clock found number is =
     let chosen = cond_some (nat_lt (max clock found) last_number) (suc (max clock found)) number (sym is) in
     let less = ltb-true (max clock found) last_number chosen.0 in
     omega (arith, less, chosen.1)
-
--- a worker whose own clock is at the end performs nothing
-pub none_performed : (opening : List ShardState) (permit : PermitState) (request : Request) → IsIdle permit.key → is_put_off (objects_of permit.split.slices) request ≡ false
-    → last_number ≤ permit.split.desk.clock → HasFailed opening permit permit request NumberFull
-none_performed opening permit request idle not_off full = record {
-  split = refl;
-  lines = record { boxes = refl; worker = refl; seats = refl; lines = λ shard. refl };
-  others = λ shard left. refl;
-  idle = idle;
-  not_put_off = not_off;
-  cause = omega (arith, full);
-}
 
 -- the footprint of a request about one cold object that the opening does not refuse
 pub one_asked : (shards : ℕ) (split : SplitState) (request : Request) (object : Object) → only_object request ≡ Some object → number_refusal split.desk.opening request ≡ None
@@ -117,7 +105,7 @@ module _ (opening : List ShardState) (split : SplitState) (new : DeskState) (key
       → HasFailed opening (record { split = split; key = key }) (record { split = record { desk = new; slices = split.slices }; key = back }) request NumberFull
   one_failed only accepted cold known idle end =
       let shard = shard_of object (length opening) in
-      let kept = one_back key (taking key shard end.seen) back shard shard end.seen refl end.key_is refl known idle in
+      let kept = one_back key (taking key shard end.seen) back shard shard end.seen refl end.key_is refl known idle end.later in
       let seen : seen_at back shard ≡ end.seen =
       one_seen key (taking key shard end.seen) back shard shard end.seen refl end.key_is refl known ∙ ap (λ (seat : SeatState). seat.seen) (taken_here key shard end.seen known) in
       let full : last_number ≤ max split.desk.clock (max (clock_seen opening back shard) 0) =

@@ -97,6 +97,7 @@ module _ (opening : List ShardState) (split new : SplitState) (key back : KeySta
         lines = put.lines;
         puts = put.puts;
         others = put.others;
+        seen = put.seen;
         idle = put.idle;
         worker = put.worker;
         boxes = put.boxes;

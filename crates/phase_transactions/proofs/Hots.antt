@@ -120,6 +120,7 @@ stored_commits opening split new key request index answer stored none more idle 
       lines = put.lines;
       puts = put.puts;
       others = put.others;
+      seen = put.seen;
       idle = idle;
       worker = refl;
       boxes = refl;

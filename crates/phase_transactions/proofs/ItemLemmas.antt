@@ -1,21 +1,19 @@
 -- Items that are stored: what their transactions leave is a commit.
 use Rattle.std.proofs.Common.{◌≡◌, ◌≢◌, ℕ, suc, max, ◌<◌, ◌≤◌, ◌==◌, ◌||◌, ◌&&◌, not, Bool, true, false, cond, if◌then◌else◌, List, [], ◌∷◌, length, Some, None, MatchOption, refl, sym, ap, subst, ◌∙◌, arith}
-use Rattle.std.specs.Prelude.{is_some, filter, map, nat_le, nat_lt, IsTrue}
+use Rattle.std.specs.Prelude.{is_some, filter, map, nat_lt, IsTrue}
 use Rattle.std.specs.Prelude.{Result, Ok, Err, IsErrAnd, IfErr}
 use Rattle.std.specs.List.{list_any}
 use Rattle.std.specs.Option.{option_or}
-use Rattle.std.proofs.lemmas.Bool.{eq-eqb, leb-false, ltb-true}
+use Rattle.std.proofs.lemmas.Bool.{eq-eqb, ltb-true}
 use Rattle.phase_laws.specs.Numbers.{greatest_by}
 use Rattle.auction_rows.specs.declared.ids.ItemId.{ItemId}
 use Rattle.auction_rows.specs.declared.ids.Object.{Object}
 use Rattle.auction_rows.specs.declared.ids.Object.TheVariants.{Item, Category}
 use Rattle.auction_rows.specs.declared.numbers.Opening.{Opening}
-use Rattle.auction_rows.specs.declared.replies.Refusal.{Refusal}
-use Rattle.auction_rows.specs.declared.replies.Refusal.TheVariants.{NoSuchUser, NoSuchCategory}
 use Rattle.auction_rows.specs.declared.replies.Reply.{Reply}
 use Rattle.auction_rows.specs.declared.replies.Reply.TheVariants.{ItemStored, Refused}
 use Rattle.auction_rows.specs.Footprint.{is_hot}
-use Rattle.auction_rows.specs.Refusals.{number_refusal, item_refusal, holds_by_number}
+use Rattle.auction_rows.specs.Refusals.{number_refusal, item_refusal}
 use Rattle.auction_rows.specs.Replies.{row_of}
 use Rattle.auction_rows.specs.Requests.{shard_of}
 use Rattle.auction_rows.proofs.RequestLemmas.{same_objects}
@@ -112,22 +110,6 @@ can_list_alone opening workers key s held act history can = (
 or_false : (b : Bool) → (b || false) ≡ b
 or_false true = refl
 or_false false = refl
-
--- an item whose category exists is listed on the category's shard
-no_reason : (a b : Bool) (x y : Refusal) → cond a (Some x) (cond b (Some y) None) ≡ None → (a ≡ false) × (b ≡ false)
-no_reason true b x y e = absurd (cc)
-no_reason false true x y e = absurd (cc)
-no_reason false false x y e = (refl, refl)
-
-category_known : (opening : Opening) (item : NewItem) → number_refusal opening (item_request item) ≡ None → item.facts.category < opening.categories
-category_known opening item allowed =
-    let request = item_request item in
-    let none = no_reason (holds_by_number opening request NoSuchUser) (holds_by_number opening request NoSuchCategory) NoSuchUser NoSuchCategory allowed in
-    leb-false opening.categories item.facts.category (sym (or_false (nat_le opening.categories item.facts.category)) ∙ none.1)
-
-pub can_list : (opening : List ShardState) (start : Opening) (s : ℕ) (item : NewItem) (id : ItemId) → s < length opening → ((t : ℕ) → t < length opening → (state_at opening t).opening ≡ start)
-    → number_refusal start (item_request item) ≡ None → s ≡ shard_of (Category item.facts.category) (length opening) → CanAlwaysDo opening s (lists item id)
-can_list opening start s item id known starts allowed home = λ rooms shelf. ((sym home, subst (λ (o : Opening). item.facts.category < o.categories) (sym (starts s known)) (category_known start item allowed)), tt)
 
 padded_both : (add list : Act) (a b : Bool) → padded (cond a (add ∷ cond b (list ∷ []) []) (cond b (list ∷ []) [])) ≡ on_shard add list a b
 padded_both add list true true = refl
@@ -253,6 +235,7 @@ module _ (opening : List ShardState) (split : SplitState) (item : NewItem) (hot 
           lines = puts.lines;
           puts = puts.puts;
           others = puts.others;
+          seen = puts.seen;
           idle = puts.idle;
           worker = puts.worker;
           boxes = puts.boxes;
@@ -315,6 +298,7 @@ module _ (opening : List ShardState) (split : SplitState) (item : NewItem) (hot 
       lines = two_put_all.lines;
       puts = two_put_all.puts;
       others = two_put_all.others;
+      seen = two_put_all.seen;
       idle = two_put_all.idle;
       worker = two_put_all.worker;
       boxes = two_put_all.boxes;

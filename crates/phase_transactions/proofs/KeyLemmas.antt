@@ -1,15 +1,15 @@
 -- A key that took one shard or two and put them back.
-use Rattle.std.proofs.Common.{◌≡◌, ◌≢◌, ℕ, ◌<◌, ◌==◌, Bool, true, false, cond, if◌then◌else◌, List, ◌∷◌, ◌++◌, length, Option, Some, refl, sym, ap, subst, ◌∙◌, ◌⊎◌, inl, inr, arith, [], None, append-nil}
+use Rattle.std.proofs.Common.{◌≡◌, ◌≢◌, ℕ, ◌<◌, ◌==◌, Bool, true, false, cond, if◌then◌else◌, List, ◌∷◌, ◌++◌, length, Option, Some, refl, sym, ap, subst, ◌∙◌, ◌⊎◌, inl, inr, [], None, append-nil, append_assoc}
 use Rattle.std.proofs.lemmas.Bool.{eqb-true, eq-eqb, false≢true, true≢false}
 use Rattle.std.proofs.lemmas.Bool.Decides.{eqb_tells}
 use Rattle.std.proofs.lemmas.List.{get_or-set_same, get_or-set_other, length-set}
 use Rattle.shard_boxes.specs.declared.line.Line.{Line}
-use Rattle.shard_boxes.specs.Keys.{KeyState, SeatState, no_seat, seat_at, with_seat, put_seat, taking, putting, lines_at, holds_at, seen_at, added, entries, HoldsNoneFrom}
-use Rattle.shard_boxes.specs.Helds.{HeldState, taken_at}
-use Rattle.shard_boxes.specs.Lines.{after, MayFollow}
+use Rattle.shard_boxes.specs.Keys.{KeyState, SeatState, no_seat, seat_at, with_seat, put_seat, taking, putting, lines_at, holds_at, seen_at, added, entries}
+use Rattle.shard_boxes.specs.Helds.{HeldState}
+use Rattle.shard_boxes.specs.Lines.{after, MayFollow, StartsWith}
 use Rattle.shard_boxes.specs.States.{ShardState, state_at}
 use Rattle.phase_transactions.specs.Permits.{IsIdle}
-use Rattle.phase_transactions.specs.Putting.{HasPut, HasPutOne, IsPutWith}
+use Rattle.phase_transactions.specs.Putting.{KeepsSeen, HasPut, HasPutOne, IsPutWith}
 use Rattle.phase_transactions.specs.Pairs.{HoldsBoth, HasSameLines, LeavesOthers, HasPutBoth, HasPutTwo}
 
 -- the seat that was changed, and the others
@@ -18,6 +18,29 @@ seat_same key s seat known = get_or-set_same key.seats s seat no_seat known
 
 seat_other : (key : KeyState) (s t : ℕ) (seat : SeatState) → t ≢ s → seat_at (with_seat key s seat) t ≡ seat_at key t
 seat_other key s t seat other = get_or-set_other key.seats s t seat no_seat other
+
+-- what a key has seen goes on where it stays, from step to step, with a take and with a put
+pub seen_still : (key : KeyState) → KeepsSeen key key
+seen_still key t = ([], sym (append-nil (seen_at key t)))
+
+starts_on : (seen next last : List (ℕ × Line)) → StartsWith next seen → StartsWith last next → StartsWith last seen
+starts_on seen next last a b = (a.0 ++ b.0, b.1 ∙ ap (λ lines. lines ++ b.0) a.1 ∙ append_assoc seen a.0 b.0)
+
+pub seen_on : (k k1 k2 : KeyState) → KeepsSeen k k1 → KeepsSeen k1 k2 → KeepsSeen k k2
+seen_on k k1 k2 first second t = starts_on (seen_at k t) (seen_at k1 t) (seen_at k2 t) (first t) (second t)
+
+seen_with : (key new : KeyState) (s : ℕ) (seat : SeatState) → new ≡ with_seat key s seat → s < length key.seats → StartsWith seat.seen (seen_at key s) → KeepsSeen key new
+seen_with key new s seat is known later = subst (KeepsSeen key) (sym is) (λ t. go t (eqb_tells s t))
+  where
+    go : (t : ℕ) → (((s == t) ≡ true) × (s ≡ t)) ⊎ (((s == t) ≡ false) × (s ≢ t)) → StartsWith (seen_at (with_seat key s seat) t) (seen_at key t)
+    go t (inl h) = subst (λ n. StartsWith (seen_at (with_seat key s seat) n) (seen_at key n)) h.1 (later.0, ap (λ (seat : SeatState). seat.seen) (seat_same key s seat known) ∙ later.1)
+    go t (inr h) = ([], ap (λ (seat : SeatState). seat.seen) (seat_other key s t seat (λ e. h.1 (sym e))) ∙ sym (append-nil (seen_at key t)))
+
+pub seen_taken : (key new : KeyState) (s : ℕ) (seen : List (ℕ × Line)) → new ≡ taking key s seen → s < length key.seats → StartsWith seen (seen_at key s) → KeepsSeen key new
+seen_taken key new s seen = seen_with key new s (record (seat_at key s) { holds = true; seen = seen })
+
+pub seen_put : (key new : KeyState) (s : ℕ) (line : Option Line) → new ≡ putting key s line → s < length key.seats → KeepsSeen key new
+seen_put key new s line is known = seen_with key new s (put_seat key.worker (seat_at key s) line) is known (entries key.worker line, refl)
 
 -- after a take and a put of one shard the key has one line more there, and no other list of it changes
 module _ (key : KeyState) (s : ℕ) (seen : List (ℕ × Line)) (line : Option Line) (known : s < length key.seats) where
@@ -51,6 +74,10 @@ module _ (key : KeyState) (s : ℕ) (seen : List (ℕ × Line)) (line : Option L
       go true e = ap (λ n. holds_at (putting (taking key s seen) s line) n) (eqb-true t s e) ∙ ap (λ (seat : SeatState). seat.holds) put_here
       go false e = ap (λ (seat : SeatState). seat.holds) (put_there t (apart t e)) ∙ idle t
 
+  pub seen_after : (back : KeyState) → back ≡ putting (taking key s seen) s line → StartsWith seen (seen_at key s) → KeepsSeen key back
+  seen_after back is later =
+      seen_on key (taking key s seen) back (seen_taken key (taking key s seen) s seen refl known later) (seen_put (taking key s seen) back s line is still_known)
+
 -- what a take and a put leave of each shard
 pub taken_here : (key : KeyState) (s : ℕ) (seen : List (ℕ × Line)) → s < length key.seats → seat_at (taking key s seen) s ≡ record (seat_at key s) { holds = true; seen = seen }
 taken_here key s seen known = seat_same key s (record (seat_at key s) { holds = true; seen = seen }) known
@@ -83,56 +110,19 @@ lines_taken key s seen known t = go (eqb_tells s t)
     go (inl h) = subst (λ n. lines_at (taking key s seen) n ≡ lines_at key n) h.1 (ap (λ (seat : SeatState). seat.lines) (taken_here key s seen known))
     go (inr h) = ap (λ (seat : SeatState). seat.lines) (taken_there key s t seen (λ e. h.1 (sym e)))
 
-module _ (k k1 k2 : KeyState) (a b : ℕ) (sa sb : List (ℕ × Line)) (first : k1 ≡ taking k a sa) (second : k2 ≡ taking k1 b sb) (apart : a ≢ b) (a_known : a < length k.seats) (b_known : b < length k.seats) where
-  seats_first : length k1.seats ≡ length k.seats
-  seats_first = ap (λ (j : KeyState). length j.seats) first ∙ as_many_seats k a (record (seat_at k a) { holds = true; seen = sa })
-
-  seats_both : length k2.seats ≡ length k.seats
-  seats_both = ap (λ (j : KeyState). length j.seats) second ∙ as_many_seats k1 b (record (seat_at k1 b) { holds = true; seen = sb }) ∙ seats_first
-
-  first_seat : seat_at k2 a ≡ record (seat_at k a) { holds = true; seen = sa }
-  first_seat = ap (λ j. seat_at j a) second ∙ taken_there k1 b a sb apart ∙ ap (λ j. seat_at j a) first ∙ taken_here k a sa a_known
-
-  second_seat : seat_at k2 b ≡ record (seat_at k1 b) { holds = true; seen = sb }
-  second_seat = ap (λ j. seat_at j b) second ∙ taken_here k1 b sb (subst (λ n. b < n) (sym seats_first) b_known)
-
-  -- the key that took two shards holds them and no other
-  pub holds_both : IsIdle k → HoldsBoth k2 a b
-  holds_both idle = record {
-    apart = apart;
-    one_known = subst (λ n. a < n) (sym seats_both) a_known;
-    other_known = subst (λ n. b < n) (sym seats_both) b_known;
-    has_one = ap (λ (seat : SeatState). seat.holds) first_seat;
-    has_other = ap (λ (seat : SeatState). seat.holds) second_seat;
-    no_more = λ t not_a not_b. ap (λ (seat : SeatState). seat.holds) (ap (λ j. seat_at j t) second ∙ taken_there k1 b t sb not_b ∙ ap (λ j. seat_at j t) first ∙ taken_there k a t sa not_a) ∙ idle t;
-  }
-
-  pub same_lines : HasSameLines k k2
-  same_lines = record {
-    seats = seats_both;
-    boxes = ap (λ (j : KeyState). j.boxes) second ∙ ap (λ (j : KeyState). j.boxes) first;
-    worker = ap (λ (j : KeyState). j.worker) second ∙ ap (λ (j : KeyState). j.worker) first;
-    lines = λ t. ap (λ j. lines_at j t) second ∙ lines_taken k1 b sb (subst (λ n. b < n) (sym seats_first) b_known) t ∙ ap (λ j. lines_at j t) first ∙ lines_taken k a sa a_known t;
-  }
-
-  -- and has seen of the first what it had seen before it took the second
-  pub seen_first : seen_at k2 a ≡ seen_at k1 a
-  seen_first = ap (λ (seat : SeatState). seat.seen) (ap (λ j. seat_at j a) second ∙ taken_there k1 b a sb apart)
-
-  -- it may take the second, which is greater
-  pub none_from : IsIdle k → a < b → HoldsNoneFrom k1 b
-  none_from idle less t from = ap (λ (seat : SeatState). seat.holds) (ap (λ j. seat_at j t) first ∙ taken_there k a t sa (λ e. omega (arith, less, from, e))) ∙ idle t
-
--- the two the other way round
-pub both_turned : (key : KeyState) (a b : ℕ) → HoldsBoth key a b → HoldsBoth key b a
-both_turned key a b is = record {
-  apart = λ e. is.apart (sym e);
-  one_known = is.other_known;
-  other_known = is.one_known;
-  has_one = is.has_other;
-  has_other = is.has_one;
-  no_more = λ t not_b not_a. is.no_more t not_a not_b;
-}
+-- so do two
+pub same_lines : (k k1 k2 : KeyState) (a b : ℕ) → k1 ≡ taking k a (seen_at k1 a) → k2 ≡ taking k1 b (seen_at k2 b) → a < length k.seats → b < length k.seats
+    → StartsWith (seen_at k1 a) (seen_at k a) → StartsWith (seen_at k2 b) (seen_at k1 b) → HasSameLines k k2
+same_lines k k1 k2 a b first second a_known b_known later later' =
+    let many : length k1.seats ≡ length k.seats = ap (λ (j : KeyState). length j.seats) first ∙ as_many_seats k a (record (seat_at k a) { holds = true; seen = seen_at k1 a }) in
+    let known : b < length k1.seats = subst (λ n. b < n) (sym many) b_known in
+    record {
+      boxes = ap (λ (j : KeyState). j.boxes) second ∙ ap (λ (j : KeyState). j.boxes) first;
+      worker = ap (λ (j : KeyState). j.worker) second ∙ ap (λ (j : KeyState). j.worker) first;
+      seats = ap (λ (j : KeyState). length j.seats) second ∙ as_many_seats k1 b (record (seat_at k1 b) { holds = true; seen = seen_at k2 b }) ∙ many;
+      lines = λ t. ap (λ j. lines_at j t) second ∙ lines_taken k1 b (seen_at k2 b) known t ∙ ap (λ j. lines_at j t) first ∙ lines_taken k a (seen_at k1 a) a_known t;
+      seen = seen_on k k1 k2 (seen_taken k k1 a (seen_at k1 a) first a_known later) (seen_taken k1 k2 b (seen_at k2 b) second known later');
+    }
 
 -- a key that puts back the two shards which it holds
 module _ (k k1 k2 : KeyState) (a b : ℕ) (x y : Option Line) (holds : HoldsBoth k a b) (first : k1 ≡ putting k a x) (second : k2 ≡ putting k1 b y) where
@@ -168,6 +158,7 @@ module _ (k k1 k2 : KeyState) (a b : ℕ) (x y : Option Line) (holds : HoldsBoth
     idle = λ t. idle_at t (eqb_tells t a) (eqb_tells t b);
     lines = λ t. lines_are t (eqb_tells t a) (eqb_tells t b);
     others = at_another;
+    seen = seen_on k k1 k2 (seen_put k k1 a x first holds.one_known) (seen_put k1 k2 b y second known_still);
   }
     where
       idle_at : (t : ℕ) → (((t == a) ≡ true) × (t ≡ a)) ⊎ (((t == a) ≡ false) × (t ≢ a)) → (((t == b) ≡ true) × (t ≡ b)) ⊎ (((t == b) ≡ false) × (t ≢ b)) → holds_at k2 t ≡ false
@@ -196,11 +187,19 @@ put_after old taken new a b x y same others put = record {
   idle = put.idle;
   lines = λ t. put.lines t ∙ (λ i. if t == a then same.lines a i ++ added x else if t == b then same.lines b i ++ added y else same.lines t i);
   others = λ t not_a not_b. put.others t not_a not_b ∙ others t not_a not_b;
+  seen = seen_on old taken new same.seen put.seen;
 }
 
 pub put_two_after : (opening : List ShardState) (old taken new : KeyState) (a b : ℕ) (x y : Line) → HasSameLines old taken → LeavesOthers old taken a b → HasPutTwo opening taken new a b x y
     → HasPutTwo opening old new a b x y
-put_two_after opening old taken new a b x y same others put = record { put = put_after old taken new a b (Some x) (Some y) same others put.put; put_first = put.put_first; put_second = put.put_second }
+put_two_after opening old taken new a b x y same others put = record {
+  put = put_after old taken new a b (Some x) (Some y) same others put.put;
+  put_first = from a x put.put_first;
+  put_second = from b y put.put_second;
+}
+  where
+    from : (s : ℕ) (line : Line) → HasPut opening taken new s line → HasPut opening old new s line
+    from s line its = record { found = its.found; later = starts_on (seen_at old s) (seen_at taken s) its.found (same.seen s) its.later; seen = its.seen; follows = its.follows }
 
 -- each of two shards that the key holds was put back with a line that may follow it
 pub two_put : (opening : List ShardState) (k k1 k2 : KeyState) (one other : HeldState) (x y : Line) → HoldsBoth k one.number other.number
@@ -214,11 +213,13 @@ two_put opening k k1 k2 one other x y holds first second =
       put = both_put k k1 k2 a b (Some x) (Some y) holds first.put second.put;
       put_first = record {
         found = seen_at k a;
+        later = seen_still k a;
         seen = ap (λ (seat : SeatState). seat.seen) (at_first k k1 k2 a b (Some x) (Some y) holds first.put second.put) ∙ (λ i. seen_at k a ++ (worker i, x) ∷ []);
         follows = first.follows;
       };
       put_second = record {
         found = seen_at k1 b;
+        later = seen_put k k1 a (Some x) first.put holds.one_known b;
         seen = ap (λ (seat : SeatState). seat.seen) (at_second k k1 k2 a b (Some x) (Some y) holds first.put second.put) ∙ (λ i. seen_at k1 b ++ (worker' i, y) ∷ []);
         follows = second.follows;
       };
@@ -231,6 +232,7 @@ lines_back old new a b put = record {
   seats = put.seats;
   worker = put.worker;
   lines = λ t. put.lines t ∙ same t (eqb_tells t a) (eqb_tells t b);
+  seen = put.seen;
 }
   where
     same : (t : ℕ) → (((t == a) ≡ true) × (t ≡ a)) ⊎ (((t == a) ≡ false) × (t ≢ a)) → (((t == b) ≡ true) × (t ≡ b)) ⊎ (((t == b) ≡ false) × (t ≢ b))
@@ -255,23 +257,17 @@ put_two_as opening old new a a' b b' x x' y y' one other first second put =
 pub others_as : (old new : KeyState) (a a' b b' : ℕ) → a ≡ a' → b ≡ b' → LeavesOthers old new a b → LeavesOthers old new a' b'
 others_as old new a a' b b' one other others t not_a not_b = others t (λ e. not_a (e ∙ one)) (λ e. not_b (e ∙ other))
 
-pub put_one_as : (opening : List ShardState) (key taken back : KeyState) (held : HeldState) (s : ℕ) (line line' : Line) → taken ≡ taking key s (seen_at taken s) → held.number ≡ s → line ≡ line'
-    → IsPutWith opening taken back held line → HasPutOne opening key back s line'
-put_one_as opening key taken back held s line line' first same is put = record {
-  seen = seen_at taken s;
-  put = put.put ∙ (λ i. putting (first i) (same i) (Some (is i)));
-  follows = subst (λ (l : Line). MayFollow (taken_at opening taken s) l) is (subst (λ n. MayFollow (taken_at opening taken n) line) same put.follows);
-}
-
 -- one shard that went back as it was leaves the lines, and the key idle
-pub one_back : (key taken back : KeyState) (s n : ℕ) (seen : List (ℕ × Line)) → taken ≡ taking key s seen → back ≡ putting taken n None → n ≡ s → s < length key.seats → IsIdle key → HasSameLines key back × IsIdle back
-one_back key taken back s n seen first second same known idle =
+pub one_back : (key taken back : KeyState) (s n : ℕ) (seen : List (ℕ × Line)) → taken ≡ taking key s seen → back ≡ putting taken n None → n ≡ s → s < length key.seats → IsIdle key
+    → StartsWith seen (seen_at key s) → HasSameLines key back × IsIdle back
+one_back key taken back s n seen first second same known idle later =
     let is : back ≡ putting (taking key s seen) s None = second ∙ (λ i. putting (first i) (same i) None) in (
       record {
         boxes = ap (λ (j : KeyState). j.boxes) is;
         seats = ap (λ (j : KeyState). length j.seats) is ∙ as_many_put key s seen None;
         worker = ap (λ (j : KeyState). j.worker) is;
         lines = λ t. ap (λ j. lines_at j t) is ∙ lines_put key s seen None known t ∙ go t (eqb_tells t s);
+        seen = seen_after key s seen None known back is later;
       },
       subst IsIdle (sym is) (idle_put key s seen None known idle),
     )
@@ -294,8 +290,9 @@ one_others key taken back s n seen first second same known t not_s not_s' =
 -- The shards that were taken were put back, each with the line that it was owed, and no other one was taken.
 pub record HasPutAll (opening : List ShardState) (old new : KeyState) (took : ℕ → Bool) (owed : ℕ → Line) : Type 0 where
   pub lines : (t : ℕ) → lines_at new t ≡ (if took t then lines_at old t ++ owed t ∷ [] else lines_at old t)
-  pub puts : (t : ℕ) → took t ≡ true → HasPut opening new t (owed t)
+  pub puts : (t : ℕ) → took t ≡ true → HasPut opening old new t (owed t)
   pub others : (t : ℕ) → took t ≡ false → seat_at new t ≡ seat_at old t
+  pub seen : KeepsSeen old new
   pub idle : IsIdle new
   pub worker : new.worker ≡ old.worker
   pub boxes : new.boxes ≡ old.boxes
@@ -307,6 +304,7 @@ none_put opening key took owed none idle = record {
   lines = λ t. sym (ap (λ b. cond b (lines_at key t ++ owed t ∷ []) (lines_at key t)) (none t));
   puts = λ t took_it. absurd (true≢false (sym took_it ∙ none t));
   others = λ t left. refl;
+  seen = seen_still key;
   idle = idle;
   worker = refl;
   boxes = refl;
@@ -337,9 +335,10 @@ module _ (opening : List ShardState) (key back : KeyState) (s : ℕ) (line : Lin
       ap (λ (seat : SeatState). seat.lines) one_here ∙ ap (λ l. lines_at key s ++ l ∷ []) owes
       ∙ sym (ap (λ b. cond b (lines_at key s ++ owed s ∷ []) (lines_at key s)) taken)
 
-  its_put : HasPut opening back s (owed s)
+  its_put : HasPut opening key back s (owed s)
   its_put = record {
     found = put.seen;
+    later = put.later;
     seen = ap (λ (seat : SeatState). seat.seen) one_here ∙ (λ i. put.seen ++ (one_worker i, owes i) ∷ []);
     follows = subst (λ (l : Line). MayFollow (after (state_at opening s) put.seen) l) owes put.follows;
   }
@@ -349,6 +348,7 @@ module _ (opening : List ShardState) (key back : KeyState) (s : ℕ) (line : Lin
     lines = λ t. lines_are t (eqb_tells s t);
     puts = λ t. puts_are t (eqb_tells s t);
     others = λ t. others_are t (eqb_tells s t);
+    seen = seen_after key s put.seen (Some line) known back put.put put.later;
     idle = subst IsIdle (sym put.put) (idle_put key s put.seen (Some line) known idle);
     worker = sym one_worker;
     boxes = ap (λ (j : KeyState). j.boxes) put.put;
@@ -359,8 +359,8 @@ module _ (opening : List ShardState) (key back : KeyState) (s : ℕ) (line : Lin
       lines_are t (inl h) = subst (λ n. lines_at back n ≡ (if took n then lines_at key n ++ owed n ∷ [] else lines_at key n)) h.1 its_line
       lines_are t (inr h) = ap (λ (seat : SeatState). seat.lines) (one_there t h.1) ∙ sym (ap (λ b. cond b (lines_at key t ++ owed t ∷ []) (lines_at key t)) (rest t h.1))
 
-      puts_are : (t : ℕ) → (((s == t) ≡ true) × (s ≡ t)) ⊎ (((s == t) ≡ false) × (s ≢ t)) → took t ≡ true → HasPut opening back t (owed t)
-      puts_are t (inl h) took_it = subst (λ n. HasPut opening back n (owed n)) h.1 its_put
+      puts_are : (t : ℕ) → (((s == t) ≡ true) × (s ≡ t)) ⊎ (((s == t) ≡ false) × (s ≢ t)) → took t ≡ true → HasPut opening key back t (owed t)
+      puts_are t (inl h) took_it = subst (λ n. HasPut opening key back n (owed n)) h.1 its_put
       puts_are t (inr h) took_it = absurd (true≢false (sym took_it ∙ rest t h.1))
 
       others_are : (t : ℕ) → (((s == t) ≡ true) × (s ≡ t)) ⊎ (((s == t) ≡ false) × (s ≢ t)) → took t ≡ false → seat_at back t ≡ seat_at key t
@@ -392,6 +392,7 @@ module _ (opening : List ShardState) (key back : KeyState) (a b : ℕ) (first se
     lines = λ t. lines_are t (eqb_tells a t) (eqb_tells b t);
     puts = λ t. puts_are t (eqb_tells a t) (eqb_tells b t);
     others = λ t. others_are t (eqb_tells a t) (eqb_tells b t);
+    seen = put.put.seen;
     idle = put.put.idle;
     worker = put.put.worker;
     boxes = put.put.boxes;
@@ -406,9 +407,9 @@ module _ (opening : List ShardState) (key back : KeyState) (a b : ℕ) (first se
           ∙ sym (ap (λ c. cond c (lines_at key t ++ owed t ∷ []) (lines_at key t)) (rest t h.1 h'.1))
 
       puts_are : (t : ℕ) → (((a == t) ≡ true) × (a ≡ t)) ⊎ (((a == t) ≡ false) × (a ≢ t)) → (((b == t) ≡ true) × (b ≡ t)) ⊎ (((b == t) ≡ false) × (b ≢ t)) → took t ≡ true
-          → HasPut opening back t (owed t)
-      puts_are t (inl h) other took_it = subst (λ n. HasPut opening back n (owed n)) h.1 (subst (λ (l : Line). HasPut opening back a l) owes put.put_first)
-      puts_are t (inr h) (inl h') took_it = subst (λ n. HasPut opening back n (owed n)) h'.1 (subst (λ (l : Line). HasPut opening back b l) owes' put.put_second)
+          → HasPut opening key back t (owed t)
+      puts_are t (inl h) other took_it = subst (λ n. HasPut opening key back n (owed n)) h.1 (subst (λ (l : Line). HasPut opening key back a l) owes put.put_first)
+      puts_are t (inr h) (inl h') took_it = subst (λ n. HasPut opening key back n (owed n)) h'.1 (subst (λ (l : Line). HasPut opening key back b l) owes' put.put_second)
       puts_are t (inr h) (inr h') took_it = absurd (true≢false (sym took_it ∙ rest t h.1 h'.1))
 
       others_are : (t : ℕ) → (((a == t) ≡ true) × (a ≡ t)) ⊎ (((a == t) ≡ false) × (a ≢ t)) → (((b == t) ≡ true) × (b ≡ t)) ⊎ (((b == t) ≡ false) × (b ≢ t)) → took t ≡ false

@@ -35,7 +35,7 @@ use Rattle.phase_desks.specs.Slicing.{after_acts, objects_of, changed, comment_a
 use Rattle.phase_desks.specs.Deeds.{Setting, Deed, hot_in, takes, line_on, greatest_clock, clock_found, refusal_by, IsAnswered}
 use Rattle.phase_desks.specs.Desks.{DeskState}
 use Rattle.phase_desks.specs.Splits.{SplitState, setting_of}
-use Rattle.phase_transactions.specs.Permits.{deed_of, HasCommitted, IsIdle, joined}
+use Rattle.phase_transactions.specs.Permits.{deed_of, HasCommitted, IsIdle}
 use Rattle.std.specs.Prelude.{IfSome}
 use Rattle.phase_transactions.proofs.KeyLemmas.{HasPutAll, one_put, both_put_all, differs}
 use Rattle.phase_transactions.specs.Pairs.{IsCommentAnswer, HasCommented, HasCommentedInOne, found_on_two, found_on_one}
@@ -44,7 +44,6 @@ use Rattle.std.proofs.lemmas.Bool.{false≢true, leb-false}
 use Rattle.auction_rows.specs.declared.numbers.Opening.{Opening}
 use Rattle.auction_rows.specs.declared.replies.Refusal.TheVariants.{NoSuchUser, NoSuchCategory}
 use Rattle.auction_rows.specs.Refusals.{holds_by_number}
-use Rattle.item_shards.specs.declared.acts.Act.TheVariants.{AddItem, ListItem, Bid, Buy}
 use Rattle.item_shards.specs.declared.shard.Shard.{Shard}
 use Rattle.item_shards.specs.Acting.{CanAct}
 use Rattle.item_shards.specs.ShardShelf.{LiesIn, shelf, opening as opening_of}
@@ -182,26 +181,8 @@ pub can_act : (shard : Shard) (about : ℕ) (stars : ℤ) (refused : Option Refu
 can_act shard about stars None reply stored act lies known fits is = subst (CanAct shard) (sym is.1) (lies, known, fits.0, fits.1)
 can_act shard about stars (Some reason) reply stored act lies known fits is = subst (CanAct shard) (sym is.1) tt
 
--- without slices no act changes one
-pub none_after : (acts : List Act) → [] ≡ after_acts [] acts
-none_after [] = refl
-none_after (AddItem id facts ∷ acts) = none_after acts
-none_after (ListItem category item ∷ acts) = none_after acts
-none_after (Bid id bid ∷ acts) = none_after acts
-none_after (CommentOn user stars ∷ acts) = none_after acts
-none_after (Buy id quantity ∷ acts) = none_after acts
-none_after (Look shown ∷ acts) = none_after acts
-
 pub equal_numbers : (n : ℕ) → (n == n) ≡ true
 equal_numbers n = eq-eqb n n refl
-
-pub turned : (a b : ℕ) (c : Bool) → (a == b) ≡ c → (b == a) ≡ c
-turned a b true e = eq-eqb b a (sym (Rattle.std.proofs.lemmas.Bool.eqb-true a b e))
-turned a b false e = go (b == a) refl
-  where
-    go : (c : Bool) → (b == a) ≡ c → c ≡ false
-    go false is = refl
-    go true is = absurd (true≢false (sym (eq-eqb a b (sym (Rattle.std.proofs.lemmas.Bool.eqb-true b a is))) ∙ e))
 
 -- a comment over two shards is a commit
 module _ (opening : List ShardState) (split new : SplitState) (key back : KeyState) (comment : Comment) (index : ℕ) (reply : Reply)
@@ -272,6 +253,7 @@ module _ (opening : List ShardState) (split new : SplitState) (key back : KeySta
     lines = its_puts.lines;
     puts = its_puts.puts;
     others = its_puts.others;
+    seen = its_puts.seen;
     idle = its_puts.idle;
     worker = its_puts.worker;
     boxes = its_puts.boxes;
@@ -339,28 +321,13 @@ module _ (opening : List ShardState) (split new : SplitState) (key back : KeySta
         lines = puts.lines;
         puts = puts.puts;
         others = puts.others;
+        seen = puts.seen;
         idle = puts.idle;
         worker = puts.worker;
         boxes = puts.boxes;
         seats = puts.seats;
         answered = comment_answered (length opening) split comment found_there index done.number reply done.act allowed cold_item cold_user done.answer;
       }
-
--- so it is in a joined phase, where nothing is hot
-pub joined_over_two : (opening : List ShardState) (desk new : DeskState) (key back : KeyState) (comment : Comment) (index : ℕ) (result : Option Reply) → number_refusal desk.opening (comment_request comment) ≡ None
-    → IfSome result (HasCommented opening desk new key back comment index)
-    → IfSome result (λ reply. HasCommitted opening (record { split = joined desk; key = key }) (record { split = joined new; key = back }) (comment_request comment) index reply)
-joined_over_two opening desk new key back comment index None allowed done = tt
-joined_over_two opening desk new key back comment index (Some reply) allowed done =
-    comment_commits opening (joined desk) (joined new) key back comment index reply allowed refl refl done (none_after (writes_if (row_of desk.journal.worker (comment_request comment) reply)))
-
-pub joined_over_one : (opening : List ShardState) (desk new : DeskState) (key back : KeyState) (comment : Comment) (index : ℕ) (result : Option Reply) → number_refusal desk.opening (comment_request comment) ≡ None
-    → shard_of (Item comment.item) (length opening) < length key.seats → IsIdle key
-    → IfSome result (HasCommentedInOne opening desk new key back comment index)
-    → IfSome result (λ reply. HasCommitted opening (record { split = joined desk; key = key }) (record { split = joined new; key = back }) (comment_request comment) index reply)
-joined_over_one opening desk new key back comment index None allowed known idle done = tt
-joined_over_one opening desk new key back comment index (Some reply) allowed known idle done =
-    comment_in_one_commits opening (joined desk) (joined new) key back comment index reply allowed refl refl done known idle (none_after (writes_if (row_of desk.journal.worker (comment_request comment) reply)))
 
 -- what is written of a cold object changes no slice
 

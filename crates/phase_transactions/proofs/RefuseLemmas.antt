@@ -62,6 +62,7 @@ module _ (opening : List ShardState) (desk new : DeskState) (key : KeyState) (re
         lines = put.lines;
         puts = put.puts;
         others = put.others;
+        seen = put.seen;
         idle = idle;
         worker = refl;
         boxes = refl;

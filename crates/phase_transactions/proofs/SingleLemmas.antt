@@ -177,6 +177,7 @@ module _ (opening : List ShardState) (split : SplitState) (new : DeskState) (key
         lines = put.lines;
         puts = put.puts;
         others = put.others;
+        seen = put.seen;
         idle = put.idle;
         worker = put.worker;
         boxes = put.boxes;

@@ -22,7 +22,7 @@ use Rattle.auction_rows.specs.declared.ids.Object.{Object}
 use Rattle.auction_rows.specs.Footprint.{is_hot}
 use Rattle.phase_desks.specs.declared.slices.Hot.{Hot}
 use Rattle.phase_desks.specs.Slicing.{objects_of}
-use Rattle.phase_transactions.specs.Putting.{line_of, clock_seen, HasPut, HasPutOne, IsPutWith}
+use Rattle.phase_transactions.specs.Putting.{line_of, clock_seen, KeepsSeen, HasPut, HasPutOne, IsPutWith}
 use Rattle.auction_rows.specs.declared.ids.Object.TheVariants.{Item, User}
 use Rattle.auction_rows.specs.Requests.{shard_of}
 
@@ -35,18 +35,20 @@ pub record HoldsBoth (key : KeyState) (one other : ℕ) : Type 0 where
   pub has_other : holds_at key other ≡ true
   pub no_more : (shard : ℕ) → shard ≢ one → shard ≢ other → holds_at key shard ≡ false
 
--- the key is for the same boxes and of the same worker, with as many seats, and no line was put by it
+-- the key is for the same boxes and of the same worker, with as many seats, no line was put by it, and what it has seen goes on
 pub record HasSameLines (old new : KeyState) : Type 0 where
   pub boxes : new.boxes ≡ old.boxes
   pub worker : new.worker ≡ old.worker
   pub seats : length new.seats ≡ length old.seats
   pub lines : (shard : ℕ) → lines_at new shard ≡ lines_at old shard
+  pub seen : KeepsSeen old new
 
 -- no seat of the key has changed but those of these two shards
 abbrev pub LeavesOthers : KeyState → KeyState → ℕ → ℕ → Type 0
 LeavesOthers old new one other = (shard : ℕ) → shard ≢ one → shard ≢ other → seat_at new shard ≡ seat_at old shard
 
--- two shards were put back, each with its line, if any, and no other list of the key changed: it holds no shard
+-- two shards were put back, each with its line, if any, and no other list of the key changed: it holds no shard, and what it has
+-- seen goes on
 pub record HasPutBoth (old new : KeyState) (one other : ℕ) (first second : Option Line) : Type 0 where
   pub boxes : new.boxes ≡ old.boxes
   pub worker : new.worker ≡ old.worker
@@ -55,12 +57,13 @@ pub record HasPutBoth (old new : KeyState) (one other : ℕ) (first second : Opt
   pub lines : (shard : ℕ) → lines_at new shard
       ≡ (if shard == one then lines_at old one ++ added first else if shard == other then lines_at old other ++ added second else lines_at old shard)
   pub others : LeavesOthers old new one other
+  pub seen : KeepsSeen old new
 
 -- two shards were put back as they had been taken, each with its line, which may follow it
 pub record HasPutTwo (opening : List ShardState) (old new : KeyState) (one other : ℕ) (first second : Line) : Type 0 where
   pub put : HasPutBoth old new one other (Some first) (Some second)
-  pub put_first : HasPut opening new one first
-  pub put_second : HasPut opening new other second
+  pub put_first : HasPut opening old new one first
+  pub put_second : HasPut opening old new other second
 
 -- a shard as the key took it
 abbrev pub IsAsTaken : List ShardState → ℕ → KeyState → HeldState → Type 0

@@ -68,7 +68,7 @@ IsCause opening split key request Memory =
 IsCause opening split key request NumberFull = last_number ≤ greatest_seen opening split key request
 
 -- The request was not performed, for its cause, and was not to be put off: nothing has changed but what the key has seen of the
--- shards of the footprint, and it holds no shard.
+-- shards of the footprint, which goes on from what it had seen (`lines`), and it holds no shard.
 pub record HasFailed (opening : List ShardState) (old new : PermitState) (request : Request) (fault : PermitFault) : Type 0 where
   pub split : new.split ≡ old.split
   pub lines : HasSameLines old.key new.key

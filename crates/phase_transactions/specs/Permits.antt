@@ -14,7 +14,7 @@ use Rattle.phase_desks.specs.Deeds.{Deed, greatest_clock, takes, line_on, IsAnsw
 use Rattle.phase_desks.specs.Desks.{DeskState, next_entry, after_commit, with_one_less}
 use Rattle.phase_desks.specs.Splits.{SplitState, setting_of}
 use Rattle.phase_desks.specs.Works.{Work, IsWorkOf}
-use Rattle.phase_transactions.specs.Putting.{HasPut}
+use Rattle.phase_transactions.specs.Putting.{KeepsSeen, HasPut}
 
 -- a split permit, or its receipt: the desk with the slices, and the key
 pub record PermitState : Type 0 where
@@ -66,8 +66,9 @@ abbrev pub deed_of : SplitState → ℕ → Request → ℕ → Reply → Found 
 deed_of split number request index answer found = (next_entry split.desk number index request answer, found)
 
 -- A request of the quota is committed: the journal gains the entry, its number is 1 + the greatest of the worker's clock and
--- the clocks found, each shard of the footprint was taken and put back with the entry's line, and no other one was taken, the
--- slices of what it writes have its operation, and its reply is the answer by what was seen and by the counters.
+-- the clocks found, each shard of the footprint was taken and put back with the entry's line, and no other one was taken, what
+-- the key has seen of each shard goes on, the slices of what it writes have its operation, and its reply is the answer by what was
+-- seen and by the counters.
 pub record HasCommitted (opening : List ShardState) (old new : PermitState) (request : Request) (index : ℕ) (answer : Reply) : Type 0 where
   pub number : ℕ
   pub found : Found
@@ -79,9 +80,10 @@ pub record HasCommitted (opening : List ShardState) (old new : PermitState) (req
   pub lines : (shard : ℕ) → let z = setting_of old.split (length opening) in let deed = deed_of old.split number request index answer found in
       lines_at new.key shard ≡ (if takes z shard deed then lines_at old.key shard ++ line_on z shard deed ∷ [] else lines_at old.key shard)
   pub puts : (shard : ℕ) → let z = setting_of old.split (length opening) in let deed = deed_of old.split number request index answer found in
-      takes z shard deed ≡ true → HasPut opening new.key shard (line_on z shard deed)
+      takes z shard deed ≡ true → HasPut opening old.key new.key shard (line_on z shard deed)
   pub others : (shard : ℕ) → let z = setting_of old.split (length opening) in let deed = deed_of old.split number request index answer found in
       takes z shard deed ≡ false → seat_at new.key shard ≡ seat_at old.key shard
+  pub seen : KeepsSeen old.key new.key
   pub idle : IsIdle new.key
   pub worker : new.key.worker ≡ old.key.worker
   pub boxes : new.key.boxes ≡ old.key.boxes

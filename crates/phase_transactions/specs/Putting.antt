@@ -1,4 +1,4 @@
--- A shard that is put back with a line, and the clock that a key has seen.
+-- A shard that is put back with a line, and what a key has seen of it.
 use Rattle.std.specs.Prelude.{◌≡◌, ℕ, List, [], ◌∷◌, ◌++◌, Some}
 use Rattle.phase_laws.specs.Replay.{SawInTurn}
 use Rattle.item_shards.specs.declared.acts.Act.{Act}
@@ -9,7 +9,7 @@ use Rattle.item_shards.specs.ShardShelf.{shard_number, shard_count, shelf, openi
 use Rattle.shard_boxes.specs.declared.line.Line.{Line}
 use Rattle.shard_boxes.specs.Helds.{HeldState, taken_at}
 use Rattle.shard_boxes.specs.Keys.{KeyState, seen_at, taking, putting}
-use Rattle.shard_boxes.specs.Lines.{after, MayFollow}
+use Rattle.shard_boxes.specs.Lines.{after, MayFollow, StartsWith}
 use Rattle.shard_boxes.specs.States.{ShardState, state_at}
 
 -- the acts can be done on a shard, one after the other
@@ -20,20 +20,28 @@ CanDo shard acts = SawInTurn (CanActOn (opening shard) (shard_number shard) (sha
 abbrev pub clock_seen : List ShardState → KeyState → ℕ → ℕ
 clock_seen opening key shard = (taken_at opening key shard).clock
 
+-- what the key has seen of each shard goes on from what it had seen
+abbrev pub KeepsSeen : KeyState → KeyState → Type 0
+KeepsSeen old new = (shard : ℕ) → StartsWith (seen_at new shard) (seen_at old shard)
+
 -- the line of these acts on a shard as it was taken
 abbrev pub line_of : ℕ → ℕ → List Act → Shard → Line
 line_of number index acts taken = record { number = number; before = clock taken; index = index; acts = acts }
 
--- A shard was taken as this list left it, and put back with the line, which may follow it.
-pub record HasPut (opening : List ShardState) (new : KeyState) (shard : ℕ) (line : Line) : Type 0 where
+-- A shard was taken as this list left it, which goes on from what the key had seen of it, and put back with the line, which may
+-- follow it.
+pub record HasPut (opening : List ShardState) (old new : KeyState) (shard : ℕ) (line : Line) : Type 0 where
   pub found : List (ℕ × Line)
+  pub later : StartsWith found (seen_at old shard)
   pub seen : seen_at new shard ≡ found ++ (new.worker, line) ∷ []
   pub follows : MayFollow (after (state_at opening shard) found) line
 
--- One shard was taken, under this list, and put back with the line, which may follow it.
+-- One shard was taken, under this list, which goes on from what the key had seen of it, and put back with the line, which may
+-- follow it.
 pub record HasPutOne (opening : List ShardState) (old new : KeyState) (shard : ℕ) (line : Line) : Type 0 where
   pub seen : List (ℕ × Line)
   pub put : new ≡ putting (taking old shard seen) shard (Some line)
+  pub later : StartsWith seen (seen_at old shard)
   pub follows : MayFollow (after (state_at opening shard) seen) line
 
 -- A shard that the key holds was put back with the line, which may follow it as it was taken.

@@ -18,8 +18,8 @@ use Rattle.item_shards.specs.declared.shard.Shard.{Shard}
 use Rattle.item_shards.specs.ShardShelf.{shelf}
 use Rattle.item_shards.specs.Writing.{looks_of, writes_if, padded}
 use Rattle.shard_boxes.specs.declared.line.Line.{Line}
-use Rattle.shard_boxes.specs.Keys.{KeyState, taking, putting}
-use Rattle.shard_boxes.specs.Lines.{AreTrueOf, after}
+use Rattle.shard_boxes.specs.Keys.{KeyState, seen_at, taking, putting}
+use Rattle.shard_boxes.specs.Lines.{AreTrueOf, after, StartsWith}
 use Rattle.shard_boxes.specs.States.{ShardState, state_at}
 use Rattle.phase_desks.specs.declared.found.Found.{Found}
 use Rattle.phase_transactions.specs.declared.seen.Seen.{Seen}
@@ -84,9 +84,11 @@ pub record HasDone (opening : List ShardState) (desk new : DeskState) (key back 
   pub desk_is : new ≡ with_one_less (after_commit desk number index request reply (found_on (shard_of object (length opening)) before stock))
   pub answered : IsAnswerBy desk request stock reply
 
--- The greater of the clocks is at the end of numbers: the shard of the object was put back as it was taken, and the desk stays.
+-- The greater of the clocks is at the end of numbers: the shard of the object was put back as it was taken, under a list that
+-- goes on from what the key had seen of it, and the desk stays.
 pub record IsAtEnd (opening : List ShardState) (desk new : DeskState) (key back : KeyState) (object : Object) : Type 0 where
   pub seen : List (ℕ × Line)
   pub key_is : let s = shard_of object (length opening) in back ≡ putting (taking key s seen) s None
+  pub later : StartsWith seen (seen_at key (shard_of object (length opening)))
   pub desk_is : new ≡ desk
   pub full : last_number ≤ max desk.clock (after (state_at opening (shard_of object (length opening))) seen).clock

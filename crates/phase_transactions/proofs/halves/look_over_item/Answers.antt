@@ -7,7 +7,7 @@ use Rattle.phase_transactions.proofs.halves.look_over_item.Goals as goal
 pub returns-in_default-clause-refused : goal.returns-in_default-clause-refused
 returns-in_default-clause-refused g c =
     let known : c.args.item < length c.args.key.now.seats = subst (λ n. c.args.item < n) (sym c.requires.seats) c.requires.known in
-    let back = one_back c.args.key.now c.take-held.new.key c.put.new.key c.args.item c.take-held.result.number _ c.take-held.ensures.key c.put.ensures c.take-held.ensures.number known c.requires.idle in
+    let back = one_back c.args.key.now c.take-held.new.key c.put.new.key c.args.item c.take-held.result.number _ c.take-held.ensures.key c.put.ensures c.take-held.ensures.number known c.requires.idle c.take-held.ensures.later in
     let opening = g.N.PhaseName.opening in
     record {
       desk = refl;

@@ -13,7 +13,7 @@ returns-in_default-clause-stayed g c =
     let key = c.args.key.now in
     let taken = c.take-held.new.key in
     let known : c.args.shard < length key.seats = subst (λ n. c.args.shard < n) (sym c.requires.seats) c.requires.known in
-    let kept = one_back key taken c.put.new.key c.args.shard c.take-held.result.number _ c.take-held.ensures.key c.put.ensures c.take-held.ensures.number known c.requires.idle in
+    let kept = one_back key taken c.put.new.key c.args.shard c.take-held.result.number _ c.take-held.ensures.key c.put.ensures c.take-held.ensures.number known c.requires.idle c.take-held.ensures.later in
     record {
       lines = kept.0;
       others = one_others key taken c.put.new.key c.args.shard c.take-held.result.number _ c.take-held.ensures.key c.put.ensures c.take-held.ensures.number known;
@@ -38,7 +38,7 @@ returns-in-Err-clause-stayed g c =
     let back = c.put-in-Err.new.key in
     let number = c.prepare.ensures.number ∙ c.take-held.ensures.number in
     let known : c.args.shard < length key.seats = subst (λ n. c.args.shard < n) (sym c.requires.seats) c.requires.known in
-    let kept = one_back key taken back c.args.shard c.prepare.new.held.number _ c.take-held.ensures.key c.put-in-Err.ensures number known c.requires.idle in
+    let kept = one_back key taken back c.args.shard c.prepare.new.held.number _ c.take-held.ensures.key c.put-in-Err.ensures number known c.requires.idle c.take-held.ensures.later in
     record {
       lines = kept.0;
       others = one_others key taken back c.args.shard c.prepare.new.held.number _ c.take-held.ensures.key c.put-in-Err.ensures number known;

@@ -1,4 +1,4 @@
-use Rattle.std.proofs.Common.{Some, get_or, sym, ap, subst, ◌∙◌, List}
+use Rattle.std.proofs.Common.{Some, get_or, ap, subst, ◌∙◌, List}
 use Rattle.item_shards.specs.declared.acts.Act.{Act}
 use Rattle.item_shards.specs.declared.shard.Shard.{Shard}
 use Rattle.item_shards.specs.ShardShelf.{clock, shelf, rooms, IsSameShard}
