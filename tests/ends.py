@@ -96,12 +96,14 @@ def limit_file_size(most: int, handler: signal.Handlers) -> None:
 @with_shim
 def cut_writes(tester: Tester) -> None:
     """writes that take few bytes, none, or fail after k bytes"""
-    options = Options(history=True, report=True, categories=2)
-    text = expected(tester.example, options).stdout
-    for most in (1, 2, 3, len(text)):
-        tester.same(f"{most} bytes a write", tester.run_cut("WRITE_AT_MOST", most, tester.example, options), Outcome(0, text, b""))
-    for limit, taken in product(("WRITE_FAILS_AT", "WRITE_STOPS_AT"), range(len(text))):
-        tester.same(f"{limit} {taken}", tester.run_cut(limit, taken, tester.example, options), unwritten(text[:taken]))
+    for options in each_output():
+        text = expected(tester.example, options).stdout
+        for most in (1, 2, 3, len(text)):
+            got = tester.run_cut("WRITE_AT_MOST", most, tester.example, options)
+            tester.same(f"{most} bytes a write with {options.words()}", got, Outcome(0, text, b""))
+        for limit, taken in product(("WRITE_FAILS_AT", "WRITE_STOPS_AT"), range(len(text))):
+            got = tester.run_cut(limit, taken, tester.example, options)
+            tester.same(f"{limit} {taken} with {options.words()}", got, unwritten(text[:taken]))
 
 
 # What is read.

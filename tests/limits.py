@@ -1,5 +1,5 @@
 #!/usr/bin/env python3
-"""Shows what the built program makes of odd bytes, of numbers at every limit, and of as many records as there may be and one more, as
+"""Shows what the built program makes of odd bytes, of numbers at every limit, of 16 workers on one item, and of as many records as there may be and one more, as
 docs/FORMATS.md says.
 
     tests/limits.py [PROGRAM]
@@ -7,6 +7,7 @@ docs/FORMATS.md says.
 A run that leaves something running, or takes longer than ten minutes, has failed. Needs 4 GB of memory and 1 GB for temporary files.
 """
 
+import re
 import shutil
 from dataclasses import replace
 from itertools import product
@@ -105,23 +106,38 @@ WORKED = {
     b"00,item": "not a number",
     b",item": "not a number",
     b"-0,item": "not a number",
+    b"+0,item": "not a number",
     b"4294967296,item": "not a number",
     b"4294967295,item": "no such worker",
     b"1,nonsense": "no such worker",
+    b"1,+bid,1,0.0,10,5": "no such worker",
     b"0": "wrong number of fields",
     b"0,": "unknown kind",
     b"0,Item": "unknown kind",
     b"0, bid,1,0.0,10,5": "unknown kind",
+    b"0,viewusers,0": "unknown kind",
     b"0,+viewuser,0": "unknown kind",
+    b"0,+viewitem,0.0": "unknown kind",
+    b"0,++bid,1,0.0,10,5": "unknown kind",
+    b"0,+,1": "unknown kind",
     b"0,bid,1,0.0,10": "wrong number of fields",
     b"0,viewitem,0.0,": "wrong number of fields",
     b"0,item,0,0,Vase,10,100,1,1,1": "wrong number of fields",
+    b"0,comment,1,2,0.0": "wrong number of fields",
+    b"0,comment,1,2,0.0,6,1": "wrong number of fields",
+    b"0,buynow,1,0.0,1": "wrong number of fields",
+    b"0,viewuser": "wrong number of fields",
     b"0,bid,01,0.0,10,5": "not a number",
     b"0,bid,+1,0.0,10,5": "not a number",
     b"0,bid,1,0.0,18446744073709551616,5": "not a number",
     b"0,viewitem,0.00": "not an item id",
     b"0,viewitem,4294967296.0": "not an item id",
     b"0,viewitem,0": "not an item id",
+    b"0,viewbids,0": "not an item id",
+    b"0,bid,x,0,10,5": "not a number",
+    b"0,bid,1,0,x,5": "not an item id",
+    b"0,comment,1,x,0,6": "not a number",
+    b"0,comment,1,2,0,6": "not an item id",
     b"0,item,x,0,\xff,10,100,1": "not a number",
     b"0,item,0,0,\xff,10,100,1": "not a name",
     b"0,item,0,0,,10,100,1": "not a name",
@@ -131,7 +147,15 @@ WORKED = {
     b"0,comment,0,0,0.0,-0": "not stars",
     b"0,item,0,0,Vase,10,100,1,0": "not a quantity",
     b"0,item,0,0,Vase,10,100,1,1000001": "not a quantity",
+    b"0,item,0,0,Vase,10,100,1,01": "not a quantity",
+    b"0,item,0,0,Vase,10,100,x,0": "not a number",
     b"0,buynow,0,0.0,01,1": "not a quantity",
+    b"0,buynow,0,0.0,1000001,1": "not a quantity",
+    b"0,buynow,0,0.0,0,x": "not a quantity",
+}
+WORKED_ROWS = {
+    b"0,+bid,1,0.0,10": "wrong number of fields",
+    b"0,+bid,1,0.0,10,x": "not a number",
 }
 NUMBERS = (
     b"|0|1|4|5|6|31|32|33|999999|1000000|1000001|4294967295|4294967296|9223372036854775807|9223372036854775808|18446744073709551615|18446744073709551616"
@@ -155,7 +179,12 @@ def worked_faults(tester: Tester) -> None:
     for record, text in WORKED.items():
         tester.same(f"{record!r}", tester.run(record), fault(2, f"record 1: {text}"))
         tester.same(f"{record!r} third", tester.run(VASE + VIEW + record), fault(2, f"record 3: {text}"))
+    for record, text in WORKED_ROWS.items():
+        tester.same(f"{record!r} after a row", tester.run(b"0,+bid,1,0.0,10,5\n" + record), fault(2, f"record 2: {text}"))
+    tester.same("a fault after an empty line", tester.run(VIEW + b"\n" + VIEW + b"0,bid,1,0.0,10"), fault(2, "record 3: wrong number of fields"))
     tester.same("a row after a request", tester.run(VIEW + b"0,+item"), fault(2, "record 2: row after a request"))
+    late = tester.run(b"0,+bid,1,0.0,10,5\n1,viewuser,1\n0,+bid,1,0.0,11,5\n", Options(workers=2))
+    tester.same("a row after another worker's request", late, fault(2, "record 3: row after a request"))
     tester.same("a refused row", tester.run(b"0,+item,0,0,Vase,10,100,1\n0,+bid,1,0.0,9,5"), fault(3, "row 2: refused"))
 
 
@@ -168,6 +197,16 @@ def numbers_in_fields(tester: Tester) -> None:
         for place, number in product(range(len(fields)), NUMBERS):
             text = b",".join(fields[:place] + [number] + fields[place + 1 :]) + b"\n"
             tester.as_model(f"{text!r}", row + text + views, replace(FEW, history=True))
+
+
+def stars(tester: Tester) -> None:
+    """stars from -5 to 5, and what is none"""
+    for number in range(-5, 6):
+        got = tester.run(VASE + b"0,comment,0,1,0.0,%d\n0,viewuser,1\n" % number)
+        seen = b"0,2,user rating=%d comments=1\n" % number
+        tester.same(f"{number} stars", got, Outcome(0, b"0,0,item 0.0\n0,1,comment 0.0\n" + seen, b""))
+    for text in (b"6", b"-6", b"+1", b"00", b"-0", b"", b"-", b"10", b"-10", b"1 ", b"--1"):
+        tester.same(f"{text!r} stars", tester.run(b"0,comment,1,2,0.0," + text), fault(2, "record 1: not stars"))
 
 
 OPTION_LIMITS = {
@@ -205,10 +244,19 @@ def option_is_taken(tester: Tester, option: str, text: str, number: int) -> None
         tester.same(f"{words}", run([tester.program, *others, *words], data), wanted)
 
 
-def options_are_refused(tester: Tester, *words: str | bytes) -> None:
+def options_are_refused(tester: Tester, *words: str | bytes, why: bytes = b"") -> None:
     got = run([tester.program, *words], VIEW)
-    right = got.status == 1 and got.stdout == b"" and got.stderr.startswith(b"error: ")
-    tester.tally.check(right, f"options {str(words):.60} are refused: {described(got)}")
+    right = got.status == 1 and got.stdout == b"" and re.match(rb"error: \S", got.stderr) and why in got.stderr
+    tester.tally.check(bool(right), f"options {str(words):.60} are refused: {described(got)}")
+
+
+def reasons_of_options(tester: Tester) -> None:
+    """why options are refused"""
+    options_are_refused(tester, "--workers=17", why=b"17 is not in 1..=16")
+    options_are_refused(tester, "--shards=0", why=b"0 is not in 1..=64")
+    options_are_refused(tester, "--hot=65", why=b"invalid value '65' for '--hot")
+    options_are_refused(tester, "--split=x", why=b"invalid value 'x' for '--split")
+    options_are_refused(tester, "--windows=1", why=b"unexpected argument '--windows' found")
 
 
 def odd_words(tester: Tester) -> None:
@@ -220,13 +268,13 @@ def odd_words(tester: Tester) -> None:
     options_are_refused(tester, *["--history"] * 1000)
     for word in ("--help", "-h"):
         got = run([tester.program, word], VIEW)
-        tester.tally.check(got.status == 1 and got.stdout == b"" and got.stderr != b"", f"{word}: {described(got)}")
+        tester.tally.check(got.status == 1 and got.stdout == b"" and b"Usage: " in got.stderr, f"{word}: {described(got)}")
     tester.same("no environment", tester.run(tester.example, env={}), Outcome(0, tester.replies, b""))
 
 
 def names(tester: Tester) -> None:
     """names of 0 to 33 bytes"""
-    for name in (*(b"~" * length for length in range(34)), b" ", b" a ", b'"a,b"', b'""""', b'"' + b'""' * 32 + b'"', b'"' + b'""' * 33 + b'"'):
+    for name in (*(b"~" * length for length in range(34)), b" ", b" a ", b'"a,b"', b'","', b'""""', b'""""""', b'"' + b'""' * 32 + b'"', b'"' + b'""' * 33 + b'"'):
         item = b"0,item,0,0,%s,10,100,1\n0,viewitem,0.0\n" % name
         for rows in (False, True):
             tester.as_model(f"name {name!r}", item, replace(FEW, rows=rows))
@@ -248,6 +296,76 @@ def hot_objects(tester: Tester) -> None:
     for threshold, hot in product((1, 2, 3, 4), (0, 1, 63, 64)):
         options = Options(joined=140, split=70, threshold=threshold, hot=hot, users=1, categories=1, history=True, report=True)
         tester.as_model(f"threshold {threshold}, hot {hot}", rows + bids + views, options)
+
+
+# Several workers.
+
+EACH_KIND = (
+    b"item,1,1,Vase,10,100,3",
+    b"bid,1,0.0,10,5",
+    b"comment,1,2,0.0,3",
+    b"viewitem,0.0",
+    b"viewbids,0.0",
+    b"viewcategory,1",
+    b"viewuser,2",
+    b"buynow,1,0.0,1,5",
+)
+OF_EACH_WORKER = 6_250
+
+
+def replies_in_order(tester: Tester) -> None:
+    """replies of 16 workers stand in order, though views of what is hot wait, and so do purchases"""
+    data = b"".join(b"%d,%s\n" % (worker, EACH_KIND[index % 8]) for index in range(OF_EACH_WORKER) for worker in range(16))
+    got = tester.run(data, Options(workers=16, threshold=1, users=10, categories=2))
+    tester.same("requests of all kinds", replace(got, stdout=b""), Outcome(0, b"", b""))
+    lines = got.stdout.splitlines()
+    right = all(line.startswith(b"%d,%d," % divmod(place, OF_EACH_WORKER)) for place, line in enumerate(lines))
+    tester.tally.check(right and len(lines) == 16 * OF_EACH_WORKER, "requests of all kinds: the order of their replies")
+
+
+def one_shard(tester: Tester) -> None:
+    """16 workers who bid on one item in threads, of which nothing is hot: each commit has a number of its own"""
+    bids = b"".join(b"%d,bid,%d,0.0,10,7\n" % (worker, worker) * 1_000 for worker in range(16))
+    first = VASE + b"".join(b"%d,viewuser,0\n" % worker for worker in range(1, 16))
+    options = Options(workers=16, shards=1, joined=1, split=1_000, threshold=1, hot=0, users=16, categories=2, history=True)
+    got = tester.run(first + bids + b"0,viewitem,0.0\n", options)
+    tester.same("16,000 bids on one item", replace(got, stdout=b""), Outcome(0, b"", b""))
+    *lines, last = got.stdout.splitlines()
+    numbered = [line.split()[:2] for line in lines if b" bid " in line] == [[b"1", b"%d" % number] for number in range(1, 16_001)]
+    seen = b"2 1 0 1001 viewitem seller=0 category=0 start=10 closes=100 highest=10 bidder=15 bids=16000 left=1 name=Vase"
+    tester.tally.check(numbered and last == seen, "16,000 bids on one item: their numbers, and what is seen of them")
+
+
+def one_hot_item(tester: Tester) -> None:
+    """16 workers who bid on one hot item in threads: each counts its own commits"""
+    first = VASE + b"0,bid,0,0.0,10,7\n" + b"".join(b"%d,viewuser,0\n" % worker * 2 for worker in range(1, 16))
+    bids = b"".join(b"%d,bid,%d,0.0,10,7\n" % (worker, worker) * 1_000 for worker in range(16))
+    options = Options(workers=16, joined=2, split=1_000, threshold=1, users=16, categories=2, history=True)
+    got = tester.run(first + bids + b"0,viewbids,0.0\n0,viewitem,0.0\n", options)
+    tester.same("16,000 bids on a hot item", replace(got, stdout=b""), Outcome(0, b"", b""))
+    *lines, listed, last = got.stdout.splitlines()
+    places = [line.split()[:4] for line in lines if line.startswith(b"1 ")]
+    wanted = [[b"1", b"%d" % (turn + 1), b"%d" % worker, b"%d" % (turn + 2)] for turn, worker in product(range(1_000), range(16))]
+    tester.tally.check(places == wanted, "16,000 bids on a hot item: their places")
+    ten = b"".join(b" 10:7:15:15.%d" % serial for serial in range(999, 989, -1))
+    tester.tally.check(listed == b"2 1 0 1002 bids" + ten, "16,000 bids on a hot item: the ten highest")
+    seen = b"2 2 0 1003 viewitem seller=0 category=0 start=10 closes=100 highest=10 bidder=15 bids=16001 left=1 name=Vase"
+    tester.tally.check(last == seen, "16,000 bids on a hot item: all of them")
+
+
+def sixty_four_hot_objects(tester: Tester) -> None:
+    """two workers bid on 63 hot items of a hot category"""
+    items = [b"0.%d" % serial for serial in range(63)]
+    bids = [b"%d,bid,%d,%s,%d,1\n" % (worker, bidder, item, amount) for worker, bidder, amount in ((0, 0, 10), (0, 1, 20), (1, 2, 15)) for item in items]
+    views = b"".join(b"0,viewitem,%s\n" % item for item in items)
+    options = Options(workers=2, joined=126, split=63, threshold=1, hot=64, users=10, categories=2, report=True)
+    got = tester.run(VASE * 63 + b"1,viewuser,0\n" * 126 + b"".join(bids) + views, options)
+    tester.same("64 hot objects", replace(got, stdout=b""), Outcome(0, b"", b""))
+    lines = got.stdout.splitlines()
+    seen = b"viewitem seller=0 category=0 start=10 closes=100 highest=20 bidder=1 bids=3 left=1 name=Vase"
+    merged = lines[189:252] == [b"0,%d,%s" % (index, seen) for index in range(189, 252)]
+    tester.tally.check(merged, "64 hot objects: each item is seen with its three bids")
+    tester.tally.check(b" ".join([b"hot 1 c0", *(b"i" + item for item in items)]) in lines, "64 hot objects: their order")
 
 
 # Very much.
@@ -304,11 +422,17 @@ CHECKS = (
     long_fields,
     worked_faults,
     numbers_in_fields,
+    stars,
     numbers_in_options,
+    reasons_of_options,
     odd_words,
     names,
     lists_of_ten,
     hot_objects,
+    replies_in_order,
+    one_shard,
+    one_hot_item,
+    sixty_four_hot_objects,
     requests_of_a_worker,
     million_categories,
     records_of_an_input,

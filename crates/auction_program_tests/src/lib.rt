@@ -1,11 +1,7 @@
-//! Tests of what `auction_program` answers to words and inputs, and of its faults.
+//! Tests of how `auction_program` reads its words, and of its faults. Its runs stand in `tests/`.
 #![tactic(auto)]
 
 #[cfg(test)]
 mod failing_tests;
 #[cfg(test)]
-mod long_tests;
-#[cfg(test)]
 mod option_tests;
-#[cfg(test)]
-mod testing;

@@ -1,62 +1,23 @@
-use crate::testing::USUAL;
+//! Words that are read as options. Each option's limits, and words that are refused, stand in tests/limits.py.
 use auction_program::{Options, UsageFault, read_options, words_fault};
 use std::alloc::{AllocError, Global};
 use std::io;
 use std::test::Fail;
 
-const LEAST: Options = Options {
+// What the program does without words.
+const USUAL: Options = Options {
     workers: 1,
-    shards: 1,
-    joined: 1,
-    split: 1,
-    threshold: 1,
-    hot: 0,
-    users: 0,
-    categories: 0,
-    history: true,
+    shards: 4,
+    joined: 64,
+    split: 64,
+    threshold: 8,
+    hot: 8,
+    users: 100,
+    categories: 10,
+    history: false,
     rows: false,
     report: false,
 };
-
-const LEAST_WORDS: [&str; 10] = [
-    "--workers",
-    "1",
-    "--shards=1",
-    "--joined=1",
-    "--split=1",
-    "--threshold=1",
-    "--hot=0",
-    "--users=0",
-    "--categories=0",
-    "--history",
-];
-
-const MOST: Options = Options {
-    workers: 16,
-    shards: 64,
-    joined: 1_000_000,
-    split: 1_000_000,
-    threshold: 1_000_000,
-    hot: 64,
-    users: 1_000_000,
-    categories: 1_000_000,
-    history: false,
-    rows: true,
-    report: true,
-};
-
-const MOST_WORDS: [&str; 10] = [
-    "--workers=16",
-    "--shards=64",
-    "--joined=1000000",
-    "--split=1000000",
-    "--threshold=1000000",
-    "--hot=64",
-    "--users=1000000",
-    "--categories=1000000",
-    "--rows",
-    "--report",
-];
 
 // Each number another one.
 const EACH: Options = Options {
@@ -68,12 +29,13 @@ const EACH: Options = Options {
     hot: 13,
     users: 17,
     categories: 19,
-    history: false,
+    history: true,
     rows: false,
-    report: false,
+    report: true,
 };
 
-const EACH_WORDS: [&str; 9] = [
+const EACH_WORDS: [&str; 11] = [
+    "--report",
     "--categories=19",
     "--users",
     "17",
@@ -83,6 +45,7 @@ const EACH_WORDS: [&str; 9] = [
     "--joined=5",
     "--shards=3",
     "--workers=2",
+    "--history",
 ];
 
 // What the words say after the program's name.
@@ -97,71 +60,10 @@ fn options_of(alloc: Global, words: &[&str]) -> Result<Result<Options, UsageFaul
 
 #[test]
 fn reads_its_options(rt: HostRuntime) -> Result<(), Fail> {
-    let table: [(&[&str], Options); 4] = [
-        (&[], USUAL),
-        (&LEAST_WORDS, LEAST),
-        (&MOST_WORDS, MOST),
-        (&EACH_WORDS, EACH),
-    ];
-    for (words, wanted) in table {
-        let read = options_of(rt.alloc(), words)?;
-        assert!(rt; matches!(read, Ok(_)), "at {words:?}");
-        if let Ok(options) = read {
-            assert_eq!(rt; options, wanted);
-        }
-    }
-    Ok(())
-}
-
-#[test]
-fn refuses_numbers_out_of_range(rt: HostRuntime) -> Result<(), Fail> {
-    for word in [
-        "--workers=0",
-        "--workers=17",
-        "--shards=0",
-        "--shards=65",
-        "--joined=0",
-        "--joined=1000001",
-        "--split=0",
-        "--split=1000001",
-        "--threshold=0",
-        "--threshold=1000001",
-        "--hot=65",
-        "--users=1000001",
-        "--users=-1",
-        "--categories=1000001",
-        "--categories=x",
-        "--history=1",
-        "--windows=1",
-        "--help",
-    ] {
-        let refused = options_of(rt.alloc(), &[word])?;
-        assert!(rt; matches!(refused, Err(UsageFault::Text(_))), "at {word}");
-    }
-    Ok(())
-}
-
-// What is said of a word that is refused.
-fn said_of(alloc: Global, word: &str) -> Result<String, Fail> {
-    match options_of(alloc, &[word])? {
-        Err(UsageFault::Text(text)) => Ok(text),
-        _ => Err(Fail::from("no text")),
-    }
-}
-
-#[test]
-fn refused_words_are_told_why(rt: HostRuntime) -> Result<(), Fail> {
-    for (word, wanted) in [
-        ("--workers=17", "17 is not in 1..=16"),
-        ("--shards=0", "0 is not in 1..=64"),
-        ("--hot=65", "invalid value '65' for '--hot"),
-        ("--split=x", "invalid value 'x' for '--split"),
-        ("--windows=1", "unexpected argument '--windows' found"),
-        ("--help", "Usage: rubis_auction"),
-    ] {
-        let said = said_of(rt.alloc(), word)?;
-        assert!(rt; said.as_str().contains(wanted), "{word}: {said}");
-    }
+    let usual = options_of(rt.alloc(), &[])?;
+    assert_eq!(rt; usual.ok(), Some(USUAL));
+    let each = options_of(rt.alloc(), &EACH_WORDS)?;
+    assert_eq!(rt; each.ok(), Some(EACH));
     Ok(())
 }
 

@@ -2,8 +2,6 @@
 #![tactic(auto)]
 
 #[cfg(test)]
-mod refusal_tests;
-#[cfg(test)]
 mod testing;
 #[cfg(test)]
 mod tests;

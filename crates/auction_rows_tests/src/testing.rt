@@ -1,7 +1,6 @@
 //! What the tests ask of an auction with ten users and two categories.
 use auction_rows::{
-    BidId, CommentId, Facts, ItemId, Name, Opening, Quantity, Reply, Request, Row, Stars, reply_to,
-    row_of,
+    BidId, Facts, ItemId, Name, Opening, Quantity, Reply, Request, Row, Stars, reply_to, row_of,
 };
 use std::alloc::Global;
 use std::test::Fail;
@@ -17,18 +16,6 @@ pub const FIRST: ItemId = ItemId {
     worker: 0,
     serial: 0,
 };
-
-/// The replies to the requests of worker 0.
-pub fn replies(alloc: Global, requests: &[Request]) -> Result<Vec<Reply>, Fail> {
-    let mut commits = Vec::new(alloc);
-    for request in requests {
-        commits.push(Commit {
-            worker: 0,
-            request: *request,
-        })?;
-    }
-    replies_to(alloc, &commits)
-}
 
 /// A worker's request.
 #[derive(Clone, Copy)]
@@ -124,9 +111,4 @@ pub fn seen(
 /// The reply to a bid of worker 0.
 pub fn stored_bid(serial: u32) -> Reply {
     Reply::BidStored(BidId { worker: 0, serial })
-}
-
-/// The reply to a comment of worker 0.
-pub fn stored_comment(serial: u32) -> Reply {
-    Reply::CommentStored(CommentId { worker: 0, serial })
 }

@@ -1,21 +1,12 @@
-//! What a board is given. Users 10, categories 2.
-use auction_rows::{Facts, ItemId, Name, Opening, Quantity, Request, Row};
+//! What a board is given.
+use crate::testing::{FIRST, LOOK, OPENING, bid, item};
+use auction_rows::{Request, Row};
 use auction_run::{Board, FreeGate, Outcome, Policy, RunFault, run_shown};
 use item_shards::OpeningBook;
 use std::alloc::{AllocError, Global};
 use std::sync::Wait;
 use std::test::Fail;
 use std::thread::Threads;
-
-const OPENING: Opening = Opening {
-    users: 10,
-    categories: 2,
-};
-
-const FIRST: ItemId = ItemId {
-    worker: 0,
-    serial: 0,
-};
 
 // Counts its calls, and the rows of each of the first three; it refuses one call, the first being 0.
 #[derive(Drop)]
@@ -41,29 +32,6 @@ impl Board for Counting {
     }
 }
 
-fn item() -> Result<Request, Fail> {
-    Ok(Request::StoreItem {
-        facts: Facts {
-            seller: 0,
-            category: 0,
-            name: Name::new(b"Vase").ok_or("no name")?,
-            start: 10,
-            closes: 100,
-            quantity: Quantity::new(1).ok_or("no quantity")?,
-        },
-        time: 1,
-    })
-}
-
-fn bid(bidder: u32, amount: u64, time: u64) -> Request {
-    Request::StoreBid {
-        bidder,
-        item: FIRST,
-        amount,
-        time,
-    }
-}
-
 // Two workers, whose bids are split in the second phase, and a view that waits for the third.
 fn shown_to<R: Threads + Wait + Sync>(
     rt: &R,
@@ -71,9 +39,8 @@ fn shown_to<R: Threads + Wait + Sync>(
     board: &mut Counting,
 ) -> Result<Result<Outcome, RunFault>, Fail> {
     let view = Request::ViewItem { item: FIRST };
-    let look = Request::ViewUser { user: 0 };
     let first = [item()?, bid(0, 10, 1), bid(1, 20, 2), view, bid(1, 30, 3)];
-    let second = [look, look, bid(2, 25, 2)];
+    let second = [LOOK, LOOK, bid(2, 25, 2)];
     let first = Vec::from_slice(alloc, &first)?;
     let second = Vec::from_slice(alloc, &second)?;
     let scripts = vec![in alloc; first, second]?;

@@ -1,8 +1,7 @@
 //! What a gate sees of a run, and how it holds requests back.
-use crate::testing::assert_same;
-use crate::worked_tests::{LOOK, bid, bid_on, bid_stored, buy_one, item, run_of};
-use auction_rows::{BuyId, Refusal, Reply};
-use auction_run::Gate;
+use crate::testing::{FIRST, LOOK, assert_same, bid, bid_on, bid_stored, buy_one, item, run_of};
+use auction_rows::{BuyId, Refusal, Reply, Request};
+use auction_run::{FreeGate, Gate};
 use std::sync::atomic::{AtomicU64, Ordering};
 use std::test::Fail;
 use worker_journals::History;
@@ -150,4 +149,76 @@ fn gate_is_told_once_a_request_is_performed(rt: HostRuntime) -> Result<(), Fail>
         assert_same(&rt, &answered, &Some(reply));
     }
     Ok(())
+}
+
+// Sees which requests arrive and leave, of two workers in up to four phases: a bit for each index below 8.
+#[derive(Drop)]
+struct Watch {
+    arrived: AtomicU64,
+    left: AtomicU64,
+}
+
+// The bit of a request, and all bits for one that is not watched.
+fn watched(phase: u64, worker: u32, index: u32) -> u64 {
+    if phase >= 4 || worker >= 2 || index >= 8 {
+        return u64::MAX;
+    }
+    1 << (phase * 16 + worker as u64 * 8 + index as u64)
+}
+
+impl Gate for Watch {
+    fn arrive(&self, phase: u64, worker: u32, index: u32) {
+        self.arrived
+            .fetch_or(watched(phase, worker, index), Ordering::SeqCst);
+    }
+
+    fn leave(&self, phase: u64, worker: u32, index: u32) {
+        self.left
+            .fetch_or(watched(phase, worker, index), Ordering::SeqCst);
+    }
+}
+
+// The phase, worker and index of each request that arrives in the run below: the view does so in two phases.
+const ARRIVALS: [(u64, u32, u32); 9] = [
+    (0, 0, 0),
+    (0, 0, 1),
+    (0, 1, 0),
+    (0, 1, 1),
+    (1, 0, 2),
+    (1, 0, 3),
+    (1, 0, 4),
+    (1, 1, 2),
+    (2, 0, 3),
+];
+
+// The bits of these arrivals.
+fn told() -> u64 {
+    let mut told = 0;
+    for (phase, worker, index) in ARRIVALS {
+        told |= watched(phase, worker, index);
+    }
+    told
+}
+
+#[test]
+fn gate_is_told_of_each_request(rt: HostRuntime) -> Result<(), Fail> {
+    let view = Request::ViewItem { item: FIRST };
+    let first = [item()?, bid(0, 10, 1), bid(1, 20, 2), view, bid(1, 30, 3)];
+    let second = [LOOK, LOOK, bid(2, 25, 2)];
+    let watch = Watch {
+        arrived: AtomicU64::new(0),
+        left: AtomicU64::new(0),
+    };
+    run_of(&rt, rt.alloc(), &[&first, &second], 2, 3, &watch)?;
+    let told = told();
+    assert_same(&rt, &watch.arrived.load(Ordering::SeqCst), &told);
+    assert_same(&rt, &watch.left.load(Ordering::SeqCst), &told);
+    Ok(())
+}
+
+#[test]
+fn free_gate_lets_pass_and_needs_no_threads(rt: HostRuntime) {
+    FreeGate.arrive(1, 2, 3);
+    FreeGate.leave(1, 2, 3);
+    assert!(rt; !FreeGate.needs_threads());
 }

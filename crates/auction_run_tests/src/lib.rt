@@ -1,4 +1,4 @@
-//! Tests of `auction_run`: runs that are refused, the choice of hot objects, and the histories of whole runs on threads.
+//! Tests of `auction_run`: runs that are refused, what gates and boards are told, and the histories of runs on threads.
 #![tactic(auto)]
 
 #[cfg(test)]
@@ -6,10 +6,8 @@ mod board_tests;
 #[cfg(test)]
 mod gate_tests;
 #[cfg(test)]
+mod replay_tests;
+#[cfg(test)]
 mod run_tests;
 #[cfg(test)]
 mod testing;
-#[cfg(test)]
-mod tests;
-#[cfg(test)]
-mod worked_tests;

@@ -4,8 +4,6 @@
 #[cfg(test)]
 mod history_tests;
 #[cfg(test)]
-mod kinds_tests;
-#[cfg(test)]
 mod reading_tests;
 #[cfg(test)]
 mod report_tests;

@@ -1,16 +1,15 @@
-//! What windows show of an opening book and of two phases, and the rows of a phase.
+//! What windows show of an opening book and of two phases.
 ghost use Rattle.std.specs.Prelude.{◌≡◌, [], false};
 ghost use Rattle.item_shards.specs.OpeningBooks.{opening_of, rows_of as opening_rows};
 
-use crate::testing::{FIRST, OPENING, VIEW, answers_none, bid, item, item_seen, shows, vases};
-use auction_rows::{BidId, BidRow, ItemId, ItemRow, Refusal, Reply, Request, Row, StoreReply};
-use auction_window::{PhaseLog, Publisher, Window, WindowName, last_rows};
+use crate::testing::{OPENING, VIEW, answers_none, bid, item, item_seen, shows, vases};
+use auction_rows::{Refusal, Reply, Request};
+use auction_window::{PhaseLog, Publisher, Window, WindowName};
 use item_shards::OpeningBook;
 use std::alloc::Global;
 use std::marker::Brand;
 use std::sync::Wait;
 use std::test::Fail;
-use worker_journals::{Answer, History, Journal};
 
 // Whether both windows show this of the item.
 fn both_show<J: WindowName>(
@@ -126,57 +125,5 @@ fn windows_begin_with_the_opening_book(rt: HostRuntime) -> Result<(), Fail> {
     let want = item_seen(&facts, 1, Some((20, 1)));
     let right = shows_first::<Brand, _>(&rt, alloc, PhaseLog::new(), &book, &want);
     assert!(rt; right);
-    Ok(())
-}
-
-const SECOND: ItemId = ItemId {
-    worker: 0,
-    serial: 1,
-};
-
-const BID: BidId = BidId {
-    worker: 0,
-    serial: 0,
-};
-
-// What worker 0 commits in two phases: an item is stored in the first, another one and a bid on the first in the last.
-fn two_phase_history(alloc: Global) -> Result<History, Fail> {
-    let store = item(vases(1)?).request;
-    let mut first = Journal::with_room(alloc, 0, 0, 1)?;
-    first.push(1, 0, &store, &Answer::store(StoreReply::ItemStored(FIRST)));
-    let mut last = Journal::with_room(alloc, 1, 0, 4)?;
-    last.push(1, 1, &store, &Answer::store(StoreReply::ItemStored(SECOND)));
-    let unknown = Answer::store(StoreReply::Refused(Refusal::NoSuchItem));
-    last.push(2, 2, &VIEW, &unknown);
-    let low = Answer::store(StoreReply::Refused(Refusal::BelowStart));
-    last.push(3, 3, &bid(1, 9, 5).request, &low);
-    let stored = Answer::store(StoreReply::BidStored(BID));
-    last.push(4, 4, &bid(1, 50, 7).request, &stored);
-    let mut history = History::new(alloc);
-    history.add_phase(vec![in alloc; first]?)?;
-    history.add_phase(vec![in alloc; last]?)?;
-    Ok(history)
-}
-
-#[test]
-fn rows_of_the_last_phase(rt: HostRuntime) -> Result<(), Fail> {
-    let want = [
-        Row::Item(ItemRow {
-            id: SECOND,
-            facts: vases(1)?,
-            time: 1,
-        }),
-        Row::Bid(BidRow {
-            id: BID,
-            item: FIRST,
-            bidder: 1,
-            amount: 50,
-            time: 7,
-        }),
-    ];
-    let none = last_rows(rt.alloc(), &History::new(rt.alloc()))?;
-    assert!(rt; none.is_empty());
-    let rows = last_rows(rt.alloc(), &two_phase_history(rt.alloc())?)?;
-    assert!(rt; rows.as_slice() == want.as_slice());
     Ok(())
 }

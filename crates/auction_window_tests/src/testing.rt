@@ -9,7 +9,7 @@ pub(crate) const OPENING: Opening = Opening {
     categories: 2,
 };
 
-pub(crate) const FIRST: ItemId = ItemId {
+const FIRST: ItemId = ItemId {
     worker: 0,
     serial: 0,
 };

@@ -6,27 +6,17 @@ mod acts;
 mod book_laws;
 mod clock;
 mod counting;
-#[cfg(test)]
-mod generated_tests;
 mod items;
 mod laws;
 mod listing;
 mod merging;
 mod opened;
 mod opening_book;
-#[cfg(test)]
-mod opening_tests;
 mod places;
 mod serial;
 mod shard;
 mod slices;
 mod storing;
-#[cfg(test)]
-mod test_requests;
-#[cfg(test)]
-mod testing;
-#[cfg(test)]
-mod tests;
 mod views;
 mod writing;
 

@@ -1,10 +1,10 @@
-//! Worked examples: an item of which one is left, a user and a category that are hot.
+//! An item of which one is left, a user and a category that are hot. What is answered stands in tests/worked.
 ghost use Rattle.std.specs.Prelude.{◌<◌, ◌≤◌, length, IfOk};
 ghost use Rattle.phase_desks.specs.Desks.{AreCounted};
 
 use auction_rows::{
-    BidEntry, BidId, CommentId, Facts, ItemEntry, ItemId, Name, Object, Opening, Quantity, Refusal,
-    Reply, Request, Stars,
+    BidEntry, BidId, Facts, ItemEntry, ItemId, Name, Object, Opening, Quantity, Reply, Request,
+    Stars,
 };
 use item_shards::{CategorySlice, ItemSlice, Slice, UserSlice};
 use phase_desks::{Counters, Desk, Found, NewItem, Slices, SplitDesk, Stash};
@@ -47,16 +47,6 @@ const BID: BidEntry = BidEntry {
 };
 
 const LISTED: ItemEntry = ItemEntry { time: 1, id: FIRST };
-
-/// Slices of the vase, of user 3 and of category 0.
-fn new_slices(rt: &impl Abort, alloc: Global) -> Result<Slices, AllocError> {
-    let hot = [
-        (Object::Item(FIRST), Some((vase(rt), 1))),
-        (Object::User(3), None),
-        (Object::Category(0), None),
-    ];
-    Slices::new(alloc, &hot)
-}
 
 /// The slice of the vase.
 fn vase_slice(rt: &impl Abort, slices: &mut Slices) -> ItemSlice {
@@ -130,42 +120,19 @@ fn rest_of_a_stash(rt: HostRuntime) -> Result<(), Fail> {
 }
 
 #[test]
-fn hot_objects(rt: HostRuntime) -> Result<(), Fail> {
-    let desk = new_desk(&rt, rt.alloc(), 0, SELLER, 0)?;
-    assert!(rt; desk.is_hot(Object::Item(FIRST)));
-    same(&rt, desk.is_hot(Object::User(3)), true);
-    same(&rt, desk.is_hot(Object::Category(0)), true);
-    same(&rt, desk.is_hot(Object::User(0)), false);
-    same(&rt, desk.stock(FIRST), Some((vase(&rt), 1)));
-    Ok(())
-}
-
-/// The object of the last slice, which is taken out.
-fn last(slices: &mut Slices) -> Option<Object> {
-    let (object, _) = slices.pop()?;
-    Some(object)
-}
-
-#[test]
-fn last_slice_first(rt: HostRuntime) -> Result<(), Fail> {
-    let mut slices = new_slices(&rt, rt.alloc())?;
-    same(&rt, last(&mut slices), Some(Object::Category(0)));
-    same(&rt, last(&mut slices), Some(Object::User(3)));
-    same(&rt, last(&mut slices), Some(Object::Item(FIRST)));
-    same(&rt, last(&mut slices), None);
-    Ok(())
-}
-
-#[test]
 fn bid_in_a_slice(rt: HostRuntime) -> Result<(), Fail> {
     let mut desk = new_desk(&rt, rt.alloc(), 2, BIDDER, 0)?;
     bid(&rt, &mut desk, 50, 7, 0);
-    let (_, mut slices) = desk.open();
+    same(&rt, desk.left(), 3);
+    let (desk, mut slices) = desk.open();
     let slice = vase_slice(&rt, &mut slices);
     same(&rt, slice.highest.value(), Some(50));
     same(&rt, slice.bidder.value(), Some(BID));
     same(&rt, slice.bids.value(), 1);
     same(&rt, slice.top.entries().len(), 1);
+    let (journal, stash, counters) = desk.open();
+    same(&rt, (journal.len(), stash.len()), (1, 0));
+    same(&rt, (counters.bids, counters.commits), (5, 6));
     Ok(())
 }
 
@@ -267,125 +234,6 @@ fn comment(
     desk.comment_hot(author, 3, FIRST, stars, index)
 }
 
-/// The number and the reply of a journal's entry.
-fn entry_at(journal: &Journal, place: usize) -> Option<(u64, Reply)> {
-    if place >= journal.len() {
-        return None;
-    }
-    let entry = journal.entry(place).to_entry();
-    Some((entry.number, entry.reply))
-}
-
-const FIRST_BID: BidId = BidId {
-    worker: 0,
-    serial: 0,
-};
-
-const BELOW_START: Reply = Reply::Refused(Refusal::BelowStart);
-
-const CLOSED: Reply = Reply::Refused(Refusal::Closed);
-
-const BID_STORED: Reply = Reply::BidStored(FIRST_BID);
-
-#[test]
-fn three_bids(rt: HostRuntime) -> Result<(), Fail> {
-    let mut desk = new_desk(&rt, rt.alloc(), 0, SELLER, 0)?;
-    same(&rt, bid(&rt, &mut desk, 9, 5, 0), Some(BELOW_START));
-    same(&rt, bid(&rt, &mut desk, 10, 100, 1), Some(CLOSED));
-    same(&rt, bid(&rt, &mut desk, 10, 99, 2), Some(BID_STORED));
-    same(&rt, desk.left(), 1);
-    let (desk, mut slices) = desk.open();
-    let slice = vase_slice(&rt, &mut slices);
-    same(&rt, slice.highest.value(), Some(10));
-    same(&rt, slice.bids.value(), 1);
-    let (journal, stash, counters) = desk.open();
-    same(&rt, stash.len(), 0);
-    same(&rt, counters.bids, 1);
-    same(&rt, counters.commits, 4);
-    same(&rt, journal.len(), 3);
-    same(&rt, entry_at(&journal, 0), Some((1, BELOW_START)));
-    same(&rt, entry_at(&journal, 1), Some((2, CLOSED)));
-    same(&rt, entry_at(&journal, 2), Some((3, BID_STORED)));
-    Ok(())
-}
-
-const FIRST_COMMENT: CommentId = CommentId {
-    worker: 0,
-    serial: 0,
-};
-
-const NO_SUCH_USER: Reply = Reply::Refused(Refusal::NoSuchUser);
-
-const COMMENT_STORED: Reply = Reply::CommentStored(FIRST_COMMENT);
-
-#[test]
-fn two_comments(rt: HostRuntime) -> Result<(), Fail> {
-    let mut desk = new_desk(&rt, rt.alloc(), 0, SELLER, 7)?;
-    same(&rt, comment(&rt, &mut desk, 10, 5, 0), Some(NO_SUCH_USER));
-    same(&rt, comment(&rt, &mut desk, 9, 5, 1), Some(COMMENT_STORED));
-    same(&rt, desk.left(), 2);
-    same(&rt, desk.tries(), 0);
-    same(&rt, desk.stashed(), 0);
-    let (desk, mut slices) = desk.open();
-    let slice = user_slice(&rt, &mut slices);
-    same(&rt, slice.rating.value(), 5);
-    same(&rt, slice.comments.value(), 1);
-    let (journal, _, _) = desk.open();
-    same(&rt, journal.len(), 2);
-    same(&rt, entry_at(&journal, 0), Some((8, NO_SUCH_USER)));
-    same(&rt, entry_at(&journal, 1), Some((9, COMMENT_STORED)));
-    Ok(())
-}
-
-/// A purchase of the vase by user 1.
-fn purchase(rt: &impl Abort) -> Request {
-    Request::BuyNow {
-        buyer: 1,
-        item: FIRST,
-        quantity: Quantity::new(1).expect(rt, "a quantity"),
-        time: 5,
-    }
-}
-
-#[test]
-fn views_and_purchases_of_hot_objects_are_put_off(rt: HostRuntime) -> Result<(), Fail> {
-    let mut desk = new_desk(&rt, rt.alloc(), 0, SELLER, 0)?;
-    same(&rt, desk.is_put_off(&VIEW_USER), true);
-    same(&rt, desk.is_put_off(&VIEW_VASE), true);
-    same(&rt, desk.is_put_off(&purchase(&rt)), true);
-    same(
-        &rt,
-        desk.is_put_off(&Request::ViewCategory { category: 0 }),
-        true,
-    );
-    same(
-        &rt,
-        desk.is_put_off(&Request::ViewCategory { category: 1 }),
-        false,
-    );
-    same(&rt, desk.is_put_off(&Request::ViewUser { user: 0 }), false);
-    assert!(rt; desk.left() > 0);
-    desk.put_off(3, &VIEW_VASE);
-    same(&rt, (desk.left(), desk.stashed()), (3, 1));
-    let (desk, _) = desk.open();
-    let (journal, stash, _) = desk.open();
-    same(&rt, journal.len(), 0);
-    same(&rt, stash.get(0), Some((3, VIEW_VASE)));
-    Ok(())
-}
-
-#[test]
-fn user_of_no_number(rt: HostRuntime) -> Result<(), Fail> {
-    let mut desk = new_desk(&rt, rt.alloc(), 0, SELLER, 0)?;
-    assert!(rt; desk.left() > 0);
-    assert!(rt; desk.is_hot(Object::Item(FIRST)));
-    let refused = desk.bid_hot(10, FIRST, 50, 7, 0);
-    same(&rt, refused, Some(NO_SUCH_USER));
-    let (_, mut slices) = desk.open();
-    same(&rt, vase_slice(&rt, &mut slices).bids.value(), 0);
-    Ok(())
-}
-
 /// The vase, put up at time 1.
 fn new_vase(rt: &impl Abort) -> NewItem {
     NewItem {
@@ -401,28 +249,6 @@ fn store(rt: &impl Abort, desk: &mut SplitDesk, item: &NewItem, index: u32) -> R
     let number = desk.clock().checked_add(1).expect(rt, "a number");
     desk.store_item(number, index, item, &Found::nothing())
         .to_reply()
-}
-
-#[test]
-fn item_in_a_hot_category(rt: HostRuntime) -> Result<(), Fail> {
-    let mut desk = new_desk(&rt, rt.alloc(), 0, SELLER, 7)?;
-    let item = new_vase(&rt);
-    let second = ItemId {
-        worker: 0,
-        serial: 1,
-    };
-    same(&rt, desk.next_item(), second);
-    let reply = store(&rt, &mut desk, &item, 0);
-    same(&rt, reply, Reply::ItemStored(second));
-    let (_, mut slices) = desk.open();
-    let slice = category_slice(&rt, &mut slices);
-    same(&rt, slice.top.entries().len(), 1);
-    same(
-        &rt,
-        slice.top.entries().first().copied(),
-        Some(item.entry(second)),
-    );
-    Ok(())
 }
 
 #[test]

@@ -50,8 +50,8 @@ impl Between {
     }
 }
 
-// An empty stash for each worker.
-fn stashes(alloc: Global, workers: usize) -> Result<Vec<Stash>, AllocError>
+/// An empty stash for each worker.
+pub(crate) fn stashes(alloc: Global, workers: usize) -> Result<Vec<Stash>, AllocError>
     ensures { IfOk result (λ stashes. vec_len stashes ≡ workers) }
 {
     let mut stashes = Vec::with_capacity(alloc, workers)?;

@@ -77,8 +77,8 @@ fn perform_all<N: PhaseName + Send + Sync, R: Threads + Wait + Sync>(
     );
 }
 
-// Spends the permits.
-fn finish_all<N: PhaseName>(
+/// Spends the permits.
+pub(crate) fn finish_all<N: PhaseName>(
     mut permits: Vec<SplitPermit<N>>,
     mut receipts: Vec<SplitReceipt<N>>,
 ) -> Vec<SplitReceipt<N>>

@@ -4,12 +4,12 @@ ghost use Rattle.item_shards.specs.Counting.{worker_of};
 ghost use Rattle.item_shards.specs.OpeningBooks.{rows_of};
 ghost use Rattle.phase_floor.specs.States.{states_of};
 
-use crate::joined_work::finish_all;
+use crate::joined_work::{finish_all, stashes};
+use crate::split_work;
 use auction_rows::{Facts, ItemId, Name, Object, Opening, Quantity, Request, Row, Stars};
 use indexmap::IndexSet;
 use item_shards::{Opened, OpeningBook};
 use phase_floor::{BeginFault, Joined};
-use phase_permits::{SplitPermit, Stash};
 use shard_boxes::PhaseName;
 use std::alloc::Global;
 use std::fmt::Debug;
@@ -105,30 +105,11 @@ fn is_of_one_worker(book: &OpeningBook) -> bool
     book.rows().iter().all(|row| worker_of(row) < 1)
 }
 
-// A stash in which this request waits, if one does.
-fn new_stash(alloc: Global, waiting: Option<Request>) -> Result<Stash, Fail> {
-    let mut stash = Stash::with_room(alloc, 1)?;
-    if let Some(request) = waiting {
-        stash.push(0, request);
-    }
-    Ok(stash)
-}
-
-// A permit is spent by `finish` alone.
-fn spend_split<N: PhaseName>(mut permits: Vec<SplitPermit<N>>) {
-    while let Some(permit) = permits.pop() {
-        permit.finish();
-    }
-    permits.destroy_empty();
-}
-
-// Why a joined phase of one worker with this stash and quota does not begin: None where it does, and closes with nothing
-// performed.
+// Why a joined phase of one worker with this quota does not begin: None where it does, and closes with nothing performed.
 fn begin_joined<N: PhaseName, R: Wait>(
     rt: &R,
     alloc: Global,
     state: Joined,
-    waiting: Option<Request>,
     quota: u32,
 ) -> Result<Option<BeginFault>, Fail>
     requires shards { states_of state ≡ N.opening }
@@ -137,8 +118,7 @@ fn begin_joined<N: PhaseName, R: Wait>(
     requires phase { state.phase + 1 < 2 ^ 64 }
 {
     let seen = state.view(&LOOK);
-    let mut stashes = Vec::new(alloc);
-    stashes.push(new_stash(alloc, waiting)?)?;
+    let stashes = stashes(alloc, 1)?;
     let receipts = Vec::with_capacity(alloc, 1)?;
     let (state, stashes, fault) = match state.begin_joined::<N, R>(rt, alloc, &[quota], stashes) {
         Ok((floor, permits)) => {
@@ -148,8 +128,7 @@ fn begin_joined<N: PhaseName, R: Wait>(
         }
         Err((state, stashes, fault)) => (state, stashes, Some(fault)),
     };
-    let waits = waiting.map(|request| (0, request));
-    if stashes.len() != 1 || stashes[0].get(0) != waits {
+    if stashes.len() != 1 {
         return Err(Fail::from("the stash comes back"));
     }
     if state.view(&LOOK) != seen {
@@ -176,9 +155,10 @@ fn begin_split<N: PhaseName, R: Wait>(
     if hot.insert(object).is_err() {
         return Err(Fail::from("no memory for the hot set"));
     }
+    let receipts = Vec::with_capacity(alloc, 1)?;
     match state.begin_split::<N, R>(rt, alloc, &[quota], &hot) {
         Ok((_floor, permits)) => {
-            spend_split(permits);
+            let _receipts = split_work::finish_all(permits, receipts);
             Ok(None)
         }
         Err((state, fault)) => {
@@ -195,7 +175,6 @@ pub(crate) fn joined_fault<R: Wait>(
     rt: &R,
     alloc: Global,
     state: Joined,
-    waiting: Option<Request>,
     quota: u32,
 ) -> Result<Option<BeginFault>, Fail>
     requires { length state.counters ≡ 1 }
@@ -203,7 +182,7 @@ pub(crate) fn joined_fault<R: Wait>(
     if state.phase() == u64::MAX {
         return Err(Fail::from("a next phase"));
     }
-    begin_joined::<Brand, R>(rt, alloc, state, waiting, quota)
+    begin_joined::<Brand, R>(rt, alloc, state, quota)
 }
 
 /// Why a split phase does not begin from a state of one worker.

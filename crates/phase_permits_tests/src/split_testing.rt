@@ -1,17 +1,13 @@
 //! What the tests of split phases do: one worker over four shards, of which user s lies in shard s. A vase that the
 //! worker stored before, user 3 and category 0 are hot.
 ghost use Rattle.std.specs.Prelude.{◌≡◌, ◌<◌, ℕ, [], length, map, vec_len, IfOk};
-ghost use Rattle.auction_rows.specs.Requests.{shard_of};
-ghost use Rattle.item_shards.specs.ShardShelf.{LiesIn};
 ghost use Rattle.shard_boxes.specs.States.{state_of, state_at, AreOpened, IsOpened};
 ghost use Rattle.phase_desks.specs.declared.counters.Counters.{Counters};
 ghost use Rattle.phase_desks.specs.Slicing.{slices_of, stocks_of};
 ghost use Rattle.phase_desks.specs.Splits.{AreStored};
 ghost use Rattle.phase_transactions.specs.Single.{HaveOpening};
 
-use auction_rows::{
-    Facts, ItemId, Name, Object, Opening, Quantity, Reply, Request, Stars, shard_of,
-};
+use auction_rows::{Facts, ItemId, Name, Object, Opening, Quantity, Reply, Request, Stars};
 use item_shards::Shard;
 use phase_permits::{Counters, Done, PermitFault, Slices, SplitPermit, Stash};
 use shard_boxes::{Boxes, PhaseName};
@@ -41,12 +37,6 @@ pub(crate) const VASE: ItemId = ItemId {
     serial: 0,
 };
 
-/// The item that the worker stores next.
-pub(crate) const NEXT: ItemId = ItemId {
-    worker: 0,
-    serial: 1,
-};
-
 /// A call of the permit, of which the hot ones are on the vase and about user 3.
 #[derive(Clone, Copy)]
 pub(crate) enum Call {
@@ -62,17 +52,7 @@ pub(crate) enum Answer {
     Performed(Result<Done, PermitFault>),
 }
 
-/// What the closed shards show of the next item, of user 1, of user 3 and of category 0, and their clocks.
-#[derive(Clone, Copy)]
-pub(crate) struct Shown {
-    pub(crate) item: Reply,
-    pub(crate) cold_user: Reply,
-    pub(crate) hot_user: Reply,
-    pub(crate) category: Reply,
-    pub(crate) clocks: [u64; 4],
-}
-
-/// What a permit answered and left, and what its shards show when the phase is over.
+/// What a permit answered and left.
 #[derive(Drop)]
 pub(crate) struct Outcome {
     pub(crate) answers: Vec<Answer>,
@@ -80,7 +60,6 @@ pub(crate) struct Outcome {
     pub(crate) journal: Journal,
     pub(crate) slices: Slices,
     pub(crate) stash: Stash,
-    pub(crate) shown: Shown,
 }
 
 /// Vases of which there is one, put up by user 0 in category 0 until time 100.
@@ -133,7 +112,6 @@ fn perform_call<N: PhaseName, R: Wait>(
     requires of { permit.old.key.boxes ≡ boxes.now }
     requires opening { HaveOpening N.opening permit.old.split.desk.opening }
     ensures of { permit.new.key.boxes ≡ boxes.now }
-    ensures worker { permit.new.key.worker ≡ permit.old.key.worker }
     ensures opening { permit.new.split.desk.opening ≡ permit.old.split.desk.opening }
 {
     let hot = permit.is_hot(Object::Item(VASE)) && permit.is_hot(Object::User(3));
@@ -164,8 +142,6 @@ fn perform_calls<N: PhaseName, R: Wait>(
     requires of { permit.old.key.boxes ≡ boxes.now }
     requires opening { HaveOpening N.opening permit.old.split.desk.opening }
     requires few { length calls.now < 10 }
-    ensures of { permit.new.key.boxes ≡ boxes.now }
-    ensures worker { permit.new.key.worker ≡ permit.old.key.worker }
 {
     for index in 0..calls.len() {
         let Some(answer) = perform_call(rt, boxes, permit, &calls[index], index as u32) else {
@@ -174,54 +150,6 @@ fn perform_calls<N: PhaseName, R: Wait>(
         if answers.push(answer).is_err() {
             return;
         }
-    }
-}
-
-// The shard of four in which an object lies.
-fn home(shards: &[Shard], object: Object) -> &Shard
-    requires len { length (map state_of shards.now) ≡ 4 }
-    requires number { (s : ℕ) → s < 4 → (state_at (map state_of shards.now) s).number ≡ s }
-    requires shards { (s : ℕ) → s < 4 → (state_at (map state_of shards.now) s).shards ≡ 4 }
-    ensures { LiesIn result.now object }
-{
-    &shards[shard_of(object, 4) as usize]
-}
-
-// What the shard of four in which an object lies shows of it.
-fn view(shards: &[Shard], object: Object) -> Reply
-    requires len { length (map state_of shards.now) ≡ 4 }
-    requires number { (s : ℕ) → s < 4 → (state_at (map state_of shards.now) s).number ≡ s }
-    requires shards { (s : ℕ) → s < 4 → (state_at (map state_of shards.now) s).shards ≡ 4 }
-{
-    let shard = home(shards, object);
-    match object {
-        Object::Item(item) => shard.view_item(item),
-        Object::User(user) => shard.view_user(user),
-        Object::Category(category) => shard.view_category(category),
-    }
-}
-
-// The clocks of four shards.
-fn clocks(shards: &[Shard]) -> [u64; 4] {
-    let mut clocks = [0; 4];
-    for (clock, shard) in clocks.iter_mut().zip(shards) {
-        *clock = shard.clock();
-    }
-    clocks
-}
-
-// What four shards show.
-fn show(shards: &[Shard]) -> Shown
-    requires len { length (map state_of shards.now) ≡ 4 }
-    requires number { (s : ℕ) → s < 4 → (state_at (map state_of shards.now) s).number ≡ s }
-    requires shards { (s : ℕ) → s < 4 → (state_at (map state_of shards.now) s).shards ≡ 4 }
-{
-    Shown {
-        item: view(shards, Object::Item(NEXT)),
-        cold_user: view(shards, Object::User(1)),
-        hot_user: view(shards, Object::User(3)),
-        category: view(shards, Object::Category(0)),
-        clocks: clocks(shards),
     }
 }
 
@@ -254,17 +182,13 @@ fn phase<N: PhaseName, R: Wait>(
     let mut permit = SplitPermit::new(key, OPENING, COUNTERS, journal, stash, slices, 4, clock);
     perform_calls(rt, &boxes, &mut permit, calls, &mut answers);
     let left = permit.left();
-    let (journal, slices, stash, key, _counters) = permit.finish().parts();
-    let mut keys = Vec::new(alloc);
-    keys.push(key)?;
-    let shards = boxes.close(rt, keys);
+    let (journal, slices, stash, _key, _counters) = permit.finish().parts();
     Ok(Outcome {
         answers,
         left,
         journal,
         slices,
         stash,
-        shown: show(&shards),
     })
 }
 

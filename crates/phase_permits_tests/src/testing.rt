@@ -1,22 +1,18 @@
 //! What the tests with boxes do: joined phases over four shards, of which user s lies in shard s.
 ghost use Rattle.std.specs.Prelude.{◌≡◌, ◌<◌, ◌≤◌, ℕ, length, map, vec_len, IfOk};
-ghost use Rattle.shard_boxes.specs.Closed.{IsSpent, AreSpent};
-ghost use Rattle.shard_boxes.specs.Keys.{IsNewKey, AreNewKeys};
 ghost use Rattle.shard_boxes.specs.States.{state_of, state_at, AreOpened, IsOpened};
 ghost use Rattle.phase_transactions.specs.Single.{HaveOpening};
 
 use auction_rows::{Opening, Reply, Request};
 use item_shards::Shard;
 use phase_permits::{Counters, JoinedPermit, PermitFault, Stash};
-use shard_boxes::{Boxes, Key, PhaseName};
+use shard_boxes::{Boxes, PhaseName};
 use std::alloc::{AllocError, Global};
 use std::fmt::Debug;
 use std::marker::Brand;
 use std::process::Abort;
 use std::sync::Wait;
 use std::test::Fail;
-use std::thread;
-use std::thread::Threads;
 use worker_journals::Journal;
 
 const OPENING: Opening = Opening {
@@ -190,77 +186,4 @@ pub(crate) fn run<R: Wait>(
     let shards = four(alloc)?;
     let stash = stash_of(alloc, stashed)?;
     phase::<Brand, R>(rt, alloc, shards, clock, stash, requests)
-}
-
-// A view of user 3 by a permit of its own, where there is memory for it.
-fn view_user<N: PhaseName, R: Wait>(rt: &R, alloc: Global, boxes: &Boxes<N>, key: Key<N>) -> Key<N>
-    requires key { IsNewKey boxes.now key.worker key }
-    requires users { HaveOpening N.opening (record { users = 10; categories = 2 }) }
-    ensures { IsSpent boxes.now key.worker result }
-{
-    let Ok(journal) = Journal::with_room(alloc, 0, key.worker(), 1) else {
-        return key;
-    };
-    let Ok(stash) = Stash::with_room(alloc, 0) else {
-        return key;
-    };
-    let request = Request::ViewUser { user: 3 };
-    let counters = Counters::default();
-    let mut permit = JoinedPermit::new(key, OPENING, counters, journal, stash, 1, 0);
-    let _answer = attempt(rt, boxes, &mut permit, &request, 0);
-    let (_journal, _stash, key, _counters) = permit.finish().parts();
-    key
-}
-
-// Such a view by each worker, on a thread of its own.
-fn view_all<N: PhaseName + Send + Sync, R: Threads + Wait + Sync>(
-    rt: &R,
-    alloc: Global,
-    boxes: &Boxes<N>,
-    keys: Vec<Key<N>>,
-) -> Result<Vec<Key<N>>, AllocError>
-    requires users { HaveOpening N.opening (record { users = 10; categories = 2 }) }
-    requires keys { AreNewKeys boxes.now N.workers keys.items }
-    ensures { IfOk result (λ v. AreSpent boxes.now N.workers v.items) }
-{
-    let keys = thread::map_vec(
-        rt,
-        keys,
-        &|key: Key<N>| -> Key<N>
-            requires { IsNewKey boxes.now key.worker key
-                × HaveOpening N.opening (record { users = 10; categories = 2 }) }
-            ensures { IsSpent boxes.entry.now key.worker result }
-        { view_user(rt, alloc, boxes, key) },
-    )?;
-    Ok(keys)
-}
-
-// The phase of two workers, and its shards when it is over.
-fn shared_phase<N: PhaseName + Send + Sync, R: Threads + Wait + Sync>(
-    rt: &R,
-    alloc: Global,
-    shards: Vec<Shard>,
-) -> Result<Vec<Shard>, Fail>
-    requires opening { map state_of shards.items ≡ N.opening }
-    requires four { length N.opening ≡ 4 }
-    requires opened { AreOpened N.opening }
-    requires users { HaveOpening N.opening (record { users = 10; categories = 2 }) }
-    requires workers { 2 ≡ N.workers }
-{
-    let Ok((boxes, keys)) = Boxes::<N>::new(rt, alloc, shards, 2) else {
-        return Err(Fail::from("no memory for the boxes"));
-    };
-    let keys = view_all(rt, alloc, &boxes, keys)?;
-    Ok(boxes.close(rt, keys))
-}
-
-/// The greatest clock of four shards after two workers, each on a thread of its own, viewed user 3.
-pub(crate) fn shared<R: Threads + Wait + Sync>(rt: &R, alloc: Global) -> Result<u64, Fail> {
-    let shards = four(alloc)?;
-    let shards = shared_phase::<Brand, R>(rt, alloc, shards)?;
-    let mut latest = 0;
-    for shard in &shards {
-        latest = shard.clock().max(latest);
-    }
-    Ok(latest)
 }

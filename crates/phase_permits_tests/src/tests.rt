@@ -1,8 +1,6 @@
-//! Worked examples over real boxes.
-use crate::testing::{assert_same, run, shared, three_commits};
-use auction_rows::{
-    BidId, BuyId, CommentId, Facts, ItemId, Name, Quantity, Refusal, Reply, Request, Stars,
-};
+//! Worked examples over real boxes. What is answered stands in tests/worked.
+use crate::testing::{assert_same, run, three_commits};
+use auction_rows::{BidId, Facts, ItemId, Name, Quantity, Reply, Request};
 use phase_permits::PermitFault;
 use std::test::Fail;
 
@@ -60,47 +58,6 @@ fn bid(bidder: u32, amount: u64, time: u64) -> Request {
     }
 }
 
-/// A bid on an item that is not stored.
-fn bid_on_nothing(bidder: u32) -> Request {
-    let item = ItemId {
-        worker: 3,
-        serial: 0,
-    };
-    Request::StoreBid {
-        bidder,
-        item,
-        amount: 10,
-        time: 5,
-    }
-}
-
-fn purchase(quantity: u64, time: u64) -> Result<Request, Fail> {
-    Ok(Request::BuyNow {
-        buyer: 1,
-        item: FIRST,
-        quantity: Quantity::new(quantity).ok_or("a quantity")?,
-        time,
-    })
-}
-
-/// A comment of user 0 about a user.
-fn comment(about: u32) -> Result<Request, Fail> {
-    Ok(Request::StoreComment {
-        author: 0,
-        about,
-        item: FIRST,
-        stars: Stars::new(-5).ok_or("stars")?,
-    })
-}
-
-fn commented(serial: u32) -> Answer {
-    Ok(Reply::CommentStored(CommentId { worker: 0, serial }))
-}
-
-fn refused(reason: Refusal) -> Answer {
-    Ok(Reply::Refused(reason))
-}
-
 #[test]
 fn item_bid_and_view(rt: HostRuntime) -> Result<(), Fail> {
     let view = Request::ViewItem { item: FIRST };
@@ -117,105 +74,6 @@ fn item_bid_and_view(rt: HostRuntime) -> Result<(), Fail> {
     assert_same(&rt, &committed, &Some([(1, 0), (2, 1), (3, 2)]));
     assert_same(&rt, &answers.left, &6);
     assert_same(&rt, &answers.tries, &5);
-    Ok(())
-}
-
-#[test]
-fn refused_bids(rt: HostRuntime) -> Result<(), Fail> {
-    let requests = [
-        vase(0, 0, 1)?,
-        bid(1, 9, 5),
-        bid(1, 10, 100),
-        bid(1, 9, 100),
-        bid(1, 10, 99),
-    ];
-    let answers = run(&rt, rt.alloc(), 0, None, &requests)?;
-    let wanted = [
-        Ok(Reply::ItemStored(FIRST)),
-        refused(Refusal::BelowStart),
-        refused(Refusal::Closed),
-        refused(Refusal::BelowStart),
-        Ok(Reply::BidStored(FIRST_BID)),
-    ];
-    assert_same(&rt, &answers.replies.as_slice(), &wanted.as_slice());
-    Ok(())
-}
-
-#[test]
-fn reasons_in_order(rt: HostRuntime) -> Result<(), Fail> {
-    let requests = [
-        bid_on_nothing(10),
-        bid_on_nothing(0),
-        vase(10, 2, 1)?,
-        vase(0, 2, 1)?,
-        Request::ViewUser { user: 10 },
-        Request::ViewCategory { category: 2 },
-    ];
-    let answers = run(&rt, rt.alloc(), 0, None, &requests)?;
-    let wanted = [
-        refused(Refusal::NoSuchUser),
-        refused(Refusal::NoSuchItem),
-        refused(Refusal::NoSuchUser),
-        refused(Refusal::NoSuchCategory),
-        refused(Refusal::NoSuchUser),
-        refused(Refusal::NoSuchCategory),
-    ];
-    assert_same(&rt, &answers.replies.as_slice(), &wanted.as_slice());
-    Ok(())
-}
-
-#[test]
-fn sold_out(rt: HostRuntime) -> Result<(), Fail> {
-    let requests = [
-        vase(0, 0, 2)?,
-        purchase(3, 5)?,
-        purchase(2, 5)?,
-        bid(2, 50, 6),
-        bid(2, 9, 100),
-        purchase(1, 100)?,
-        Request::ViewItem { item: FIRST },
-    ];
-    let seen = seen(None, None, 0, 0)?;
-    let answers = run(&rt, rt.alloc(), 0, None, &requests)?;
-    let bought = BuyId {
-        worker: 0,
-        serial: 0,
-    };
-    let wanted = [
-        Ok(Reply::ItemStored(FIRST)),
-        refused(Refusal::NotEnough),
-        Ok(Reply::Bought(bought)),
-        refused(Refusal::SoldOut),
-        refused(Refusal::BelowStart),
-        refused(Refusal::Closed),
-        seen,
-    ];
-    assert_same(&rt, &answers.replies.as_slice(), &wanted.as_slice());
-    Ok(())
-}
-
-#[test]
-fn comments_over_one_shard_and_two(rt: HostRuntime) -> Result<(), Fail> {
-    let requests = [
-        vase(0, 0, 1)?,
-        comment(3)?,
-        comment(4)?,
-        Request::ViewUser { user: 3 },
-        Request::ViewUser { user: 4 },
-    ];
-    let answers = run(&rt, rt.alloc(), 0, None, &requests)?;
-    let rated = Ok(Reply::UserSeen {
-        rating: -5,
-        comments: 1,
-    });
-    let wanted = [
-        Ok(Reply::ItemStored(FIRST)),
-        commented(0),
-        commented(1),
-        rated,
-        rated,
-    ];
-    assert_same(&rt, &answers.replies.as_slice(), &wanted.as_slice());
     Ok(())
 }
 
@@ -258,11 +116,5 @@ fn one_stashed(rt: HostRuntime) -> Result<(), Fail> {
     assert_same(&rt, &answers.waiting, &0);
     assert_same(&rt, &answers.left, &9);
     assert_same(&rt, &answers.tries, &2);
-    Ok(())
-}
-
-#[test]
-fn two_threads_view_a_user(rt: HostRuntime) -> Result<(), Fail> {
-    assert_same(&rt, &shared(&rt, rt.alloc())?, &2);
     Ok(())
 }

@@ -1,17 +1,10 @@
 //! Three shards of three, of which user s lies in shard s, and workers who comment on the users of two of them at a time.
-use crate::testing::{latest, opened, run, three, views};
+use crate::testing::{latest, run, three, views};
 use auction_rows::{Reply, Stars};
 use std::test::Fail;
 
 fn seen(rating: i64, comments: u64) -> Reply {
     Reply::UserSeen { rating, comments }
-}
-
-#[test]
-fn boxes_and_keys(rt: HostRuntime) -> Result<(), Fail> {
-    let alloc = rt.alloc();
-    assert_eq!(rt; opened(&rt, alloc, three(alloc)?, 16)?, (3, Some(15)));
-    Ok(())
 }
 
 #[test]

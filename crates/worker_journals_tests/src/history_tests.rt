@@ -1,14 +1,10 @@
 //! Histories that grow by a phase, and how they are read.
-use crate::journal_tests::pairs;
 use crate::testing::{
-    add_phase, assert_commits, assert_history, assert_merged, history_of, journal_of, journal_with,
-    phase_of,
+    add_phase, assert_commits, assert_history, assert_merged, history_of, journal_of, phase_of,
 };
-use auction_rows::{Object, Row, StoreReply};
 use std::alloc::Global;
-use std::process::Abort;
 use std::test::Fail;
-use worker_journals::{Entry, EntryRef, History};
+use worker_journals::{Entry, History};
 
 #[test]
 fn a_history_begins_empty(rt: HostRuntime) -> Result<(), Fail> {
@@ -83,59 +79,6 @@ fn a_worker_has_its_entries_of_all_phases(rt: HostRuntime) -> Result<(), Fail> {
     assert_commits(&rt, rt.alloc(), &own, &[(2, 1), (9, 1), (1, 1)])?;
     assert!(rt; history.of_worker(2).next().is_none());
     assert!(rt; history.last_worker() == 1);
-    Ok(())
-}
-
-#[test]
-fn a_thousand_short_phases(rt: HostRuntime) -> Result<(), Fail> {
-    let alloc = rt.alloc();
-    let mut history = History::new(alloc);
-    for _phase in 0..1_000 {
-        add_phase(alloc, &mut history, &[&[1, 2], &[], &[2]])?;
-    }
-    assert!(rt; history.len() == 3_000);
-    let entries: Vec<Entry> = history.iter().map(|entry| entry.to_entry()).collect(alloc)?;
-    for phase in entries.as_slice().chunks(3) {
-        assert_commits(&rt, alloc, phase, &[(1, 0), (2, 0), (2, 2)])?;
-    }
-    assert!(rt; own_entries(alloc, &history, 0)?.len() == 2_000);
-    assert!(rt; own_entries(alloc, &history, 2)?.len() == 1_000);
-    Ok(())
-}
-
-// What is looked at in an entry is what the whole entry says.
-fn assert_looks(rt: &impl Abort, entry: &EntryRef<'_>) {
-    let whole = entry.to_entry();
-    assert!(rt; (entry.phase(), entry.number()) == (whole.phase, whole.number));
-    assert!(rt; (entry.worker(), entry.index()) == (whole.worker, whole.index));
-    assert!(rt; entry.request() == whole.request);
-    assert!(rt; entry.store_reply() == StoreReply::of(&whole.reply));
-}
-
-const LAST_OF_TEN: [bool; 10] = [
-    false, false, false, false, false, false, false, false, false, true,
-];
-
-// Of the ten pairs two are accepted stores, an item's in category 2 and a comment about user 2, and the last store is refused.
-#[test]
-fn entries_are_looked_at_without_being_made(rt: HostRuntime) -> Result<(), Fail> {
-    let alloc = rt.alloc();
-    let mut history = History::new(alloc);
-    history.add_phase(vec![in alloc; journal_with(alloc, &pairs()?)?]?)?;
-    for entry in history.iter() {
-        assert_looks(&rt, &entry);
-    }
-    let refused = history.iter().map(|entry| entry.is_refused());
-    let refused: Vec<bool> = refused.collect(alloc)?;
-    assert!(rt; refused.as_slice() == LAST_OF_TEN.as_slice());
-    let rows: Vec<Row> = history
-        .iter()
-        .filter_map(|entry| entry.row())
-        .collect(alloc)?;
-    assert!(rt; rows.len() == 2);
-    let objects = history.iter().filter_map(|entry| entry.object_written());
-    let objects: Vec<Object> = objects.collect(alloc)?;
-    assert!(rt; objects.as_slice() == [Object::Category(2), Object::User(2)].as_slice());
     Ok(())
 }
 

@@ -114,8 +114,8 @@ fn latest(count: u32) -> Reply {
     Reply::CategorySeen(shown)
 }
 
-/// Pairs of which something lies beside the heads, most kinds twice, and of which nothing does.
-pub(crate) fn pairs() -> Result<[(Request, Reply); 10], Fail> {
+// Pairs of which something lies beside the heads, most kinds twice, and of which nothing does.
+fn pairs() -> Result<[(Request, Reply); 10], Fail> {
     let stars = Stars::new(-5).ok_or("stars")?;
     let comment = Request::StoreComment {
         author: 1,
@@ -160,19 +160,6 @@ fn entries_of_all_kinds_are_read_as_they_were_written(rt: HostRuntime) -> Result
     let mut journal = journal_with(rt.alloc(), &pairs)?;
     journal.close();
     assert!(rt; pairs_of(rt.alloc(), &journal)?.as_slice() == pairs.as_slice());
-    Ok(())
-}
-
-#[test]
-fn an_answer_tells_a_reply(rt: HostRuntime) -> Result<(), Fail> {
-    let stored = StoreReply::CommentStored(COMMENT);
-    let (refused, shown) = (Reply::Refused(Refusal::Closed), bids(2));
-    assert!(rt; Answer::store(stored).to_store() == Some(stored));
-    assert!(rt; Answer::store(stored).to_reply() == Reply::CommentStored(COMMENT));
-    assert!(rt; Answer::of(&refused).to_store() == Some(StoreReply::Refused(Refusal::Closed)));
-    assert!(rt; Answer::of(&refused).to_reply() == refused);
-    assert!(rt; Answer::of(&shown).to_store().is_none());
-    assert!(rt; Answer::of(&shown).to_reply() == shown);
     Ok(())
 }
 

@@ -1,6 +1,6 @@
 //! What the tests hand in: users 10, categories 2.
-use crate::Opened;
 use auction_rows::{Facts, ItemId, Name, Opening, Quantity, Request, Stars};
+use item_shards::Opened;
 use std::test::Fail;
 
 pub(crate) const OPENING: Opening = Opening {
