@@ -1,0 +1,56 @@
+//! Whole runs, and their requests.
+use auction_rows::{BidId, ItemId, Reply, Request};
+use auction_run::{Gate, Outcome, Policy, run};
+use item_shards::OpeningBook;
+use library_tests::testing::{OPENING, purchase, put_up, vases};
+use std::alloc::Global;
+use std::sync::Wait;
+use std::test::Fail;
+use std::thread::Threads;
+
+pub(crate) const LOOK: Request = Request::ViewUser { user: 0 };
+
+pub(crate) fn item() -> Result<Request, Fail> {
+    Ok(put_up(vases(1)?))
+}
+
+// A bid on an item of the first worker.
+pub(crate) fn bid_on(serial: u32, bidder: u32, amount: u64) -> Request {
+    Request::StoreBid {
+        bidder,
+        item: ItemId { worker: 0, serial },
+        amount,
+        time: 1,
+    }
+}
+
+pub(crate) fn buy_one() -> Result<Request, Fail> {
+    purchase(4, 1, 9)
+}
+
+pub(crate) fn bid_stored(worker: u32, serial: u32) -> Reply {
+    Reply::BidStored(BidId { worker, serial })
+}
+
+// The run of such scripts over four shards, with up to eight hot objects and threshold 1.
+pub(crate) fn run_of<R: Threads + Wait + Sync, G: Gate + Sync>(
+    rt: &R,
+    alloc: Global,
+    scripts: &[&[Request]],
+    joined_quota: u32,
+    split_quota: u32,
+    gate: &G,
+) -> Result<Outcome, Fail> {
+    let policy = Policy {
+        shards: 4,
+        joined_quota,
+        split_quota,
+        threshold: 1,
+        hot_max: 8,
+    };
+    let mut own = Vec::new(alloc);
+    for script in scripts {
+        own.push(Vec::from_slice(alloc, script)?)?;
+    }
+    Ok(run(rt, alloc, &OpeningBook::empty(OPENING), own, policy, gate)?)
+}

@@ -1,0 +1,20 @@
+//! Tests of the libraries below a phase's permits, a folder for each.
+#![tactic(auto)]
+
+#[cfg(test)]
+mod boxes;
+#[cfg(test)]
+mod desks;
+#[cfg(test)]
+mod journals;
+#[cfg(test)]
+mod records;
+#[cfg(test)]
+mod rows;
+#[cfg(test)]
+mod shards;
+pub mod testing;
+#[cfg(test)]
+mod text;
+#[cfg(test)]
+mod windows;

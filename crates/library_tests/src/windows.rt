@@ -1,0 +1,3 @@
+//! Tests of what windows of `auction_window` show.
+mod phase_tests;
+mod testing;

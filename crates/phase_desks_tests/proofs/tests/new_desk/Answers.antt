@@ -1,7 +1,0 @@
-use Rattle.std.proofs.Common.{refl}
-use Rattle.std.specs.List.{IsDistinct}
-use Rattle.phase_desks_tests.proofs.tests.new_desk.Goals as goal
-
-pub new-requires-clause-distinct : goal.new-requires-clause-distinct
-unfolding IsDistinct
-new-requires-clause-distinct g c = ((refl, (refl, tt)), ((refl, tt), (tt, tt)))

@@ -1,5 +1,0 @@
-//! Tests of `phase_desks`: stashes, slices of hot objects, and a desk's commits in a split phase.
-#![tactic(auto)]
-
-#[cfg(test)]
-mod tests;
