@@ -1,5 +1,5 @@
 -- A commit keeps what a split desk is.
-use Rattle.std.proofs.Common.{◌≡◌, ℕ, ◌+◌, ◌≤◌, List, [], ◌∷◌, refl, sym, ap, subst, ◌∙◌, arith}
+use Rattle.std.proofs.Common.{◌≡◌, ℕ, ◌+◌, ◌-◌, ◌≤◌, List, [], ◌∷◌, refl, sym, ap, subst, ◌∙◌, arith}
 use Rattle.auction_rows.specs.declared.ids.Object.{Object}
 use Rattle.auction_rows.specs.declared.ids.Object.TheVariants.{Item, User, Category}
 use Rattle.auction_rows.specs.declared.replies.Reply.{Reply}
@@ -15,7 +15,7 @@ use Rattle.phase_desks.specs.declared.slices.Hot.{Hot}
 use Rattle.phase_desks.specs.Slicing.{objects_of, changed, after_act, after_acts, AreFew}
 use Rattle.phase_desks.specs.Deeds.{counted}
 use Rattle.phase_desks.specs.Desks.{DeskState, after_commit, with_one_less}
-use Rattle.phase_desks.specs.Splits.{AreStored}
+use Rattle.phase_desks.specs.Splits.{AreStored, HasStashRoom}
 use Rattle.phase_desks.proofs.DeskLemmas.{one_commit_more}
 
 -- acts leave the objects
@@ -53,14 +53,21 @@ still_stored worker counters reply hots slices same stored item hot own =
     let more = no_fewer_items counters reply in
     omega (arith, less, more)
 
+-- the stash has room for one less
+room_less : (hots slices : List (Object × Hot)) (left room : ℕ) → objects_of slices ≡ objects_of hots → HasStashRoom hots left room → HasStashRoom slices (left - 1) room
+room_less hots [] left room same is = tt
+room_less [] (hot ∷ slices) left room same is = absurd (cc)
+room_less (first ∷ hots) (hot ∷ slices) left room same is = omega (arith, is)
+
 -- the invariant of a split desk after a commit of the quota whose acts the slices have
 pub commit_keeps_split : (desk new : DeskState) (hots slices : List (Object × Hot)) (number index : ℕ) (request : Request) (reply : Reply) (found : Found) (acts : List Act)
     → new ≡ with_one_less (after_commit desk number index request reply found) → slices ≡ after_acts hots acts
-    → AreFew (desk.counters.commits + 1) slices → desk.left ≤ desk.stash.room → AreStored desk.journal.worker desk.counters hots
-    → AreFew new.counters.commits slices × (new.left ≤ new.stash.room) × AreStored new.journal.worker new.counters slices
+    → AreFew (desk.counters.commits + 1) slices → HasStashRoom hots desk.left desk.stash.room → AreStored desk.journal.worker desk.counters hots
+    → AreFew new.counters.commits slices × HasStashRoom slices new.left new.stash.room × AreStored new.journal.worker new.counters slices
 commit_keeps_split desk new hots slices number index request reply found acts is acted few room stored =
-    subst (λ (d : DeskState). AreFew d.counters.commits slices × (d.left ≤ d.stash.room) × AreStored d.journal.worker d.counters slices) (sym is) (
+    let objects : objects_of slices ≡ objects_of hots = ap objects_of acted ∙ objects-acts hots acts in
+    subst (λ (d : DeskState). AreFew d.counters.commits slices × HasStashRoom slices d.left d.stash.room × AreStored d.journal.worker d.counters slices) (sym is) (
       subst (λ n. AreFew n slices) (sym (one_commit_more desk.counters reply)) few,
-      omega (arith, room),
-      still_stored desk.journal.worker desk.counters reply hots slices (ap objects_of acted ∙ objects-acts hots acts) stored,
+      room_less hots slices desk.left desk.stash.room objects room,
+      still_stored desk.journal.worker desk.counters reply hots slices objects stored,
     )

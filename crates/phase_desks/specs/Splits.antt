@@ -1,11 +1,9 @@
 -- What a split permit has beside its key, and what a commit with an empty footprint does to it.
-use Rattle.std.specs.Prelude.{◌≡◌, ℕ, ◌<◌, suc, true, List, [], ◌∷◌, None}
+use Rattle.std.specs.Prelude.{◌≡◌, ℕ, ◌<◌, ◌≤◌, suc, true, List, [], ◌∷◌, None, ⊤}
 use Rattle.auction_rows.specs.declared.ids.ItemId.{ItemId}
 use Rattle.auction_rows.specs.declared.ids.Object.{Object}
 use Rattle.auction_rows.specs.declared.ids.Object.TheVariants.{Item}
-use Rattle.auction_rows.specs.declared.replies.Refusal.{Refusal}
 use Rattle.auction_rows.specs.declared.replies.Reply.{Reply}
-use Rattle.auction_rows.specs.declared.replies.Reply.TheVariants.{Refused}
 use Rattle.auction_rows.specs.declared.requests.Request.{Request}
 use Rattle.auction_rows.specs.Book.{Book, items_stored, bids_stored, comments_stored, buys_stored}
 use Rattle.auction_rows.specs.Footprint.{is_hot}
@@ -23,6 +21,11 @@ pub record SplitState : Type 0 where
   pub desk : DeskState
   pub slices : List (Object × Hot)
 
+-- there is room in the stash for what is left of the quota, where something is hot: elsewhere nothing is put off
+abbrev pub HasStashRoom : List (Object × Hot) → ℕ → ℕ → Type 0
+HasStashRoom [] left room = ⊤
+HasStashRoom (hot ∷ more) left room = left ≤ room
+
 -- the object is one of the slices'
 abbrev pub IsHot : SplitState → Object → Type 0
 IsHot split object = is_hot (objects_of split.slices) object ≡ true
@@ -38,11 +41,6 @@ setting_of split shards = record { opening = split.desk.opening; shards = shards
 -- what is found where no shard is taken
 abbrev pub nothing : Found
 nothing = record { stock = None; clocks = None ∷ None ∷ [] }
-
--- the desk has committed the request with this reason, at the number after its clock, and found nothing
-pub record HasRefused (desk new : DeskState) (request : Request) (reason : Refusal) (index : ℕ) (reply : Reply) : Type 0 where
-  pub reply_is : reply ≡ Refused reason
-  pub desk_is : new ≡ with_one_less (after_commit desk (suc desk.clock) index request (Refused reason) nothing)
 
 -- the deed of a store on hot objects alone: its number follows its worker's last
 abbrev pub hot_deed : SplitState → Request → ℕ → Reply → Deed

@@ -42,7 +42,6 @@ impl Model for Desk {
 
 impl Desk {
     ghost use Rattle.phase_desks.specs.Deeds.{refusal_by};
-    ghost use Rattle.phase_desks.specs.Splits.{HasRefused};
     ghost use Rattle.phase_desks.specs.Desks.{AreCounted, HasRoom, last_reply, new_desk, after_commit, after_putting_off, after_calling_first, with_one_less};
 
     /// A worker's desk as a phase begins. It takes no memory.
@@ -194,7 +193,7 @@ impl Desk {
         ensures { last_reply self.now.journal.entries ≡ Some result }
     {
         let last = self.journal.entry(self.journal.len() - 1);
-        last.to_entry().reply
+        last.reply()
     }
 
     /// The id of the worker's next bid.
@@ -238,26 +237,6 @@ impl Desk {
                 None => item_refusal(*request, None, 0),
             },
         }
-    }
-
-    /// Commits a request that the opening refuses, at the number after the clock: None exactly where that is past the
-    /// end of numbers, and then nothing has changed. It takes no shard and no memory.
-    pub fn refuse(
-        &mut self,
-        request: &Request,
-        reason: Refusal,
-        index: u32,
-    ) -> Option<Answer<'static>>
-        requires left { 0 < self.old.left }
-        ensures none { IsNone result ↔ (last_number ≤ self.old.clock) }
-        ensures unchanged { IfNone result (self.new ≡ self.old) }
-        ensures refused { IfSome result (HasRefused self.old self.new request.now reason index) }
-        ensures within { IfSome result (λ _. self.new.clock ≤ last_number) }
-    {
-        let number = self.next_number(0)?;
-        let reply = Answer::store(StoreReply::Refused(reason));
-        self.commit(number, index, request, &reply, &Found::nothing());
-        Some(reply)
     }
 
     /// Commits a request of the quota, at a number after the clock. It takes no memory.

@@ -91,6 +91,15 @@ impl Slices {
     ghost use Rattle.item_shards.specs.declared.acts.Act.TheVariants.{Bid, Comment, ListItem};
     ghost use Rattle.phase_desks.specs.Slicing.{objects_of, slices_of, stocks_of, stock_of, slices_in, after_act, IsAt, IsStocked, AreFew};
 
+    /// No slice: nothing is hot. It takes no memory.
+    pub(crate) fn none(alloc: Global) -> Slices
+        ensures { result ≡ [] }
+    {
+        Slices {
+            hot: IndexMap::new(alloc),
+        }
+    }
+
     /// An identity slice of each of these objects, none of which is named twice; an item comes with its facts and
     /// how many are left.
     pub fn new(alloc: Global, hot: &[(Object, Option<(Facts, u32)>)]) -> Result<Slices, AllocError>

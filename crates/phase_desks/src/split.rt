@@ -1,5 +1,5 @@
 //! A desk with slices: what a split permit has beside its key.
-ghost use Rattle.std.specs.Prelude.{◌≡◌, ◌≤◌, ◌<◌, ◌+◌, ◌↔◌, [], length, is_some, Some, IsNone, IfNone, IfSome};
+ghost use Rattle.std.specs.Prelude.{◌≡◌, ◌≤◌, ◌<◌, ◌+◌, ◌↔◌, [], length, is_some, slice_get, true, Some, IsNone, IfNone, IfSome};
 ghost use Rattle.item_shards.specs.CommitNumbers.{last_number};
 
 use crate::counters::Counters;
@@ -24,13 +24,13 @@ pub struct SplitDesk {
 impl Model for SplitDesk {
     ghost use Rattle.std.specs.Prelude.{◌≤◌};
     ghost use Rattle.phase_desks.specs.Slicing.{AreFew};
-    ghost use Rattle.phase_desks.specs.Splits.{SplitState, AreStored};
+    ghost use Rattle.phase_desks.specs.Splits.{SplitState, AreStored, HasStashRoom};
 
     ghost Value = { SplitState };
 
     ghost view = { λ s. record { desk = s.desk; slices = s.slices } };
 
-    ghost invariant = { λ s. AreFew s.desk.counters.commits s.slices × (s.desk.left ≤ s.desk.stash.room) × AreStored s.desk.journal.worker s.desk.counters s.slices };
+    ghost invariant = { λ s. AreFew s.desk.counters.commits s.slices × HasStashRoom s.slices s.desk.left s.desk.stash.room × AreStored s.desk.journal.worker s.desk.counters s.slices };
 }
 
 impl SplitDesk {
@@ -42,7 +42,7 @@ impl SplitDesk {
     ghost use Rattle.std.specs.Option.{option_map_or};
     ghost use Rattle.auction_rows.specs.Refusals.{number_refusal};
     ghost use Rattle.phase_desks.specs.Deeds.{is_put_off};
-    ghost use Rattle.phase_desks.specs.Desks.{AreCounted, last_reply, new_desk, after_putting_off};
+    ghost use Rattle.phase_desks.specs.Desks.{AreCounted, last_reply, new_desk, after_calling_first, after_putting_off};
     ghost use Rattle.std.specs.List.{AllByRecursion};
     ghost use Rattle.phase_desks.specs.Bids.{bid_request, comment_request};
     ghost use Rattle.phase_desks.specs.Splits.{IsHot, AreStored, HasStored};
@@ -74,6 +74,28 @@ impl SplitDesk {
         }
     }
 
+    /// A desk as a joined phase begins: nothing is hot, and what was put off before waits in the stash. It takes no memory.
+    pub fn joined(
+        opening: Opening,
+        counters: Counters,
+        journal: Journal,
+        stash: Stash,
+        quota: u32,
+        clock: u64,
+    ) -> SplitDesk
+        requires empty { journal.entries ≡ [] }
+        requires room { length stash.requests + quota ≤ journal.room }
+        requires limit { counters.commits + length stash.requests + quota ≤ 1000000 }
+        requires counted { AreCounted counters }
+        ensures { result ≡ record { desk = new_desk opening counters journal stash quota clock; slices = [] } }
+    {
+        let slices = Slices::none(stash.alloc());
+        SplitDesk {
+            desk: Desk::new(opening, counters, journal, stash, quota, clock),
+            slices,
+        }
+    }
+
     /// How many requests of the quota are not performed or put off.
     pub fn left(&self) -> u32
         ensures { result ≡ self.now.desk.left }
@@ -96,11 +118,41 @@ impl SplitDesk {
         self.desk.last_reply()
     }
 
-    /// How many requests were put off.
+    /// How many requests wait.
     pub fn stashed(&self) -> usize
         ensures { result ≡ length self.now.desk.stash.requests }
     {
         self.desk.stashed()
+    }
+
+    /// The request that waits longest, with its index.
+    pub fn first_stashed(&self) -> Option<(u32, Request)>
+        ensures { result ≡ slice_get self.now.desk.stash.requests 0 }
+    {
+        self.desk.first_stashed()
+    }
+
+    /// Calls the first stashed request into the quota, where nothing is hot: None exactly where there is none, and then nothing
+    /// has changed. It takes no memory.
+    pub fn call_first(&mut self) -> Option<(u32, Request)>
+        requires joined { self.old.slices ≡ [] }
+        ensures first { result ≡ slice_get self.old.desk.stash.requests 0 }
+        ensures none { IfNone result (self.new ≡ self.old) }
+        ensures called { IfSome result (λ _. self.new ≡ record self.old { desk = after_calling_first self.old.desk }) }
+        ensures some { IfSome result (λ _. 0 < length self.old.desk.stash.requests) }
+    {
+        self.desk.call_first()
+    }
+
+    /// Puts the request that was last called into the quota back in front of the stash, where nothing is hot. It takes no memory.
+    pub fn call_off(&mut self)
+        requires joined { self.old.slices ≡ [] }
+        requires called { 0 < length self.old.desk.stash.done }
+        requires left { 0 < self.old.desk.left }
+        ensures some { 0 < length self.new.desk.stash.requests }
+        ensures before { self.old ≡ record self.new { desk = after_calling_first self.new.desk } }
+    {
+        self.desk.call_off();
     }
 
     /// How many tries were counted.
@@ -234,6 +286,7 @@ impl SplitDesk {
 
     /// Puts off a request of the quota: no number is used. It takes no memory.
     pub fn put_off(&mut self, index: u32, request: &Request)
+        requires put_off { is_put_off (objects_of self.old.slices) request.now ≡ true }
         requires left { 0 < self.old.desk.left }
         ensures desk { self.new.desk ≡ after_putting_off self.old.desk index request.now }
         ensures slices { self.new.slices ≡ self.old.slices }

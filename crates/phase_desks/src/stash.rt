@@ -41,6 +41,11 @@ impl Stash {
         })
     }
 
+    // What its memory is of.
+    pub(crate) fn alloc(&self) -> Global {
+        *self.stored.allocator()
+    }
+
     /// Adds a request at the end, where there is room. It takes no memory.
     pub fn push(&mut self, index: u32, request: Request)
         requires room { 0 < self.old.room }

@@ -1,2 +1,3 @@
 pub mod StashedLemmas
 pub mod LastLemmas
+pub mod JoinedLemmas

@@ -120,12 +120,6 @@ module _ (opening : List ShardState) (split : SplitState) (new : DeskState) (key
         cause = subst (λ shards. last_number ≤ max split.desk.clock (greatest_by (clock_seen opening back) shards)) (sym (one_asked (length opening) split request object only accepted cold)) full;
       }
 
-  pub one_fails : (result : Option Reply) → only_object request ≡ Some object → number_refusal split.desk.opening request ≡ None → is_hot (objects_of split.slices) object ≡ false
-      → shard_of object (length opening) < length key.seats → IsIdle key → IfNone result (IsAtEnd opening split.desk new key back object)
-      → IfNone result (HasFailed opening (record { split = split; key = key }) (record { split = record { desk = new; slices = split.slices }; key = back }) request NumberFull)
-  one_fails None only accepted cold known idle end = one_failed only accepted cold known idle end
-  one_fails (Some reply) only accepted cold known idle end = end
-
 -- a comment on a cold item about a cold user, where one of their shards or the worker is at the end
 pub comment_fails : (opening : List ShardState) (split : SplitState) (new : DeskState) (key back : KeyState) (comment : Comment) → number_refusal split.desk.opening (comment_request comment) ≡ None
     → is_hot (objects_of split.slices) (Item comment.item) ≡ false → is_hot (objects_of split.slices) (User comment.about) ≡ false
@@ -158,28 +152,3 @@ fail_worth opening shards old new request fault failed is =
           (subst (λ (w : Work). IsWorkOf (setting_of old.split shards) old.key.worker w) same is.work);
     } in
     subst (λ (split : SplitState). IsWorth shards split new.key) (sym failed.split) kept
-
--- so a permit keeps its worth, whatever it answers
-pub tried_worth : (opening : List ShardState) (old new : PermitState) (request : Request) (index : ℕ) (result : Result Reply PermitFault) → IfOk result (λ reply. HasCommitted opening old new request index reply)
-    → IfErr result (HasFailed opening old new request) → IsWorth (length opening) old.split old.key → IsWorth (length opening) new.split new.key
-tried_worth opening old new request index (Ok reply) done failed is = commit_worth opening old new request index reply done is
-tried_worth opening old new request index (Err fault) done failed is = fail_worth opening (length opening) old new request fault failed is
-
--- and with a comment in a joined phase
-module _ (opening : List ShardState) (desk new : DeskState) (key back : KeyState) (comment : Comment) (allowed : number_refusal desk.opening (comment_request comment) ≡ None) where
-  abbrev pub before : PermitState
-  before = record { split = joined desk; key = key }
-
-  abbrev pub behind : PermitState
-  behind = record { split = joined new; key = back }
-
-  pub joined_comment_fails : (result : Option Reply)
-      → IfNone result (IsAsBefore opening desk new key back (shard_of (Item comment.item) (length opening)) (shard_of (User comment.about) (length opening)))
-      → IfNone result (HasFailed opening before behind (comment_request comment) NumberFull)
-  joined_comment_fails None end = comment_fails opening (joined desk) new key back comment allowed refl refl end
-  joined_comment_fails (Some reply) end = end
-
-  pub joined_comment_worth : (index : ℕ) (result : Option Reply) → IfSome result (λ reply. HasCommitted opening before behind (comment_request comment) index reply)
-      → IfNone result (HasFailed opening before behind (comment_request comment) NumberFull) → IsWorth (length opening) (joined desk) key → IsWorth (length opening) (joined new) back
-  joined_comment_worth index None done failed is = fail_worth opening (length opening) before behind (comment_request comment) NumberFull failed is
-  joined_comment_worth index (Some reply) done failed is = commit_worth opening before behind (comment_request comment) index reply done is

@@ -4,7 +4,6 @@ pub mod KeyLemmas
 pub mod FailLemmas
 pub mod SeeLemmas
 pub mod SingleLemmas
-pub mod RefuseLemmas
 pub mod PairLemmas
 pub mod ColdLemmas
 pub mod LookLemmas

@@ -1,14 +1,18 @@
 -- What a split permit does with a request keeps what it is worth.
-use Rattle.std.proofs.Common.{◌≡◌, ℕ, ◌+◌, not, is_some, false, cond, [], ◌∷◌, map, filter, None, sym, ap, subst, ◌∙◌}
+use Rattle.std.proofs.Common.{◌≡◌, ℕ, ◌+◌, not, is_some, false, cond, List, [], ◌∷◌, map, filter, None, refl, sym, ap, subst, ◌∙◌}
 use Rattle.auction_rows.specs.declared.ids.Object.TheVariants.{Item, Category}
+use Rattle.auction_rows.specs.declared.requests.Request.{Request}
+use Rattle.auction_rows.specs.declared.requests.Request.TheVariants.{StoreItem, StoreBid, StoreComment, BuyNow, ViewItem, ViewBids, ViewCategory, ViewUser}
 use Rattle.auction_rows.specs.Footprint.{is_hot}
 use Rattle.auction_rows.specs.Refusals.{number_refusal}
 use Rattle.auction_rows.specs.Requests.{shard_of}
+use Rattle.item_shards.specs.declared.acts.Act.{Act}
+use Rattle.item_shards.specs.declared.acts.Act.TheVariants.{AddItem, ListItem, Bid, Comment, Buy, Look}
 use Rattle.shard_boxes.specs.Keys.{KeyState}
 use Rattle.phase_desks.specs.declared.items.NewItem.{NewItem}
-use Rattle.phase_desks.specs.Deeds.{hot_in}
+use Rattle.phase_desks.specs.Deeds.{hot_in, is_put_off}
 use Rattle.phase_desks.specs.Items.{item_request, next_item}
-use Rattle.phase_desks.specs.Slicing.{objects_of}
+use Rattle.phase_desks.specs.Slicing.{objects_of, after_acts}
 use Rattle.phase_desks.specs.Splits.{SplitState, setting_of}
 use Rattle.phase_transactions.specs.Performing.{shards_asked}
 use Rattle.phase_transactions.specs.Permits.{IsWorth}
@@ -31,3 +35,23 @@ pub tried_worth : (shards : ℕ) (split tried : SplitState) (key : KeyState) →
 tried_worth shards split tried key counted same is =
     subst (λ (s : SplitState). IsWorth shards s key) (λ i. record { desk = sym counted i; slices = sym same i })
     (record { worker = is.worker; idle = is.idle; work = is.work })
+
+-- where nothing is hot, no request is put off, and no slice is written
+pub none_put_off : (request : Request) → is_put_off [] request ≡ false
+none_put_off (StoreItem facts time) = refl
+none_put_off (StoreBid bidder item amount time) = refl
+none_put_off (StoreComment author about item stars) = refl
+none_put_off (BuyNow buyer item quantity time) = refl
+none_put_off (ViewItem item) = refl
+none_put_off (ViewBids item) = refl
+none_put_off (ViewCategory category) = refl
+none_put_off (ViewUser user) = refl
+
+pub no_slices : (acts : List Act) → after_acts [] acts ≡ []
+no_slices [] = refl
+no_slices (AddItem id facts ∷ acts) = no_slices acts
+no_slices (ListItem category entry ∷ acts) = no_slices acts
+no_slices (Bid id entry ∷ acts) = no_slices acts
+no_slices (Comment user stars ∷ acts) = no_slices acts
+no_slices (Buy id quantity ∷ acts) = no_slices acts
+no_slices (Look shown ∷ acts) = no_slices acts

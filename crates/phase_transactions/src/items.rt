@@ -9,7 +9,7 @@ ghost use Rattle.phase_desks.specs.Items.{item_request, next_item};
 ghost use Rattle.phase_desks.specs.Splits.{IsHot};
 ghost use Rattle.phase_transactions.specs.declared.fault.PermitFault.TheVariants.{Memory};
 ghost use Rattle.phase_transactions.specs.Performing.{HasFailed};
-ghost use Rattle.phase_transactions.specs.Permits.{IsIdle, HasCommitted, joined};
+ghost use Rattle.phase_transactions.specs.Permits.{IsIdle, HasCommitted};
 ghost use Rattle.phase_transactions.specs.Single.{HaveOpening};
 ghost use Rattle.phase_transactions.specs.Items.{adds, lists, nothing_else, CanAlwaysDo, HasActed, HasActedOnBoth, HasStayed, stored_at, HasStoredCold, HasFailedCold};
 
@@ -249,40 +249,6 @@ pub(crate) fn store_over_shards<N: PhaseName, R: Wait>(
     } else {
         store_over_two(rt, boxes, key, desk, item, (home, listed), index)
     }
-}
-
-/// Stores an item in a joined phase. Memory comes only where the place of the item was refused it, and the numbers are not
-/// at their end.
-pub fn store_in_joined<N: PhaseName, R: Wait>(
-    rt: &R,
-    boxes: &Boxes<N>,
-    key: &mut Key<N>,
-    desk: &mut Desk,
-    item: &NewItem,
-    index: u32,
-) -> Result<Ghost<Reply>, PermitFault>
-    requires of { key.old.boxes ≡ boxes.now }
-    requires seats { length key.old.seats ≡ length N.opening }
-    requires idle { IsIdle key.old }
-    requires left { 0 < desk.old.left }
-    requires opening { HaveOpening N.opening desk.old.opening }
-    requires allowed { number_refusal desk.old.opening (item_request item.now) ≡ None }
-    ensures committed { IfOk result (λ reply. HasCommitted N.opening
-        (record { split = joined desk.old; key = key.old }) (record { split = joined desk.new; key = key.new })
-        (item_request item.now) index reply) }
-    ensures failed { IfErr result (HasFailed N.opening
-        (record { split = joined desk.old; key = key.old }) (record { split = joined desk.new; key = key.new })
-        (item_request item.now)) }
-{
-    let done = store_over_shards(rt, boxes, key, desk, item, index)?;
-    desk.commit(
-        done.number,
-        index,
-        &item.request(),
-        &done.reply,
-        &done.found,
-    );
-    Ok(Ghost::of(&done.reply.to_reply()))
 }
 
 /// Stores an item in a hot category: over the item's own shard, and in the category's slice.

@@ -13,8 +13,5 @@ mod single;
 mod split;
 
 pub use fault::{Done, PermitFault};
-pub use items::store_in_joined;
 pub use laws::{commits_keep_worth, empty_footprints_leave_keys, one_shard_put, replies_are_right};
-pub use pairs::comment_in_joined;
-pub use single::{only_object, perform_on};
 pub use split::commit_in_split;

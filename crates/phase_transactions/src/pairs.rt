@@ -12,13 +12,13 @@ ghost use Rattle.shard_boxes.specs.Lines.{AreTrueOf};
 ghost use Rattle.shard_boxes.specs.States.{state_at};
 ghost use Rattle.phase_desks.specs.Bids.{comment_request};
 ghost use Rattle.phase_transactions.specs.Putting.{CanDo, line_of};
-ghost use Rattle.phase_transactions.specs.Permits.{IsIdle, HasCommitted, joined};
+ghost use Rattle.phase_transactions.specs.Permits.{IsIdle};
 ghost use Rattle.phase_transactions.specs.Halves.{done_at};
 ghost use Rattle.phase_transactions.specs.Pairs.{HoldsBoth, HasSameLines, LeavesOthers, HasPutBoth, HasPutTwo, IsAsTaken, IsCommentAnswer, comment_look, HasPutComment, HasCommented, HasPutCommentInOne, HasCommentedInOne, HasCommittedCold, IsAsBefore};
 
 use crate::commit::Commit;
 use crate::putting::put_with_line;
-use auction_rows::{Facts, Object, Reply, StoreReply, shard_of};
+use auction_rows::{Facts, Object, StoreReply, shard_of};
 use ghost_log::Ghost;
 use item_shards::{Act, Shown};
 use phase_desks::{Comment, Desk, Found};
@@ -342,34 +342,4 @@ pub(crate) fn comment_over_shards<N: PhaseName, R: Wait>(
     } else {
         comment_over_two(rt, boxes, key, desk, comment, item, user, index)
     }
-}
-
-/// A comment of the quota in a joined phase that the opening does not refuse. None exactly where the greatest of the
-/// worker's clock and those of the shards of its item and of the user whom it is about is at the end of numbers, and then
-/// nothing has changed but what the key has seen. It takes no memory.
-pub fn comment_in_joined<N: PhaseName, R: Wait>(
-    rt: &R,
-    boxes: &Boxes<N>,
-    key: &mut Key<N>,
-    desk: &mut Desk,
-    comment: &Comment,
-    index: u32,
-) -> Option<Ghost<Reply>>
-    requires of { key.old.boxes ≡ boxes.now }
-    requires seats { length key.old.seats ≡ length N.opening }
-    requires idle { IsIdle key.old }
-    requires left { 0 < desk.old.left }
-    requires openings { (s : ℕ) → s < length N.opening → (state_at N.opening s).opening ≡ desk.old.opening }
-    requires allowed { number_refusal desk.old.opening (comment_request comment.now) ≡ None }
-    ensures committed { IfSome result (λ reply. HasCommitted N.opening
-        (record { split = joined desk.old; key = key.old }) (record { split = joined desk.new; key = key.new })
-        (comment_request comment.now) index reply) }
-    ensures cold { IfSome result (HasCommittedCold N.opening desk.old desk.new key.old key.new comment.now index) }
-    ensures refused { IfNone result (IsAsBefore N.opening desk.old desk.new key.old key.new
-        (shard_of (Item comment.now.item) (length N.opening)) (shard_of (User comment.now.about) (length N.opening))) }
-{
-    let done = comment_over_shards(rt, boxes, key, desk, comment, index)?;
-    let request = comment.request();
-    desk.commit(done.number, index, &request, &done.reply, &done.found);
-    Some(Ghost::of(&done.reply.to_reply()))
 }

@@ -111,68 +111,8 @@ pub(crate) fn view_on<N: PhaseName, R: Wait>(
     })
 }
 
-/// Performs a view, as `perform_on` does. It stands by itself, so that a store clears no room for what a view shows.
-#[inline(never)]
-fn perform_view<N: PhaseName, R: Wait>(
-    rt: &R,
-    boxes: &Boxes<N>,
-    key: &mut Key<N>,
-    desk: &mut Desk,
-    request: &Request,
-    object: Object,
-    index: u32,
-) -> Option<Ghost<Reply>>
-    requires of { key.old.boxes ≡ boxes.now }
-    requires seats { length key.old.seats ≡ length N.opening }
-    requires idle { IsIdle key.old }
-    requires only { only_object request.now ≡ Some object }
-    requires accepted { number_refusal desk.old.opening request.now ≡ None }
-    requires opening { HaveOpening N.opening desk.old.opening }
-    requires left { 0 < desk.old.left }
-    requires view { is_view request.now ≡ true }
-    ensures done { IfSome result (λ reply.
-        HasDone N.opening desk.old desk.new key.old key.new request.now object index reply) }
-    ensures end { IfNone result (IsAtEnd N.opening desk.old desk.new key.old key.new object) }
-{
-    let done = view_on(rt, boxes, key, desk, request, object, index)?;
-    let reply = Answer::of(&done.reply);
-    desk.commit(done.number, index, request, &reply, &done.found);
-    Some(Ghost::of(&done.reply))
-}
-
-/// Performs a request of the quota over the shard of the one object that it needs, at 1 + the greater of the worker's
-/// clock and the shard's: None exactly where that is past the end of numbers, and then the shard goes back as it was.
-/// It takes no memory.
-pub fn perform_on<N: PhaseName, R: Wait>(
-    rt: &R,
-    boxes: &Boxes<N>,
-    key: &mut Key<N>,
-    desk: &mut Desk,
-    request: &Request,
-    object: Object,
-    index: u32,
-) -> Option<Ghost<Reply>>
-    requires of { key.old.boxes ≡ boxes.now }
-    requires seats { length key.old.seats ≡ length N.opening }
-    requires idle { IsIdle key.old }
-    requires only { only_object request.now ≡ Some object }
-    requires accepted { number_refusal desk.old.opening request.now ≡ None }
-    requires opening { HaveOpening N.opening desk.old.opening }
-    requires left { 0 < desk.old.left }
-    ensures done { IfSome result (λ reply.
-        HasDone N.opening desk.old desk.new key.old key.new request.now object index reply) }
-    ensures end { IfNone result (IsAtEnd N.opening desk.old desk.new key.old key.new object) }
-{
-    if is_view(*request) {
-        return perform_view(rt, boxes, key, desk, request, object, index);
-    }
-    let done = store_on(rt, boxes, key, desk, request, object, index)?;
-    desk.commit(done.number, index, request, &done.reply, &done.found);
-    Some(Ghost::of(&done.reply.to_reply()))
-}
-
 /// The object whose shard a request takes, where it needs no other object.
-pub fn only_object(request: &Request) -> Option<Object>
+pub(crate) fn only_object(request: &Request) -> Option<Object>
     ensures { result ≡ only_object request.now }
 {
     match *request {

@@ -1,4 +1,4 @@
-use Rattle.std.proofs.Common.{sym, ap, subst, ◌∙◌}
+use Rattle.std.proofs.Common.{sym, subst, ◌∙◌}
 use Rattle.std.specs.List.{AllByRecursion}
 use Rattle.phase_desks.specs.Slicing.{stocks_of, IsStocked}
 use Rattle.auction_rows.specs.Replies.{row_of}

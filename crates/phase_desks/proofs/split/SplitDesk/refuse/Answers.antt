@@ -1,6 +1,5 @@
 use Rattle.std.proofs.Common.{◌≡◌, Some, false, sym, subst, ◌∙◌}
 use Rattle.auction_rows.specs.declared.replies.Reply.{Reply}
-use Rattle.auction_rows.specs.declared.replies.Reply.TheVariants.{Refused}
 use Rattle.auction_rows.specs.Refusals.{number_refusal}
 use Rattle.phase_desks.specs.Slicing.{objects_of}
 use Rattle.phase_desks.specs.Deeds.{is_put_off}

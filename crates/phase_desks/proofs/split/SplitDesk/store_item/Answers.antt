@@ -1,10 +1,10 @@
-use Rattle.std.proofs.Common.{◌≡◌, ◌+◌, ◌≤◌, List, [], ◌∷◌, sym, subst, ◌∙◌, arith}
+use Rattle.std.proofs.Common.{◌≡◌, ◌+◌, List, [], ◌∷◌, sym, subst, ◌∙◌, arith}
 use Rattle.auction_rows.specs.declared.ids.Object.TheVariants.{Category}
 use Rattle.item_shards.specs.declared.acts.Act.{Act}
 use Rattle.item_shards.specs.declared.acts.Act.TheVariants.{ListItem}
 use Rattle.phase_desks.specs.Desks.{DeskState, after_commit, with_one_less}
 use Rattle.phase_desks.specs.Slicing.{item_listed, after_acts, AreFew}
-use Rattle.phase_desks.specs.Splits.{AreStored}
+use Rattle.phase_desks.specs.Splits.{AreStored, HasStashRoom}
 use Rattle.phase_desks.proofs.FewLemmas.{few_changed, few_listed, few_more}
 use Rattle.phase_desks.proofs.StoredLemmas.{commit_keeps_split}
 use Rattle.phase_desks.proofs.split.SplitDesk.store_item.Goals as goal
@@ -20,7 +20,7 @@ invariant_of-self c =
     let kept = c.self.invariant in
     let few = kept.0 in
     let keeps : (acts : List Act) → c.match-place_of.self-inside.desk ≡ desk → slices ≡ after_acts hots acts → AreFew (n + 1) slices
-    → AreFew c.commit.new.self.counters.commits slices × (c.commit.new.self.left ≤ c.commit.new.self.stash.room) × AreStored c.commit.new.self.journal.worker c.commit.new.self.counters slices
+    → AreFew c.commit.new.self.counters.commits slices × HasStashRoom slices c.commit.new.self.left c.commit.new.self.stash.room × AreStored c.commit.new.self.journal.worker c.commit.new.self.counters slices
     = λ acts same acted more.
     commit_keeps_split desk c.commit.new.self hots slices c.args.number c.args.index c.request.result c.store-reply.result c.args.found.now acts
     (subst (λ (d : DeskState). c.commit.new.self ≡ with_one_less (after_commit d c.args.number c.args.index c.request.result c.store-reply.result c.args.found.now)) same c.commit.ensures)

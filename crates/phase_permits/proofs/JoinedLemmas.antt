@@ -1,0 +1,24 @@
+-- What a joined permit does keeps it one at which nothing is hot, and what it is worth.
+use Rattle.std.proofs.Common.{◌≡◌, ℕ, List, [], length, Result, Ok, Err, ap, ◌∙◌}
+use Rattle.std.specs.Prelude.{IfOk, IfErr}
+use Rattle.auction_rows.specs.declared.replies.Reply.{Reply}
+use Rattle.auction_rows.specs.declared.requests.Request.{Request}
+use Rattle.auction_rows.specs.Replies.{row_of}
+use Rattle.item_shards.specs.Writing.{writes_if}
+use Rattle.shard_boxes.specs.States.{ShardState}
+use Rattle.phase_desks.specs.Slicing.{after_acts}
+use Rattle.phase_desks.specs.Splits.{SplitState}
+use Rattle.phase_transactions.specs.declared.fault.PermitFault.{PermitFault}
+use Rattle.phase_transactions.specs.Performing.{HasFailed}
+use Rattle.phase_transactions.specs.Permits.{PermitState, IsWorth, HasCommitted}
+use Rattle.phase_transactions.proofs.FailLemmas.{fail_worth}
+use Rattle.phase_transactions.proofs.Hots.{commit_worth}
+use Rattle.phase_transactions.proofs.PermitLemmas.{no_slices}
+
+pub stays_joined : (opening : List ShardState) (old new : PermitState) (request : Request) (index : ℕ) (result : Result Reply PermitFault) → IfOk result (λ reply. HasCommitted opening old new request index reply)
+    → IfErr result (HasFailed opening old new request) → old.split.slices ≡ [] → IsWorth (length opening) old.split old.key → (new.split.slices ≡ []) × IsWorth (length opening) new.split new.key
+stays_joined opening old new request index (Ok reply) done failed none is =
+    let acts = writes_if (row_of old.split.desk.journal.worker request reply) in
+    (done.slices ∙ ap (λ hots. after_acts hots acts) none ∙ no_slices acts, commit_worth opening old new request index reply done is)
+stays_joined opening old new request index (Err fault) done failed none is =
+    (ap (λ (split : SplitState). split.slices) failed.split ∙ none, fail_worth opening (length opening) old new request fault failed is)
