@@ -18,7 +18,9 @@ mod text_laws;
 mod writing;
 
 pub use faults::{Cause, ReadFault, WriteFault};
+pub use fields::read_u64;
 pub use reading_laws::rows_come_first;
+pub use replies::push_reply;
 pub use report::ReportLines;
 pub use scripts::{Input, MOST_RECORDS, read_scripts};
 pub use text_laws::{replies_in_order, rows_of_histories};

@@ -1,0 +1,9 @@
+pub mod ScriptLemmas
+pub mod EntryLemmas
+pub mod NumberLemmas
+pub mod TurnLemmas
+pub mod LineLemmas
+pub mod OneLineLemmas
+pub mod TextLemmas
+pub mod VerdictLemmas
+pub mod ReadingLemmas

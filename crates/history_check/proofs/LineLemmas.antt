@@ -1,0 +1,137 @@
+-- The lines of texts.
+use Rattle.std.proofs.Common.{◌≡◌, ℕ, suc, ◌<◌, ◌≤◌, ◌==◌, Bool, true, false, cond, List, [], ◌∷◌, ◌++◌, Option, Some, None, length, take, append_assoc, refl, sym, ap, ◌∙◌, arith}
+use Rattle.std.specs.Prelude.{decimal, codes, IfSome}
+use Rattle.std.specs.Io.BufRead.{take_through, drop_through, DropsThrough}
+use Rattle.std.specs.Io.KnownBytes.{IsAtEnd}
+use Rattle.std.proofs.lemmas.List.{length-append}
+use Rattle.auction_rows.specs.declared.rows.Entry.{Entry}
+use Rattle.auction_text.specs.Replies.{history_line, reply_text}
+use Rattle.history_check.specs.declared.places.Place.{Place}
+use Rattle.history_check.specs.Places.{line_at, Fits, place_of}
+use Rattle.history_check.specs.Texts.{with_byte, lines_of, history_lines, ReadsLine, HasRead}
+use Rattle.history_check.proofs.NumberLemmas.{numbers_apart, take_front}
+
+-- ---- the first line of a text
+
+begun : (byte : ℕ) (text : List ℕ) → with_byte byte (lines_of text) ≡ (byte ∷ take_through 10 text) ∷ lines_of (drop_through 10 text)
+    → lines_of (byte ∷ text) ≡ take_through 10 (byte ∷ text) ∷ lines_of (drop_through 10 (byte ∷ text))
+begun byte text goes_on = at (byte == 10) refl where
+  at : (b : Bool) → (byte == 10) ≡ b → lines_of (byte ∷ text) ≡ take_through 10 (byte ∷ text) ∷ lines_of (drop_through 10 (byte ∷ text))
+  at true e =
+      ap (λ b. cond b ((byte ∷ []) ∷ lines_of text) (with_byte byte (lines_of text))) e
+      ∙ sym (ap (λ b. cond b (byte ∷ []) (byte ∷ take_through 10 text) ∷ lines_of (cond b text (drop_through 10 text))) e)
+  at false e =
+      ap (λ b. cond b ((byte ∷ []) ∷ lines_of text) (with_byte byte (lines_of text))) e ∙ goes_on
+      ∙ sym (ap (λ b. cond b (byte ∷ []) (byte ∷ take_through 10 text) ∷ lines_of (cond b text (drop_through 10 text))) e)
+
+goes_on : (byte : ℕ) (text : List ℕ) → with_byte byte (lines_of text) ≡ (byte ∷ take_through 10 text) ∷ lines_of (drop_through 10 text)
+goes_on byte [] = refl
+goes_on byte (next ∷ text) = ap (with_byte byte) (begun next text (goes_on next text))
+
+pub first_line : (byte : ℕ) (text : List ℕ) → lines_of (byte ∷ text) ≡ take_through 10 (byte ∷ text) ∷ lines_of (drop_through 10 (byte ∷ text))
+first_line byte text = begun byte text (goes_on byte text)
+
+-- what a read up to a line feed gives is the next line
+line_read : (old new : Option (List ℕ)) (line : List ℕ) → IfSome old (λ text. line ≡ take_through 10 text) → DropsThrough old new 10
+    → 0 < length line → ReadsLine old new true line
+line_read None new line takes drops some = tt
+line_read (Some []) new line takes drops some = absurd (omega (arith, some, ap length takes))
+line_read (Some (byte ∷ text)) new line takes drops some =
+    (drop_through 10 (byte ∷ text), drops, first_line byte text ∙ ap (λ line. line ∷ lines_of (drop_through 10 (byte ∷ text))) (sym takes))
+
+-- the same, of a read into a list that was empty
+pub next_read : (old new : Option (List ℕ)) (cleared line : List ℕ) → cleared ≡ [] → IfSome old (λ text. line ≡ cleared ++ take_through 10 text) → DropsThrough old new 10
+    → 0 < length line → ReadsLine old new true line
+next_read old new cleared line empty takes drops some = line_read old new line (at old takes) drops some where
+  at : (old : Option (List ℕ)) → IfSome old (λ text. line ≡ cleared ++ take_through 10 text) → IfSome old (λ text. line ≡ take_through 10 text)
+  at None takes = tt
+  at (Some text) takes = takes ∙ ap (λ xs. xs ++ take_through 10 text) empty
+
+pub none_read : (old new : Option (List ℕ)) (line : List ℕ) → IsAtEnd old → ReadsLine old new false line
+none_read None new line end = tt
+none_read (Some text) new line end = ap lines_of end
+
+-- ---- the lines that were read
+
+pub one_read : (first old new : Option (List ℕ)) (history : List Entry) (e : Entry) (line : List ℕ) → HasRead first old history
+    → ReadsLine old new true line → history_line e ≡ line → HasRead first new (history ++ e ∷ [])
+one_read None old new history e line before next is = tt
+one_read (Some text) old new history e line before next is = at old before.1 next where
+  pushed : (history : List Entry) (rest : List (List ℕ)) → history_lines history ++ history_line e ∷ rest ≡ history_lines (history ++ e ∷ []) ++ rest
+  pushed [] rest = refl
+  pushed (d ∷ history) rest = ap (λ lines. history_line d ∷ lines) (pushed history rest)
+
+  at : (old : Option (List ℕ)) → old ≡ Some before.0 → ReadsLine old new true line → HasRead (Some text) new (history ++ e ∷ [])
+  at None is_old next = absurd (cc is_old)
+  at (Some rest) is_old next =
+      let same : rest ≡ before.0 = cc is_old in (
+        next.0,
+        next.1,
+        before.2 ∙ ap (λ rest. history_lines history ++ lines_of rest) (sym same) ∙ ap (λ lines. history_lines history ++ lines) next.2
+            ∙ ap (λ line. history_lines history ++ line ∷ lines_of next.0) (sym is) ∙ pushed history (lines_of next.0),
+      )
+
+-- what is left after the lines of a history
+pub left_read : (text : List ℕ) (old new : Option (List ℕ)) (history : List Entry) (line : List ℕ) → HasRead (Some text) old history
+    → ReadsLine old new true line → (rest : List (List ℕ)) × (lines_of text ≡ history_lines history ++ line ∷ rest)
+left_read text old new history line before next = at old before.1 next where
+  at : (old : Option (List ℕ)) → old ≡ Some before.0 → ReadsLine old new true line → (rest : List (List ℕ)) × (lines_of text ≡ history_lines history ++ line ∷ rest)
+  at None is_old next = absurd (cc is_old)
+  at (Some rest) is_old next =
+      let same : rest ≡ before.0 = cc is_old in
+      (lines_of next.0, before.2 ∙ ap (λ rest. history_lines history ++ lines_of rest) (sym same) ∙ ap (λ lines. history_lines history ++ lines) next.2)
+
+pub append_nil : {X : Type 0} (xs : List X) → xs ++ [] ≡ xs
+append_nil [] = refl
+append_nil (x ∷ xs) = ap (λ ys. x ∷ ys) (append_nil xs)
+
+pub all_read : (text : List ℕ) (old new : Option (List ℕ)) (history : List Entry) (line : List ℕ) → HasRead (Some text) old history
+    → ReadsLine old new false line → history_lines history ≡ lines_of text
+all_read text old new history line before next = at old before.1 next where
+  at : (old : Option (List ℕ)) → old ≡ Some before.0 → ReadsLine old new false line → history_lines history ≡ lines_of text
+  at None is_old next = absurd (cc is_old)
+  at (Some rest) is_old next =
+      let same : rest ≡ before.0 = cc is_old in
+      sym (before.2 ∙ ap (λ rest. history_lines history ++ lines_of rest) (sym same) ∙ ap (λ lines. history_lines history ++ lines) next ∙ append_nil (history_lines history))
+
+pub history_lines_length : (history : List Entry) → length (history_lines history) ≡ length history
+history_lines_length [] = refl
+history_lines_length (e ∷ history) = ap suc (history_lines_length history)
+
+pub long_read : (text : List ℕ) (now : Option (List ℕ)) (history : List Entry) → HasRead (Some text) now history → length history ≤ length (lines_of text)
+long_read text now history before =
+    omega (arith, ap length before.2, length-append (history_lines history) (lines_of before.0), history_lines_length history)
+
+-- ---- places of lines
+
+pub feed_apart : (t u : List ℕ) → t ++ 10 ∷ [] ≡ u ++ 10 ∷ [] → t ≡ u
+feed_apart t u same =
+    let longs : length t ≡ length u = omega (arith, ap length same, length-append t (10 ∷ []), length-append u (10 ∷ [])) in
+    sym (take_front t (10 ∷ [])) ∙ (λ k. take (longs k) (same k)) ∙ take_front u (10 ∷ [])
+
+-- a line is of one place and one text
+pub line_apart : (p q : Place) (t u : List ℕ) → Fits p → Fits q → line_at p t ≡ line_at q u → (p ≡ q) × (t ≡ u)
+line_apart p q t u f g same =
+    let phase = numbers_apart p.phase q.phase
+    (decimal p.number ++ 32 ∷ (decimal p.worker ++ 32 ∷ (decimal p.index ++ 32 ∷ (t ++ 10 ∷ []))))
+    (decimal q.number ++ 32 ∷ (decimal q.worker ++ 32 ∷ (decimal q.index ++ 32 ∷ (u ++ 10 ∷ [])))) f.phase g.phase same in
+    let number = numbers_apart p.number q.number
+    (decimal p.worker ++ 32 ∷ (decimal p.index ++ 32 ∷ (t ++ 10 ∷ [])))
+    (decimal q.worker ++ 32 ∷ (decimal q.index ++ 32 ∷ (u ++ 10 ∷ []))) f.number g.number phase.1 in
+    let worker = numbers_apart p.worker q.worker
+    (decimal p.index ++ 32 ∷ (t ++ 10 ∷ []))
+    (decimal q.index ++ 32 ∷ (u ++ 10 ∷ [])) (omega (arith, f.worker)) (omega (arith, g.worker)) number.1 in
+    let index = numbers_apart p.index q.index (t ++ 10 ∷ []) (u ++ 10 ∷ []) (omega (arith, f.index)) (omega (arith, g.index)) worker.1 in
+    (λ k. record { phase = phase.0 k; number = number.0 k; worker = worker.0 k; index = index.0 k }, feed_apart t u index.1)
+
+-- the same text, from its first part on
+in_turn : (a b c d r s : List ℕ) → (((a ++ 32 ∷ b) ++ 32 ∷ c) ++ 32 ∷ d) ++ (32 ∷ []) ++ r ++ s ≡ a ++ 32 ∷ (b ++ 32 ∷ (c ++ 32 ∷ (d ++ 32 ∷ (r ++ s))))
+in_turn a b c d r s =
+    append_assoc ((((a ++ 32 ∷ b) ++ 32 ∷ c) ++ 32 ∷ d) ++ (32 ∷ [])) r s
+    ∙ append_assoc (((a ++ 32 ∷ b) ++ 32 ∷ c) ++ 32 ∷ d) (32 ∷ []) (r ++ s)
+    ∙ append_assoc ((a ++ 32 ∷ b) ++ 32 ∷ c) (32 ∷ d) (32 ∷ (r ++ s))
+    ∙ append_assoc (a ++ 32 ∷ b) (32 ∷ c) (32 ∷ (d ++ 32 ∷ (r ++ s)))
+    ∙ append_assoc a (32 ∷ b) (32 ∷ (c ++ 32 ∷ (d ++ 32 ∷ (r ++ s))))
+
+pub entry_line : (e : Entry) → history_line e ≡ line_at (place_of e) (reply_text e.reply)
+entry_line e = in_turn (decimal e.phase) (decimal e.number) (decimal e.worker) (decimal e.index) (reply_text e.reply) (codes "\n")

@@ -1,0 +1,129 @@
+-- The requests of scripts, and their marks.
+use Rattle.std.specs.declared.alloc.Global.{Global}
+use Rattle.std.proofs.Common.{Vec, ◌≡◌, ℕ, zero, suc, ◌+◌, ◌<◌, ◌≤◌, ◌==◌, ◌&&◌, ◌⊎◌, Bool, true, false, cond, List, [], ◌∷◌, Some, length, get_or, set, refl, subst, sym, ap, ◌∙◌, inl, inr, arith}
+use Rattle.std.specs.Prelude.{replicate}
+use Rattle.std.proofs.Math.ListN.{length-set}
+use Rattle.std.proofs.lemmas.Bool.{cases_lt, eqb-true, eq-eqb, false≢true, and_left, and_right}
+use Rattle.std.proofs.lemmas.List.{get_or-set_same, get_or-set_other}
+use Rattle.std.proofs.lemmas.Option.{slice_get_within}
+use Rattle.auction_rows.specs.declared.requests.Request.{Request}
+use Rattle.run_serving.specs.Serving.{script_of}
+use Rattle.history_check.specs.Scripts.{lists, request_at}
+use Rattle.history_check.specs.Marks.{is_marked, AreWide, HasPlaces}
+
+pub script_at : (scripts : List (Vec Request Global)) (i : ℕ) (d : Vec Request Global) → i < length scripts → script_of (lists scripts) i ≡ (get_or scripts i d).items
+script_at [] i d less = absurd (omega arith)
+script_at (x ∷ xs) zero d less = refl
+script_at (x ∷ xs) (suc i) d less = script_at xs i d (omega arith)
+
+pub past_end : (scripts : List (List Request)) (i : ℕ) → length scripts ≤ i → script_of scripts i ≡ []
+past_end [] i over = refl
+past_end (x ∷ xs) zero over = absurd (omega arith)
+past_end (x ∷ xs) (suc i) over = past_end xs i (omega arith)
+
+pub lists_length : (scripts : List (Vec Request Global)) → length (lists scripts) ≡ length scripts
+lists_length [] = refl
+lists_length (x ∷ xs) = ap suc (lists_length xs)
+
+-- a request that there is, is of a worker and at an index that there is
+pub index_within : (scripts : List (List Request)) (worker index : ℕ) (request : Request) → request_at scripts worker index ≡ Some request → index < length (script_of scripts worker)
+index_within scripts worker index request is = slice_get_within (script_of scripts worker) index request is
+
+pub worker_within : (scripts : List (Vec Request Global)) (worker index : ℕ) → index < length (script_of (lists scripts) worker) → worker < length scripts
+worker_within scripts worker index within = at (cases_lt worker (length scripts)) where
+  at : (worker < length scripts) ⊎ (length scripts ≤ worker) → worker < length scripts
+  at (inl less) = less
+  at (inr over) = absurd (omega (arith, within, ap length (past_end (lists scripts) worker (omega (arith, over, lists_length scripts)))))
+
+-- a request that there is, is of a worker that there is, and has a place
+pub worker_below : (scripts : List (Vec Request Global)) (worker index : ℕ) (request : Request) → length scripts ≤ 16 → request_at (lists scripts) worker index ≡ Some request → worker < 16
+worker_below scripts worker index request few there = omega (arith, few, worker_within scripts worker index (index_within (lists scripts) worker index request there))
+
+pub index_below : (scripts : List (List Request)) (rows : List (List Bool)) (worker index : ℕ) (request : Request) → HasPlaces rows scripts
+    → request_at scripts worker index ≡ Some request → index < length rows
+index_below scripts rows worker index request places there = omega (arith, places worker, index_within scripts worker index request there)
+
+-- ---- the longest script
+
+pub all_here : (scripts : List (Vec Request Global)) (most i : ℕ) → length scripts ≤ i → ((w : ℕ) (d : Vec Request Global) → w < i → length (get_or scripts w d).items ≤ most)
+    → (worker : ℕ) → length (script_of (lists scripts) worker) ≤ most
+all_here [] most i whole within worker = omega arith
+all_here (x ∷ xs) most i whole within worker = at (cases_lt worker (length (x ∷ xs))) where
+  at : (worker < length (x ∷ xs)) ⊎ (length (x ∷ xs) ≤ worker) → length (script_of (lists (x ∷ xs)) worker) ≤ most
+  at (inl less) = omega (arith, ap length (script_at (x ∷ xs) worker x less), within worker x (omega (arith, less, whole)))
+  at (inr over) = omega (arith, ap length (past_end (lists (x ∷ xs)) worker (omega (arith, over, lists_length (x ∷ xs)))))
+
+-- the script at a place
+pub script_there : (scripts : List (Vec Request Global)) (i : ℕ) (script : Vec Request Global) → i < length scripts → script ≡ get_or scripts i script → script_of (lists scripts) i ≡ script.items
+script_there scripts i script less is = script_at scripts i script less ∙ ap (λ s. s.items) (sym is)
+
+-- what holds of the workers before one, and of that one, holds of those up to it
+pub one_worker_more : (P : ℕ → ℕ → Type 0) (n : ℕ) → ((w i : ℕ) → w < n → P w i) → ((i : ℕ) → P n i) → (w i : ℕ) → w < n + 1 → P w i
+one_worker_more P n before here w i less = at (cases_lt w n) where
+  at : (w < n) ⊎ (n ≤ w) → P w i
+  at (inl earlier) = before w i earlier
+  at (inr later) = let same : n ≡ w = omega (arith, less, later) in subst (λ w. P w i) same (here i)
+
+-- ---- marks
+
+pub marked_next : (rows : List (List Bool)) (worker index : ℕ) → index < length rows → worker < length (get_or rows index [])
+    → (w i : ℕ) → is_marked (set rows index (set (get_or rows index []) worker true)) w i ≡ cond ((worker == w) && (index == i)) true (is_marked rows w i)
+marked_next rows worker index within below w i = at (index == i) refl where
+  new : List (List Bool)
+  new = set rows index (set (get_or rows index []) worker true)
+
+  at : (b : Bool) → (index == i) ≡ b → is_marked (set rows index (set (get_or rows index []) worker true)) w i ≡ cond ((worker == w) && (index == i)) true (is_marked rows w i)
+  at false e =
+      ap (λ row. get_or row w false) (get_or-set_other rows index i (set (get_or rows index []) worker true) [] (λ same. false≢true (sym e ∙ eq-eqb index i (sym same))))
+      ∙ sym (ap (λ b. cond b true (is_marked rows w i)) (and_right (worker == w) (index == i) e))
+  at true e = here (worker == w) refl where
+    same : index ≡ i
+    same = eqb-true index i e
+
+    row_is : get_or (set rows index (set (get_or rows index []) worker true)) i [] ≡ set (get_or rows index []) worker true
+    row_is = ap (λ k. get_or (set rows index (set (get_or rows index []) worker true)) k []) (sym same) ∙ get_or-set_same rows index (set (get_or rows index []) worker true) [] within
+
+    here : (b : Bool) → (worker == w) ≡ b → is_marked (set rows index (set (get_or rows index []) worker true)) w i ≡ cond ((worker == w) && (index == i)) true (is_marked rows w i)
+    here true f =
+        ap (λ row. get_or row w false) row_is
+        ∙ ap (λ k. get_or (set (get_or rows index []) worker true) k false) (sym (eqb-true worker w f))
+        ∙ get_or-set_same (get_or rows index []) worker true false below
+        ∙ sym (λ k. cond (f k && e k) true (is_marked rows w i))
+    here false f =
+        ap (λ row. get_or row w false) row_is
+        ∙ get_or-set_other (get_or rows index []) worker w true false (λ eq. false≢true (sym f ∙ eq-eqb worker w (sym eq)))
+        ∙ ap (λ k. get_or (get_or rows k []) w false) same
+        ∙ sym (ap (λ b. cond b true (is_marked rows w i)) (and_left (worker == w) (index == i) f))
+
+get_or_any : {X : Type 0} (xs : List X) (i : ℕ) (a b : X) → i < length xs → get_or xs i a ≡ get_or xs i b
+get_or_any [] i a b less = absurd (omega arith)
+get_or_any (x ∷ xs) zero a b less = refl
+get_or_any (x ∷ xs) (suc i) a b less = get_or_any xs i a b (omega arith)
+
+pub mark_made : (rows : List (List Bool)) (worker index : ℕ) (row : List Bool) → row ≡ get_or rows index row → index < length rows → worker < length row
+    → (w i : ℕ) → is_marked (set rows index (set row worker true)) w i ≡ cond ((worker == w) && (index == i)) true (is_marked rows w i)
+mark_made rows worker index row is within below w i =
+    let same : row ≡ get_or rows index [] = is ∙ get_or_any rows index row [] within in
+    ap (λ r. is_marked (set rows index (set r worker true)) w i) same ∙ marked_next rows worker index within (omega (arith, below, ap length same)) w i
+
+pub unmarked : (rows : List (List Bool)) (worker index : ℕ) (row : List Bool) → row ≡ get_or rows index row → index < length rows
+    → get_or row worker false ≡ is_marked rows worker index
+unmarked rows worker index row is within = ap (λ r. get_or r worker false) (is ∙ get_or_any rows index row [] within)
+
+pub wide_at : (rows : List (List Bool)) (i : ℕ) (row : List Bool) → AreWide rows → i < length rows → row ≡ get_or rows i row → length row ≡ 16
+wide_at rows i row wide less is = ap length (is ∙ get_or_any rows i row [] less) ∙ wide i less
+
+pub wide_set : (rows : List (List Bool)) (i : ℕ) (row : List Bool) → AreWide rows → i < length rows → length row ≡ 16 → AreWide (set rows i row)
+wide_set rows i row wide within len k less = at (i == k) refl where
+  at : (b : Bool) → (i == k) ≡ b → length (get_or (set rows i row) k []) ≡ 16
+  at true e = ap (λ k. length (get_or (set rows i row) k [])) (sym (eqb-true i k e)) ∙ ap length (get_or-set_same rows i row [] within) ∙ len
+  at false e =
+      ap length (get_or-set_other rows i k row [] (λ same. false≢true (sym e ∙ eq-eqb i k (sym same)))) ∙ wide k (omega (arith, less, length-set rows i row))
+
+pub wide_row : (row : List Bool) (w : ℕ) → length row ≡ 16 → length (set row w true) ≡ 16
+wide_row row w len = length-set row w true ∙ len
+
+pub wide_new : (n : ℕ) (row : List Bool) → length row ≡ 16 → AreWide (replicate n row)
+wide_new zero row len k less = absurd (omega arith)
+wide_new (suc n) row len zero less = len
+wide_new (suc n) row len (suc k) less = wide_new n row len k (omega arith)

@@ -1,0 +1,85 @@
+-- What is found of the text of a history.
+use Rattle.std.specs.Prelude.{ℕ, ◌+◌, ◌≡◌, ◌<◌, ◌≤◌, nat_lt, if◌then◌else◌, List, ◌∷◌, ◌++◌, length, count_by, Some, None}
+use Rattle.std.specs.List.{AllByRecursion}
+use Rattle.phase_laws.specs.Order.{IsOrderedBy}
+use Rattle.auction_rows.specs.declared.numbers.Opening.{Opening}
+use Rattle.auction_rows.specs.declared.replies.Reply.{Reply}
+use Rattle.auction_rows.specs.declared.requests.Request.{Request}
+use Rattle.auction_rows.specs.declared.rows.Entry.{Entry}
+use Rattle.auction_rows.specs.Book.{Book}
+use Rattle.auction_rows.specs.History.{ReplaysFrom, book_after}
+use Rattle.auction_rows.specs.Replies.{reply}
+use Rattle.auction_text.specs.Replies.{reply_text}
+use Rattle.run_serving.specs.Serving.{script_of}
+use Rattle.history_check.specs.declared.lines.Order.{Order}
+use Rattle.history_check.specs.declared.lines.Verdict.{Verdict}
+use Rattle.history_check.specs.declared.lines.Verdict.TheVariants.{Replays, WrongAt, Lacks}
+use Rattle.history_check.specs.declared.lines.Wrong.{Wrong}
+use Rattle.history_check.specs.declared.lines.Wrong.TheVariants.{Unreadable, NoRequest, Again, Late, Due}
+use Rattle.history_check.specs.declared.places.Place.{Place}
+use Rattle.history_check.specs.Orders.{MayPrecede}
+use Rattle.history_check.specs.Places.{Fits, IsLineOf, entry_at, place_of}
+use Rattle.history_check.specs.Scripts.{request_at, is_of}
+use Rattle.history_check.specs.Texts.{history_lines, lines_of}
+
+-- Nothing is wrong with the entries of a history, but that requests may be lacking.
+pub record GoWell (opening : Opening) (start : Book) (scripts : List (List Request)) (order : Order) (history : List Entry) : Type 0 where
+  -- each has the request of its script
+  pub requests : AllByRecursion (λ e. request_at scripts e.worker e.index ≡ Some e.request) history
+  -- and a place that can be written
+  pub fits : AllByRecursion (λ e. Fits (place_of e)) history
+  pub at_most_once : (worker index : ℕ) → count_by (is_of worker index) history ≤ 1
+  pub in_order : IsOrderedBy (MayPrecede order) history
+  pub replays : ReplaysFrom opening start history
+
+-- The text is that of a history that replays from a book and has each request of each script once, in the order that is asked for.
+pub record IsAccepted (opening : Opening) (start : Book) (scripts : List (List Request)) (order : Order) (text : List ℕ) : Type 0 where
+  pub history : List Entry
+  pub lines_are : history_lines history ≡ lines_of text
+  pub go_well : GoWell opening start scripts order history
+  -- each index of each script occurs exactly once, and no other
+  pub once : (worker index : ℕ) → count_by (is_of worker index) history ≡ (if nat_lt index (length (script_of scripts worker)) then 1 else 0)
+
+-- a line is of a place and a text of which this holds
+abbrev pub OfLine : List ℕ → (Place → List ℕ → Type 0) → Type 0
+OfLine line Holds = (place : Place) × (text : List ℕ) × IsLineOf line place text × Holds place text
+
+-- the scripts have the request of a place, and this holds of it
+abbrev pub OfRequest : List (List Request) → Place → (Request → Type 0) → Type 0
+OfRequest scripts place Holds = (request : Request) × (request_at scripts place.worker place.index ≡ Some request) × Holds request
+
+-- why a line is wrong after the entries before it
+abbrev pub IsWrong : Opening → Book → List (List Request) → Order → List Entry → List ℕ → Wrong → Type 0
+IsWrong opening start scripts order before line Unreadable = (place : Place) (text : List ℕ) → ¬ IsLineOf line place text
+IsWrong opening start scripts order before line NoRequest = OfLine line (λ place text. request_at scripts place.worker place.index ≡ None)
+IsWrong opening start scripts order before line Again = OfLine line (λ place text. count_by (is_of place.worker place.index) before ≡ 1)
+IsWrong opening start scripts order before line Late = OfLine line (λ place text. OfRequest scripts place (λ request.
+    (reply : Reply) → ¬ AllByRecursion (λ d. MayPrecede order d (entry_at place request reply)) before))
+IsWrong opening start scripts order before line (Due due) = OfLine line (λ place text. OfRequest scripts place (λ request.
+    (due ≡ reply opening (book_after opening start before) place.worker request) × ¬ (text ≡ reply_text due)))
+
+-- The line with this number, from 1, is the first that is wrong.
+pub record IsFirstWrong (opening : Opening) (start : Book) (scripts : List (List Request)) (order : Order) (text : List ℕ)
+    (number : ℕ) (why : Wrong) : Type 0 where
+  pub before : List Entry
+  pub line : List ℕ
+  pub rest : List (List ℕ)
+  pub split : lines_of text ≡ history_lines before ++ line ∷ rest
+  pub number_is : number ≡ length before + 1
+  pub go_well : GoWell opening start scripts order before
+  pub wrong : IsWrong opening start scripts order before line why
+
+-- No line is wrong, and none is of this request.
+pub record IsLacking (opening : Opening) (start : Book) (scripts : List (List Request)) (order : Order) (text : List ℕ)
+    (worker index : ℕ) : Type 0 where
+  pub history : List Entry
+  pub lines_are : history_lines history ≡ lines_of text
+  pub go_well : GoWell opening start scripts order history
+  pub has_request : index < length (script_of scripts worker)
+  pub in_no_line : count_by (is_of worker index) history ≡ 0
+
+-- what is found of a text
+abbrev pub IsVerdict : Opening → Book → List (List Request) → Order → List ℕ → Verdict → Type 0
+IsVerdict opening start scripts order text Replays = IsAccepted opening start scripts order text
+IsVerdict opening start scripts order text (WrongAt number why) = IsFirstWrong opening start scripts order text number why
+IsVerdict opening start scripts order text (Lacks worker index) = IsLacking opening start scripts order text worker index

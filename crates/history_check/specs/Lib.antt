@@ -1,0 +1,7 @@
+pub mod Scripts
+pub mod Marks
+pub mod Places
+pub mod Texts
+pub mod Orders
+pub mod Checking
+pub mod Taking

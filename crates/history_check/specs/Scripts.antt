@@ -1,0 +1,18 @@
+-- The requests of scripts, and the entries of a history that are of one.
+use Rattle.std.specs.declared.alloc.Global.{Global}
+use Rattle.std.specs.Prelude.{ℕ, ◌==◌, ◌&&◌, Bool, List, Option, map, slice_get, Vec}
+use Rattle.auction_rows.specs.declared.requests.Request.{Request}
+use Rattle.auction_rows.specs.declared.rows.Entry.{Entry}
+use Rattle.run_serving.specs.Serving.{script_of}
+
+-- the lists in a list of vectors
+abbrev pub lists : {X : Type 0} → List (Vec X Global) → List (List X)
+lists vectors = map (λ v. v.items) vectors
+
+-- the request with an index in a worker's script, if there is one
+abbrev pub request_at : List (List Request) → ℕ → ℕ → Option Request
+request_at scripts worker index = slice_get (script_of scripts worker) index
+
+-- whether an entry is of the request with this index of this worker's script
+abbrev pub is_of : ℕ → ℕ → Entry → Bool
+is_of worker index entry = (entry.worker == worker) && (entry.index == index)

@@ -1,0 +1,57 @@
+-- A replay that has performed the entries of a history so far.
+use Rattle.std.specs.Prelude.{ℕ, ◌+◌, ◌≡◌, ◌<◌, ◌≤◌, Bool, if◌then◌else◌, true, false, List, Option, length, count_by, get_or}
+use Rattle.auction_rows.specs.declared.numbers.Opening.{Opening}
+use Rattle.auction_rows.specs.declared.requests.Request.{Request}
+use Rattle.auction_rows.specs.declared.rows.Entry.{Entry}
+use Rattle.auction_rows.specs.Book.{Book}
+use Rattle.auction_rows.specs.History.{book_after}
+use Rattle.item_shards.specs.Serial.{HoldsBook, opening_of}
+use Rattle.run_serving.specs.Serving.{script_of}
+use Rattle.history_check.specs.declared.lines.Order.{Order}
+use Rattle.history_check.specs.declared.replay.Replay.{Replay}
+use Rattle.history_check.specs.Scripts.{is_of}
+use Rattle.history_check.specs.Marks.{is_marked, HasPlaces}
+use Rattle.history_check.specs.Orders.{turn_after}
+use Rattle.history_check.specs.Checking.{GoWell}
+use Rattle.history_check.specs.Texts.{HasRead}
+
+-- Nothing is wrong with the entries, the auction holds the book after them, each request that stands in one has a mark, and
+-- each worker its turn.
+pub record HasTaken (opening : Opening) (start : Book) (scripts : List (List Request)) (order : Order) (history : List Entry)
+    (replay : Replay) : Type 0 where
+  pub go_well : GoWell opening start scripts order history
+  pub opening_is : opening_of replay.auction ≡ opening
+  pub order_is : replay.order ≡ order
+  pub holds : HoldsBook replay.auction (book_after opening start history)
+  pub few : length (book_after opening start history) ≤ replay.rows
+  pub count : replay.rows ≡ length start + length history
+  pub places : HasPlaces replay.marks.rows.items scripts
+  pub marks : (worker index : ℕ) → worker < 16 →
+      count_by (is_of worker index) history ≡ (if is_marked replay.marks.rows.items worker index then 1 else 0)
+  pub turns : (worker : ℕ) → worker < 16 → get_or replay.turns.next worker 0 ≡ turn_after worker history
+
+-- it has performed some entries, from some book on
+pub record CanTake (scripts : List (List Request)) (replay : Replay) : Type 0 where
+  pub opening : Opening
+  pub start : Book
+  pub order : Order
+  pub history : List Entry
+  pub taken : HasTaken opening start scripts order history replay
+
+-- each request of each script has a mark
+abbrev pub AreMarked : List (List Request) → List (List Bool) → Type 0
+AreMarked scripts rows = (worker index : ℕ) → index < length (script_of scripts worker) → is_marked rows worker index ≡ true
+
+-- the request with this index of this worker's script has none
+pub record IsUnmarked (scripts : List (List Request)) (rows : List (List Bool)) (worker index : ℕ) : Type 0 where
+  pub has_request : index < length (script_of scripts worker)
+  pub worker_below : worker < 16
+  pub no_mark : is_marked rows worker index ≡ false
+
+-- It has performed the entries whose lines were read of a text, so many, where the text is known.
+pub record IsReading (opening : Opening) (start : Book) (scripts : List (List Request)) (order : Order) (first now : Option (List ℕ))
+    (replay : Replay) (number : ℕ) : Type 0 where
+  pub history : List Entry
+  pub taken : HasTaken opening start scripts order history replay
+  pub has_read : HasRead first now history
+  pub number_is : number ≡ length history

@@ -1,0 +1,73 @@
+//! The check of a whole history, line by line.
+ghost use Rattle.std.specs.Prelude.{◌≡◌, ◌<◌, ◌≤◌, ◌+◌, length, IfOk, IfSome, IsErrOf};
+ghost use Rattle.item_shards.specs.OpeningBooks.{opening_of, rows_of};
+ghost use Rattle.history_check.specs.declared.lines.CheckFault.TheVariants.{TooLong};
+ghost use Rattle.history_check.specs.declared.lines.Verdict.TheVariants.{Replays};
+ghost use Rattle.history_check.specs.Scripts.{lists};
+ghost use Rattle.history_check.specs.Texts.{lines_of, ReadsLine};
+ghost use Rattle.history_check.specs.Checking.{IsAccepted, IsVerdict};
+
+use crate::lines::{CheckFault, Order, Verdict};
+use crate::replay::{MOST_ROWS, Replay};
+use auction_rows::Request;
+use item_shards::OpeningBook;
+use std::alloc::Global;
+use std::io::{BufRead, Error, ErrorKind};
+
+// Why a read failed.
+fn fault_of(error: &Error) -> CheckFault
+    ensures { result ≡ TooLong → ⊥ }
+{
+    if error.kind() == ErrorKind::OutOfMemory {
+        CheckFault::Memory
+    } else {
+        CheckFault::Read
+    }
+}
+
+// Reads the next line with its line feed, if there is one.
+fn read_next<R: BufRead>(reader: &mut R, line: &mut Vec<u8>) -> Result<bool, CheckFault>
+    ensures line { IfOk result (λ found. ReadsLine (R.remaining reader.old) (R.remaining reader.new) found line.new.items) }
+    ensures fault { IsErrOf result TooLong → ⊥ }
+{
+    line.clear();
+    match reader.read_until(b'\n', line) {
+        Ok(0) => Ok(false),
+        Ok(_) => Ok(true),
+        Err(error) => Err(fault_of(&error)),
+    }
+}
+
+/// Replays a text, line by line, on an auction of one thread from the book that it is opened with, and compares each reply with
+/// that of the line. `scripts` are those of at most 16 workers. Where a line is wrong, `line` holds it. It takes time in
+/// proportion to the text, the rows, the requests, the users and the categories, and memory for the rows, the scripts and a line.
+pub fn check_history<R: BufRead>(
+    alloc: Global,
+    book: &OpeningBook,
+    scripts: &[Vec<Request>],
+    order: Order,
+    reader: &mut R,
+    line: &mut Vec<u8>,
+) -> Result<Verdict, CheckFault>
+    requires workers { length scripts.now ≤ 16 }
+    ensures verdict { IfOk result (λ verdict. IfSome (R.remaining reader.old) (λ text.
+        IsVerdict (opening_of book.now) (rows_of book.now) (lists scripts.now) order text verdict)) }
+    ensures accepted { IfOk result (λ verdict. IfSome (R.remaining reader.old) (λ text.
+        IsAccepted (opening_of book.now) (rows_of book.now) (lists scripts.now) order text → verdict ≡ Replays)) }
+    ensures too_long { IsErrOf result TooLong → IfSome (R.remaining reader.old) (λ text.
+        16000000 < length (rows_of book.now) + length (lines_of text)) }
+{
+    let mut replay = Replay::new(alloc, book, scripts, order)?;
+    for number in 0..MOST_ROWS + 1 {
+        if !read_next(reader, line)? {
+            if let Some((worker, index)) = replay.lacks(scripts) {
+                return Ok(Verdict::Lacks(worker, index));
+            }
+            return Ok(Verdict::Replays);
+        }
+        if let Some(wrong) = replay.perform(scripts, line)? {
+            return Ok(Verdict::WrongAt(number + 1, wrong));
+        }
+    }
+    Err(CheckFault::TooLong)
+}

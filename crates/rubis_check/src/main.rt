@@ -1,0 +1,63 @@
+//! A history of any engine is replayed on an auction of one thread, and what is found of it written as a line.
+#![tactic(auto)]
+
+mod executing;
+mod faults;
+mod finding;
+mod options;
+
+use executing::execute;
+use faults::{Fault, status, write_fault};
+use finding::verdict_status;
+use history_check::{CheckFault, Verdict};
+use options::{read_options, words_fault};
+use std::alloc::Global;
+use std::fs::File;
+use std::io::BufReader;
+use std::process::ExitCode;
+use std::rt::{Env, Files};
+use std::{env, io};
+
+// How many bytes of the history are read at once.
+const HISTORY_ROOM: usize = 1 << 16;
+
+fn main(rt: HostRuntime) -> ExitCode {
+    match perform(&rt) {
+        Ok(verdict) => ExitCode::from(verdict_status(&verdict)),
+        Err(fault) => {
+            // A fault that can't be written still has its status.
+            let _ = write_fault(&mut rt.stderr(), &fault);
+            ExitCode::from(status(&fault))
+        }
+    }
+}
+
+// Checks the history that the program's words name, with the scripts of standard input.
+fn perform<R>(rt: &R) -> Result<Verdict, Fault>
+where
+    R: Env + Files + Input + Print + Alloc<A = Global>,
+{
+    let alloc = rt.alloc();
+    let words = match program_words(rt) {
+        Ok(words) => words,
+        Err(error) => return Err(Fault::Usage(words_fault(alloc, &error))),
+    };
+    let options = read_options(alloc, words.as_slice())?;
+    let Ok(file) = File::open(rt, options.history.as_str()) else {
+        return Err(Fault::Check(CheckFault::Read));
+    };
+    let Ok(mut history) = BufReader::with_capacity(alloc, HISTORY_ROOM, file) else {
+        return Err(Fault::Check(CheckFault::Memory));
+    };
+    execute(
+        alloc,
+        rt.reader(),
+        &mut history,
+        &mut io::writer(rt),
+        &options,
+    )
+}
+
+fn program_words<R: Env + Alloc<A = Global>>(rt: &R) -> io::Result<Vec<String>> {
+    Ok(env::args(rt)?.collect(rt.alloc())?)
+}
