@@ -1,0 +1,123 @@
+"""The auction in PostgreSQL, for bench/run alone: a server of its own in a folder of its own, over a socket, with nothing
+durable, and `pgbench` with a client for each worker."""
+import glob
+import os
+import re
+import shutil
+import subprocess
+import tempfile
+
+HERE = os.path.dirname(os.path.abspath(__file__))
+
+SETTINGS = {
+    "listen_addresses": "", "fsync": "off", "synchronous_commit": "off", "full_page_writes": "off", "wal_level": "minimal",
+    "max_wal_senders": "0", "shared_buffers": "1GB", "max_wal_size": "16GB", "checkpoint_timeout": "1h", "jit": "off",
+    # Tables are empty as their first plans are made, which are kept: each look-up is to go by an index from the first on.
+    "enable_seqscan": "off", "enable_bitmapscan": "off",
+}
+
+# One request a transaction: the client's next one.
+SCRIPT = "\\set place :place + 1\nSELECT act(:client_id, :place);\n"
+
+# So many requests of each client are done before the clock counts.
+FIRST = 200
+
+# What --report shows of categories and users.
+CLOSING = """SELECT line FROM (
+    SELECT 0 AS part, id, 'category ' || id || ' ' || view_category(id) AS line FROM categories
+    UNION ALL
+    SELECT 1, id, format('user %s rating=%s comments=%s', id, rating, comments) FROM users WHERE comments > 0
+) AS lines ORDER BY part, id"""
+
+
+def tools():
+    """The folder of the server's programs, or None."""
+    found = sorted(glob.glob("/usr/lib/postgresql/*/bin/initdb"), key=lambda path: int(path.split("/")[4]))
+    at_hand = shutil.which("initdb")
+    folder = os.path.dirname(found[-1] if found else at_hand) if found or at_hand else None
+    if folder and os.path.exists(f"{folder}/postgres") and (os.path.exists(f"{folder}/pgbench") or shutil.which("pgbench")):
+        return folder
+    return None
+
+
+class Server:
+    """A server that lives as long as a `with` over it."""
+
+    def __init__(self):
+        self.tools = tools()
+        # The server does not run as root: Debian's package has made a user for it.
+        self.leave = ["runuser", "-u", "postgres", "--"] if os.geteuid() == 0 else []
+
+    def __enter__(self):
+        self.folder = tempfile.mkdtemp(prefix="bench-")
+        if self.leave:
+            shutil.chown(self.folder, "postgres")
+        self.call("initdb", "-D", f"{self.folder}/data", "-A", "trust", "-U", "bench", "--no-sync", "--locale=C", "-E", "UTF8")
+        settings = " ".join(f"-c {name}='{value}'" for name, value in SETTINGS.items())
+        self.call("pg_ctl", "-D", f"{self.folder}/data", "-w", "-l", f"{self.folder}/log", "-o",
+                  f"{settings} -c unix_socket_directories='{self.folder}'", "start")
+        return self
+
+    def __exit__(self, *_):
+        self.call("pg_ctl", "-D", f"{self.folder}/data", "-m", "immediate", "stop")
+        shutil.rmtree(self.folder, ignore_errors=True)
+
+    def call(self, tool, *words, text=None):
+        path = f"{self.tools}/{tool}"
+        path = path if os.path.exists(path) else shutil.which(tool)
+        ran = subprocess.run([*self.leave, path, *words], input=text, capture_output=True, text=True, cwd="/")
+        if ran.returncode != 0:
+            raise SystemExit(f"{tool}: {ran.stdout}{ran.stderr}")
+        return ran.stdout
+
+    def ask(self, text):
+        return self.call("psql", "-h", self.folder, "-U", "bench", "-d", "postgres", "-qAtX", "-v", "ON_ERROR_STOP=1", text=text)
+
+    def version(self):
+        return self.ask("SHOW server_version").split()[0]
+
+    def open(self, rows, scripts, users, categories):
+        """A new auction with these rows, whose input has the scripts."""
+        with open(f"{HERE}/auction.postgres.sql") as schema:
+            self.ask("DROP SCHEMA public CASCADE; CREATE SCHEMA public;" + schema.read())
+        lines = ("\t".join(map(column, record)) for record in [*rows, *(record for script in scripts for record in script)])
+        self.ask("COPY input FROM stdin;\n" + "".join(f"{line}\n" for line in lines) + "\\.\n")
+        self.ask(f"""
+            INSERT INTO users SELECT generate_series(0, {users - 1});
+            INSERT INTO categories SELECT generate_series(0, {categories - 1});
+            SELECT make_serials({len(scripts)});
+            SELECT count(act(r)) FROM (SELECT * FROM input WHERE is_row ORDER BY place) AS r;
+            ANALYZE users, categories, items, input;""")
+
+    def perform(self, scripts, seconds):
+        """Performs the scripts, each by a client of pgbench, or as much of them as it does in about so many seconds. Gives how
+        many requests were done, and how many a second after the first ones, which fill the server's caches."""
+        each = min(map(len, scripts))
+        first = min(FIRST, each // 2)
+        rate = self.clients(len(scripts), first, 0)
+        rest = max(1, min(each - first, int(rate * seconds / len(scripts))))
+        return (first + rest) * len(scripts), self.clients(len(scripts), rest, first)
+
+    def clients(self, workers, each, place):
+        """Requests a second where each worker's client does so many from a place of its script on."""
+        path = f"{self.folder}/script"
+        with open(path, "w") as script:
+            script.write(SCRIPT)
+        os.chmod(path, 0o644)
+        said = self.call("pgbench", "-h", self.folder, "-U", "bench", "-n", "-M", "prepared", "-c", str(workers), "-j", str(workers),
+                         "-t", str(each), "-D", f"place={place - 1}", "-f", path, "postgres")
+        if f"actually processed: {each * workers}/{each * workers}" not in said:
+            raise SystemExit(said)
+        return float(re.search(r"tps = ([0-9.]+) \(without initial connection time\)", said).group(1))
+
+    def replies(self, script):
+        """One worker's replies, as the auction writes them, a transaction for each."""
+        said = self.ask("".join(f"SELECT act(0, {place});\n" for place in range(len(script))))
+        return "".join(f"0,{place},{line}\n" for place, line in enumerate(said.splitlines()))
+
+    def closing(self):
+        return self.ask(CLOSING)
+
+
+def column(value):
+    return "\\N" if value is None else "t" if value is True else "f" if value is False else str(value)

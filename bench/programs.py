@@ -1,0 +1,60 @@
+"""The programs that bench/run measures: found or built, and run once under watch."""
+import os
+import shutil
+import subprocess
+import sys
+
+HERE = os.path.dirname(os.path.abspath(__file__))
+
+# What the options call the crates' programs.
+CRATES = {"program": "rubis_auction", "load": "rubis_load", "watch": "watch_auction"}
+
+
+def built_path(root, crate):
+    """The program of a crate, as `rt ci` and `rt run` build it: built first where it is not there."""
+    folder = f"{root}/crates/{crate}"
+    path = f"{folder}/out/{crate}"
+    if not os.path.exists(path):
+        if shutil.which("rt") is None:
+            sys.exit(f"{crate} is not built, and `rt`, which builds it, is not on the path")
+        print(f"{crate} is not built: rt run proves and builds it", file=sys.stderr)
+        given = open(f"{folder}/stdin") if os.path.exists(f"{folder}/stdin") else subprocess.DEVNULL
+        words = open(f"{folder}/args").read().split() if os.path.exists(f"{folder}/args") else []
+        ran = subprocess.run(["rt", "run", "--", *words], cwd=folder, stdin=given, capture_output=True, text=True)
+        if ran.returncode != 0 or not os.path.exists(path):
+            sys.exit(f"{crate}: not built\n{ran.stdout}{ran.stderr}")
+    return path
+
+
+def all_paths(root, asked, folder):
+    """Each program's path. Plain Rust is left out where there is no rustc."""
+    wanted = [name for name in CRATES if name != "watch" or "windows" not in asked.skip]
+    built = {name: os.path.abspath(getattr(asked, name) or built_path(root, CRATES[name])) for name in wanted}
+    if shutil.which("rustc"):
+        built["plain"] = f"{folder}/plain"
+        subprocess.check_call(["rustc", "-O", "-C", "codegen-units=1", "--edition", "2021", f"{root}/bench/plain.rs", "-o", built["plain"]])
+    return built
+
+
+def watched(what, path, words):
+    """What watched.py tells of a command over a file."""
+    ran = subprocess.run([sys.executable, "-S", "-E", f"{HERE}/watched.py", what, path, *words], capture_output=True, text=True)
+    if ran.returncode != 0:
+        sys.exit(f"{' '.join(words)}: status {ran.returncode}\n{ran.stderr}")
+    return [int(number) for number in ran.stdout.split()]
+
+
+def whole_of(words, path):
+    """A whole command's seconds and megabytes."""
+    nanoseconds, kilobytes = watched("whole", path, words)
+    return nanoseconds / 1e9, kilobytes / 1024
+
+
+def answer_of(words, path):
+    """The seconds from the last bytes of the input to the first of the output."""
+    return watched("answer", path, words)[0] / 1e9
+
+
+def output_of(words, path):
+    with open(path, "rb") as given:
+        return subprocess.run(words, stdin=given, capture_output=True, check=True).stdout.decode()

@@ -1,0 +1,117 @@
+-- What the program's words say of a plan, by the parser of words (`clap`).
+use Rattle.std.specs.Prelude.{◌≡◌, ◌≤◌, ◌<◌, ◌+◌, ℕ, List, [], ◌∷◌, Option, Some, None, fold, codes, pos, ⊤}
+use Rattle.std.specs.Int.{div_ceil}
+use Rattle.std.specs.Str.Parse.{IsNumeral, digits_value, without_leading_plus}
+use Rattle.clap.specs.declared.builder.action.ArgAction.TheVariants.{Set}
+use Rattle.clap.specs.declared.builder.value_parser.ValueParser.TheVariants.{Signed, Unsigned}
+use Rattle.clap.specs.Faults.{fault_of}
+use Rattle.clap.specs.Simple.{App, matches_of, new_app, new_rule, with_rule}
+use Rattle.clap.specs.Walk.{Rule, one_of}
+use Rattle.load_program.specs.declared.faults.UsageFault.{UsageFault}
+use Rattle.load_program.specs.declared.faults.UsageFault.TheVariants as fault
+use Rattle.load_program.specs.declared.plan.Counts.{Counts}
+use Rattle.load_program.specs.declared.plan.Mix.{Mix}
+use Rattle.load_program.specs.declared.plan.Plan.{Plan}
+
+-- `--id NUMBER`, with a number from the least to the greatest; the usual one where the words don't have it
+abbrev pub number_rule : List ℕ → ℕ → ℕ → List ℕ → Rule
+number_rule id least greatest usual = record (new_rule id) {
+  long = Some id;
+  action = Some Set;
+  defaults = usual ∷ [];
+  parser = Some (Signed (pos least) (pos greatest));
+}
+
+-- `--seed NUMBER`, with any number of 64 bits; 1 where the words don't have it
+abbrev pub seed_rule : Rule
+seed_rule = record (new_rule (codes "seed")) {
+  long = Some (codes "seed");
+  action = Some Set;
+  defaults = codes "1" ∷ [];
+  parser = Some (Unsigned 0 18446744073709551615);
+}
+
+-- the program's options
+abbrev pub option_rules : List Rule
+option_rules =
+    number_rule (codes "requests") 0 16000000 (codes "1000")
+    ∷ number_rule (codes "workers") 1 16 (codes "1")
+    ∷ number_rule (codes "items") 1 1000000 (codes "100")
+    ∷ number_rule (codes "users") 1 1000000 (codes "100")
+    ∷ number_rule (codes "categories") 1 1000000 (codes "10")
+    ∷ number_rule (codes "skew") 0 200 (codes "0")
+    ∷ number_rule (codes "views") 0 100 (codes "85")
+    ∷ number_rule (codes "comments") 0 100 (codes "3")
+    ∷ number_rule (codes "purchases") 0 100 (codes "2")
+    ∷ number_rule (codes "new-items") 0 100 (codes "2")
+    ∷ seed_rule
+    ∷ []
+
+abbrev pub program : App
+program = fold with_rule (new_app (codes "rubis_load")) option_rules
+
+-- The parser finds no fault in the words: after the program's name they are options of it, each once at most, with its number in its range.
+abbrev pub AreTaken : List (List ℕ) → Type 0
+AreTaken words = fault_of program words ≡ []
+
+-- the text of an option: what the words give, or else its usual one
+abbrev pub text_in : List (List ℕ) → List ℕ → Option (List ℕ)
+text_in words id = one_of id (matches_of program words)
+
+-- the text says this number, where it says one of the range
+abbrev pub SaysNumber : ℕ → ℕ → Option (List ℕ) → ℕ → Type 0
+SaysNumber least greatest None number = ⊤
+SaysNumber least greatest (Some text) number =
+    let said = digits_value 10 (without_leading_plus text) in
+    IsNumeral 10 (without_leading_plus text) → least ≤ said → said ≤ greatest → number ≡ said
+
+-- The texts of options say these counts.
+pub record SayCounts (text : List ℕ → Option (List ℕ)) (counts : Counts) : Type 0 where
+  pub requests : SaysNumber 0 16000000 (text (codes "requests")) counts.requests
+  pub workers : SaysNumber 1 16 (text (codes "workers")) counts.workers
+  pub items : SaysNumber 1 1000000 (text (codes "items")) counts.items
+  pub users : SaysNumber 1 1000000 (text (codes "users")) counts.users
+  pub categories : SaysNumber 1 1000000 (text (codes "categories")) counts.categories
+
+-- They say this mix.
+pub record SayMix (text : List ℕ → Option (List ℕ)) (mix : Mix) : Type 0 where
+  pub views : SaysNumber 0 100 (text (codes "views")) mix.views
+  pub comments : SaysNumber 0 100 (text (codes "comments")) mix.comments
+  pub purchases : SaysNumber 0 100 (text (codes "purchases")) mix.purchases
+  pub new_items : SaysNumber 0 100 (text (codes "new-items")) mix.new_items
+
+-- They say this plan.
+pub record SayPlan (text : List ℕ → Option (List ℕ)) (plan : Plan) : Type 0 where
+  pub counts : SayCounts text plan.counts
+  pub mix : SayMix text plan.mix
+  pub skew : SaysNumber 0 200 (text (codes "skew")) plan.skew
+  pub seed : SaysNumber 0 18446744073709551615 (text (codes "seed")) plan.seed
+
+-- no worker has more rows and requests than the auction takes
+abbrev pub Fits : Counts → Type 0
+Fits counts = div_ceil counts.items counts.workers + div_ceil counts.requests counts.workers ≤ 1000000
+
+-- They say shares of more than a hundred percent.
+pub record SayTooMuch (text : List ℕ → Option (List ℕ)) : Type 0 where
+  pub views : ℕ
+  pub comments : ℕ
+  pub purchases : ℕ
+  pub new_items : ℕ
+  pub said_views : SaysNumber 0 100 (text (codes "views")) views
+  pub said_comments : SaysNumber 0 100 (text (codes "comments")) comments
+  pub said_purchases : SaysNumber 0 100 (text (codes "purchases")) purchases
+  pub said_new_items : SaysNumber 0 100 (text (codes "new-items")) new_items
+  pub over : 100 < views + comments + purchases + new_items
+
+-- They say counts by which the first worker has more rows and requests than the auction takes.
+pub record SayTooLong (text : List ℕ → Option (List ℕ)) : Type 0 where
+  pub counts : Counts
+  pub said : SayCounts text counts
+  pub over : 1000000 < div_ceil counts.items counts.workers + div_ceil counts.requests counts.workers
+
+-- why words that the parser takes are refused
+abbrev pub IsCauseOf : (List ℕ → Option (List ℕ)) → UsageFault → Type 0
+IsCauseOf text (fault.Text words) = ⊥
+IsCauseOf text fault.Shares = SayTooMuch text
+IsCauseOf text fault.TooLong = SayTooLong text
+IsCauseOf text fault.Memory = ⊤

@@ -1,0 +1,95 @@
+//! Why the program fails, its exit statuses and its words.
+ghost use Rattle.std.specs.Prelude.{◌≡◌, IfErr, IfSome, OnOk};
+ghost use Rattle.std.specs.Io.KnownBytes.{Appends};
+ghost use Rattle.auction_text.specs.declared.faults.WriteFault.{WriteFault};
+ghost use Rattle.load_program.specs.Faults.{status, parser_words};
+
+use auction_text::WriteFault;
+use std::alloc::AllocError;
+use std::io::Write;
+use thiserror::Error;
+
+/// Why the program's words are refused.
+#[derive(Debug, Drop, Error)]
+pub enum UsageFault {
+    /// What the parser of options says: a word is refused, or help is asked for.
+    #[error("{0}")]
+    Text(String),
+    /// The shares of views, comments, purchases and new items are more than 100 percent together.
+    #[error("shares of more than 100 percent")]
+    Shares,
+    /// A worker would have more rows and requests than the auction takes.
+    #[error("more than 1000000 rows and requests for a worker")]
+    TooLong,
+    /// No memory was left while the words were read.
+    #[error("no memory")]
+    Memory,
+}
+
+/// Why no load was written, or only a part of one.
+#[derive(Debug, Drop, Error)]
+pub enum Fault {
+    /// The words were refused. Nothing was written.
+    #[error("{0}")]
+    Usage(UsageFault),
+    /// No memory was left for the law of popularity. Nothing was written.
+    #[error("no memory")]
+    Memory,
+    /// A part of the load could not be made or written: what was written before it is the load's beginning.
+    #[error("{0}")]
+    Write(WriteFault),
+}
+
+impl From<UsageFault> for Fault {
+    ghost use Rattle.load_program.specs.declared.faults.Fault.TheVariants.{Usage};
+
+    ghost from_gives = { λ cause fault. fault ≡ Usage cause };
+
+    fn from(cause: UsageFault) -> Fault {
+        Fault::Usage(cause)
+    }
+}
+
+impl From<AllocError> for Fault {
+    ghost use Rattle.load_program.specs.declared.faults.Fault.TheVariants.{Memory};
+
+    ghost from_gives = { λ _ fault. fault ≡ Memory };
+
+    fn from(_refused: AllocError) -> Fault {
+        Fault::Memory
+    }
+}
+
+impl From<WriteFault> for Fault {
+    ghost use Rattle.load_program.specs.declared.faults.Fault.TheVariants.{Write};
+
+    ghost from_gives = { λ cause fault. fault ≡ Write cause };
+
+    fn from(cause: WriteFault) -> Fault {
+        Fault::Write(cause)
+    }
+}
+
+/// The exit status of a fault: 1 for options, 3 for memory, 4 for writing.
+pub fn status(fault: &Fault) -> u8
+    ensures { result ≡ status fault.now }
+{
+    match fault {
+        Fault::Usage(_) => 1,
+        Fault::Memory => 3,
+        Fault::Write(_) => 4,
+    }
+}
+
+/// Writes the line of a fault. The words of the parser of options stand as they are, without the
+/// program's name. It takes no memory, so `Write` is the only fault.
+pub fn write_fault<W: Write>(writer: &mut W, fault: &Fault) -> Result<(), WriteFault>
+    ensures words { OnOk result (IfSome (parser_words fault.now) (Appends (W.contents writer.old) (W.contents writer.new))) }
+    ensures fault { IfErr result (λ refused. refused ≡ WriteFault.Write) }
+{
+    let written = match fault {
+        Fault::Usage(UsageFault::Text(text)) => writer.write_all(text.as_bytes()),
+        _ => writeln!(writer, "rubis_load: {fault}"),
+    };
+    written.map_err(|_| WriteFault::Write)
+}

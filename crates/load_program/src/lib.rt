@@ -1,0 +1,16 @@
+//! The program behind `main` of `rubis_load`: from its words to the rows and requests of a load, as the auction reads them.
+#![tactic(auto)]
+
+mod draws;
+mod faults;
+mod generate;
+mod lines;
+mod options;
+mod plan;
+mod popularity;
+mod text;
+
+pub use faults::{Fault, UsageFault, status, write_fault};
+pub use generate::write_load;
+pub use options::{read_plan, words_fault};
+pub use plan::{Counts, Mix, Plan};
