@@ -1,11 +1,11 @@
 -- What the program's words say of its options, by the parser of words (`clap`).
-use Rattle.std.specs.Prelude.{◌≡◌, ◌≤◌, ℕ, Bool, false, List, [], ◌∷◌, Option, Some, None, fold, codes, pos}
+use Rattle.std.specs.Prelude.{◌≡◌, ◌≤◌, ℕ, Bool, true, false, List, [], ◌∷◌, Option, Some, None, fold, codes, pos}
 use Rattle.std.specs.Str.{bytes_eq}
 use Rattle.std.specs.Str.Parse.{IsNumeral, digits_value, without_leading_plus}
 use Rattle.clap.specs.declared.builder.action.ArgAction.TheVariants.{Set, SetTrue}
 use Rattle.clap.specs.declared.builder.value_parser.ValueParser.TheVariants.{Signed}
 use Rattle.clap.specs.Faults.{fault_of}
-use Rattle.clap.specs.Simple.{App, matches_of, new_app, new_rule, with_rule}
+use Rattle.clap.specs.Simple.{App, matches_of, new_app, new_rule, on_top, with_rule}
 use Rattle.clap.specs.Walk.{Rule, one_of}
 use Rattle.auction_program.specs.declared.options.Options.{Options}
 
@@ -14,6 +14,7 @@ abbrev pub number_rule : List ℕ → ℕ → ℕ → List ℕ → Rule
 number_rule id least greatest usual = record (new_rule id) {
   long = Some id;
   action = Some Set;
+  value_names = 1;
   defaults = usual ∷ [];
   parser = Some (Signed (pos least) (pos greatest));
 }
@@ -38,8 +39,12 @@ option_rules =
     ∷ flag_rule (codes "report")
     ∷ []
 
+-- the program without them: it has a version
+abbrev pub bare_program : App
+bare_program = on_top (λ shape. record shape { has_version = true }) (new_app (codes "rubis_auction"))
+
 abbrev pub program : App
-program = fold with_rule (new_app (codes "rubis_auction")) option_rules
+program = fold with_rule bare_program option_rules
 
 -- The parser finds no fault in the words: after the program's name they are options of it, each once at most, with its number in its range.
 abbrev pub AreTaken : List (List ℕ) → Type 0

@@ -3,6 +3,7 @@
 
 mod executing;
 mod faults;
+mod help;
 mod one_worker;
 mod options;
 mod performing;

@@ -5,10 +5,11 @@ ghost use Rattle.std.specs.declared.io.ErrorKind.{ErrorKind as IoErrorKind};
 ghost use Rattle.clap.specs.Words.{app_of, found_of, kind_of, one_text, rule_of};
 ghost use Rattle.clap.specs.declared.error.kind.ErrorKind.{ErrorKind};
 ghost use Rattle.auction_program.specs.Options.{AreInRange};
-ghost use Rattle.auction_program.specs.Words.{AreTaken, HaveNumbers, IsNumberIn, flag_rule, is_set, number_of, number_rule, options_in, options_of, program};
+ghost use Rattle.auction_program.specs.Words.{AreTaken, HaveNumbers, IsNumberIn, bare_program, flag_rule, is_set, number_of, number_rule, options_in, options_of, program};
 ghost use Rattle.auction_program.specs.declared.faults.UsageFault.{UsageFault};
 
 use crate::faults::UsageFault;
+use crate::help;
 use auction_rows::Opening;
 use auction_run::Policy;
 use clap::error::ErrorKind;
@@ -102,7 +103,13 @@ const NUMBERS: Range = Range {
     greatest: 1_000_000,
 };
 
-fn number_option<'a>(alloc: Global, id: &'a str, range: Range, usual: &'a str) -> Arg<'a>
+fn number_option<'a>(
+    alloc: Global,
+    id: &'a str,
+    range: Range,
+    usual: &'a str,
+    help: &'a str,
+) -> Arg<'a>
     ensures rule { rule_of result ≡ number_rule id.entry.now range.least range.greatest usual.entry.now }
     ensures local { result.global ≡ false }
 {
@@ -112,30 +119,46 @@ fn number_option<'a>(alloc: Global, id: &'a str, range: Range, usual: &'a str) -
         .action(ArgAction::Set)
         .value_parser(parser.range(i64::from(range.least)..=i64::from(range.greatest)))
         .default_value(usual)
+        .value_name("N")
+        .help(help)
 }
 
-fn flag<'a>(alloc: Global, id: &'a str) -> Arg<'a>
+fn flag<'a>(alloc: Global, id: &'a str, help: &'a str) -> Arg<'a>
     ensures rule { rule_of result ≡ flag_rule id.entry.now }
     ensures local { result.global ≡ false }
 {
-    Arg::new(alloc, id).long(id).action(ArgAction::SetTrue)
+    Arg::new(alloc, id)
+        .long(id)
+        .action(ArgAction::SetTrue)
+        .help(help)
+}
+
+// The program without its options.
+fn bare_command<'a>(alloc: Global) -> Command<'a>
+    ensures { app_of result ≡ bare_program }
+{
+    Command::new(alloc, "rubis_auction")
+        .version(help::VERSION)
+        .about(help::ABOUT)
+        .override_usage(help::USAGE)
+        .after_help(help::FORMATS)
 }
 
 fn command<'a>(alloc: Global) -> Result<Command<'a>, AllocError>
     ensures { IfOk result (λ command. app_of command ≡ program) }
 {
-    Command::new(alloc, "rubis_auction")
-        .arg(number_option(alloc, "workers", WORKERS, "1"))?
-        .arg(number_option(alloc, "shards", SHARDS, "4"))?
-        .arg(number_option(alloc, "joined", QUOTAS, "64"))?
-        .arg(number_option(alloc, "split", QUOTAS, "64"))?
-        .arg(number_option(alloc, "threshold", QUOTAS, "8"))?
-        .arg(number_option(alloc, "hot", HOT, "8"))?
-        .arg(number_option(alloc, "users", NUMBERS, "100"))?
-        .arg(number_option(alloc, "categories", NUMBERS, "10"))?
-        .arg(flag(alloc, "history"))?
-        .arg(flag(alloc, "rows"))?
-        .arg(flag(alloc, "report"))
+    bare_command(alloc)
+        .arg(number_option(alloc, "workers", WORKERS, "1", help::WORKERS))?
+        .arg(number_option(alloc, "shards", SHARDS, "4", help::SHARDS))?
+        .arg(number_option(alloc, "joined", QUOTAS, "64", help::JOINED))?
+        .arg(number_option(alloc, "split", QUOTAS, "64", help::SPLIT))?
+        .arg(number_option(alloc, "threshold", QUOTAS, "8", help::THRESHOLD))?
+        .arg(number_option(alloc, "hot", HOT, "8", help::HOT))?
+        .arg(number_option(alloc, "users", NUMBERS, "100", help::USERS))?
+        .arg(number_option(alloc, "categories", NUMBERS, "10", help::CATEGORIES))?
+        .arg(flag(alloc, "history", help::HISTORY))?
+        .arg(flag(alloc, "rows", help::ROWS))?
+        .arg(flag(alloc, "report", help::REPORT))
 }
 
 // The number of an option, which its parser has found to be one.

@@ -7,7 +7,7 @@ use Rattle.auction_program.proofs.options.command.Goals as goal
 
 pub returns : goal.returns
 returns c =
-    let start = c.new.ensures.app in
+    let start = c.bare_command.ensures in
     let added-1 = c.in_ok-arg.ensures.shape c.number_option.ensures.local ∙ ap₂ with_rule start c.number_option.ensures.rule in
     let added-2 = c.in_ok-arg-2.ensures.shape c.number_option-2.ensures.local ∙ ap₂ with_rule added-1 c.number_option-2.ensures.rule in
     let added-3 = c.in_ok-arg-3.ensures.shape c.number_option-3.ensures.local ∙ ap₂ with_rule added-2 c.number_option-3.ensures.rule in
