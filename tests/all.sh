@@ -14,7 +14,7 @@ if [ "${1:-}" != --built ]; then
     rt ci | tee "$said/rt_ci"
 fi
 python3 -B tests/second_opinion.py > "$said/second_opinion" 2>&1 &
-for script in worked ends limits refused_memory library_calls postgres; do
+for script in documents worked ends limits refused_memory library_calls checking loads postgres; do
     echo "== tests/$script.py"
     python3 -B "tests/$script.py" 2>&1 | tee "$said/$script" || true
 done

@@ -9,12 +9,13 @@ A run that leaves something running, or takes longer than ten minutes, has faile
 
 import re
 import shutil
-from dataclasses import replace
+import textwrap
+from dataclasses import Field, fields, replace
 from itertools import product
 
 from checks import FEW, MILLION, SEEN, VASE, VIEW, Tester, main
 from model import Options, Outcome, expected
-from program import EXAMPLES, described, fault, run
+from program import DOCUMENTS, EXAMPLES, described, fault, run
 from records import BYTE_ORDER_MARK
 
 
@@ -260,16 +261,42 @@ def reasons_of_options(tester: Tester) -> None:
 
 
 def odd_words(tester: Tester) -> None:
-    """words that are no option, and help"""
+    """words that are no option"""
     for word in ("--worker=2", "workers", "--history=1", "-", "-x", "--=4", "", b"\xff", b"--workers=\xff"):
         options_are_refused(tester, word)
     for words in (("--history", "--history"), ("--rows", "--rows"), ("--", "x")):
         options_are_refused(tester, *words)
     options_are_refused(tester, *["--history"] * 1000)
+    tester.same("no environment", tester.run(tester.example, env={}), Outcome(0, tester.replies, b""))
+
+
+def help_and_version(tester: Tester) -> None:
+    """help, as docs/FORMATS.md shows it, with each option's limits and what it is without words, and the version"""
+    formats = (DOCUMENTS / "FORMATS.md").read_text()
     for word in ("--help", "-h"):
         got = run([tester.program, word], VIEW)
-        tester.tally.check(got.status == 1 and got.stdout == b"" and b"Usage: " in got.stderr, f"{word}: {described(got)}")
-    tester.same("no environment", tester.run(tester.example, env={}), Outcome(0, tester.replies, b""))
+        tester.tally.check(got.status == 1 and got.stdout == b"", f"{word}: {described(got)}")
+        said = got.stderr.decode()
+        tester.tally.check(indented(said) in formats, f"docs/FORMATS.md shows what {word} prints")
+        for option in fields(Options):
+            line = next((line for line in said.splitlines() if line.startswith(f"      --{option.name} ")), "")
+            tester.tally.check(says_of_option(line, option), f"what {word} says of --{option.name}: {line!r}")
+    for word in ("--version", "-V"):
+        got = run([tester.program, word], VIEW)
+        right = got.status == 1 and got.stdout == b"" and re.fullmatch(rb"rubis_auction \d+\.\d+\.\d+\n", got.stderr)
+        tester.tally.check(bool(right), f"{word}: {described(got)}")
+
+
+def indented(text: str) -> str:
+    return textwrap.indent(text, "    ")
+
+
+def says_of_option(line: str, option: Field) -> bool:
+    """A number's line has its limits and what it is without words; a flag's has a text."""
+    if option.name not in OPTION_LIMITS:
+        return re.fullmatch(r" +--\w+ +\w.*", line) is not None
+    least, most = OPTION_LIMITS[option.name]
+    return f", {least} to {most} [default: {option.default}]" in line
 
 
 def names(tester: Tester) -> None:
@@ -426,6 +453,7 @@ CHECKS = (
     numbers_in_options,
     reasons_of_options,
     odd_words,
+    help_and_version,
     names,
     lists_of_ten,
     hot_objects,

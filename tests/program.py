@@ -13,6 +13,7 @@ from model import Outcome
 TESTS = Path(__file__).resolve().parent
 CRATES = TESTS.parent / "crates"
 EXAMPLES = TESTS.parent / "examples"
+DOCUMENTS = TESTS.parent / "docs"
 
 # What runs so long hangs. No run takes a tenth of it, so that a busy machine fails no test.
 SECONDS = 600
