@@ -9,7 +9,7 @@ use crate::name::WindowName;
 use crate::phase_log::{PhaseCount, PhaseLog};
 use crate::prefix::Prefix;
 use crate::window::{Told, Window};
-use auction_rows::Row;
+use auction_rows::{MOST_WORKERS, Row};
 use core::mem::replace_with;
 use crossbeam_utils::rule::Unruled;
 use item_shards::OpeningBook;
@@ -86,7 +86,7 @@ impl<J: WindowName> Publisher<J> {
         requires log { log ≡ J.log }
         requires opening { opening_of book.now ≡ J.opening }
         requires rows { opening_rows book.now ≡ J.rows }
-        requires count { (0 < windows) × (windows ≤ 16) }
+        requires count { (0 < windows) × (windows ≤ MOST_WORKERS) }
         ensures publisher { IfOk result (λ made. made.0 ≡ record { phases = []; failed = false }) }
         ensures windows { IfOk result (λ made. length made.1.items ≡ windows) }
         ensures nothing { IfOk result (λ made. All (λ window. window ≡ []) made.1.items) }

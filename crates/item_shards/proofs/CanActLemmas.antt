@@ -30,8 +30,8 @@ use Rattle.auction_rows.specs.Requests.{shard_of}
 use Rattle.auction_rows.proofs.RefusalLemmas.{refusal-split, enough}
 use Rattle.item_shards.specs.declared.acts.Act.{Act}
 use Rattle.item_shards.specs.Values.{Value, value, HasLeft}
-use Rattle.item_shards.specs.Shelves.{Shelf, after_act}
-use Rattle.item_shards.specs.Standing.{ShelfStandsFor}
+use Rattle.item_shards.specs.Contents.{Contents, after_act}
+use Rattle.item_shards.specs.Standing.{ContentsStandsFor}
 use Rattle.item_shards.specs.Writing.{looks_of, writes_of, writes_if, acts_of, is_cold_in, is_done_on, acts_owed}
 use Rattle.item_shards.specs.Acting.{CanActOn, HasRoomFor}
 use Rattle.item_shards.specs.Limits.{AreStars, HasStars, IsWithinLimits}
@@ -98,10 +98,10 @@ pub all_both : {A : Type 0} (P : A → Type 0) (xs ys : List A) → AllByRecursi
 all_both P [] ys h k = k
 all_both P (x ∷ xs) ys h k = (h.0, all_both P xs ys h.1 k)
 
-module _ (opening : Opening) (number shards : ℕ) (rooms : ItemId → Bool) (shelf : Shelf) (book : Book) (hot : List Object)
-    (stands : ShelfStandsFor number shards shelf book hot) where
+module _ (opening : Opening) (number shards : ℕ) (rooms : ItemId → Bool) (contents : Contents) (book : Book) (hot : List Object)
+    (stands : ContentsStandsFor number shards contents book hot) where
   abbrev Can : Act → Type 0
-  Can act = is_done_on number shards hot act ≡ true → CanActOn opening number shards rooms shelf act
+  Can act = is_done_on number shards hot act ≡ true → CanActOn opening number shards rooms contents act
 
   abbrev here : Object → Bool
   here = is_cold_in number shards hot
@@ -109,8 +109,8 @@ module _ (opening : Opening) (number shards : ℕ) (rooms : ItemId → Bool) (sh
   lies : (object : Object) → here object ≡ true → shard_of object shards ≡ number
   lies = lies_here number shards hot
 
-  at_object : (object : Object) → here object ≡ true → shelf object ≡ value book object
-  at_object = stands_at number shards shelf book hot stands
+  at_object : (object : Object) → here object ≡ true → contents object ≡ value book object
+  at_object = stands_at number shards contents book hot stands
 
   looks_can : (saw : Option (Facts × ℕ)) (answered : Reply) (request : Request) → AllByRecursion Can (looks_of saw answered request)
   looks_can saw answered (StoreItem facts time) = tt
@@ -141,10 +141,10 @@ module _ (opening : Opening) (number shards : ℕ) (rooms : ItemId → Bool) (sh
               let none = by_number opening (StoreItem facts time) (not_by_number opening book (StoreItem facts time) e) in
               leb-false opening.categories facts.category (none_of (nat_le opening.categories facts.category) false none.1).0
     accepted_can (StoreBid bidder item amount time) e room own = row_if_can (worker == worker) _ own (λ _. (λ h. (lies (Item item) h, stored h, fits h), tt)) where
-      stored : here (Item item) ≡ true → IsSome (shelf (Item item)).facts
+      stored : here (Item item) ≡ true → IsSome (contents (Item item)).facts
       stored h = subst (λ (v : Value). IsSome v.facts) (sym (at_object (Item item) h)) (is_stored (facts_of book item) (enough opening book (StoreBid bidder item amount time) e).0)
 
-      fits : here (Item item) ≡ true → (shelf (Item item)).bids.bids + 1 < 2 ^ 64
+      fits : here (Item item) ≡ true → (contents (Item item)).bids.bids + 1 < 2 ^ 64
       fits h = omega (arith, few, bids_at_most book item, ap (λ (v : Value). v.bids.bids) (at_object (Item item) h))
     accepted_can (StoreComment author about item given) e room own =
         row_if_can (worker == worker) _ own (λ are. (λ h. (lies (User about) h, known, rated h are, fits h), tt)) where
@@ -153,14 +153,14 @@ module _ (opening : Opening) (number shards : ℕ) (rooms : ItemId → Bool) (sh
               let none = by_number opening (StoreComment author about item given) (not_by_number opening book (StoreComment author about item given) e) in
               leb-false opening.users about (none_of (nat_le opening.users about) false (none_of (nat_le opening.users author) _ none.0).1).0
 
-          rated : here (User about) ≡ true → AreStars given → FitsSigned w64 ((shelf (User about)).comments.rating +ℤ given)
+          rated : here (User about) ≡ true → AreStars given → FitsSigned w64 ((contents (User about)).comments.rating +ℤ given)
           rated h are = subst (λ (v : Value). FitsSigned w64 (v.comments.rating +ℤ given)) (sym (at_object (User about) h))
               (rating_fits (value book (User about)).comments.rating given (length book) (rating_at_most book about stars) few are)
 
-          fits : here (User about) ≡ true → (shelf (User about)).comments.comments + 1 < 2 ^ 64
+          fits : here (User about) ≡ true → (contents (User about)).comments.comments + 1 < 2 ^ 64
           fits h = omega (arith, few, comments_at_most book about, ap (λ (v : Value). v.comments.comments) (at_object (User about) h))
     accepted_can (BuyNow buyer item quantity time) e room own = row_if_can (worker == worker) _ own (λ _. (λ h. (lies (Item item) h, enough_here h), tt)) where
-      enough_here : here (Item item) ≡ true → HasLeft (shelf (Item item)) quantity
+      enough_here : here (Item item) ≡ true → HasLeft (contents (Item item)) quantity
       enough_here h =
           let is = enough opening book (BuyNow buyer item quantity time) e in
           subst (λ (v : Value). HasLeft v quantity) (sym (at_object (Item item) h)) (enough_left book item quantity is.0 is.1)
@@ -193,13 +193,13 @@ module _ (opening : Opening) (number shards : ℕ) (rooms : ItemId → Bool) (sh
         subst (λ answered. AllByRecursion Can (writes_if (row_of entry.worker entry.request answered))) (sym right)
         (writes_can few (all_first HasStars book _ limits.stars) entry.worker entry.request (refusal opening book entry.request) refl (λ id e. room id (right ∙ e)) own)
 
-    pub each_can : (act : Act) → Contains (acts_of opening saw entry) act → is_done_on number shards hot act ≡ true → CanActOn opening number shards rooms shelf act
+    pub each_can : (act : Act) → Contains (acts_of opening saw entry) act → is_done_on number shards hot act ≡ true → CanActOn opening number shards rooms contents act
     each_can act member = all-member Can (acts_of opening saw entry) act (at (is_some (number_refusal opening entry.request))) member where
       at : (b : Bool) → AllByRecursion Can (cond b [] (looks_of saw entry.reply entry.request ++ writes_if (row_of_entry entry)))
       at true = tt
       at false = all_both Can (looks_of saw entry.reply entry.request) (writes_if (row_of_entry entry)) (looks_can saw entry.reply entry.request) row_can
 
-    pub turn_can : SawInTurn (CanActOn opening number shards rooms) after_act shelf (acts_owed opening number shards hot saw entry)
+    pub turn_can : SawInTurn (CanActOn opening number shards rooms) after_act contents (acts_owed opening number shards hot saw entry)
     turn_can =
-        owed_in_turn (CanActOn opening number shards rooms) (λ s. tt) (λ s id facts category listing h. h) number shards hot shelf opening saw entry
+        owed_in_turn (CanActOn opening number shards rooms) (λ s. tt) (λ s id facts category listing h. h) number shards hot contents opening saw entry
         (λ e. (looks_can saw entry.reply entry.request, row_can))

@@ -1,4 +1,4 @@
--- What shelves stand for, after the acts that an entry owes.
+-- What contents stand for, after the acts that an entry owes.
 use Rattle.std.proofs.Common.{◌≡◌, ℕ, ◌==◌, Bool, true, false, ◌&&◌, ◌||◌, cond, not, List, [], ◌∷◌, ◌++◌, map, filter, Option, Some, None, option_to_list, refl, sym, ap, subst, ◌∙◌}
 use Rattle.std.specs.Prelude.{is_some, is_none}
 use Rattle.std.specs.List.{list_any}
@@ -27,16 +27,16 @@ use Rattle.auction_rows.proofs.RequestLemmas.{row_made}
 use Rattle.item_shards.specs.declared.acts.Act.{Act}
 use Rattle.item_shards.specs.declared.acts.Act.TheVariants.{Look}
 use Rattle.item_shards.specs.declared.acts.Shown.{Shown}
-use Rattle.item_shards.specs.Shelves.{Shelf, after_acts}
-use Rattle.item_shards.specs.Standing.{ShelfStandsFor}
+use Rattle.item_shards.specs.Contents.{Contents, after_acts}
+use Rattle.item_shards.specs.Standing.{ContentsStandsFor}
 use Rattle.item_shards.specs.Writing.{looks_of, writes_of, writes_if, acts_of, is_cold_in, is_done_on, done_on, padded, acts_owed}
 use Rattle.item_shards.proofs.StandingLemmas.{rows_stand}
 
--- the looks at nothing leave the shelf
-padded_leaves : (shelf : Shelf) (acts : List Act) → after_acts shelf (padded acts) ≡ after_acts shelf acts
-padded_leaves shelf [] = refl
-padded_leaves shelf (act ∷ []) = refl
-padded_leaves shelf (act ∷ other ∷ acts) = refl
+-- the looks at nothing leave the contents
+padded_leaves : (contents : Contents) (acts : List Act) → after_acts contents (padded acts) ≡ after_acts contents acts
+padded_leaves contents [] = refl
+padded_leaves contents (act ∷ []) = refl
+padded_leaves contents (act ∷ other ∷ acts) = refl
 
 -- where the opening refuses a request the entry adds no row
 is_none_none : {A : Type 0} (o : Option A) → is_some o ≡ false → o ≡ None
@@ -58,44 +58,44 @@ no_row opening book worker request reason e =
     (refusal-split opening book request ∙ ap (λ o. option_or o (item_refusal request (facts_for book request) (left_for book request))) e))
 
 module _ (number shards : ℕ) (hot : List Object) where
-  -- a look that is done or not leaves the shelf
-  look_leaves : (shelf : Shelf) (b : Bool) (shown : Shown) (acts : List Act) → after_acts shelf (cond b (Look shown ∷ []) [] ++ acts) ≡ after_acts shelf acts
-  look_leaves shelf true shown acts = refl
-  look_leaves shelf false shown acts = refl
+  -- a look that is done or not leaves the contents
+  look_leaves : (contents : Contents) (b : Bool) (shown : Shown) (acts : List Act) → after_acts contents (cond b (Look shown ∷ []) [] ++ acts) ≡ after_acts contents acts
+  look_leaves contents true shown acts = refl
+  look_leaves contents false shown acts = refl
 
-  looks_leave : (shelf : Shelf) (saw : Option (Facts × ℕ)) (answered : Reply) (request : Request) (acts : List Act)
-      → after_acts shelf (done_on number shards hot (looks_of saw answered request) ++ acts) ≡ after_acts shelf acts
-  looks_leave shelf saw answered (StoreItem facts time) acts = refl
-  looks_leave shelf saw answered (StoreBid bidder item amount time) acts = look_leaves shelf (is_cold_in number shards hot (Item item)) _ acts
-  looks_leave shelf saw answered (StoreComment author about item stars) acts = look_leaves shelf (is_cold_in number shards hot (Item item)) _ acts
-  looks_leave shelf saw answered (BuyNow buyer item quantity time) acts = look_leaves shelf (is_cold_in number shards hot (Item item)) _ acts
-  looks_leave shelf saw answered (ViewItem item) acts = look_leaves shelf (is_cold_in number shards hot (Item item)) _ acts
-  looks_leave shelf saw answered (ViewBids item) acts = look_leaves shelf (is_cold_in number shards hot (Item item)) _ acts
-  looks_leave shelf saw answered (ViewCategory category) acts = look_leaves shelf (is_cold_in number shards hot (Category category)) _ acts
-  looks_leave shelf saw answered (ViewUser user) acts = look_leaves shelf (is_cold_in number shards hot (User user)) _ acts
+  looks_leave : (contents : Contents) (saw : Option (Facts × ℕ)) (answered : Reply) (request : Request) (acts : List Act)
+      → after_acts contents (done_on number shards hot (looks_of saw answered request) ++ acts) ≡ after_acts contents acts
+  looks_leave contents saw answered (StoreItem facts time) acts = refl
+  looks_leave contents saw answered (StoreBid bidder item amount time) acts = look_leaves contents (is_cold_in number shards hot (Item item)) _ acts
+  looks_leave contents saw answered (StoreComment author about item stars) acts = look_leaves contents (is_cold_in number shards hot (Item item)) _ acts
+  looks_leave contents saw answered (BuyNow buyer item quantity time) acts = look_leaves contents (is_cold_in number shards hot (Item item)) _ acts
+  looks_leave contents saw answered (ViewItem item) acts = look_leaves contents (is_cold_in number shards hot (Item item)) _ acts
+  looks_leave contents saw answered (ViewBids item) acts = look_leaves contents (is_cold_in number shards hot (Item item)) _ acts
+  looks_leave contents saw answered (ViewCategory category) acts = look_leaves contents (is_cold_in number shards hot (Category category)) _ acts
+  looks_leave contents saw answered (ViewUser user) acts = look_leaves contents (is_cold_in number shards hot (User user)) _ acts
 
-  module _ (opening : Opening) (shelf : Shelf) (book : Book) (saw : Option (Facts × ℕ)) (entry : Entry) (right : IsRight opening book entry) where
+  module _ (opening : Opening) (contents : Contents) (book : Book) (saw : Option (Facts × ℕ)) (entry : Entry) (right : IsRight opening book entry) where
     -- what is written is what is left of the acts
     writes_alone : (refused : Option Refusal) → number_refusal opening entry.request ≡ refused
-        → after_acts shelf (done_on number shards hot (cond (is_some refused) [] (looks_of saw entry.reply entry.request ++ writes_if (row_of_entry entry))))
-        ≡ after_acts shelf (done_on number shards hot (writes_if (row_of_entry entry)))
+        → after_acts contents (done_on number shards hot (cond (is_some refused) [] (looks_of saw entry.reply entry.request ++ writes_if (row_of_entry entry))))
+        ≡ after_acts contents (done_on number shards hot (writes_if (row_of_entry entry)))
     writes_alone None e =
-        ap (after_acts shelf) (filter-append (is_done_on number shards hot) (looks_of saw entry.reply entry.request) (writes_if (row_of_entry entry)))
-        ∙ looks_leave shelf saw entry.reply entry.request (done_on number shards hot (writes_if (row_of_entry entry)))
+        ap (after_acts contents) (filter-append (is_done_on number shards hot) (looks_of saw entry.reply entry.request) (writes_if (row_of_entry entry)))
+        ∙ looks_leave contents saw entry.reply entry.request (done_on number shards hot (writes_if (row_of_entry entry)))
     writes_alone (Some reason) e =
-        ap (λ one. after_acts shelf (done_on number shards hot (writes_if one)))
+        ap (λ one. after_acts contents (done_on number shards hot (writes_if one)))
         (sym (ap (row_of entry.worker entry.request) right ∙ no_row opening book entry.worker entry.request reason e))
 
-    owed_writes : after_acts shelf (acts_owed opening number shards hot saw entry) ≡ after_acts shelf (done_on number shards hot (writes_if (row_of_entry entry)))
-    owed_writes = padded_leaves shelf (done_on number shards hot (acts_of opening saw entry)) ∙ writes_alone (number_refusal opening entry.request) refl
+    owed_writes : after_acts contents (acts_owed opening number shards hot saw entry) ≡ after_acts contents (done_on number shards hot (writes_if (row_of_entry entry)))
+    owed_writes = padded_leaves contents (done_on number shards hot (acts_of opening saw entry)) ∙ writes_alone (number_refusal opening entry.request) refl
 
-    pub entry_stands : ShelfStandsFor number shards shelf book hot
-        → ShelfStandsFor number shards (after_acts shelf (acts_owed opening number shards hot saw entry)) (after_entry opening book entry) hot
+    pub entry_stands : ContentsStandsFor number shards contents book hot
+        → ContentsStandsFor number shards (after_acts contents (acts_owed opening number shards hot saw entry)) (after_entry opening book entry) hot
     entry_stands stands =
-        subst (λ (now : Shelf). ShelfStandsFor number shards now (after_entry opening book entry) hot) (sym owed_writes)
-        (subst (λ (after : Book). ShelfStandsFor number shards (after_acts shelf (done_on number shards hot (writes_if (row_of_entry entry)))) after hot)
+        subst (λ (now : Contents). ContentsStandsFor number shards now (after_entry opening book entry) hot) (sym owed_writes)
+        (subst (λ (after : Book). ContentsStandsFor number shards (after_acts contents (done_on number shards hot (writes_if (row_of_entry entry)))) after hot)
         (ap (λ answered. book ++ option_to_list (row_of entry.worker entry.request answered)) right)
-        (rows_stand number shards shelf book hot (row_of_entry entry) stands))
+        (rows_stand number shards contents book hot (row_of_entry entry) stands))
 
   -- a test of any of the objects that are not hot is one of all
   taken_cold : (objects : List Object) → list_any (λ taken. taken == number) (map (λ o. shard_of o shards) (filter (λ o. not (is_hot hot o)) objects)) ≡ list_any (is_cold_in number shards hot) objects
@@ -158,9 +158,9 @@ module _ (number shards : ℕ) (hot : List Object) where
         filter-append (is_done_on number shards hot) (looks_of saw entry.reply entry.request) (writes_if (row_of_entry entry))
         ∙ (λ i. no_looks saw entry.request entry.reply cold i ++ no_writes entry.worker entry.request entry.reply cold i)
 
-  -- so the shelf of a shard that the entry does not take stands as it is
-  pub untaken_stands : (opening : Opening) (shelf : Shelf) (book : Book) (entry : Entry) → ShelfStandsFor number shards shelf book hot → IsRight opening book entry
-      → takes_shard opening shards hot entry number ≡ false → ShelfStandsFor number shards shelf (after_entry opening book entry) hot
-  untaken_stands opening shelf book entry stands right e =
-      subst (λ acts. ShelfStandsFor number shards (after_acts shelf (padded acts)) (after_entry opening book entry) hot) (nothing_done opening None entry e)
-      (entry_stands opening shelf book None entry right stands)
+  -- so the contents of a shard that the entry does not take stands as it is
+  pub untaken_stands : (opening : Opening) (contents : Contents) (book : Book) (entry : Entry) → ContentsStandsFor number shards contents book hot → IsRight opening book entry
+      → takes_shard opening shards hot entry number ≡ false → ContentsStandsFor number shards contents (after_entry opening book entry) hot
+  untaken_stands opening contents book entry stands right e =
+      subst (λ acts. ContentsStandsFor number shards (after_acts contents (padded acts)) (after_entry opening book entry) hot) (nothing_done opening None entry e)
+      (entry_stands opening contents book None entry right stands)

@@ -1,4 +1,4 @@
--- What an entry's acts look at is true of the shelf of a shard that stands for the book.
+-- What an entry's acts look at is true of the contents of a shard that stands for the book.
 use Rattle.std.proofs.Common.{◌≡◌, ℕ, Bool, true, List, Option, Some, None, refl, sym, ap, ◌∙◌}
 use Rattle.std.specs.Prelude.{option_map}
 use Rattle.std.specs.List.{AllByRecursion}
@@ -20,8 +20,8 @@ use Rattle.auction_rows.specs.Refusals.{number_refusal}
 use Rattle.auction_rows.specs.Replies.{answer_unless, reply}
 use Rattle.item_shards.specs.Values.{Value, value, stock, stock_in, stock_for}
 use Rattle.item_shards.specs.Views.{item_view, bids_view, category_view, user_view, category_reply, user_reply}
-use Rattle.item_shards.specs.Shelves.{Shelf, after_act}
-use Rattle.item_shards.specs.Standing.{ShelfStandsFor}
+use Rattle.item_shards.specs.Contents.{Contents, after_act}
+use Rattle.item_shards.specs.Standing.{ContentsStandsFor}
 use Rattle.item_shards.specs.Writing.{looks_of, writes_if, is_cold_in, is_done_on, acts_owed}
 use Rattle.item_shards.specs.Looking.{view_like, IsTrueAct}
 use Rattle.item_shards.proofs.StandingLemmas.{stands_at}
@@ -48,39 +48,39 @@ as_category opening category v e = ap (λ o. answer_unless o (category_view v)) 
 as_user : (opening : Opening) (user : ℕ) (v : Value) → number_refusal opening (ViewUser user) ≡ None → user_reply opening user v ≡ user_view v
 as_user opening user v e = ap (λ o. answer_unless o (user_view v)) e
 
-module _ (number shards : ℕ) (hot : List Object) (shelf : Shelf) where
+module _ (number shards : ℕ) (hot : List Object) (contents : Contents) where
   abbrev here : Object → Bool
   here = is_cold_in number shards hot
 
   -- whatever is written, no look is among it
-  writes_hold : (one : Option Row) → AllByRecursion (λ act. is_done_on number shards hot act ≡ true → IsTrueAct shelf act) (writes_if one)
+  writes_hold : (one : Option Row) → AllByRecursion (λ act. is_done_on number shards hot act ≡ true → IsTrueAct contents act) (writes_if one)
   writes_hold None = tt
   writes_hold (Some (row.Item r)) = (λ e. tt, (λ e. tt, tt))
   writes_hold (Some (row.Bid r)) = (λ e. tt, tt)
   writes_hold (Some (row.Comment r)) = (λ e. tt, tt)
   writes_hold (Some (row.Buy r)) = (λ e. tt, tt)
 
-  module _ (opening : Opening) (book : Book) (stands : ShelfStandsFor number shards shelf book hot) where
-    at_object : (object : Object) → here object ≡ true → shelf object ≡ value book object
-    at_object = stands_at number shards shelf book hot stands
+  module _ (opening : Opening) (book : Book) (stands : ContentsStandsFor number shards contents book hot) where
+    at_object : (object : Object) → here object ≡ true → contents object ≡ value book object
+    at_object = stands_at number shards contents book hot stands
 
-    facts_true : (item : ItemId) → here (Item item) ≡ true → option_map (λ (seen : Facts × ℕ). seen.0) (stock_in book item) ≡ (shelf (Item item)).facts
+    facts_true : (item : ItemId) → here (Item item) ≡ true → option_map (λ (seen : Facts × ℕ). seen.0) (stock_in book item) ≡ (contents (Item item)).facts
     facts_true item e = first (facts_of book item) ∙ ap (λ (v : Value). v.facts) (sym (at_object (Item item) e)) where
       first : (stored : Option Facts) → option_map (λ (seen : Facts × ℕ). seen.0) (option_map {U = Facts × ℕ} (λ facts. (facts, left_of book item)) stored) ≡ stored
       first None = refl
       first (Some facts) = refl
 
-    stock_true : (item : ItemId) → here (Item item) ≡ true → stock_in book item ≡ stock (shelf (Item item))
+    stock_true : (item : ItemId) → here (Item item) ≡ true → stock_in book item ≡ stock (contents (Item item))
     stock_true item e = sym (stock_is book item) ∙ ap stock (sym (at_object (Item item) e))
 
     view_true : (object : Object) (answered : Reply) (view : Value → Reply) → answered ≡ view (value book object)
-        → ((v : Value) → view v ≡ view_like (view v) object v) → here object ≡ true → answered ≡ view_like answered object (shelf object)
+        → ((v : Value) → view v ≡ view_like (view v) object v) → here object ≡ true → answered ≡ view_like answered object (contents object)
     view_true object answered view is like e =
         let now = is ∙ ap view (sym (at_object object e)) in
-        now ∙ like (shelf object) ∙ ap (λ r. view_like r object (shelf object)) (sym now)
+        now ∙ like (contents object) ∙ ap (λ r. view_like r object (contents object)) (sym now)
 
     looks_hold : (worker : ℕ) (request : Request) (answered : Reply) → answered ≡ reply opening book worker request → number_refusal opening request ≡ None
-        → AllByRecursion (λ act. is_done_on number shards hot act ≡ true → IsTrueAct shelf act) (looks_of (stock_for book request) answered request)
+        → AllByRecursion (λ act. is_done_on number shards hot act ≡ true → IsTrueAct contents act) (looks_of (stock_for book request) answered request)
     looks_hold worker (StoreItem facts time) answered right e = tt
     looks_hold worker (StoreBid bidder item amount time) answered right e = (stock_true item, tt)
     looks_hold worker (StoreComment author about item stars) answered right e = (facts_true item, tt)
@@ -96,7 +96,7 @@ module _ (number shards : ℕ) (hot : List Object) (shelf : Shelf) where
         let is = right ∙ sym (user_reply_is opening book worker user) ∙ as_user opening user (value book (User user)) e in
         (view_true (User user) answered user_view is (λ v. refl), tt)
 
-    pub entry_true : (entry : Entry) → IsRight opening book entry → SawInTurn IsTrueAct after_act shelf (acts_owed opening number shards hot (stock_for book entry.request) entry)
+    pub entry_true : (entry : Entry) → IsRight opening book entry → SawInTurn IsTrueAct after_act contents (acts_owed opening number shards hot (stock_for book entry.request) entry)
     entry_true entry right =
-        owed_in_turn IsTrueAct (λ s. tt) (λ s id facts category listing h. tt) number shards hot shelf opening (stock_for book entry.request) entry
+        owed_in_turn IsTrueAct (λ s. tt) (λ s id facts category listing h. tt) number shards hot contents opening (stock_for book entry.request) entry
         (λ e. (looks_hold entry.worker entry.request entry.reply right e, writes_hold (row_of_entry entry)))

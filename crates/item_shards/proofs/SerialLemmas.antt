@@ -30,9 +30,9 @@ use Rattle.item_shards.specs.declared.counting.StoreCounts.{StoreCounts}
 use Rattle.item_shards.specs.Values.{stock_in}
 use Rattle.item_shards.specs.declared.acts.Act.TheVariants.{AddItem, ListItem}
 use Rattle.item_shards.specs.declared.shard.Shard.{Shard}
-use Rattle.item_shards.specs.ShardShelf.{with_room, LiesIn, IsSameShard}
-use Rattle.item_shards.specs.Shelves.{Shelf, after_acts}
-use Rattle.item_shards.specs.Standing.{ShelfStandsFor}
+use Rattle.item_shards.specs.ShardContents.{with_room, LiesIn, IsSameShard}
+use Rattle.item_shards.specs.Contents.{Contents, after_acts}
+use Rattle.item_shards.specs.Standing.{ContentsStandsFor}
 use Rattle.item_shards.specs.Acting.{CanActOn, HasRoomFor}
 use Rattle.item_shards.specs.Counting.{stored_by, worker_of, counted, AreFew}
 use Rattle.item_shards.specs.Limits.{IsWithinLimits, HasStars}
@@ -88,20 +88,20 @@ after_own start b r goes =
     ap (λ answered. b ++ option_to_list (row_of (commit_of r).worker (commit_of r).request answered)) (sym goes.0) ∙ ap (λ o. b ++ option_to_list o) (own_row r)
 
 -- its acts can be done where every object lies
-module _ (start : Opening) (number shards : ℕ) (rooms : ItemId → Bool) (shelf : Shelf) (here : (object : Object) → shard_of object shards ≡ number) where
-  all_done : (r : Row) → AllByRecursion (λ act. is_done_on number shards [] act ≡ true → CanActOn start number shards rooms shelf act) (writes_of r)
-      → AllByRecursion (CanActOn start number shards rooms shelf) (writes_of r)
+module _ (start : Opening) (number shards : ℕ) (rooms : ItemId → Bool) (contents : Contents) (here : (object : Object) → shard_of object shards ≡ number) where
+  all_done : (r : Row) → AllByRecursion (λ act. is_done_on number shards [] act ≡ true → CanActOn start number shards rooms contents act) (writes_of r)
+      → AllByRecursion (CanActOn start number shards rooms contents) (writes_of r)
   all_done (row.Item r) can =
       (can.0 (cold_here number shards [] (Item r.id) (here (Item r.id)) refl), (can.1.0 (cold_here number shards [] (Category r.facts.category) (here (Category r.facts.category)) refl), tt))
   all_done (row.Bid r) can = (can.0 (cold_here number shards [] (Item r.item) (here (Item r.item)) refl), tt)
   all_done (row.Comment r) can = (can.0 (cold_here number shards [] (User r.about) (here (User r.about)) refl), tt)
   all_done (row.Buy r) can = (can.0 (cold_here number shards [] (Item r.item) (here (Item r.item)) refl), tt)
 
-  pub writes_can_be_done : (b : Book) (r : Row) → ShelfStandsFor number shards shelf b [] → GoOn start b (r ∷ []) → IsWithinLimits (after_entry start b (commit_of r))
-      → HasRoomFor number shards rooms (commit_of r) → AllByRecursion (CanActOn start number shards rooms shelf) (writes_of r)
+  pub writes_can_be_done : (b : Book) (r : Row) → ContentsStandsFor number shards contents b [] → GoOn start b (r ∷ []) → IsWithinLimits (after_entry start b (commit_of r))
+      → HasRoomFor number shards rooms (commit_of r) → AllByRecursion (CanActOn start number shards rooms contents) (writes_of r)
   writes_can_be_done b r stands goes limits room =
-      all_done r (subst (λ o. AllByRecursion (λ act. is_done_on number shards [] act ≡ true → CanActOn start number shards rooms shelf act) (writes_if o)) (own_row r)
-      (row_can start number shards rooms shelf b [] stands None (commit_of r) goes.0 limits room))
+      all_done r (subst (λ o. AllByRecursion (λ act. is_done_on number shards [] act ≡ true → CanActOn start number shards rooms contents act) (writes_if o)) (own_row r)
+      (row_can start number shards rooms contents b [] stands None (commit_of r) goes.0 limits room))
 
   all_acts : (r : Row) → done_on number shards [] (writes_of r) ≡ writes_of r
   all_acts (row.Item r) = λ i.
@@ -113,8 +113,8 @@ module _ (start : Opening) (number shards : ℕ) (rooms : ItemId → Bool) (shel
   all_acts (row.Comment r) = ap (λ b. cond b (writes_of (row.Comment r)) []) (cold_here number shards [] (User r.about) (here (User r.about)) refl)
   all_acts (row.Buy r) = ap (λ b. cond b (writes_of (row.Buy r)) []) (cold_here number shards [] (Item r.item) (here (Item r.item)) refl)
 
-  pub stands_after : (b : Book) (r : Row) → ShelfStandsFor number shards shelf b [] → ShelfStandsFor number shards (after_acts shelf (writes_of r)) (b ++ r ∷ []) []
-  stands_after b r stands = subst (λ acts. ShelfStandsFor number shards (after_acts shelf acts) (b ++ r ∷ []) []) (all_acts r) (row_stands number shards shelf b [] r stands)
+  pub stands_after : (b : Book) (r : Row) → ContentsStandsFor number shards contents b [] → ContentsStandsFor number shards (after_acts contents (writes_of r)) (b ++ r ∷ []) []
+  stands_after b r stands = subst (λ acts. ContentsStandsFor number shards (after_acts contents acts) (b ++ r ∷ []) []) (all_acts r) (row_stands number shards contents b [] r stands)
 
 -- a book within limits that is not full is so with one more row
 pub limits_next : (b : Book) (r : Row) → IsWithinLimits b → length b < 16000000 → HasStars r → IsWithinLimits (b ++ r ∷ [])

@@ -1,5 +1,6 @@
 -- How many stores of each kind a worker has.
 use Rattle.std.specs.Prelude.{ℕ, ◌+◌, ◌<◌}
+use Rattle.auction_rows.specs.declared.limits.TheConstants.{MOST_ROWS}
 use Rattle.auction_rows.specs.declared.rows.Row.{Row}
 use Rattle.auction_rows.specs.declared.rows.Row.TheVariants as row
 use Rattle.auction_rows.specs.Book.{Book, items_stored, bids_stored, comments_stored, buys_stored}
@@ -30,4 +31,4 @@ counted (row.Buy r) counts = record counts { buys = counts.buys + 1 }
 
 -- so few that one more fits
 abbrev pub AreFew : StoreCounts → Type 0
-AreFew counts = (counts.items < 16000000) × (counts.bids < 16000000) × (counts.comments < 16000000) × (counts.buys < 16000000)
+AreFew counts = (counts.items < MOST_ROWS) × (counts.bids < MOST_ROWS) × (counts.comments < MOST_ROWS) × (counts.buys < MOST_ROWS)

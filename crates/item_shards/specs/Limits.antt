@@ -1,6 +1,7 @@
 -- How large a book may be: then each count and rating fits.
 use Rattle.std.specs.Prelude.{◌≤◌, length, ⊤}
 use Rattle.std.specs.List.{AllByRecursion}
+use Rattle.auction_rows.specs.declared.limits.TheConstants.{MOST_ROWS}
 pub use Rattle.auction_rows.specs.Stars.{AreStars, GivesStars}
 use Rattle.auction_rows.specs.declared.rows.Row.{Row}
 use Rattle.auction_rows.specs.declared.rows.Row.TheVariants as row
@@ -15,5 +16,5 @@ HasStars (row.Buy r) = ⊤
 
 -- a book of as many rows as an auction may have
 pub record IsWithinLimits (book : Book) : Type 0 where
-  pub few : length book ≤ 16000000
+  pub few : length book ≤ MOST_ROWS
   pub stars : AllByRecursion HasStars book

@@ -1,4 +1,4 @@
--- When a look is true of a shelf.
+-- When a look is true of a contents.
 use Rattle.std.specs.Prelude.{◌≡◌, ⊤}
 use Rattle.auction_rows.specs.declared.ids.Object.{Object}
 use Rattle.auction_rows.specs.declared.ids.Object.TheVariants.{Item, User, Category}
@@ -9,7 +9,7 @@ use Rattle.item_shards.specs.declared.acts.Act.TheVariants.{AddItem, ListItem, B
 use Rattle.item_shards.specs.declared.acts.Shown.{Shown}
 use Rattle.item_shards.specs.declared.acts.Shown.TheVariants as shown
 use Rattle.item_shards.specs.Values.{Value, stock}
-use Rattle.item_shards.specs.Shelves.{Shelf}
+use Rattle.item_shards.specs.Contents.{Contents}
 use Rattle.item_shards.specs.Views.{item_view, bids_view, category_view, user_view}
 
 -- the view of an object that a reply is one of: an item is seen with its bids, or itself
@@ -19,18 +19,18 @@ view_like reply (Item id) value = item_view value
 view_like reply (User user) value = user_view value
 view_like reply (Category category) value = category_view value
 
--- what is shown is what the shelf has
-abbrev pub IsTrueOf : Shelf → Shown → Type 0
-IsTrueOf shelf shown.Nothing = ⊤
-IsTrueOf shelf (shown.Facts id facts) = facts ≡ (shelf (Item id)).facts
-IsTrueOf shelf (shown.Left id seen) = seen ≡ stock (shelf (Item id))
-IsTrueOf shelf (shown.Reply object reply) = reply ≡ view_like reply object (shelf object)
+-- what is shown is what the contents has
+abbrev pub IsTrueOf : Contents → Shown → Type 0
+IsTrueOf contents shown.Nothing = ⊤
+IsTrueOf contents (shown.Facts id facts) = facts ≡ (contents (Item id)).facts
+IsTrueOf contents (shown.Left id seen) = seen ≡ stock (contents (Item id))
+IsTrueOf contents (shown.Reply object reply) = reply ≡ view_like reply object (contents object)
 
 -- an act that is a look is true
-abbrev pub IsTrueAct : Shelf → Act → Type 0
-IsTrueAct shelf (AddItem id facts) = ⊤
-IsTrueAct shelf (ListItem category entry) = ⊤
-IsTrueAct shelf (Bid id entry) = ⊤
-IsTrueAct shelf (Comment user stars) = ⊤
-IsTrueAct shelf (Buy id quantity) = ⊤
-IsTrueAct shelf (Look shown) = IsTrueOf shelf shown
+abbrev pub IsTrueAct : Contents → Act → Type 0
+IsTrueAct contents (AddItem id facts) = ⊤
+IsTrueAct contents (ListItem category entry) = ⊤
+IsTrueAct contents (Bid id entry) = ⊤
+IsTrueAct contents (Comment user stars) = ⊤
+IsTrueAct contents (Buy id quantity) = ⊤
+IsTrueAct contents (Look shown) = IsTrueOf contents shown

@@ -2,6 +2,7 @@
 use Rattle.std.specs.Prelude.{ℕ, ◌≡◌, ◌==◌, ◌<◌, ◌+◌, false, List, [], ◌∷◌, ◌++◌, Option, Some, None, fold, length, count_by}
 use Rattle.std.specs.declared.vec.Vec.{Vec}
 use Rattle.phase_laws.specs.Replay.{Replays}
+use Rattle.auction_rows.specs.declared.limits.TheConstants.{MOST_OF_A_WORKER, MOST_WORKERS}
 use Rattle.auction_rows.specs.declared.numbers.Opening.{Opening}
 use Rattle.auction_rows.specs.declared.rows.Row.{Row}
 use Rattle.auction_rows.specs.Book.{Book}
@@ -22,7 +23,7 @@ opening_rows opening = fold (with_opened opening) []
 
 -- a request is a row at its place: a store of a worker below 16, which the book before it does not refuse
 pub record IsRow (opening : Opening) (book : Book) (opened : Opened) : Type 0 where
-  pub worker : opened.worker < 16
+  pub worker : opened.worker < MOST_WORKERS
   pub store : is_view opened.request ≡ false
   pub accepted : refusal opening book opened.request ≡ None
 
@@ -50,7 +51,7 @@ asked_by all worker = count_by (λ opened. opened.worker == worker) all
 
 -- more than 1,000,000 are of one worker below 16
 abbrev pub IsTooLong : List Opened → Type 0
-IsTooLong all = (worker : ℕ) × (worker < 16) × (1000000 < asked_by all worker)
+IsTooLong all = (worker : ℕ) × (worker < MOST_WORKERS) × (MOST_OF_A_WORKER < asked_by all worker)
 
 -- how many rows of a book are of a worker
 abbrev pub rows_by : Book → ℕ → ℕ

@@ -1,5 +1,6 @@
 -- The auction of one thread: what it holds, and which rows it can store.
 use Rattle.std.specs.Prelude.{ℕ, ◌≡◌, ◌<◌, ◌≤◌, ◌+◌, List, [], ◌∷◌, ◌++◌, Some, slice_get, length, take, All}
+use Rattle.auction_rows.specs.declared.limits.TheConstants.{MOST_ROWS, MOST_WORKERS}
 use Rattle.auction_rows.specs.declared.numbers.Opening.{Opening}
 use Rattle.auction_rows.specs.declared.rows.Row.{Row}
 use Rattle.auction_rows.specs.Book.{Book}
@@ -7,7 +8,7 @@ use Rattle.auction_rows.specs.History.{GoOn, IsBook}
 use Rattle.item_shards.specs.declared.serial.SerialAuction.{SerialAuction}
 use Rattle.item_shards.specs.Counting.{stored_by, worker_of}
 use Rattle.item_shards.specs.Limits.{IsWithinLimits, HasStars}
-use Rattle.item_shards.specs.ShardShelf.{opening, StandsFor}
+use Rattle.item_shards.specs.ShardContents.{opening, StandsFor}
 
 -- the users and categories of the auction
 abbrev pub opening_of : SerialAuction → Opening
@@ -16,12 +17,12 @@ opening_of auction = opening auction.shard
 -- the auction's records are those of a book within limits, and its counts are those of the stores of each of 16 workers in it
 pub record HoldsBook (auction : SerialAuction) (book : Book) : Type 0 where
   pub records : StandsFor auction.shard book []
-  pub counts : (worker : ℕ) → worker < 16 → slice_get auction.stored worker ≡ Some (stored_by book worker)
+  pub counts : (worker : ℕ) → worker < MOST_WORKERS → slice_get auction.stored worker ≡ Some (stored_by book worker)
   pub limits : IsWithinLimits book
 
 -- a book of fewer rows than an auction may have
 abbrev pub IsNotFull : Book → Type 0
-IsNotFull book = length book < 16000000
+IsNotFull book = length book < MOST_ROWS
 
 -- the auction holds some book that is not full
 pub record CanGrow (auction : SerialAuction) : Type 0 where
@@ -36,16 +37,16 @@ pub record CanStore (auction : SerialAuction) (row : Row) : Type 0 where
   pub not_full : IsNotFull book
   pub goes_on : GoOn (opening_of auction) book (row ∷ [])
   pub stars : HasStars row
-  pub worker : worker_of row < 16
+  pub worker : worker_of row < MOST_WORKERS
 
 -- rows that can be stored after a book
 pub record CanFollow (start : Opening) (book : Book) (rows : List Row) : Type 0 where
   -- each is what an accepted request adds at its place
   pub is_book : IsBook start (book ++ rows)
   -- each is of one of 16 workers
-  pub workers : All (λ row. worker_of row < 16) rows
+  pub workers : All (λ row. worker_of row < MOST_WORKERS) rows
   -- they are no more than an auction may have
-  pub few : length book + length rows ≤ 16000000
+  pub few : length book + length rows ≤ MOST_ROWS
 
 -- rows that follow some book which the auction holds
 pub record CanAdd (auction : SerialAuction) (rows : List Row) : Type 0 where

@@ -18,11 +18,12 @@ ghost use Rattle.item_shards.specs.declared.opened.Opened.{Opened};
 ghost use Rattle.item_shards.specs.Counting.{worker_of};
 ghost use Rattle.item_shards.specs.OpeningRows.{AreRows, opening_rows, opened_of, asked_by, rows_by};
 ghost use Rattle.item_shards.specs.Values.{value, blank, stock, stock_in, left_in};
-ghost use Rattle.item_shards.specs.Shelves.{after_acts};
+ghost use Rattle.item_shards.specs.Contents.{after_acts};
 ghost use Rattle.item_shards.specs.Writing.{writes_of};
 ghost use Rattle.item_shards.specs.Views.{item_view, bids_view, category_reply, user_reply};
 ghost use Rattle.item_shards.specs.Limits.{IsWithinLimits, GivesStars, HasStars};
 
+use auction_rows::{MOST_ROWS, MOST_WORKERS};
 /// Of the empty book nothing is known, and one row more changes the values of objects as its acts do.
 pub fn values_of_books()
     ensures none { (object : Object) → value [] object ≡ blank }
@@ -56,7 +57,7 @@ pub fn counts_of_books()
 /// A book within limits that is not full is within limits after one more request.
 pub fn limits_of_books()
     ensures { (opening : Opening) (book : Book) (worker : ℕ) (request : Request) →
-        IsWithinLimits book → length book < 16000000 → GivesStars request →
+        IsWithinLimits book → length book < MOST_ROWS → GivesStars request →
         IsWithinLimits (next opening book worker request) }
 {}
 
@@ -69,8 +70,8 @@ pub fn opening_books()
         length (opening_rows opening all) ≡ length all }
     ensures workers { (opening : Opening) (all : List Opened) (worker : ℕ) → AreRows opening all →
         rows_by (opening_rows opening all) worker ≡ asked_by all worker }
-    ensures again { (opening : Opening) (book : Book) → IsBook opening book → All (λ row. worker_of row < 16) book →
+    ensures again { (opening : Opening) (book : Book) → IsBook opening book → All (λ row. worker_of row < MOST_WORKERS) book →
         AreRows opening (map opened_of book) }
-    ensures same { (opening : Opening) (book : Book) → IsBook opening book → All (λ row. worker_of row < 16) book →
+    ensures same { (opening : Opening) (book : Book) → IsBook opening book → All (λ row. worker_of row < MOST_WORKERS) book →
         opening_rows opening (map opened_of book) ≡ book }
 {}

@@ -5,10 +5,11 @@ ghost use Rattle.auction_rows.proofs.OneProof.{IsBook-prop};
 ghost use Rattle.item_shards.specs.Counting.{worker_of};
 ghost use Rattle.item_shards.specs.Limits.{IsWithinLimits};
 ghost use Rattle.item_shards.specs.OpeningRows.{asked_by, IsTooLong, rows_by, rows_in};
+ghost use Rattle.auction_rows.specs.declared.limits.TheConstants.{MOST_OF_A_WORKER, MOST_WORKERS};
 
 use crate::opened::Opened;
 use crate::serial::SerialAuction;
-use auction_rows::{Opening, Row, row_of};
+use auction_rows::{MOST_OF_A_WORKER, MOST_WORKERS, Opening, Row, row_of};
 use std::alloc::{AllocError, AllocFailed, Global};
 use thiserror::Error;
 
@@ -54,8 +55,8 @@ pub struct OpeningBook {
     // `None` has no rows, and takes no memory.
     rows: Option<Vec<Row>>,
     ghost is_book: { IsBook opening (rows_in rows) } by { IsBook-prop opening (rows_in rows) },
-    ghost of_workers: { All (λ row. worker_of row < 16) (rows_in rows) },
-    ghost few: { (worker : ℕ) → worker < 16 → rows_by (rows_in rows) worker ≤ 1000000 },
+    ghost of_workers: { All (λ row. worker_of row < MOST_WORKERS) (rows_in rows) },
+    ghost few: { (worker : ℕ) → worker < MOST_WORKERS → rows_by (rows_in rows) worker ≤ MOST_OF_A_WORKER },
     ghost within: { ∥ IsWithinLimits (rows_in rows) ∥₁ },
 }
 
@@ -118,8 +119,8 @@ impl OpeningBook {
     pub fn rows(&self) -> &[Row]
         ensures rows { result.now ≡ rows_of self.now }
         ensures book { IsBook (opening_of self.now) (rows_of self.now) }
-        ensures workers { All (λ row. worker_of row < 16) (rows_of self.now) }
-        ensures few { (worker : ℕ) → worker < 16 → rows_by (rows_of self.now) worker ≤ 1000000 }
+        ensures workers { All (λ row. worker_of row < MOST_WORKERS) (rows_of self.now) }
+        ensures few { (worker : ℕ) → worker < MOST_WORKERS → rows_by (rows_of self.now) worker ≤ MOST_OF_A_WORKER }
         ensures limits { IsWithinLimits (rows_of self.now) }
     {
         match &self.rows {
@@ -130,12 +131,12 @@ impl OpeningBook {
 }
 
 // How many requests are of each worker below 16.
-fn asked_by_each(rows: &[Opened]) -> [u64; 16]
-    ensures { (worker : ℕ) → worker < 16 → slice_index result worker ≡ asked_by rows.now worker }
+fn asked_by_each(rows: &[Opened]) -> [u64; MOST_WORKERS]
+    ensures { (worker : ℕ) → worker < MOST_WORKERS → slice_index result worker ≡ asked_by rows.now worker }
 {
-    let mut counts = [0; 16];
+    let mut counts = [0; MOST_WORKERS];
     for opened in rows {
-        if opened.worker < 16 {
+        if (opened.worker as usize) < MOST_WORKERS {
             counts[opened.worker as usize] += 1;
         }
     }
@@ -147,7 +148,7 @@ fn is_too_long(rows: &[Opened]) -> bool
     ensures { IsTrue result ↔ IsTooLong rows.now }
 {
     let counts = asked_by_each(rows);
-    counts.iter().any(|asked| *asked > 1_000_000)
+    counts.iter().any(|asked| *asked > MOST_OF_A_WORKER)
 }
 
 impl SerialAuction {
@@ -167,7 +168,7 @@ impl SerialAuction {
 
     // Adds the row of a request that is handed in, if it is one at its place.
     fn add_opened(&mut self, opened: &Opened) -> Result<Option<Row>, AllocError>
-        requires { opened.now.worker < 16 → CanGrow self.old }
+        requires { opened.now.worker < MOST_WORKERS → CanGrow self.old }
         ensures opening { opening_of self.new ≡ opening_of self.old }
         ensures bad { IfOk result (λ added. IfNone added ((book : Book) → HoldsBook self.old book →
             ¬ IsRow (opening_of self.old) book opened.now)) }
@@ -177,7 +178,7 @@ impl SerialAuction {
         ensures book { IfOk result (λ added. OnSome added ((book : Book) → HoldsBook self.old book → IsNotFull book →
             HoldsBook self.new (with_opened (opening_of self.old) book opened.now))) }
     {
-        if opened.worker >= 16 {
+        if opened.worker as usize >= MOST_WORKERS {
             return Ok(None);
         }
         let reply = self.perform(opened.worker, opened.request)?;

@@ -4,11 +4,8 @@ ghost use Rattle.std.specs.HashMap.{get};
 
 use crate::items::ItemRecord;
 use crate::shard::Shard;
-use auction_rows::ItemId;
+use auction_rows::{ItemId, MOST_WORKERS};
 use std::alloc::{AllocError, Global};
-
-// An auction has as many workers.
-const WORKERS: usize = 16;
 
 /// Of each worker, by an item's serial over the number of shards: its place in the map of items. A look-up there needs no
 /// hash. A place is a guess, and whoever asks looks at the id that is there: so it may be missing, and nothing relies on it.
@@ -20,8 +17,8 @@ pub(crate) struct Places {
 impl Places {
     /// No place is noted.
     pub(crate) fn new(alloc: Global) -> Result<Places, AllocError> {
-        let mut by_worker = Vec::with_capacity(alloc, WORKERS)?;
-        for _worker in 0..WORKERS {
+        let mut by_worker = Vec::with_capacity(alloc, MOST_WORKERS)?;
+        for _worker in 0..MOST_WORKERS {
             by_worker.push(Vec::new(alloc))?;
         }
         Ok(Places { by_worker })
@@ -55,7 +52,7 @@ impl Places {
 
 impl Shard {
     ghost use Rattle.auction_rows.specs.Book.{same_item};
-    ghost use Rattle.item_shards.specs.ShardShelf.{HasRoom, IsPlaceOf};
+    ghost use Rattle.item_shards.specs.ShardContents.{HasRoom, IsPlaceOf};
 
     // The place of an item, and its record, where there is room for it.
     fn find(&self, item: ItemId) -> Option<(usize, &ItemRecord)>

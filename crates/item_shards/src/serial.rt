@@ -1,13 +1,13 @@
 //! The auction of one thread: every object in one shard.
 ghost use Rattle.std.specs.Prelude.{◌≡◌, ◌+◌, ◌<◌, ◌++◌, ◌∷◌, [], ℕ, length, IfOk, OnOk, OnErr, All};
 ghost use Rattle.auction_rows.specs.declared.ids.Object.{Object as Thing};
-ghost use Rattle.item_shards.specs.ShardShelf.{LiesIn};
+ghost use Rattle.item_shards.specs.ShardContents.{LiesIn};
 
 use crate::counting::{StoreCounts, row_has_stars, worker_of};
 use crate::shard::Shard;
 use auction_rows::{
-    BidId, BuyId, CommentId, ItemId, Opening, Refusal, Reply, Request, Row, item_of, item_refusal,
-    number_refusal, row_of,
+    BidId, BuyId, CommentId, ItemId, MOST_WORKERS, Opening, Refusal, Reply, Request, Row, item_of,
+    item_refusal, number_refusal, row_of,
 };
 use std::alloc::{AllocError, Global};
 
@@ -16,7 +16,7 @@ use std::alloc::{AllocError, Global};
 #[derive(Drop)]
 pub struct SerialAuction {
     pub(crate) shard: Shard,
-    pub(crate) stored: [StoreCounts; 16],
+    pub(crate) stored: [StoreCounts; MOST_WORKERS],
     ghost has_all: { (object : Thing) → LiesIn shard object },
 }
 
@@ -42,7 +42,7 @@ impl SerialAuction {
         };
         Ok(SerialAuction {
             shard: Shard::new(alloc, 0, 1, opening)?,
-            stored: [none; 16],
+            stored: [none; MOST_WORKERS],
         })
     }
 
@@ -54,7 +54,7 @@ impl SerialAuction {
     ) -> Result<SerialAuction, AllocError>
         requires book { IsBook opening rows.now }
         requires limits { IsWithinLimits rows.now }
-        requires workers { All (λ row. worker_of row < 16) rows.now }
+        requires workers { All (λ row. worker_of row < MOST_WORKERS) rows.now }
         ensures book { IfOk result (λ auction. HoldsBook auction rows.now) }
         ensures opening { IfOk result (λ auction. opening_of auction ≡ opening) }
     {
@@ -82,7 +82,7 @@ impl SerialAuction {
 
     /// The reply to the request of a worker below 16. It changes nothing.
     pub fn reply_to(&self, worker: u32, request: Request) -> Reply
-        requires { worker < 16 }
+        requires { worker < MOST_WORKERS }
         ensures { (book : Book) → HoldsBook self.now book →
             result ≡ reply (opening_of self.now) book worker request }
     {
@@ -158,7 +158,7 @@ impl SerialAuction {
     /// Commits the request of a worker below 16, where the auction has fewer than 16,000,000 rows.
     /// Without memory it holds what it held.
     pub fn perform(&mut self, worker: u32, request: Request) -> Result<Reply, AllocError>
-        requires worker { worker < 16 }
+        requires worker { worker < MOST_WORKERS }
         requires room { CanGrow self.old }
         ensures reply { IfOk result (λ answered. (book : Book) → HoldsBook self.old book →
             answered ≡ reply (opening_of self.old) book worker request) }

@@ -10,15 +10,15 @@ impl Shard {
     ghost use Rattle.auction_rows.specs.declared.ids.Object.{Object};
     ghost use Rattle.item_shards.specs.Acting.{CanWrite};
     ghost use Rattle.item_shards.specs.Writing.{writes_of};
-    ghost use Rattle.item_shards.specs.Shelves.{after_acts};
-    ghost use Rattle.item_shards.specs.ShardShelf.{shelf, LiesIn, IsSameShard};
+    ghost use Rattle.item_shards.specs.Contents.{after_acts};
+    ghost use Rattle.item_shards.specs.ShardContents.{contents, LiesIn, IsSameShard};
 
     // Does the acts that write a row. Without memory the shard shows what it showed.
     pub(crate) fn write(&mut self, row: &Row) -> Result<(), AllocError>
         requires has_all { (object : Object) → LiesIn self.old object }
         requires can { CanWrite self.old row.now }
-        ensures written { OnOk result (shelf self.new ≡ after_acts (shelf self.old) (writes_of row.now)) }
-        ensures refused { OnErr result (shelf self.new ≡ shelf self.old) }
+        ensures written { OnOk result (contents self.new ≡ after_acts (contents self.old) (writes_of row.now)) }
+        ensures refused { OnErr result (contents self.new ≡ contents self.old) }
         ensures same { IsSameShard self.old self.new }
     {
         match *row {

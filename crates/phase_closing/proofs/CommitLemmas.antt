@@ -7,8 +7,8 @@ use Rattle.auction_rows.specs.declared.rows.Entry.{Entry}
 use Rattle.auction_rows.specs.Book.{Book}
 use Rattle.auction_rows.specs.History.{IsBook, book_after, rows_of}
 use Rattle.auction_rows.proofs.HistoryLemmas.{book_after-replays, rows_go_on, longer_book}
-use Rattle.phase_desks.specs.declared.counters.Counters.{Counters}
-use Rattle.phase_desks.specs.Deeds.{Deed, entry_of, counted, after_deed}
+use Rattle.phase_contexts.specs.declared.counters.Counters.{Counters}
+use Rattle.phase_contexts.specs.Txns.{Txn, entry_of, counted, after_txn}
 use Rattle.phase_closing.specs.Phases.{Phase, HasClosed, counters_of, journal_of, receipt_at}
 use Rattle.phase_closing.specs.Standing.{StandFor, AreOfWorkers, counters_at, stores}
 use Rattle.phase_closing.proofs.WorkerLemmas.{rows_below, rows_star}
@@ -16,7 +16,7 @@ use Rattle.item_shards.specs.Counting.{worker_of}
 use Rattle.item_shards.specs.Limits.{GivesStars, HasStars}
 use Rattle.item_shards.proofs.CanActLemmas.{all_both}
 use Rattle.std.specs.List.{AllByRecursion}
-use Rattle.phase_closing.proofs.ReceiptLemmas.{deeds_by, counts, journal_entries}
+use Rattle.phase_closing.proofs.ReceiptLemmas.{txns_by, counts, journal_entries}
 use Rattle.phase_closing.proofs.ReplayLemmas.{entries_replay}
 
 pub book_left : (p : Phase) (closed : HasClosed p) (book : Book) → StandFor p.opening p.counters book [] → IsBook p.setting.opening book
@@ -37,19 +37,19 @@ one_commit counters (CategorySeen items) = refl
 one_commit counters (UserSeen rating comments) = refl
 one_commit counters (Refused reason) = refl
 
-commits_after : (counters : Counters) (deeds : List Deed) → (fold after_deed counters deeds).commits ≡ counters.commits + length deeds
+commits_after : (counters : Counters) (txns : List Txn) → (fold after_txn counters txns).commits ≡ counters.commits + length txns
 commits_after counters [] = omega arith
-commits_after counters (deed ∷ deeds) =
-    let one = one_commit counters deed.0.reply in
-    omega (arith, one, commits_after (after_deed counters deed) deeds)
+commits_after counters (txn ∷ txns) =
+    let one = one_commit counters txn.0.reply in
+    omega (arith, one, commits_after (after_txn counters txn) txns)
 
 pub commits_grow : (p : Phase) (closed : HasClosed p) (w : ℕ) → w < length p.receipts
     → (let receipt = receipt_at p.receipts w in (counters_of receipt).commits ≡ (counters_at p.counters w).commits + length (journal_of receipt).entries)
 commits_grow p closed w known =
     ap (λ (counters : Counters). counters.commits) (counts p closed w known)
-    ∙ commits_after (counters_at p.counters w) (deeds_by p closed w)
+    ∙ commits_after (counters_at p.counters w) (txns_by p closed w)
     ∙ ap (λ n. (counters_at p.counters w).commits + n)
-    (sym (length-map (deeds_by p closed w) entry_of) ∙ ap (length {A = Entry}) (sym (journal_entries p closed w)))
+    (sym (length-map (txns_by p closed w) entry_of) ∙ ap (length {A = Entry}) (sym (journal_entries p closed w)))
 
 -- each commit has at most one store
 one_store : (counters : Counters) (reply : Reply) → stores (counted counters reply) ≤ stores counters + 1
@@ -63,16 +63,16 @@ one_store counters (CategorySeen items) = omega arith
 one_store counters (UserSeen rating comments) = omega arith
 one_store counters (Refused reason) = omega arith
 
-stores_after : (counters : Counters) (deeds : List Deed) → stores counters ≤ counters.commits → stores (fold after_deed counters deeds) ≤ (fold after_deed counters deeds).commits
+stores_after : (counters : Counters) (txns : List Txn) → stores counters ≤ counters.commits → stores (fold after_txn counters txns) ≤ (fold after_txn counters txns).commits
 stores_after counters [] few = few
-stores_after counters (deed ∷ deeds) few =
-    stores_after (after_deed counters deed) deeds (omega (arith, few, one_store counters deed.0.reply, one_commit counters deed.0.reply))
+stores_after counters (txn ∷ txns) few =
+    stores_after (after_txn counters txn) txns (omega (arith, few, one_store counters txn.0.reply, one_commit counters txn.0.reply))
 
 pub stores_few : (p : Phase) (closed : HasClosed p) (w : ℕ) → w < length p.receipts
     → (let after = counters_of (receipt_at p.receipts w) in stores (counters_at p.counters w) ≤ (counters_at p.counters w).commits → stores after ≤ after.commits)
 stores_few p closed w known few =
     subst (λ (counters : Counters). stores counters ≤ counters.commits) (sym (counts p closed w known))
-    (stores_after (counters_at p.counters w) (deeds_by p closed w) few)
+    (stores_after (counters_at p.counters w) (txns_by p closed w) few)
 
 pub workers_go_on : (p : Phase) (closed : HasClosed p) (book : Book) → StandFor p.opening p.counters book [] → AreOfWorkers (length p.counters) book
     → AreOfWorkers (length p.receipts) (book_after p.setting.opening book p.entries)

@@ -5,25 +5,25 @@ use Rattle.std.proofs.lemmas.Bool.{ne_eqb}
 use Rattle.auction_rows.specs.declared.requests.Facts.{Facts}
 use Rattle.auction_rows.specs.Requests.{same_object}
 use Rattle.shard_boxes.specs.Closed.{IsClosedBox}
-use Rattle.item_shards.specs.Standing.{ShelfStandsFor}
+use Rattle.item_shards.specs.Standing.{ContentsStandsFor}
 use Rattle.shard_boxes.specs.Keys.{key_at, lines_at, holds_at}
 use Rattle.shard_boxes.specs.Lines.{lines_of}
 use Rattle.shard_boxes.specs.States.{state_at}
-use Rattle.phase_desks.specs.Deeds.{hot_in, line_on, lines_owed}
-use Rattle.phase_desks.specs.Splits.{CountsOf}
+use Rattle.phase_contexts.specs.Txns.{hot_in, line_on, lines_owed}
+use Rattle.phase_contexts.specs.Splits.{CountsOf}
 use Rattle.phase_closing.specs.Phases.{HasClosed, IsReceiptOf, receipt_at}
 use Rattle.phase_closing.specs.Standing.{StandFor, counters_at}
-use Rattle.phase_closing.specs.Example.{setting, counters, deed, line, key, receipt, opened, example_book, example_phase}
+use Rattle.phase_closing.specs.Example.{setting, counters, txn, line, key, receipt, opened, example_book, example_phase}
 
 module _ (facts : Facts) where
   idle : (shard : ℕ) → holds_at (key facts) shard ≡ false
   idle zero = refl
   idle (suc n) = refl
 
-  -- the deed takes shard 0 alone
-  lines : (shard : ℕ) → lines_at (key facts) shard ≡ lines_owed setting shard (deed facts ∷ [])
+  -- the transaction takes shard 0 alone
+  lines : (shard : ℕ) → lines_at (key facts) shard ≡ lines_owed setting shard (txn facts ∷ [])
   lines zero = refl
-  lines (suc n) = ap (λ b. map (line_on setting (suc n)) (cond (b || false) (deed facts ∷ []) [])) (sym (ne_eqb 0 (suc n) (λ same. omega (arith, same))))
+  lines (suc n) = ap (λ b. map (line_on setting (suc n)) (cond (b || false) (txn facts ∷ []) [])) (sym (ne_eqb 0 (suc n) (λ same. omega (arith, same))))
 
   distinct : IsDistinct same_object (hot_in setting)
   unfolding IsDistinct
@@ -31,7 +31,7 @@ module _ (facts : Facts) where
 
   receipts : (w : ℕ) → w < 1 → IsReceiptOf setting w (counters_at (counters ∷ []) w) (receipt_at (receipt facts ∷ []) w)
   receipts zero known = record {
-    worth = record {
+    explained = record {
       worker = refl;
       idle = idle;
       work = record {
@@ -93,7 +93,7 @@ module _ (facts : Facts) where
   counts zero known = record { items = refl; bids = refl; comments = refl; buys = refl }
   counts (suc n) known = absurd (omega (arith, known))
 
-  shards : (s : ℕ) → s < 1 → ShelfStandsFor s 1 (state_at (opened facts ∷ []) s).shelf (example_book facts) []
+  shards : (s : ℕ) → s < 1 → ContentsStandsFor s 1 (state_at (opened facts ∷ []) s).contents (example_book facts) []
   shards zero known = λ object here cold. refl
   shards (suc n) known = absurd (omega (arith, known))
 

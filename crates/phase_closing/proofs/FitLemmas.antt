@@ -24,7 +24,7 @@ use Rattle.item_shards.specs.Values.{Value, value}
 use Rattle.item_shards.proofs.CanActLemmas.{all_both}
 use Rattle.shard_boxes.specs.States.{ShardState, state_at}
 use Rattle.phase_transactions.specs.Permits.{PermitState}
-use Rattle.phase_desks.specs.Slicing.{objects_of, slices_in, slices_of, slice_of, HasAtMost, AreFew}
+use Rattle.phase_contexts.specs.Slicing.{objects_of, slices_in, slices_of, slice_of, HasAtMost, AreFew}
 use Rattle.phase_closing.specs.Phases.{value_on}
 use Rattle.phase_closing.specs.Merging.{merged_with, with_slice, after_merge, slices_left, CanMerge}
 use Rattle.phase_closing.proofs.MergeLemmas.{value_merged}

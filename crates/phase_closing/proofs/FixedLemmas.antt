@@ -17,11 +17,11 @@ use Rattle.auction_rows.specs.Footprint.{is_hot}
 use Rattle.auction_rows.specs.Replies.{row_of, row_if}
 use Rattle.auction_rows.proofs.RequestLemmas.{same_item-true}
 use Rattle.item_shards.specs.Values.{Value, value, stock_in}
-use Rattle.item_shards.specs.Shelves.{Shelf, with_facts, bid_on, bought_of, after_acts}
+use Rattle.item_shards.specs.Contents.{Contents, with_facts, bid_on, bought_of, after_acts}
 use Rattle.item_shards.specs.Writing.{writes_of}
 use Rattle.item_shards.proofs.RowLemmas.{value_next}
-use Rattle.phase_desks.specs.Deeds.{Setting, hot_in, is_put_off}
-use Rattle.phase_desks.specs.Slicing.{stock_of}
+use Rattle.phase_contexts.specs.Txns.{Setting, hot_in, is_put_off}
+use Rattle.phase_contexts.specs.Slicing.{stock_of}
 use Rattle.phase_transactions.specs.Replying.{HasFixed}
 use Rattle.phase_transactions.proofs.RightLemmas.{cold_of}
 
@@ -47,17 +47,17 @@ facts_kept v facts stored = at v.facts stored where
   at None some = absurd (false≢true some)
   at (Some there) some = (refl, refl)
 
-row_kept : (shelf : Shelf) (id : ItemId) (one : Row) → IsSome (shelf (Item id)).facts → IsNoPurchase id one → HasKept (shelf (Item id)) (after_acts shelf (writes_of one) (Item id))
-row_kept shelf id (row.Item r) stored unbought = at (same_item r.id id) where
-  at : (b : Bool) → HasKept (shelf (Item id)) (cond b (with_facts r.facts (shelf (Item id))) (shelf (Item id)))
-  at true = facts_kept (shelf (Item id)) r.facts stored
+row_kept : (contents : Contents) (id : ItemId) (one : Row) → IsSome (contents (Item id)).facts → IsNoPurchase id one → HasKept (contents (Item id)) (after_acts contents (writes_of one) (Item id))
+row_kept contents id (row.Item r) stored unbought = at (same_item r.id id) where
+  at : (b : Bool) → HasKept (contents (Item id)) (cond b (with_facts r.facts (contents (Item id))) (contents (Item id)))
+  at true = facts_kept (contents (Item id)) r.facts stored
   at false = (refl, refl)
-row_kept shelf id (row.Bid r) stored unbought = at (same_item r.item id) where
-  at : (b : Bool) → HasKept (shelf (Item id)) (cond b (bid_on (bid_entry r) (shelf (Item id))) (shelf (Item id)))
+row_kept contents id (row.Bid r) stored unbought = at (same_item r.item id) where
+  at : (b : Bool) → HasKept (contents (Item id)) (cond b (bid_on (bid_entry r) (contents (Item id))) (contents (Item id)))
   at true = (refl, refl)
   at false = (refl, refl)
-row_kept shelf id (row.Comment r) stored unbought = (refl, refl)
-row_kept shelf id (row.Buy r) stored unbought = subst (λ b. HasKept (shelf (Item id)) (cond b (bought_of r.quantity (shelf (Item id))) (shelf (Item id)))) (sym unbought) (refl, refl)
+row_kept contents id (row.Comment r) stored unbought = (refl, refl)
+row_kept contents id (row.Buy r) stored unbought = subst (λ b. HasKept (contents (Item id)) (cond b (bought_of r.quantity (contents (Item id))) (contents (Item id)))) (sym unbought) (refl, refl)
 
 -- in a book with one row more a stored item has what it had, where the row is no purchase of it
 kept_next : (book : Book) (item : ItemId) (one : Option Row) → IsSome (facts_of book item) → IsNoPurchaseIfAny item one

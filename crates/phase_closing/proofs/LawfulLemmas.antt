@@ -5,16 +5,16 @@ use Rattle.std.proofs.lemmas.Bool.{false≢true}
 use Rattle.auction_rows.specs.declared.ids.Object.{Object}
 use Rattle.auction_rows.specs.Footprint.{is_hot}
 use Rattle.auction_rows.specs.Requests.{number_of as object_number, shard_of}
-use Rattle.item_shards.specs.Shelves.{Shelf}
+use Rattle.item_shards.specs.Contents.{Contents}
 use Rattle.shard_boxes.specs.declared.line.Line.{Line}
 use Rattle.shard_boxes.specs.Lines.{IsHistory}
 use Rattle.shard_boxes.specs.States.{ShardState, state_at}
-use Rattle.phase_desks.specs.Deeds.{hot_in}
+use Rattle.phase_contexts.specs.Txns.{hot_in}
 use Rattle.phase_closing.specs.Phases.{Phase, HasClosed, value_on}
 use Rattle.phase_closing.specs.Merging.{after_merge, slices_left, IsReconciled}
 use Rattle.phase_closing.specs.Lawful.{with_slices_by, AreSliced, AreHotMerged, AreOthersAsGiven, ClosesLawfully}
 use Rattle.phase_closing.proofs.GivenLemmas.{given_alone}
-use Rattle.phase_closing.proofs.ListLemmas.{lift, all_deeds, box, list_is, follow_what_they_share}
+use Rattle.phase_closing.proofs.ListLemmas.{lift, all_txns, box, list_is, follow_what_they_share}
 use Rattle.phase_closing.proofs.MergeLemmas.{value_after_all, as_many}
 use Rattle.phase_closing.proofs.PermutedLemmas.{fold_permuted}
 use Rattle.phase_closing.proofs.ReceiptLemmas.{sliced}
@@ -31,7 +31,7 @@ module _ (p : Phase) (closed : HasClosed p) where
   lawful closing left merged others = record {
     numbers = record { ascending = closed.merged.ascending; follows = follow_what_they_share p closed };
     parts = λ w. part_is p closed w;
-    deeds = all_deeds p closed;
+    txns = all_txns p closed;
     entries = (lift p closed).entries_are;
     lists = λ s known. subst (λ (lines : List (ℕ × Line)). IsHistory p.opening (length p.receipts) s lines (state_at p.given s)) (list_is p closed s known) (box p closed s known).history;
     given = closed.boxes.0;
@@ -52,9 +52,9 @@ module _ (p : Phase) (closed : HasClosed p) where
     -- an object's value in the end, by the slices of all workers
     closing_value : (object : Object) → value_on closing object ≡ fold (merge_at object) (value_on p.given object) (slices_left p.receipts)
     closing_value object =
-        ap (λ n. (state_at closing (shard_of object n)).shelf object) reconciled.count
-        ∙ ap (λ (shelf : Shelf). shelf object) (reconciled.shelves (shard_of object (length p.given)) (mod-lt (object_number object) some))
-        ∙ ap (λ n. (state_at (fold after_merge p.given reconciled.order) (shard_of object n)).shelf object) (sym (as_many reconciled.order p.given))
+        ap (λ n. (state_at closing (shard_of object n)).contents object) reconciled.count
+        ∙ ap (λ (contents : Contents). contents object) (reconciled.contents (shard_of object (length p.given)) (mod-lt (object_number object) some))
+        ∙ ap (λ n. (state_at (fold after_merge p.given reconciled.order) (shard_of object n)).contents object) (sym (as_many reconciled.order p.given))
         ∙ value_after_all reconciled.order p.given object some
         ∙ fold_permuted (merge_at object) (merge_at-commutes object) (slices_left p.receipts) reconciled.order reconciled.each (value_on p.given object)
 

@@ -15,12 +15,12 @@ use Rattle.shard_boxes.specs.declared.line.Line.{Line}
 use Rattle.shard_boxes.specs.Closed.{IsClosedBox}
 use Rattle.shard_boxes.specs.Lines.{lines_of}
 use Rattle.shard_boxes.specs.States.{state_at}
-use Rattle.phase_desks.specs.Deeds.{Setting, Deed, hot_in, entry_of, number_of, clock_found, greatest_clock, takes, line_on, lines_owed}
+use Rattle.phase_contexts.specs.Txns.{Setting, Txn, hot_in, entry_of, number_of, clock_found, greatest_clock, takes, line_on, lines_owed}
 use Rattle.phase_closing.specs.Phases.{Phase, HasClosed, key_of}
 use Rattle.phase_closing.specs.Histories.{worker_line, HoldTheEntries, FollowWhatTheyShare}
-use Rattle.phase_closing.proofs.ReceiptLemmas.{deeds_by, no_deeds, own, numbered, entries_are, lines_are}
+use Rattle.phase_closing.proofs.ReceiptLemmas.{txns_by, no_txns, own, numbered, entries_are, lines_are}
 
--- A shard that a deed takes is one of the shards.
+-- A shard that a transaction takes is one of the shards.
 
 known_if : (b c : Bool) (s shards : ℕ) → (b ≡ true → s < shards) → (c ≡ true → s < shards) → (b || c) ≡ true → s < shards
 known_if true c s shards first rest is = first refl
@@ -33,14 +33,14 @@ taken_known shards some s (object ∷ objects) is =
     (λ here. subst (λ t. t < shards) (eqb-true (shard_of object shards) s here) (mod-lt (object_number object) some))
     (taken_known shards some s objects) is
 
-pub takes_known : (z : Setting) → 0 < z.shards → (s : ℕ) (deed : Deed) → takes z s deed ≡ true → s < z.shards
-takes_known z some s deed is = taken_known z.shards some s (objects_taken z.opening (hot_in z) deed.0) is
+pub takes_known : (z : Setting) → 0 < z.shards → (s : ℕ) (txn : Txn) → takes z s txn ≡ true → s < z.shards
+takes_known z some s txn is = taken_known z.shards some s (objects_taken z.opening (hot_in z) txn.0) is
 
-none_taken : (z : Setting) → 0 < z.shards → (s : ℕ) → z.shards ≤ s → (deeds : List Deed) → filter (takes z s) deeds ≡ []
+none_taken : (z : Setting) → 0 < z.shards → (s : ℕ) → z.shards ≤ s → (txns : List Txn) → filter (takes z s) txns ≡ []
 none_taken z some s past [] = refl
-none_taken z some s past (deed ∷ deeds) = at (takes z s deed) refl (none_taken z some s past deeds) where
-  at : (b : Bool) → takes z s deed ≡ b → filter (takes z s) deeds ≡ [] → cond b (deed ∷ filter (takes z s) deeds) (filter (takes z s) deeds) ≡ []
-  at true is none = absurd (omega (arith, past, takes_known z some s deed is))
+none_taken z some s past (txn ∷ txns) = at (takes z s txn) refl (none_taken z some s past txns) where
+  at : (b : Bool) → takes z s txn ≡ b → filter (takes z s) txns ≡ [] → cond b (txn ∷ filter (takes z s) txns) (filter (takes z s) txns) ≡ []
+  at true is none = absurd (omega (arith, past, takes_known z some s txn is))
   at false is none = none
 
 -- A list's part of one worker is the lines of the worker.
@@ -60,18 +60,18 @@ no_pairs workers w past (entry ∷ lines) below = at (entry.0 == w) refl (no_pai
   at true is none = absurd (omega (arith, past, below.0, eqb-true entry.0 w is))
   at false is none = none
 
--- with its worker, the lines that a worker's deeds owe
-own_lines : (z : Setting) (s w : ℕ) (deeds : List Deed) → AllByRecursion (λ deed. (entry_of deed).worker ≡ w) deeds
-    → map (λ line. (w, line)) (lines_owed z s deeds) ≡ map (worker_line z s) (filter (takes z s) deeds)
+-- with its worker, the lines that a worker's transactions owe
+own_lines : (z : Setting) (s w : ℕ) (txns : List Txn) → AllByRecursion (λ txn. (entry_of txn).worker ≡ w) txns
+    → map (λ line. (w, line)) (lines_owed z s txns) ≡ map (worker_line z s) (filter (takes z s) txns)
 own_lines z s w [] are = refl
-own_lines z s w (deed ∷ deeds) are = at (takes z s deed) (own_lines z s w deeds are.1) where
-  at : (b : Bool) → map (λ line. (w, line)) (lines_owed z s deeds) ≡ map (worker_line z s) (filter (takes z s) deeds)
-      → map (λ line. (w, line)) (map (line_on z s) (cond b (deed ∷ filter (takes z s) deeds) (filter (takes z s) deeds)))
-      ≡ map (worker_line z s) (cond b (deed ∷ filter (takes z s) deeds) (filter (takes z s) deeds))
-  at true rest = λ i. (sym are.0 i, line_on z s deed) ∷ rest i
+own_lines z s w (txn ∷ txns) are = at (takes z s txn) (own_lines z s w txns are.1) where
+  at : (b : Bool) → map (λ line. (w, line)) (lines_owed z s txns) ≡ map (worker_line z s) (filter (takes z s) txns)
+      → map (λ line. (w, line)) (map (line_on z s) (cond b (txn ∷ filter (takes z s) txns) (filter (takes z s) txns)))
+      ≡ map (worker_line z s) (cond b (txn ∷ filter (takes z s) txns) (filter (takes z s) txns))
+  at true rest = λ i. (sym are.0 i, line_on z s txn) ∷ rest i
   at false rest = rest
 
--- A deed takes each shard of its footprint.
+-- A transaction takes each shard of its footprint.
 
 more_shards : (t : ℕ) (all shards : List ℕ) → AllByRecursion (λ s. list_any (λ taken. taken == s) all ≡ true) shards → AllByRecursion (λ s. list_any (λ taken. taken == s) (t ∷ all) ≡ true) shards
 more_shards t all [] each = tt
@@ -88,58 +88,58 @@ module _ (p : Phase) (closed : HasClosed p) where
   some : 0 < z.shards
   some = subst (λ n. 0 < n) (sym closed.begun.shards) closed.begun.some
 
-  -- the deeds of the entries
-  pub lift : Lifted entry_of entry_worker p.entries (deeds_by p closed)
-  lift = lifted entry_of entry_worker p.entries (deeds_by p closed) (λ w. closed.merged.parts w ∙ entries_are p closed w)
+  -- the transactions of the entries
+  pub lift : Lifted entry_of entry_worker p.entries (txns_by p closed)
+  lift = lifted entry_of entry_worker p.entries (txns_by p closed) (λ w. closed.merged.parts w ∙ entries_are p closed w)
 
-  abbrev pub all_deeds : List Deed
-  all_deeds = lift.all
+  abbrev pub all_txns : List Txn
+  all_txns = lift.all
 
-  pub ascending : IsAscending number_of (λ deed. (entry_of deed).worker) all_deeds
-  ascending = ordered_from_map entry_of (Precedes entry_number entry_worker) all_deeds
+  pub ascending : IsAscending number_of (λ txn. (entry_of txn).worker) all_txns
+  ascending = ordered_from_map entry_of (Precedes entry_number entry_worker) all_txns
       (subst (IsAscending entry_number entry_worker) (sym lift.entries_are) closed.merged.ascending)
 
   module _ (s : ℕ) (known : s < length p.opening) where
     abbrev pub box : IsClosedBox p.opening (length p.receipts) (map key_of p.receipts) s (state_at p.given s)
     box = closed.boxes.1 s known
 
-    -- the list's part of each worker is the lines of its deeds
-    list_part : (w : ℕ) → part (λ entry. entry.0) w box.lines ≡ map (worker_line z s) (filter (takes z s) (part (λ deed. (entry_of deed).worker) w all_deeds))
-    list_part w = at (cases_lt w (length p.receipts)) ∙ ap (λ deeds. map (worker_line z s) (filter (takes z s) deeds)) (sym (lift.parts w)) where
-      at : (w < length p.receipts) ⊎ (length p.receipts ≤ w) → part (λ entry. entry.0) w box.lines ≡ map (worker_line z s) (filter (takes z s) (deeds_by p closed w))
+    -- the list's part of each worker is the lines of its transactions
+    list_part : (w : ℕ) → part (λ entry. entry.0) w box.lines ≡ map (worker_line z s) (filter (takes z s) (part (λ txn. (entry_of txn).worker) w all_txns))
+    list_part w = at (cases_lt w (length p.receipts)) ∙ ap (λ txns. map (worker_line z s) (filter (takes z s) txns)) (sym (lift.parts w)) where
+      at : (w < length p.receipts) ⊎ (length p.receipts ≤ w) → part (λ entry. entry.0) w box.lines ≡ map (worker_line z s) (filter (takes z s) (txns_by p closed w))
       at (inl there) =
           own_pairs w box.lines ∙ ap (map (λ line. (w, line))) (box.own w there ∙ lines_are p closed w there s)
-          ∙ own_lines z s w (deeds_by p closed w) (own p closed w)
+          ∙ own_lines z s w (txns_by p closed w) (own p closed w)
       at (inr past) =
           no_pairs (length p.receipts) w past box.lines box.history.workers_are
-          ∙ ap (λ deeds. map (worker_line z s) (filter (takes z s) deeds)) (sym (no_deeds p closed w past))
+          ∙ ap (λ txns. map (worker_line z s) (filter (takes z s) txns)) (sym (no_txns p closed w past))
 
-    pub list_is : box.lines ≡ map (worker_line z s) (filter (takes z s) all_deeds)
-    list_is = lines_in_order (λ deed. (entry_of deed).worker) (λ entry. entry.0) (worker_line z s) (λ deed. refl) (takes z s)
-        number_of (λ entry. entry.1.number) (λ deed. refl) all_deeds box.lines ascending box.history.ascending list_part
+    pub list_is : box.lines ≡ map (worker_line z s) (filter (takes z s) all_txns)
+    list_is = lines_in_order (λ txn. (entry_of txn).worker) (λ entry. entry.0) (worker_line z s) (λ txn. refl) (takes z s)
+        number_of (λ entry. entry.1.number) (λ txn. refl) all_txns box.lines ascending box.history.ascending list_part
 
-    list_linked : IsLinkedFrom number_of (clock_found s) 0 (filter (takes z s) all_deeds)
-    list_linked = linked_from_map (worker_line z s) (λ entry. entry.1.number) (λ entry. entry.1.before) 0 (filter (takes z s) all_deeds)
+    list_linked : IsLinkedFrom number_of (clock_found s) 0 (filter (takes z s) all_txns)
+    list_linked = linked_from_map (worker_line z s) (λ entry. entry.1.number) (λ entry. entry.1.before) 0 (filter (takes z s) all_txns)
         (subst (IsLinkedFrom (λ (entry : ℕ × Line). entry.1.number) (λ (entry : ℕ × Line). entry.1.before) 0) list_is box.history.linked)
 
-  -- where there is no shard, no deed takes it
-  pub nowhere : (s : ℕ) → length p.opening ≤ s → filter (takes z s) all_deeds ≡ []
-  nowhere s past = none_taken z some s (subst (λ n. n ≤ s) (sym closed.begun.shards) past) all_deeds
+  -- where there is no shard, no transaction takes it
+  pub nowhere : (s : ℕ) → length p.opening ≤ s → filter (takes z s) all_txns ≡ []
+  nowhere s past = none_taken z some s (subst (λ n. n ≤ s) (sym closed.begun.shards) past) all_txns
 
-  linked : (s : ℕ) → IsLinkedFrom number_of (clock_found s) 0 (filter (takes z s) all_deeds)
+  linked : (s : ℕ) → IsLinkedFrom number_of (clock_found s) 0 (filter (takes z s) all_txns)
   linked s = at (cases_lt s (length p.opening)) where
-    at : (s < length p.opening) ⊎ (length p.opening ≤ s) → IsLinkedFrom number_of (clock_found s) 0 (filter (takes z s) all_deeds)
+    at : (s < length p.opening) ⊎ (length p.opening ≤ s) → IsLinkedFrom number_of (clock_found s) 0 (filter (takes z s) all_txns)
     at (inl known) = list_linked s known
     at (inr past) = subst (IsLinkedFrom number_of (clock_found s) 0) (sym (nowhere s past)) tt
 
   pub hold_the_entries : HoldTheEntries p closed
-  hold_the_entries = record { deeds = all_deeds; entries = lift.entries_are; parts = lift.parts; lists = λ s known. list_is s known }
+  hold_the_entries = record { txns = all_txns; entries = lift.entries_are; parts = lift.parts; lists = λ s known. list_is s known }
 
   pub follow_what_they_share : FollowWhatTheyShare z.opening z.shards (hot_in z) p.entries
   follow_what_they_share =
       subst (FollowWhatTheyShare z.opening z.shards (hot_in z)) lift.entries_are
-      (follows_map entry_of entry_number (shares entry_worker (footprint z.opening z.shards (hot_in z)) (λ shard entry. takes_shard z.opening z.shards (hot_in z) entry shard)) all_deeds
-      (follows number_of (λ deed. (entry_of deed).worker) (λ deed. footprint z.opening z.shards (hot_in z) (entry_of deed)) (takes z) clock_found all_deeds ascending
+      (follows_map entry_of entry_number (shares entry_worker (footprint z.opening z.shards (hot_in z)) (λ shard entry. takes_shard z.opening z.shards (hot_in z) entry shard)) all_txns
+      (follows number_of (λ txn. (entry_of txn).worker) (λ txn. footprint z.opening z.shards (hot_in z) (entry_of txn)) (takes z) clock_found all_txns ascending
       (λ w. subst (IsNumberedFrom number_of (greatest_clock z) 0) (sym (lift.parts w)) (numbered p closed w))
       linked
-      (λ deed. each_taken (footprint z.opening z.shards (hot_in z) (entry_of deed)))))
+      (λ txn. each_taken (footprint z.opening z.shards (hot_in z) (entry_of txn)))))

@@ -17,18 +17,18 @@ use Rattle.phase_closing.proofs.SliceLemmas.{merge_at}
 
 at_home : (n : ℕ) (states : List ShardState) (object : Object) (pair : Object × Slice) (b c : Bool) → length states ≡ n → shard_of object n < n → shard_of pair.0 n < n
     → (shard_of pair.0 n == shard_of object n) ≡ b → same_object pair.0 object ≡ c
-    → (state_at (set states (shard_of pair.0 n) (with_slice (state_at states (shard_of pair.0 n)) pair)) (shard_of object n)).shelf object
-    ≡ cond c (merged_with pair.1 ((state_at states (shard_of object n)).shelf object)) ((state_at states (shard_of object n)).shelf object)
+    → (state_at (set states (shard_of pair.0 n) (with_slice (state_at states (shard_of pair.0 n)) pair)) (shard_of object n)).contents object
+    ≡ cond c (merged_with pair.1 ((state_at states (shard_of object n)).contents object)) ((state_at states (shard_of object n)).contents object)
 at_home n states object pair true c long there home is same =
     let one = eqb-true (shard_of pair.0 n) (shard_of object n) is in
-    ap (λ t. (state_at (set states t (with_slice (state_at states t) pair)) (shard_of object n)).shelf object) one
-    ∙ ap (λ (state : ShardState). state.shelf object)
+    ap (λ t. (state_at (set states t (with_slice (state_at states t) pair)) (shard_of object n)).contents object) one
+    ∙ ap (λ (state : ShardState). state.contents object)
     (get_or-set_same states (shard_of object n) (with_slice (state_at states (shard_of object n)) pair) no_shard (subst (λ m. shard_of object n < m) (sym long) there))
-    ∙ ap (λ d. cond d (merged_with pair.1 ((state_at states (shard_of object n)).shelf object)) ((state_at states (shard_of object n)).shelf object)) same
+    ∙ ap (λ d. cond d (merged_with pair.1 ((state_at states (shard_of object n)).contents object)) ((state_at states (shard_of object n)).contents object)) same
 at_home n states object pair false true long there home is same =
     absurd (false≢true (sym is ∙ eq-eqb (shard_of pair.0 n) (shard_of object n) (ap (λ o. shard_of o n) (same_object-true pair.0 object same))))
 at_home n states object pair false false long there home is same =
-    ap (λ (state : ShardState). state.shelf object)
+    ap (λ (state : ShardState). state.contents object)
     (get_or-set_other states (shard_of pair.0 n) (shard_of object n) (with_slice (state_at states (shard_of pair.0 n)) pair) no_shard
     (λ one. false≢true (sym is ∙ eq-eqb (shard_of pair.0 n) (shard_of object n) (sym one))))
 
@@ -38,7 +38,7 @@ known n object some = mod-lt (object_number object) some
 pub value_merged : (states : List ShardState) (object : Object) (pair : Object × Slice) → 0 < length states → value_on (after_merge states pair) object ≡ merge_at object (value_on states object) pair
 value_merged states object pair some =
     let n = length states in
-    ap (λ m. (state_at (after_merge states pair) (shard_of object m)).shelf object) (length-set states (shard_of pair.0 n) (with_slice (state_at states (shard_of pair.0 n)) pair))
+    ap (λ m. (state_at (after_merge states pair) (shard_of object m)).contents object) (length-set states (shard_of pair.0 n) (with_slice (state_at states (shard_of pair.0 n)) pair))
     ∙ at_home n states object pair (shard_of pair.0 n == shard_of object n) (same_object pair.0 object) refl (known n object some) (known n pair.0 some) refl refl
 
 -- so it is with all slices, in their order

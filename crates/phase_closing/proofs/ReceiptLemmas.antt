@@ -9,19 +9,19 @@ use Rattle.phase_laws.specs.Replay.{SawInTurn}
 use Rattle.auction_rows.specs.History.{rows_of}
 use Rattle.worker_journals.specs.Merged.{entries_of}
 use Rattle.shard_boxes.specs.Keys.{key_at, lines_at}
-use Rattle.phase_desks.specs.declared.counters.Counters.{Counters}
-use Rattle.phase_desks.specs.Deeds.{Setting, Deed, entry_of, number_of, greatest_clock, lines_owed, IsAnswered, after_deed}
+use Rattle.phase_contexts.specs.declared.counters.Counters.{Counters}
+use Rattle.phase_contexts.specs.Txns.{Setting, Txn, entry_of, number_of, greatest_clock, lines_owed, IsAnswered, after_txn}
 use Rattle.phase_transactions.specs.Permits.{PermitState, work_of}
-use Rattle.phase_desks.specs.Slicing.{slices_of}
-use Rattle.phase_desks.specs.Works.{IsWorkOf}
+use Rattle.phase_contexts.specs.Slicing.{slices_of}
+use Rattle.phase_contexts.specs.Works.{IsWorkOf}
 use Rattle.phase_closing.specs.Standing.{counters_at}
-use Rattle.phase_closing.specs.Phases.{Phase, HasClosed, IsReceiptOf, no_receipt, receipt_at, key_of, journal_of, counters_of, deeds_of}
+use Rattle.phase_closing.specs.Phases.{Phase, HasClosed, IsReceiptOf, no_receipt, receipt_at, key_of, journal_of, counters_of, txns_of}
 
--- the worth of a receipt, in the setting and of the worker of the phase
-worth_of : (z : Setting) (w : ℕ) (opened : Counters) (receipt : PermitState) → IsReceiptOf z w opened receipt → IsWorkOf z w (work_of receipt.split receipt.key)
-worth_of z w opened receipt is =
+-- a receipt is explained, in the setting and of the worker of the phase
+explained_of : (z : Setting) (w : ℕ) (opened : Counters) (receipt : PermitState) → IsReceiptOf z w opened receipt → IsWorkOf z w (work_of receipt.split receipt.key)
+explained_of z w opened receipt is =
     subst (λ v. IsWorkOf z v (work_of receipt.split receipt.key)) is.worker_is
-    (subst (λ (y : Setting). IsWorkOf y receipt.key.worker (work_of receipt.split receipt.key)) is.setting is.worth.work)
+    (subst (λ (y : Setting). IsWorkOf y receipt.key.worker (work_of receipt.split receipt.key)) is.setting is.explained.work)
 
 -- of journals of workers in order from this one on, the entries of a worker are those of its own
 entries_from : (k : ℕ) (receipts : List PermitState) → ((i : ℕ) → i < length receipts → (journal_of (receipt_at receipts i)).worker ≡ k + i)
@@ -42,54 +42,54 @@ module _ (p : Phase) (closed : HasClosed p) where
   abbrev pub receipt : ℕ → PermitState
   receipt w = receipt_at p.receipts w
 
-  abbrev pub deeds_by : ℕ → List Deed
-  deeds_by w = deeds_of (receipt w)
+  abbrev pub txns_by : ℕ → List Txn
+  txns_by w = txns_of (receipt w)
 
   work : (w : ℕ) → w < workers → IsWorkOf p.setting w (work_of (receipt w).split (receipt w).key)
-  work w known = worth_of p.setting w (counters_at p.counters w) (receipt w) (closed.receipts w known)
+  work w known = explained_of p.setting w (counters_at p.counters w) (receipt w) (closed.receipts w known)
 
   none_past : (w : ℕ) → workers ≤ w → receipt w ≡ no_receipt
   none_past w past = get_or_past p.receipts w no_receipt past
 
-  pub no_deeds : (w : ℕ) → workers ≤ w → deeds_by w ≡ []
-  no_deeds w past = ap deeds_of (none_past w past)
+  pub no_txns : (w : ℕ) → workers ≤ w → txns_by w ≡ []
+  no_txns w past = ap txns_of (none_past w past)
 
-  -- what holds of each worker's deeds, since it holds where there are none
-  each_worker : (P : ℕ → List Deed → Type 0) → ((w : ℕ) → P w []) → ((w : ℕ) → w < workers → P w (deeds_by w)) → (w : ℕ) → P w (deeds_by w)
+  -- what holds of each worker's transactions, since it holds where there are none
+  each_worker : (P : ℕ → List Txn → Type 0) → ((w : ℕ) → P w []) → ((w : ℕ) → w < workers → P w (txns_by w)) → (w : ℕ) → P w (txns_by w)
   each_worker P none own w = at (cases_lt w workers) where
-    at : (w < workers) ⊎ (workers ≤ w) → P w (deeds_by w)
+    at : (w < workers) ⊎ (workers ≤ w) → P w (txns_by w)
     at (inl known) = own w known
-    at (inr past) = subst (P w) (sym (no_deeds w past)) (none w)
+    at (inr past) = subst (P w) (sym (no_txns w past)) (none w)
 
-  pub own : (w : ℕ) → AllByRecursion (λ deed. (entry_of deed).worker ≡ w) (deeds_by w)
-  own = each_worker (λ w deeds. AllByRecursion (λ deed. (entry_of deed).worker ≡ w) deeds) (λ w. tt) (λ w known. (work w known).own)
+  pub own : (w : ℕ) → AllByRecursion (λ txn. (entry_of txn).worker ≡ w) (txns_by w)
+  own = each_worker (λ w txns. AllByRecursion (λ txn. (entry_of txn).worker ≡ w) txns) (λ w. tt) (λ w known. (work w known).own)
 
-  pub numbered : (w : ℕ) → IsNumberedFrom number_of (greatest_clock p.setting) 0 (deeds_by w)
-  numbered = each_worker (λ w deeds. IsNumberedFrom number_of (greatest_clock p.setting) 0 deeds) (λ w. tt)
-      (λ w known. subst (λ n. IsNumberedFrom number_of (greatest_clock p.setting) n (deeds_by w)) (ap (λ (b : Counters × ℕ). b.1) (closed.receipts w known).begun) (work w known).numbered)
+  pub numbered : (w : ℕ) → IsNumberedFrom number_of (greatest_clock p.setting) 0 (txns_by w)
+  numbered = each_worker (λ w txns. IsNumberedFrom number_of (greatest_clock p.setting) 0 txns) (λ w. tt)
+      (λ w known. subst (λ n. IsNumberedFrom number_of (greatest_clock p.setting) n (txns_by w)) (ap (λ (b : Counters × ℕ). b.1) (closed.receipts w known).begun) (work w known).numbered)
 
-  pub answered : (w : ℕ) → w < workers → SawInTurn (IsAnswered p.setting) after_deed (counters_at p.counters w) (deeds_by w)
-  answered w known = subst (λ (c : Counters). SawInTurn (IsAnswered p.setting) after_deed c (deeds_by w)) (ap (λ (b : Counters × ℕ). b.0) (closed.receipts w known).begun) (work w known).answered
+  pub answered : (w : ℕ) → w < workers → SawInTurn (IsAnswered p.setting) after_txn (counters_at p.counters w) (txns_by w)
+  answered w known = subst (λ (c : Counters). SawInTurn (IsAnswered p.setting) after_txn c (txns_by w)) (ap (λ (b : Counters × ℕ). b.0) (closed.receipts w known).begun) (work w known).answered
 
-  pub counts : (w : ℕ) → w < workers → counters_of (receipt w) ≡ fold after_deed (counters_at p.counters w) (deeds_by w)
-  counts w known = (work w known).counts ∙ ap (λ (b : Counters × ℕ). fold after_deed b.0 (deeds_by w)) (closed.receipts w known).begun
+  pub counts : (w : ℕ) → w < workers → counters_of (receipt w) ≡ fold after_txn (counters_at p.counters w) (txns_by w)
+  counts w known = (work w known).counts ∙ ap (λ (b : Counters × ℕ). fold after_txn b.0 (txns_by w)) (closed.receipts w known).begun
 
   journal_worker : (i : ℕ) → i < workers → (journal_of (receipt i)).worker ≡ 0 + i
-  journal_worker i known = (closed.receipts i known).worth.worker ∙ (closed.receipts i known).worker_is ∙ omega arith
+  journal_worker i known = (closed.receipts i known).explained.worker ∙ (closed.receipts i known).worker_is ∙ omega arith
 
-  -- a worker's journal, and its part in the entries, are the entries of its deeds
-  pub journal_entries : (w : ℕ) → (journal_of (receipt w)).entries ≡ map entry_of (deeds_by w)
+  -- a worker's journal, and its part in the entries, are the entries of its transactions
+  pub journal_entries : (w : ℕ) → (journal_of (receipt w)).entries ≡ map entry_of (txns_by w)
   journal_entries w = at (cases_lt w workers) where
-    at : (w < workers) ⊎ (workers ≤ w) → (journal_of (receipt w)).entries ≡ map entry_of (deeds_by w)
+    at : (w < workers) ⊎ (workers ≤ w) → (journal_of (receipt w)).entries ≡ map entry_of (txns_by w)
     at (inl known) = (work w known).entries
-    at (inr past) = subst (λ (r : PermitState). (journal_of r).entries ≡ map entry_of (deeds_of r)) (sym (none_past w past)) refl
+    at (inr past) = subst (λ (r : PermitState). (journal_of r).entries ≡ map entry_of (txns_of r)) (sym (none_past w past)) refl
 
-  pub entries_are : (w : ℕ) → entries_of w (map journal_of p.receipts) ≡ map entry_of (deeds_by w)
+  pub entries_are : (w : ℕ) → entries_of w (map journal_of p.receipts) ≡ map entry_of (txns_by w)
   entries_are w =
       ap (λ v. entries_of v (map journal_of p.receipts)) {x = w} {y = 0 + w} (omega arith) ∙ entries_from 0 p.receipts journal_worker w ∙ journal_entries w
 
-  -- the lines of each worker's key are those that its deeds owe
-  pub lines_are : (w : ℕ) → w < workers → (s : ℕ) → lines_at (key_at (map key_of p.receipts) w) s ≡ lines_owed p.setting s (deeds_by w)
+  -- the lines of each worker's key are those that its transactions owe
+  pub lines_are : (w : ℕ) → w < workers → (s : ℕ) → lines_at (key_at (map key_of p.receipts) w) s ≡ lines_owed p.setting s (txns_by w)
   lines_are w known s = ap (λ key. lines_at key s) (get_or-map key_of p.receipts w no_receipt) ∙ (work w known).lines s
 
   -- a worker's slices are those of the rows of its journal

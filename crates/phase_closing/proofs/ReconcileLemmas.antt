@@ -14,15 +14,15 @@ use Rattle.auction_rows.specs.Requests.{shard_of}
 use Rattle.auction_rows.proofs.HistoryLemmas.{book_after-replays}
 use Rattle.item_shards.specs.declared.slices.UserSlice.{UserSlice}
 use Rattle.item_shards.specs.declared.slices.CategorySlice.{CategorySlice}
-use Rattle.item_shards.specs.Shelves.{Shelf, bids_merged, comments_merged, items_merged}
+use Rattle.item_shards.specs.Contents.{Contents, bids_merged, comments_merged, items_merged}
 use Rattle.item_shards.specs.Slices.{with_bids, with_comments, with_items}
-use Rattle.item_shards.specs.Standing.{ShelfStandsFor}
+use Rattle.item_shards.specs.Standing.{ContentsStandsFor}
 use Rattle.item_shards.specs.Values.{Value, blank, value}
 use Rattle.worker_journals.specs.Journals.{entry_worker}
 use Rattle.shard_boxes.specs.States.{ShardState, state_at}
-use Rattle.phase_desks.specs.Deeds.{Setting, hot_in}
+use Rattle.phase_contexts.specs.Txns.{Setting, hot_in}
 use Rattle.phase_transactions.specs.Permits.{PermitState}
-use Rattle.phase_desks.specs.Slicing.{slices_of, slice_of}
+use Rattle.phase_contexts.specs.Slicing.{slices_of, slice_of}
 use Rattle.phase_closing.specs.Phases.{Phase, HasClosed, value_on, counters_of, journal_of, no_receipt}
 use Rattle.phase_closing.specs.Standing.{StandFor}
 use Rattle.phase_closing.specs.Merging.{merged_with, after_merge, slices_left, IsReconciled}
@@ -122,7 +122,7 @@ module _ (p : Phase) (closed : HasClosed p) where
 
     given_cold : (object : Object) → is_hot (hot_in z) object ≡ false → value_on p.given object ≡ value after object
     given_cold object cold =
-        ap (λ n. (state_at p.given (shard_of object n)).shelf object) closed.boxes.0
+        ap (λ n. (state_at p.given (shard_of object n)).contents object) closed.boxes.0
         ∙ given_stands p closed book opens (shard_of object (length p.opening)) (is_known p closed object) object refl cold
         ∙ ap (λ b. value b object) left_is
 
@@ -140,16 +140,16 @@ module _ (p : Phase) (closed : HasClosed p) where
           ∙ fold_permuted (merge_at object) (merge_at-commutes object) (slices_left p.receipts) reconciled.order reconciled.each (value_on p.given object)
           ∙ all_merged object (is_hot (hot_in z) object) refl
 
-      closing_stands : (s : ℕ) → s < length closing → ShelfStandsFor s (length closing) (state_at closing s).shelf after []
+      closing_stands : (s : ℕ) → s < length closing → ContentsStandsFor s (length closing) (state_at closing s).contents after []
       closing_stands s known object here cold =
-          ap (λ (shelf : Shelf). shelf object) (reconciled.shelves s (subst (λ n. s < n) reconciled.count known))
-          ∙ ap (λ t. (state_at (fold after_merge p.given reconciled.order) t).shelf object)
+          ap (λ (contents : Contents). contents object) (reconciled.contents s (subst (λ n. s < n) reconciled.count known))
+          ∙ ap (λ t. (state_at (fold after_merge p.given reconciled.order) t).contents object)
           (sym here ∙ ap (shard_of object) (reconciled.count ∙ sym (as_many reconciled.order p.given)))
           ∙ merged_value object
 
       pub reconciled_stand : StandFor closing (map counters_of p.receipts) (book_after z.opening book p.entries) []
       reconciled_stand = record {
-        shards = λ s known. subst (λ b. ShelfStandsFor s (length closing) (state_at closing s).shelf b []) (sym left_is ∙ end_is p closed book opens) (closing_stands s known);
+        shards = λ s known. subst (λ b. ContentsStandsFor s (length closing) (state_at closing s).contents b []) (sym left_is ∙ end_is p closed book opens) (closing_stands s known);
         counts = (replays_and_stands p closed book opens).stand.counts;
       }
 

@@ -12,16 +12,16 @@ use Rattle.auction_rows.specs.declared.requests.Facts.{Facts}
 use Rattle.auction_rows.specs.Book.{Book, facts_of, bought, items_stored, bids_stored, comments_stored, buys_stored}
 use Rattle.auction_rows.specs.History.{IsRight, ReplaysFrom, after_entry, book_after}
 use Rattle.auction_rows.specs.Requests.{shard_of}
-use Rattle.item_shards.specs.Shelves.{Shelf}
-use Rattle.item_shards.specs.Standing.{ShelfStandsFor}
+use Rattle.item_shards.specs.Contents.{Contents}
+use Rattle.item_shards.specs.Standing.{ContentsStandsFor}
 use Rattle.item_shards.specs.Values.{value, stock}
 use Rattle.item_shards.proofs.AnswerLemmas.{stock_is}
 use Rattle.shard_boxes.specs.declared.line.Line.{Line}
 use Rattle.shard_boxes.specs.Lines.{AreTrueOf, after_line}
 use Rattle.shard_boxes.specs.States.{ShardState, state_at}
-use Rattle.phase_desks.specs.declared.counters.Counters.{Counters}
-use Rattle.phase_desks.specs.Deeds.{Setting, Deed, hot_in, entry_of, takes, line_on, IsAnswered, after_deed}
-use Rattle.phase_desks.specs.Splits.{CountsOf}
+use Rattle.phase_contexts.specs.declared.counters.Counters.{Counters}
+use Rattle.phase_contexts.specs.Txns.{Setting, Txn, hot_in, entry_of, takes, line_on, IsAnswered, after_txn}
+use Rattle.phase_contexts.specs.Splits.{CountsOf}
 use Rattle.phase_closing.specs.Phases.{Phase, HasClosed, counters_of, value_on}
 use Rattle.phase_closing.specs.Standing.{ShardsStandFor, StandFor, counters_at}
 use Rattle.phase_closing.specs.Histories.{ReplaysAndStands, worker_line}
@@ -29,21 +29,21 @@ use Rattle.phase_closing.proofs.FixedLemmas.{HasItems}
 use Rattle.phase_closing.proofs.GivenLemmas.{given_is, is_known}
 use Rattle.phase_closing.proofs.HotLemmas.{stocked_of, read_of}
 use Rattle.phase_closing.proofs.PlaceLemmas.{Place, shard, worker, fixed, State, takes_at, step_at, Saw_at, Stands_at, next_at, Right_at, phase_laws}
-use Rattle.phase_closing.proofs.ReceiptLemmas.{receipt, no_deeds, answered, counts, counters_are}
-use Rattle.phase_closing.proofs.ListLemmas.{lift, all_deeds, box, list_is, nowhere}
+use Rattle.phase_closing.proofs.ReceiptLemmas.{receipt, no_txns, answered, counts, counters_are}
+use Rattle.phase_closing.proofs.ListLemmas.{lift, all_txns, box, list_is, nowhere}
 
--- Of a shard after lines, its shelf alone.
+-- Of a shard after lines, its contents alone.
 
-saw_shelves : (z : Setting) (s : ℕ) (state : ShardState) (deeds : List Deed)
-    → SawInTurn (λ (found : ShardState) deed. AreTrueOf found.shelf (line_on z s deed).acts) (λ found deed. after_line found (line_on z s deed)) state deeds
-    → SawInTurn (Saw_at z (shard s)) (step_at z (shard s)) state.shelf deeds
-saw_shelves z s state [] saw = tt
-saw_shelves z s state (deed ∷ deeds) saw = (saw.0, saw_shelves z s (after_line state (line_on z s deed)) deeds saw.1)
+saw_contents : (z : Setting) (s : ℕ) (state : ShardState) (txns : List Txn)
+    → SawInTurn (λ (found : ShardState) txn. AreTrueOf found.contents (line_on z s txn).acts) (λ found txn. after_line found (line_on z s txn)) state txns
+    → SawInTurn (Saw_at z (shard s)) (step_at z (shard s)) state.contents txns
+saw_contents z s state [] saw = tt
+saw_contents z s state (txn ∷ txns) saw = (saw.0, saw_contents z s (after_line state (line_on z s txn)) txns saw.1)
 
--- what no deed changes stays
-stays : {S : Type 0} (s : S) (deeds : List Deed) → fold (λ t deed. t) s deeds ≡ s
+-- what no transaction changes stays
+stays : {S : Type 0} (s : S) (txns : List Txn) → fold (λ t txn. t) s txns ≡ s
 stays s [] = refl
-stays s (deed ∷ deeds) = stays s deeds
+stays s (txn ∷ txns) = stays s txns
 
 -- the counters that count a book
 abbrev counters_in : Book → ℕ → Counters
@@ -65,7 +65,7 @@ module _ (p : Phase) (closed : HasClosed p) (book : Book) (opens : StandFor p.op
   counters_then w (inr past) = counters_in book w
 
   abbrev opening_at : (q : Place) → State q
-  opening_at (shard s) = (state_at p.opening s).shelf
+  opening_at (shard s) = (state_at p.opening s).contents
   opening_at (worker w) = counters_then w (cases_lt w (length p.receipts))
   opening_at fixed = λ item. (facts_of book item, bought book item)
 
@@ -75,63 +75,63 @@ module _ (p : Phase) (closed : HasClosed p) (book : Book) (opens : StandFor p.op
 
   opening_stands : (q : Place) → Stands_at z q (opening_at q) book
   opening_stands (shard s) = λ object here cold.
-      subst (λ (t : ℕ). (state_at p.opening t).shelf object ≡ value book object) (ap (shard_of object) (sym shards_are) ∙ here) (opening_value object)
+      subst (λ (t : ℕ). (state_at p.opening t).contents object ≡ value book object) (ap (shard_of object) (sym shards_are) ∙ here) (opening_value object)
   opening_stands (worker w) = counts_then w (cases_lt w (length p.receipts))
   opening_stands fixed = (
     λ item hot. sym (stock_is book item) ∙ ap stock (sym (opening_value (Item item))) ∙ sym (read_of p.opening z.stocks closed.begun.read item hot),
     λ item hot. (refl, refl),
   )
 
-  -- what the deeds saw of each place, in turn
+  -- what the transactions saw of each place, in turn
   saw_shard : (s : ℕ) → (s < length p.opening) ⊎ (length p.opening ≤ s)
-      → SawInTurn (Saw_at z (shard s)) (step_at z (shard s)) (state_at p.opening s).shelf (filter (takes z s) (all_deeds p closed))
+      → SawInTurn (Saw_at z (shard s)) (step_at z (shard s)) (state_at p.opening s).contents (filter (takes z s) (all_txns p closed))
   saw_shard s (inl known) =
-      saw_shelves z s (state_at p.opening s) (filter (takes z s) (all_deeds p closed))
-      (saw_from_map (worker_line z s) (λ (found : ShardState) entry. AreTrueOf found.shelf entry.1.acts) (λ found entry. after_line found entry.1) (state_at p.opening s) (filter (takes z s) (all_deeds p closed))
-      (subst (SawInTurn (λ (found : ShardState) (entry : ℕ × Line). AreTrueOf found.shelf entry.1.acts) (λ found entry. after_line found entry.1) (state_at p.opening s))
+      saw_contents z s (state_at p.opening s) (filter (takes z s) (all_txns p closed))
+      (saw_from_map (worker_line z s) (λ (found : ShardState) entry. AreTrueOf found.contents entry.1.acts) (λ found entry. after_line found entry.1) (state_at p.opening s) (filter (takes z s) (all_txns p closed))
+      (subst (SawInTurn (λ (found : ShardState) (entry : ℕ × Line). AreTrueOf found.contents entry.1.acts) (λ found entry. after_line found entry.1) (state_at p.opening s))
       (list_is p closed s known) (box p closed s known).history.looks))
   saw_shard s (inr past) =
-      subst (SawInTurn (Saw_at z (shard s)) (step_at z (shard s)) (state_at p.opening s).shelf) (sym (nowhere p closed s past)) tt
+      subst (SawInTurn (Saw_at z (shard s)) (step_at z (shard s)) (state_at p.opening s).contents) (sym (nowhere p closed s past)) tt
 
   saw_worker : (w : ℕ) (case : (w < length p.receipts) ⊎ (length p.receipts ≤ w))
-      → SawInTurn (IsAnswered z) after_deed (counters_then w case) (filter (takes_at z (worker w)) (all_deeds p closed))
-  saw_worker w (inl known) = subst (SawInTurn (IsAnswered z) after_deed (counters_at p.counters w)) (sym ((lift p closed).parts w)) (answered p closed w known)
+      → SawInTurn (IsAnswered z) after_txn (counters_then w case) (filter (takes_at z (worker w)) (all_txns p closed))
+  saw_worker w (inl known) = subst (SawInTurn (IsAnswered z) after_txn (counters_at p.counters w)) (sym ((lift p closed).parts w)) (answered p closed w known)
   saw_worker w (inr past) =
-      subst (SawInTurn (IsAnswered z) after_deed (counters_in book w)) (sym ((lift p closed).parts w ∙ no_deeds p closed w past)) tt
+      subst (SawInTurn (IsAnswered z) after_txn (counters_in book w)) (sym ((lift p closed).parts w ∙ no_txns p closed w past)) tt
 
-  saw : (q : Place) → SawInTurn (Saw_at z q) (step_at z q) (opening_at q) (filter (takes_at z q) (all_deeds p closed))
+  saw : (q : Place) → SawInTurn (Saw_at z q) (step_at z q) (opening_at q) (filter (takes_at z q) (all_txns p closed))
   saw (shard s) = saw_shard s (cases_lt s (length p.opening))
   saw (worker w) = saw_worker w (cases_lt w (length p.receipts))
-  saw fixed = saw_nothing (λ items deed. items) (opening_at fixed) (filter (λ deed. true) (all_deeds p closed))
+  saw fixed = saw_nothing (λ items txn. items) (opening_at fixed) (filter (λ txn. true) (all_txns p closed))
 
   abbrev pub end : Book
-  end = fold (next_at z) book (all_deeds p closed)
+  end = fold (next_at z) book (all_txns p closed)
 
-  replay : Replays (Right_at z) (next_at z) book (all_deeds p closed)
-      × ((q : Place) → Stands_at z q (fold (step_at z q) (opening_at q) (filter (takes_at z q) (all_deeds p closed))) end)
-  replay = replayed (phase_laws z (stocked_of z.stocks closed.begun.stocked)) (all_deeds p closed) book opening_at opening_stands saw
+  replay : Replays (Right_at z) (next_at z) book (all_txns p closed)
+      × ((q : Place) → Stands_at z q (fold (step_at z q) (opening_at q) (filter (takes_at z q) (all_txns p closed))) end)
+  replay = replayed (phase_laws z (stocked_of z.stocks closed.begun.stocked)) (all_txns p closed) book opening_at opening_stands saw
 
   pub end_is : end ≡ book_after z.opening book p.entries
-  end_is = sym (fold-map (after_entry z.opening) entry_of book (all_deeds p closed)) ∙ ap (book_after z.opening book) (lift p closed).entries_are
+  end_is = sym (fold-map (after_entry z.opening) entry_of book (all_txns p closed)) ∙ ap (book_after z.opening book) (lift p closed).entries_are
 
   pub entries_replay : ReplaysFrom z.opening book p.entries
   entries_replay = subst (ReplaysFrom z.opening book) (lift p closed).entries_are
-      (replays_map entry_of (IsRight z.opening) (after_entry z.opening) book (all_deeds p closed) replay.0)
+      (replays_map entry_of (IsRight z.opening) (after_entry z.opening) book (all_txns p closed) replay.0)
 
   -- the facts of hot items, and how many of them are bought, are the same in the end
   pub items_kept : HasItems z (λ item. (facts_of book item, bought book item)) end
-  items_kept = subst (λ (items : ItemId → Option Facts × ℕ). HasItems z items end) (stays (opening_at fixed) (filter (λ deed. true) (all_deeds p closed))) (replay.1 fixed).1
+  items_kept = subst (λ (items : ItemId → Option Facts × ℕ). HasItems z items end) (stays (opening_at fixed) (filter (λ txn. true) (all_txns p closed))) (replay.1 fixed).1
 
-  pub given_stands : (s : ℕ) → s < length p.opening → ShelfStandsFor s (length p.opening) (state_at p.given s).shelf end (hot_in z)
+  pub given_stands : (s : ℕ) → s < length p.opening → ContentsStandsFor s (length p.opening) (state_at p.given s).contents end (hot_in z)
   given_stands s known =
-      subst (λ n. ShelfStandsFor s n (state_at p.given s).shelf end (hot_in z)) shards_are
-      (subst (λ (shelf : Shelf). ShelfStandsFor s z.shards shelf end (hot_in z)) (sym (given_is p closed s known)) (replay.1 (shard s)))
+      subst (λ n. ContentsStandsFor s n (state_at p.given s).contents end (hot_in z)) shards_are
+      (subst (λ (contents : Contents). ContentsStandsFor s z.shards contents end (hot_in z)) (sym (given_is p closed s known)) (replay.1 (shard s)))
 
   -- the counters after the phase count the book in the end
   counted_then : (w : ℕ) → w < length p.receipts → (case : (w < length p.receipts) ⊎ (length p.receipts ≤ w))
-      → CountsOf end w (fold after_deed (counters_then w case) (filter (takes_at z (worker w)) (all_deeds p closed))) → CountsOf end w (counters_of (receipt p closed w))
+      → CountsOf end w (fold after_txn (counters_then w case) (filter (takes_at z (worker w)) (all_txns p closed))) → CountsOf end w (counters_of (receipt p closed w))
   counted_then w known (inl there) are = subst (CountsOf end w)
-      (ap (fold after_deed (counters_at p.counters w)) ((lift p closed).parts w) ∙ sym (counts p closed w known)) are
+      (ap (fold after_txn (counters_at p.counters w)) ((lift p closed).parts w) ∙ sym (counts p closed w known)) are
   counted_then w known (inr past) are = absurd (omega (arith, known, past))
 
   counts_end : (w : ℕ) → w < length p.receipts → CountsOf end w (counters_at (map counters_of p.receipts) w)
@@ -143,7 +143,7 @@ module _ (p : Phase) (closed : HasClosed p) (book : Book) (opens : StandFor p.op
     replays = entries_replay;
     stand = record {
       shards = subst (λ b. ShardsStandFor p.given b (hot_in z)) end_is
-          (λ s known. subst (λ n. ShelfStandsFor s n (state_at p.given s).shelf end (hot_in z)) (sym closed.boxes.0) (given_stands s (subst (λ n. s < n) closed.boxes.0 known)));
+          (λ s known. subst (λ n. ContentsStandsFor s n (state_at p.given s).contents end (hot_in z)) (sym closed.boxes.0) (given_stands s (subst (λ n. s < n) closed.boxes.0 known)));
       counts = λ w known. subst (λ b. CountsOf b w (counters_at (map counters_of p.receipts) w)) end_is (counts_end w (subst (λ n. w < n) (length-map p.receipts counters_of) known));
     };
   }

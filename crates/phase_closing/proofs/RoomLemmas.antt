@@ -13,8 +13,8 @@ use Rattle.auction_rows.specs.Requests.{shard_of}
 use Rattle.item_shards.specs.declared.slices.Slice.{Slice}
 use Rattle.item_shards.specs.Values.{Value, stock}
 use Rattle.shard_boxes.specs.States.{state_at, IsOpened, AreOpened}
-use Rattle.phase_desks.specs.Deeds.{hot_in}
-use Rattle.phase_desks.specs.Slicing.{AreFew}
+use Rattle.phase_contexts.specs.Txns.{hot_in}
+use Rattle.phase_contexts.specs.Slicing.{AreFew}
 use Rattle.phase_closing.specs.Phases.{Phase, HasClosed, value_on}
 use Rattle.phase_closing.specs.Merging.{after_merge, slices_left, CanMerge}
 use Rattle.phase_closing.proofs.FitLemmas.{HasRoomFor, how_many, all_once, all_good, all_in_turn}

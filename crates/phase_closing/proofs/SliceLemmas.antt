@@ -18,7 +18,7 @@ use Rattle.item_shards.specs.declared.slices.CategorySlice.{CategorySlice}
 use Rattle.item_shards.specs.SliceLaws.{item_laws, user_laws, category_laws}
 use Rattle.item_shards.specs.Values.{Value, value}
 use Rattle.phase_transactions.specs.Permits.{PermitState}
-use Rattle.phase_desks.specs.Slicing.{objects_of, slices_in, slices_of, slice_of}
+use Rattle.phase_contexts.specs.Slicing.{objects_of, slices_in, slices_of, slice_of}
 use Rattle.phase_closing.specs.Merging.{merged_with, slices_left}
 
 -- a slice that is an object's is merged into its value

@@ -15,9 +15,9 @@ use Rattle.auction_rows.specs.Replies.{row_of, row_if}
 use Rattle.item_shards.specs.Counting.{worker_of}
 use Rattle.item_shards.specs.Limits.{GivesStars, HasStars}
 use Rattle.worker_journals.specs.Journals.{entry_worker}
-use Rattle.phase_desks.specs.Deeds.{entry_of}
+use Rattle.phase_contexts.specs.Txns.{entry_of}
 use Rattle.phase_closing.specs.Phases.{Phase, HasClosed, journal_of, receipt_at}
-use Rattle.phase_closing.proofs.ReceiptLemmas.{no_deeds, entries_are, journal_entries}
+use Rattle.phase_closing.proofs.ReceiptLemmas.{no_txns, entries_are, journal_entries}
 
 -- Who has no part of the entries is of none.
 
@@ -45,7 +45,7 @@ module _ (p : Phase) (closed : HasClosed p) where
 
   pub entries_below : AllByRecursion (λ entry. entry_worker entry < length p.receipts) p.entries
   entries_below = all_below (length p.receipts) p.entries
-      (λ w past. closed.merged.parts w ∙ entries_are p closed w ∙ ap (map entry_of) (no_deeds p closed w past))
+      (λ w past. closed.merged.parts w ∙ entries_are p closed w ∙ ap (map entry_of) (no_txns p closed w past))
 
 -- What holds of each row that an entry adds.
 

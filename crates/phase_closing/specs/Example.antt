@@ -14,9 +14,9 @@ use Rattle.shard_boxes.specs.declared.line.Line.{Line}
 use Rattle.shard_boxes.specs.Keys.{KeyState}
 use Rattle.shard_boxes.specs.Lines.{after_line}
 use Rattle.shard_boxes.specs.States.{ShardState}
-use Rattle.phase_desks.specs.declared.counters.Counters.{Counters}
-use Rattle.phase_desks.specs.Deeds.{Setting, Deed, line_on, after_deed}
-use Rattle.phase_desks.specs.Slicing.{slices_of}
+use Rattle.phase_contexts.specs.declared.counters.Counters.{Counters}
+use Rattle.phase_contexts.specs.Txns.{Setting, Txn, line_on, after_txn}
+use Rattle.phase_contexts.specs.Slicing.{slices_of}
 use Rattle.phase_transactions.specs.Permits.{PermitState}
 use Rattle.phase_closing.specs.Phases.{Phase}
 
@@ -46,13 +46,13 @@ module _ (facts : Facts) where
   example_book = row.Item (record { id = first_item; facts = facts; time = 0 }) ∷ []
 
   abbrev pub opened : ShardState
-  opened = record { number = 0; shards = 1; opening = setting.opening; clock = 0; shelf = value example_book }
+  opened = record { number = 0; shards = 1; opening = setting.opening; clock = 0; contents = value example_book }
 
-  abbrev pub deed : Deed
-  deed = (entry, record { stock = stock (value example_book (Item first_item)); clocks = Some (0, 0) ∷ None ∷ [] })
+  abbrev pub txn : Txn
+  txn = (entry, record { stock = stock (value example_book (Item first_item)); clocks = Some (0, 0) ∷ None ∷ [] })
 
   abbrev pub line : Line
-  line = line_on setting 0 deed
+  line = line_on setting 0 txn
 
   abbrev pub key : KeyState
   key = record { boxes = []; worker = 0; seats = record { holds = false; lines = line ∷ []; seen = (0, line) ∷ [] } ∷ [] }
@@ -60,16 +60,16 @@ module _ (facts : Facts) where
   abbrev pub receipt : PermitState
   receipt = record {
     split = record {
-      desk = record {
+      context = record {
         opening = setting.opening;
         begun = (counters, 0) ∷ [];
-        counters = after_deed counters deed;
+        counters = after_txn counters txn;
         journal = record { phase = 1; worker = 0; room = 1; entries = entry ∷ [] };
         stash = record { requests = []; done = []; room = 0 };
         left = 0;
         tries = 1;
         clock = 1;
-        deeds = deed ∷ [];
+        txns = txn ∷ [];
       };
       slices = slices_of setting.stocks (rows_of (entry ∷ []));
     };

@@ -10,22 +10,22 @@ use Rattle.auction_rows.specs.Footprint.{footprint, takes_shard}
 use Rattle.auction_rows.specs.History.{ReplaysFrom, book_after}
 use Rattle.worker_journals.specs.Journals.{entry_number, entry_worker}
 use Rattle.shard_boxes.specs.declared.line.Line.{Line}
-use Rattle.phase_desks.specs.Deeds.{Setting, Deed, hot_in, entry_of, takes, line_on}
-use Rattle.phase_closing.specs.Phases.{Phase, HasClosed, counters_of, deeds_of, receipt_at}
+use Rattle.phase_contexts.specs.Txns.{Setting, Txn, hot_in, entry_of, takes, line_on}
+use Rattle.phase_closing.specs.Phases.{Phase, HasClosed, counters_of, txns_of, receipt_at}
 use Rattle.phase_closing.specs.Standing.{StandFor}
 
--- a deed's line with its worker
-abbrev pub worker_line : Setting → ℕ → Deed → ℕ × Line
-worker_line z shard deed = ((entry_of deed).worker, line_on z shard deed)
+-- a transaction's line with its worker
+abbrev pub worker_line : Setting → ℕ → Txn → ℕ × Line
+worker_line z shard txn = ((entry_of txn).worker, line_on z shard txn)
 
 -- Each shard's list holds the lines of the entries that take it, in the order of the entries, and nothing else: the entries are
--- those of deeds of which each worker has its receipt's.
+-- those of transactions of which each worker has its receipt's.
 pub record HoldTheEntries (p : Phase) (closed : HasClosed p) : Type 0 where
-  pub deeds : List Deed
-  pub entries : map entry_of deeds ≡ p.entries
-  pub parts : (w : ℕ) → part (λ deed. (entry_of deed).worker) w deeds ≡ deeds_of (receipt_at p.receipts w)
+  pub txns : List Txn
+  pub entries : map entry_of txns ≡ p.entries
+  pub parts : (w : ℕ) → part (λ txn. (entry_of txn).worker) w txns ≡ txns_of (receipt_at p.receipts w)
   pub lists : (s : ℕ) (known : s < length p.opening) →
-      (closed.boxes.1 s known).lines ≡ map (worker_line p.setting s) (filter (takes p.setting s) deeds)
+      (closed.boxes.1 s known).lines ≡ map (worker_line p.setting s) (filter (takes p.setting s) txns)
 
 -- Each number is 1 + the greatest number of the entries before it that are of its worker or share a shard with it, and 1 where
 -- there is none.

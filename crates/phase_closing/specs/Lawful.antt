@@ -10,8 +10,8 @@ use Rattle.item_shards.specs.Values.{Value, value}
 use Rattle.worker_journals.specs.Journals.{entry_worker}
 use Rattle.shard_boxes.specs.Lines.{IsHistory}
 use Rattle.shard_boxes.specs.States.{ShardState, state_at}
-use Rattle.phase_desks.specs.Deeds.{Deed, hot_in, entry_of, takes}
-use Rattle.phase_desks.specs.Slicing.{slice_of, slices_of}
+use Rattle.phase_contexts.specs.Txns.{Txn, hot_in, entry_of, takes}
+use Rattle.phase_contexts.specs.Slicing.{slice_of, slices_of}
 use Rattle.phase_transactions.specs.Permits.{PermitState}
 use Rattle.phase_closing.specs.Phases.{Phase, value_on, journal_of, receipt_at}
 use Rattle.phase_closing.specs.Histories.{worker_line}
@@ -46,12 +46,12 @@ pub record ClosesLawfully (p : Phase) (closing : List ShardState) : Type 0 where
   -- the part of each worker is its journal
   pub parts : (w : ℕ) → part entry_worker w p.entries ≡ (journal_of (receipt_at p.receipts w)).entries
   -- the entries with what their transactions found
-  pub deeds : List Deed
-  pub entries : map entry_of deeds ≡ p.entries
+  pub txns : List Txn
+  pub entries : map entry_of txns ≡ p.entries
   -- from the shard with which the phase opened to the one given back, a shard's list holds the lines of exactly the entries that
   -- take it, in their order
   pub lists : (s : ℕ) → s < length p.opening →
-      IsHistory p.opening (length p.receipts) s (map (worker_line p.setting s) (filter (takes p.setting s) deeds)) (state_at p.given s)
+      IsHistory p.opening (length p.receipts) s (map (worker_line p.setting s) (filter (takes p.setting s) txns)) (state_at p.given s)
   -- there is a shard given back, and one left, for each with which the phase opened
   pub given : length p.given ≡ length p.opening
   pub left : length closing ≡ length p.opening

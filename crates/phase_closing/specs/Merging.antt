@@ -8,11 +8,11 @@ use Rattle.auction_rows.specs.declared.ids.Object.TheVariants.{Item, User, Categ
 use Rattle.auction_rows.specs.Requests.{shard_of}
 use Rattle.item_shards.specs.declared.slices.Slice.{Slice}
 use Rattle.item_shards.specs.declared.slices.Slice.TheVariants as slice
-use Rattle.item_shards.specs.Shelves.{changed, bids_merged, comments_merged, items_merged}
+use Rattle.item_shards.specs.Contents.{changed, bids_merged, comments_merged, items_merged}
 use Rattle.item_shards.specs.Values.{Value}
 use Rattle.shard_boxes.specs.States.{ShardState, state_at}
 use Rattle.phase_transactions.specs.Permits.{PermitState}
-use Rattle.phase_desks.specs.Slicing.{slices_in}
+use Rattle.phase_contexts.specs.Slicing.{slices_in}
 use Rattle.phase_closing.specs.Phases.{Phase, value_on}
 
 -- a value with a slice of its object merged
@@ -23,7 +23,7 @@ merged_with (slice.Category s) value = items_merged s value
 
 -- a shard with a slice of an object merged
 abbrev pub with_slice : ShardState → Object × Slice → ShardState
-with_slice state pair = record state { shelf = changed pair.0 (merged_with pair.1) state.shelf }
+with_slice state pair = record state { contents = changed pair.0 (merged_with pair.1) state.contents }
 
 -- the shards after a slice of an object is merged into the one in which it lies
 abbrev pub after_merge : List ShardState → Object × Slice → List ShardState
@@ -49,4 +49,4 @@ pub record IsReconciled (p : Phase) (closing : List ShardState) : Type 0 where
   pub order : List (Object × Slice)
   pub each : IsPermutation (slices_left p.receipts) order
   pub count : length closing ≡ length p.given
-  pub shelves : (s : ℕ) → s < length p.given → (state_at closing s).shelf ≡ (state_at (fold after_merge p.given order) s).shelf
+  pub contents : (s : ℕ) → s < length p.given → (state_at closing s).contents ≡ (state_at (fold after_merge p.given order) s).contents

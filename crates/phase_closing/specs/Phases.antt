@@ -13,12 +13,12 @@ use Rattle.worker_journals.specs.Merged.{entries_of}
 use Rattle.shard_boxes.specs.Closed.{AreClosed}
 use Rattle.shard_boxes.specs.Keys.{KeyState, no_key}
 use Rattle.shard_boxes.specs.States.{ShardState, state_at}
-use Rattle.phase_desks.specs.declared.counters.Counters.{Counters}
-use Rattle.phase_desks.specs.Deeds.{Setting, Deed, hot_in}
-use Rattle.phase_desks.specs.Desks.{new_desk}
-use Rattle.phase_transactions.specs.Permits.{PermitState, IsWorth, joined, no_counters, first_of}
-use Rattle.phase_desks.specs.Slicing.{IsStocked}
-use Rattle.phase_desks.specs.Splits.{setting_of}
+use Rattle.phase_contexts.specs.declared.counters.Counters.{Counters}
+use Rattle.phase_contexts.specs.Txns.{Setting, Txn, hot_in}
+use Rattle.phase_contexts.specs.Contexts.{new_context}
+use Rattle.phase_transactions.specs.Permits.{PermitState, IsExplained, joined, no_counters, first_of}
+use Rattle.phase_contexts.specs.Slicing.{IsStocked}
+use Rattle.phase_contexts.specs.Splits.{setting_of}
 use Rattle.phase_closing.specs.Standing.{counters_at}
 
 -- its setting; the shards and each worker's counters as it began; each worker's receipt; the shards that the boxes gave back,
@@ -35,29 +35,29 @@ pub record Phase : Type 0 where
 abbrev pub no_receipt : PermitState
 no_receipt = record {
   split = joined
-      (new_desk (record { users = 0; categories = 0 }) no_counters (empty_journal 0 0 0) (record { requests = []; done = []; room = 0 }) 0 0);
+      (new_context (record { users = 0; categories = 0 }) no_counters (empty_journal 0 0 0) (record { requests = []; done = []; room = 0 }) 0 0);
   key = no_key;
 }
 
 abbrev pub receipt_at : List PermitState → ℕ → PermitState
 receipt_at receipts worker = slice_index_or receipts worker no_receipt
 
--- what a receipt has: its key, its journal, the counters after the phase, and the deeds behind them
+-- what a receipt has: its key, its journal, the counters after the phase, and the transactions behind them
 abbrev pub key_of : PermitState → KeyState
 key_of receipt = receipt.key
 
 abbrev pub journal_of : PermitState → JournalView
-journal_of receipt = receipt.split.desk.journal
+journal_of receipt = receipt.split.context.journal
 
 abbrev pub counters_of : PermitState → Counters
-counters_of receipt = receipt.split.desk.counters
+counters_of receipt = receipt.split.context.counters
 
-abbrev pub deeds_of : PermitState → List Deed
-deeds_of receipt = receipt.split.desk.deeds
+abbrev pub txns_of : PermitState → List Txn
+txns_of receipt = receipt.split.context.txns
 
 -- The value of an object on the shard in which it lies.
 abbrev pub value_on : List ShardState → Object → Value
-value_on states object = (state_at states (shard_of object (length states))).shelf object
+value_on states object = (state_at states (shard_of object (length states))).contents object
 
 -- what is fixed of a hot item was read from its shard
 abbrev pub IsReadFrom : List ShardState → Object × Option (Facts × ℕ) → Type 0
@@ -77,10 +77,10 @@ pub record IsBegun (p : Phase) : Type 0 where
 
 -- a worker's receipt, in a phase that it began with these counters and with clock 0
 pub record IsReceiptOf (z : Setting) (worker : ℕ) (opened : Counters) (receipt : PermitState) : Type 0 where
-  pub worth : IsWorth z.shards receipt.split receipt.key
+  pub explained : IsExplained z.shards receipt.split receipt.key
   pub worker_is : receipt.key.worker ≡ worker
   pub setting : setting_of receipt.split z.shards ≡ z
-  pub begun : first_of receipt.split.desk.begun ≡ (opened, 0)
+  pub begun : first_of receipt.split.context.begun ≡ (opened, 0)
 
 -- one such receipt for each worker, in order
 abbrev pub AreReceipts : Phase → Type 0

@@ -4,11 +4,11 @@ use Rattle.std.specs.List.{AllByRecursion}
 use Rattle.auction_rows.specs.declared.ids.Object.{Object}
 use Rattle.auction_rows.specs.Book.{Book}
 use Rattle.item_shards.specs.Counting.{worker_of}
-use Rattle.item_shards.specs.Standing.{ShelfStandsFor}
+use Rattle.item_shards.specs.Standing.{ContentsStandsFor}
 use Rattle.shard_boxes.specs.States.{ShardState, state_at}
-use Rattle.phase_desks.specs.declared.counters.Counters.{Counters}
+use Rattle.phase_contexts.specs.declared.counters.Counters.{Counters}
 use Rattle.phase_transactions.specs.Permits.{no_counters}
-use Rattle.phase_desks.specs.Splits.{CountsOf}
+use Rattle.phase_contexts.specs.Splits.{CountsOf}
 
 abbrev pub counters_at : List Counters → ℕ → Counters
 counters_at counters worker = slice_index_or counters worker no_counters
@@ -19,7 +19,7 @@ stores counters = counters.items + counters.bids + counters.comments + counters.
 
 -- each shard has the values that a book gives its objects, but for hot ones
 abbrev pub ShardsStandFor : List ShardState → Book → List Object → Type 0
-ShardsStandFor states book hot = (s : ℕ) → s < length states → ShelfStandsFor s (length states) (state_at states s).shelf book hot
+ShardsStandFor states book hot = (s : ℕ) → s < length states → ContentsStandsFor s (length states) (state_at states s).contents book hot
 
 -- each worker's counters count its rows of a book
 abbrev pub AreCountersOf : List Counters → Book → Type 0

@@ -8,14 +8,15 @@ ghost use Rattle.auction_rows.specs.Book.{Book};
 ghost use Rattle.auction_rows.specs.History.{book_after};
 ghost use Rattle.item_shards.specs.declared.slices.Slice.{Slice};
 ghost use Rattle.shard_boxes.specs.States.{ShardState, AreOpened};
-ghost use Rattle.phase_desks.specs.Deeds.{hot_in};
+ghost use Rattle.phase_contexts.specs.Txns.{hot_in};
 ghost use Rattle.phase_transactions.specs.Permits.{PermitState};
-ghost use Rattle.phase_desks.specs.Slicing.{AreFew, slices_in};
+ghost use Rattle.phase_contexts.specs.Slicing.{AreFew, slices_in};
 ghost use Rattle.phase_closing.specs.Phases.{Phase, HasClosed, counters_of};
 ghost use Rattle.phase_closing.specs.Standing.{StandFor};
 ghost use Rattle.phase_closing.specs.Merging.{IsReconciled, CanMerge, after_merge, slices_left};
 ghost use Rattle.phase_closing.specs.Lawful.{AreHotMerged, AreSliced, ClosesLawfully};
 
+use auction_rows::{MOST_OF_A_WORKER, MOST_WORKERS};
 /// Where all slices of all workers are merged, in any order, into the shards that the boxes gave back, these and the
 /// counters stand for the book after the entries, hot objects included. Where nothing was hot, they do so as they are.
 pub fn reconciled_shards_stand()
@@ -47,8 +48,8 @@ pub fn phases_close_lawfully()
 /// its object is of its kind, an item is stored, and the sums fit. There are at most 16 workers, and each slice has at
 /// most 1,000,000 operations.
 pub fn slices_can_be_merged()
-    ensures { (p : Phase) → HasClosed p → AreOpened p.opening → length p.receipts ≤ 16 →
-        AllByRecursion (λ receipt. AreFew 1000000 receipt.split.slices) p.receipts →
+    ensures { (p : Phase) → HasClosed p → AreOpened p.opening → length p.receipts ≤ MOST_WORKERS →
+        AllByRecursion (λ receipt. AreFew MOST_OF_A_WORKER receipt.split.slices) p.receipts →
         (order : List (Object × Slice)) → IsPermutation (slices_left p.receipts) order →
         SawInTurn CanMerge after_merge p.given order }
 {}

@@ -13,44 +13,31 @@ use Rattle.auction_rows.specs.Replies.{row_of}
 use Rattle.auction_rows.specs.Requests.{shard_of}
 use Rattle.item_shards.specs.declared.acts.Act.{Act}
 use Rattle.item_shards.specs.declared.acts.Act.TheVariants.{AddItem, ListItem, Bid, Comment as CommentOn, Buy, Look}
-use Rattle.item_shards.specs.Shelves.{target}
+use Rattle.item_shards.specs.Contents.{target}
 use Rattle.item_shards.specs.Writing.{looks_of, writes_if}
 use Rattle.shard_boxes.specs.Keys.{KeyState}
 use Rattle.shard_boxes.specs.States.{ShardState}
-use Rattle.phase_desks.specs.declared.slices.Hot.{Hot}
-use Rattle.phase_desks.specs.declared.split.Comment.{Comment}
-use Rattle.phase_desks.specs.Bids.{comment_request}
-use Rattle.phase_desks.specs.Desks.{DeskState}
-use Rattle.phase_desks.specs.Slicing.{objects_of, bid_on, comment_about, item_listed, after_act, after_acts}
-use Rattle.phase_desks.specs.Splits.{SplitState}
+use Rattle.phase_contexts.specs.declared.slices.Hot.{Hot}
+use Rattle.phase_contexts.specs.declared.split.Comment.{Comment}
+use Rattle.phase_contexts.specs.Bids.{comment_request}
+use Rattle.phase_contexts.specs.Contexts.{ContextState}
+use Rattle.phase_contexts.specs.Slicing.{objects_of, bid_on, comment_about, item_listed, after_act, after_acts}
+use Rattle.phase_contexts.specs.Splits.{SplitState}
 use Rattle.phase_transactions.specs.declared.commit.Commit.{Commit}
 use Rattle.phase_transactions.specs.declared.fault.PermitFault.TheVariants.{NumberFull}
-use Rattle.phase_transactions.specs.Halves.{permit, done_at}
-use Rattle.phase_transactions.specs.Pairs.{HasCommented, HasCommentedInOne, HasCommittedCold, IsAsBefore}
+use Rattle.phase_transactions.specs.Pairs.{HasCommentedCold}
 use Rattle.phase_transactions.specs.Performing.{HasFailed}
-use Rattle.phase_transactions.specs.Permits.{IsIdle, HasCommitted}
-use Rattle.phase_transactions.specs.Single.{only_object, HasDone, IsAtEnd}
-use Rattle.phase_transactions.proofs.FailLemmas.{one_failed, comment_fails}
-use Rattle.phase_transactions.proofs.PairLemmas.{cold_over_one, cold_over_two, cold_kept, cold_setting}
-use Rattle.phase_transactions.proofs.SingleLemmas.{AreAbout, acts_about, done_commits}
+use Rattle.phase_transactions.specs.Permits.{IsIdle, permit, done_at, HasCommitted}
+use Rattle.phase_transactions.specs.Single.{only_object, HasDone}
+use Rattle.phase_transactions.specs.Taking.{HasStayed}
+use Rattle.phase_transactions.proofs.FailLemmas.{not_memory, one_asked, two_asked, fails_over_one, fails_over_both}
+use Rattle.phase_transactions.proofs.PairLemmas.{cold_kept, cold_setting}
+use Rattle.phase_transactions.proofs.SingleLemmas.{AreAbout, acts_about, not_put_off, done_commits}
 
--- a comment over two shards, and over one
-module _ (opening : List ShardState) (desk : DeskState) (key back : KeyState) (comment : Comment) (index : ℕ) where
-  abbrev pub after : Commit Reply → DeskState
-  after done = done_at desk index (comment_request comment) done
-
-  pub cold_in_two : (result : Option (Commit Reply)) → number_refusal desk.opening (comment_request comment) ≡ None
-      → IfSome result (λ done. HasCommented opening desk (after done) key back comment index done.reply)
-      → IfSome result (λ done. HasCommittedCold opening desk (after done) key back comment index done.reply)
-  cold_in_two None allowed done = done
-  cold_in_two (Some done) allowed is = cold_over_two opening desk (after done) key back comment index (Some done.reply) allowed is
-
-  pub cold_in_one : (result : Option (Commit Reply)) → number_refusal desk.opening (comment_request comment) ≡ None
-      → shard_of (Item comment.item) (length opening) < length key.seats → IsIdle key
-      → IfSome result (λ done. HasCommentedInOne opening desk (after done) key back comment index done.reply)
-      → IfSome result (λ done. HasCommittedCold opening desk (after done) key back comment index done.reply)
-  cold_in_one None allowed known idle done = done
-  cold_in_one (Some done) allowed known idle is = cold_over_one opening desk (after done) key back comment index (Some done.reply) allowed known idle is
+-- what holds of a result, if there is one
+pub if_some : {A : Type 0} → (o : Option A) (P Q : A → Type 0) → ((a : A) → P a → Q a) → IfSome o P → IfSome o Q
+if_some None P Q so is = is
+if_some (Some a) P Q so is = so a is
 
 -- what is done to a cold object changes no slice
 cold_act : (hots : List (Object × Hot)) (object : Object) (act : Act) → is_hot (objects_of hots) object ≡ false → target act ≡ Some object → after_act hots act ≡ hots
@@ -86,35 +73,39 @@ pub touched : {A : Type 0} → (x : A) (xs ys : List A) (P : Type 0) → ys ≡ 
 touched x xs ys P is none = absurd (cc)
 
 -- a request over the shard of one cold object
-module _ (opening : List ShardState) (split : SplitState) (key back : KeyState) (request : Request) (object : Object) (index : ℕ) (desk : DeskState) (same : desk ≡ split.desk)
-    (only : only_object request ≡ Some object) (allowed : number_refusal split.desk.opening request ≡ None) (cold : is_hot (objects_of split.slices) object ≡ false)
+module _ (opening : List ShardState) (split : SplitState) (key back : KeyState) (request : Request) (object : Object) (index : ℕ) (context : ContextState) (same : context ≡ split.context)
+    (only : only_object request ≡ Some object) (allowed : number_refusal split.context.opening request ≡ None) (cold : is_hot (objects_of split.slices) object ≡ false)
     (known : shard_of object (length opening) < length key.seats) (idle : IsIdle key) where
-  pub cold_commits : (new : SplitState) (done : Commit Reply) → HasDone opening desk (done_at desk index request done) key back request object index done.reply
-      → new.desk ≡ done_at split.desk index request done → new.slices ≡ split.slices
+  pub cold_commits : (new : SplitState) (done : Commit Reply) → HasDone opening context key back request object index done
+      → new.context ≡ done_at split.context index request done → new.slices ≡ split.slices
       → HasCommitted opening (permit split key) (permit new back) request index done.reply
   cold_commits new done is committed sliced =
-      let its = subst (λ (d : DeskState). HasDone opening d (done_at d index request done) key back request object index done.reply) same is in
-      subst (λ (s : SplitState). HasCommitted opening (permit split key) (permit s back) request index done.reply) (λ i. record { desk = sym committed i; slices = sym sliced i })
-      (done_commits opening split (done_at split.desk index request done) key back request object index done.reply only allowed (cold_setting split.slices object cold) known idle its
-      (unwritten split.slices split.desk.journal.worker request object done.reply only cold))
+      done_commits opening split new key back request object index done only allowed (cold_setting split.slices object cold) known idle
+      (subst (λ (d : ContextState). HasDone opening d key back request object index done) same is) committed
+      (sliced ∙ unwritten split.slices split.context.journal.worker request object done.reply only cold)
 
-  pub cold_fails : IsAtEnd opening desk desk key back object → HasFailed opening (permit split key) (permit split back) request NumberFull
-  cold_fails end = one_failed opening split split.desk key back request object only allowed cold known idle (subst (λ (d : DeskState). IsAtEnd opening d d key back object) same end)
+  pub cold_fails : HasStayed opening context.clock key back (shard_of object (length opening)) (shard_of object (length opening)) NumberFull
+      → HasFailed opening (permit split key) (permit split back) request NumberFull
+  cold_fails stayed =
+      fails_over_one opening split key back request NumberFull (not_put_off (objects_of split.slices) request object only cold) not_memory (shard_of object (length opening))
+      (one_asked (length opening) split request object only allowed cold)
+      (subst (λ (d : ContextState). HasStayed opening d.clock key back (shard_of object (length opening)) (shard_of object (length opening)) NumberFull) same stayed)
 
 -- a comment over the shards of a cold item and a cold user
-module _ (opening : List ShardState) (split : SplitState) (key back : KeyState) (comment : Comment) (index : ℕ) (desk : DeskState) (same : desk ≡ split.desk)
-    (allowed : number_refusal split.desk.opening (comment_request comment) ≡ None)
+module _ (opening : List ShardState) (split : SplitState) (key back : KeyState) (comment : Comment) (index : ℕ) (context : ContextState) (same : context ≡ split.context)
+    (allowed : number_refusal split.context.opening (comment_request comment) ≡ None)
     (item : is_hot (objects_of split.slices) (Item comment.item) ≡ false) (user : is_hot (objects_of split.slices) (User comment.about) ≡ false) where
-  pub comment_cold_commits : (new : SplitState) (done : Commit Reply) → HasCommittedCold opening desk (done_at desk index (comment_request comment) done) key back comment index done.reply
-      → new.desk ≡ done_at split.desk index (comment_request comment) done → new.slices ≡ split.slices
+  pub comment_cold_commits : (new : SplitState) (done : Commit Reply) → HasCommentedCold opening context key back comment index done
+      → new.context ≡ done_at split.context index (comment_request comment) done → new.slices ≡ split.slices
       → HasCommitted opening (permit split key) (permit new back) (comment_request comment) index done.reply
   comment_cold_commits new done is committed sliced =
-      let its = subst (λ (d : DeskState). HasCommittedCold opening d (done_at d index (comment_request comment) done) key back comment index done.reply) same is in
-      subst (λ (s : SplitState). HasCommitted opening (permit split key) (permit s back) (comment_request comment) index done.reply) (λ i. record { desk = sym committed i; slices = sym sliced i })
+      let its = subst (λ (d : ContextState). HasCommentedCold opening d key back comment index done) same is in
+      subst (λ (s : SplitState). HasCommitted opening (permit split key) (permit s back) (comment_request comment) index done.reply) (λ i. record { context = sym committed i; slices = sym sliced i })
       (its split.slices item user)
 
-  pub comment_cold_fails : IsAsBefore opening desk desk key back (shard_of (Item comment.item) (length opening)) (shard_of (User comment.about) (length opening))
+  pub comment_cold_fails : HasStayed opening context.clock key back (shard_of (Item comment.item) (length opening)) (shard_of (User comment.about) (length opening)) NumberFull
       → HasFailed opening (permit split key) (permit split back) (comment_request comment) NumberFull
-  comment_cold_fails before =
-      comment_fails opening split split.desk key back comment allowed item user
-      (subst (λ (d : DeskState). IsAsBefore opening d d key back (shard_of (Item comment.item) (length opening)) (shard_of (User comment.about) (length opening))) same before)
+  comment_cold_fails stayed =
+      fails_over_both opening split key back (comment_request comment) NumberFull refl not_memory (shard_of (Item comment.item) (length opening)) (shard_of (User comment.about) (length opening))
+      (two_asked (length opening) split comment allowed item user)
+      (subst (λ (d : ContextState). HasStayed opening d.clock key back (shard_of (Item comment.item) (length opening)) (shard_of (User comment.about) (length opening)) NumberFull) same stayed)

@@ -1,4 +1,4 @@
--- A store on hot objects alone is a commit, and keeps what a split permit is worth.
+-- A store on hot objects alone is a commit, and leaves a split permit explained.
 use Rattle.std.proofs.Common.{◌≡◌, ℕ, suc, max, Bool, true, false, cond, not, List, [], ◌∷◌, map, filter, Option, Some, None, refl, sym, ap, subst, ◌∙◌, arith}
 use Rattle.std.specs.Prelude.{is_some, ◌==◌, ◌≤◌, ◌<◌, ◌↔◌, length, IsNone, IfNone, IfSome, ℤ}
 use Rattle.std.proofs.Math.Nat.{lt_of_not-le}
@@ -22,15 +22,16 @@ use Rattle.auction_rows.specs.Replies.{row_of}
 use Rattle.phase_laws.specs.Numbers.{greatest_by}
 use Rattle.shard_boxes.specs.Keys.{KeyState}
 use Rattle.shard_boxes.specs.States.{ShardState}
-use Rattle.phase_desks.specs.declared.slices.Hot.{Hot}
-use Rattle.phase_desks.specs.Slicing.{objects_of, stocks_of, bid_on, comment_about, item_listed, changed, after_act, after_acts}
-use Rattle.phase_desks.specs.Deeds.{Setting, hot_in, takes, line_on, greatest_clock, clock_found}
-use Rattle.phase_desks.specs.Desks.{DeskState}
-use Rattle.phase_desks.specs.Splits.{SplitState, HasStored, IsHot, setting_of, hot_deed, nothing}
-use Rattle.phase_desks.specs.Works.{Work, IsWorkOf, with_deed}
-use Rattle.phase_transactions.specs.Permits.{PermitState, first_of, deed_of, work_of, IsIdle, IsWorth, HasCommitted}
-use Rattle.phase_desks.proofs.AnswerLemmas.{same_objects_of}
-use Rattle.phase_desks.proofs.Keeping.{commit_keeps}
+use Rattle.phase_contexts.specs.declared.slices.Hot.{Hot}
+use Rattle.phase_contexts.specs.Slicing.{objects_of, stocks_of, bid_on, comment_about, item_listed, changed, after_act, after_acts}
+use Rattle.phase_contexts.specs.Txns.{Setting, hot_in, takes, line_on, greatest_clock, clock_found}
+use Rattle.phase_contexts.specs.Contexts.{ContextState}
+use Rattle.phase_contexts.specs.Splits.{SplitState, HasStored, IsHot, setting_of, hot_txn, nothing}
+use Rattle.phase_contexts.specs.Works.{Work, IsWorkOf, with_txn}
+use Rattle.phase_transactions.specs.Permits.{PermitState, first_of, txn_of, work_of, IsIdle, IsExplained, HasCommitted}
+use Rattle.phase_contexts.proofs.AnswerLemmas.{same_objects_of}
+use Rattle.phase_contexts.proofs.Keeping.{commit_keeps}
+use Rattle.phase_transactions.proofs.CommitLemmas.{commits}
 use Rattle.phase_transactions.proofs.KeyLemmas.{none_put}
 
 -- what is fixed stays
@@ -66,18 +67,18 @@ none_if false objects is = is
 no_greater : (clock greatest : ℕ) → greatest ≡ 0 → suc clock ≡ suc (max clock greatest)
 no_greater clock greatest is = omega arith
 
--- a commit keeps the worth of a permit
-pub commit_worth : (opening : List ShardState) (old new : PermitState) (request : Request) (index : ℕ) (answer : Reply) → HasCommitted opening old new request index answer
-    → IsWorth (length opening) old.split old.key → IsWorth (length opening) new.split new.key
-commit_worth opening old new request index answer done is =
+-- a commit leaves a permit explained
+pub commit_explained : (opening : List ShardState) (old new : PermitState) (request : Request) (index : ℕ) (answer : Reply) → HasCommitted opening old new request index answer
+    → IsExplained (length opening) old.split old.key → IsExplained (length opening) new.split new.key
+commit_explained opening old new request index answer done is =
     let shards = length opening in
     let split = old.split in
     let z = setting_of split shards in
-    let deed = deed_of split done.number request index answer done.found in
+    let txn = txn_of split done.number request index answer done.found in
     let work = work_of split old.key in
-    let kept = commit_keeps z old.key.worker work deed is.work (record { own = is.worker; numbered = done.numbered; answered = done.answered }) in
-    let d = sym done.desk in
-    let same : with_deed z work deed ≡ work_of new.split new.key = λ i. record {
+    let kept = commit_keeps z old.key.worker work txn is.work (record { own = is.worker; numbered = done.numbered; answered = done.answered }) in
+    let d = sym done.context in
+    let same : with_txn z work txn ≡ work_of new.split new.key = λ i. record {
       opened = (first_of (d i).begun).0;
       start = (first_of (d i).begun).1;
       entries = (d i).journal.entries;
@@ -85,15 +86,15 @@ commit_worth opening old new request index answer done is =
       clock = (d i).clock;
       counters = (d i).counters;
       slices = sym done.slices i;
-      deeds = (d i).deeds;
+      txns = (d i).txns;
     } in
     let stays : z ≡ setting_of new.split shards = λ i. record {
       opening = (d i).opening;
       shards = shards;
-      stocks = sym (ap stocks_of done.slices ∙ stocks-acts split.slices (writes_if (row_of split.desk.journal.worker request answer))) i;
+      stocks = sym (ap stocks_of done.slices ∙ stocks-acts split.slices (writes_if (row_of split.context.journal.worker request answer))) i;
     } in
     record {
-      worker = ap (λ (desk : DeskState). desk.journal.worker) done.desk ∙ is.worker ∙ sym done.worker;
+      worker = ap (λ (context : ContextState). context.journal.worker) done.context ∙ is.worker ∙ sym done.worker;
       idle = done.idle;
       work = subst (λ (w : ℕ). IsWorkOf (setting_of new.split shards) w (work_of new.split new.key)) (sym done.worker)
           (subst (λ (setting : Setting). IsWorkOf setting old.key.worker (work_of new.split new.key)) stays (subst (λ (w : Work). IsWorkOf z old.key.worker w) same kept));
@@ -101,32 +102,17 @@ commit_worth opening old new request index answer done is =
 
 -- an entry that takes no objects is such a commit, whatever the key
 pub stored_commits : (opening : List ShardState) (split new : SplitState) (key : KeyState) (request : Request) (index : ℕ) (answer : Reply) → HasStored split new request index answer
-    → objects_taken split.desk.opening (objects_of (stocks_of split.slices)) (hot_deed split request index answer).0 ≡ []
-    → split.desk.clock < last_number → IsIdle key
+    → objects_taken split.context.opening (objects_of (stocks_of split.slices)) (hot_txn split request index answer).0 ≡ []
+    → split.context.clock < last_number → IsIdle key
     → HasCommitted opening (record { split = split; key = key }) (record { split = new; key = key }) request index answer
 stored_commits opening split new key request index answer stored none more idle =
     let shards = length opening in
     let z = setting_of split shards in
-    let deed = hot_deed split request index answer in
-    let nowhere : footprint z.opening shards (hot_in z) deed.0 ≡ [] = ap (map (λ object. shard_of object shards)) none in
-    let put = none_put opening key (λ shard. takes z shard deed) (λ shard. line_on z shard deed) (λ shard. ap (list_any (λ taken. taken == shard)) nowhere) idle in
-    record {
-      number = suc split.desk.clock;
-      found = nothing;
-      numbered = no_greater split.desk.clock (greatest_clock z deed) (ap (greatest_by (λ shard. clock_found shard deed)) nowhere);
-      within = more;
-      desk = stored.desk;
-      slices = stored.slices;
-      lines = put.lines;
-      puts = put.puts;
-      others = put.others;
-      seen = put.seen;
-      idle = idle;
-      worker = refl;
-      boxes = refl;
-      seats = refl;
-      answered = stored.answered shards;
-    }
+    let txn = hot_txn split request index answer in
+    let nowhere : footprint z.opening shards (hot_in z) txn.0 ≡ [] = ap (map (λ object. shard_of object shards)) none in
+    let put = none_put opening key (λ shard. takes z shard txn) (λ shard. line_on z shard txn) (λ shard. ap (list_any (λ taken. taken == shard)) nowhere) idle in
+    commits opening split new key key request index answer (suc split.context.clock) nothing stored.context stored.slices (stored.answered shards) put
+    (no_greater split.context.clock (greatest_clock z txn) (ap (greatest_by (λ shard. clock_found shard txn)) nowhere)) more
 
 -- a worker that had a number was not at the end of them
 pub had_number : (clock : ℕ) (reply : Reply) → IsNone (Some reply) ↔ (last_number ≤ clock) → clock < last_number
@@ -137,48 +123,48 @@ hot_in_setting : (hots : List (Object × Hot)) (object : Object) → is_hot (obj
 hot_in_setting hots object hot = ap (λ objects. is_hot objects object) (same_objects_of hots) ∙ hot
 
 pub bid_takes_none : (split : SplitState) (bidder : ℕ) (item : ItemId) (amount time index : ℕ) (answer : Reply) → IsHot split (Item item)
-    → objects_taken split.desk.opening (objects_of (stocks_of split.slices)) (hot_deed split (StoreBid bidder item amount time) index answer).0 ≡ []
+    → objects_taken split.context.opening (objects_of (stocks_of split.slices)) (hot_txn split (StoreBid bidder item amount time) index answer).0 ≡ []
 bid_takes_none split bidder item amount time index answer hot =
     let objects = objects_of (stocks_of split.slices) in
-    none_if (is_some (number_refusal split.desk.opening (StoreBid bidder item amount time))) (filter (λ object. not (is_hot objects object)) (Item item ∷ []))
+    none_if (is_some (number_refusal split.context.opening (StoreBid bidder item amount time))) (filter (λ object. not (is_hot objects object)) (Item item ∷ []))
     (none_cold objects (Item item ∷ []) (hot_in_setting split.slices (Item item) hot, tt))
 
 pub comment_takes_none : (split : SplitState) (author about : ℕ) (item : ItemId) (stars : ℤ) (index : ℕ) (answer : Reply) → IsHot split (Item item) → IsHot split (User about)
-    → objects_taken split.desk.opening (objects_of (stocks_of split.slices)) (hot_deed split (StoreComment author about item stars) index answer).0 ≡ []
+    → objects_taken split.context.opening (objects_of (stocks_of split.slices)) (hot_txn split (StoreComment author about item stars) index answer).0 ≡ []
 comment_takes_none split author about item stars index answer hot user =
     let objects = objects_of (stocks_of split.slices) in
-    none_if (is_some (number_refusal split.desk.opening (StoreComment author about item stars))) (filter (λ object. not (is_hot objects object)) (Item item ∷ User about ∷ []))
+    none_if (is_some (number_refusal split.context.opening (StoreComment author about item stars))) (filter (λ object. not (is_hot objects object)) (Item item ∷ User about ∷ []))
     (none_cold objects (Item item ∷ User about ∷ []) (hot_in_setting split.slices (Item item) hot, (hot_in_setting split.slices (User about) user, tt)))
 
 module _ (opening : List ShardState) (split new : SplitState) (key : KeyState) (bidder : ℕ) (item : ItemId) (amount time index : ℕ) (hot : IsHot split (Item item)) where
-  pub bid_hot_commits : (result : Option Reply) → IsIdle key → (IsNone result ↔ (last_number ≤ split.desk.clock))
+  pub bid_hot_commits : (result : Option Reply) → IsIdle key → (IsNone result ↔ (last_number ≤ split.context.clock))
       → IfSome result (λ answer. HasStored split new (StoreBid bidder item amount time) index answer)
       → IfSome result (λ answer. HasCommitted opening (record { split = split; key = key }) (record { split = new; key = key }) (StoreBid bidder item amount time) index answer)
   bid_hot_commits None idle none stored = stored
   bid_hot_commits (Some answer) idle none stored =
       stored_commits opening split new key (StoreBid bidder item amount time) index answer stored (bid_takes_none split bidder item amount time index answer hot)
-      (had_number split.desk.clock answer none) idle
+      (had_number split.context.clock answer none) idle
 
-  pub bid_keeps : (result : Option Reply) → (IsNone result ↔ (last_number ≤ split.desk.clock)) → IfNone result (new ≡ split)
-      → IfSome result (λ answer. HasStored split new (StoreBid bidder item amount time) index answer) → IsWorth (length opening) split key → IsWorth (length opening) new key
-  bid_keeps None none unchanged stored is = subst (λ (s : SplitState). IsWorth (length opening) s key) (sym unchanged) is
+  pub bid_keeps : (result : Option Reply) → (IsNone result ↔ (last_number ≤ split.context.clock)) → IfNone result (new ≡ split)
+      → IfSome result (λ answer. HasStored split new (StoreBid bidder item amount time) index answer) → IsExplained (length opening) split key → IsExplained (length opening) new key
+  bid_keeps None none unchanged stored is = subst (λ (s : SplitState). IsExplained (length opening) s key) (sym unchanged) is
   bid_keeps (Some answer) none unchanged stored is =
-      commit_worth opening (record { split = split; key = key }) (record { split = new; key = key }) (StoreBid bidder item amount time) index answer
+      commit_explained opening (record { split = split; key = key }) (record { split = new; key = key }) (StoreBid bidder item amount time) index answer
       (bid_hot_commits (Some answer) is.idle none stored) is
 
 module _ (opening : List ShardState) (split new : SplitState) (key : KeyState) (author about : ℕ) (item : ItemId) (stars : ℤ) (index : ℕ)
     (hot : IsHot split (Item item)) (user : IsHot split (User about)) where
-  pub comment_hot_commits : (result : Option Reply) → IsIdle key → (IsNone result ↔ (last_number ≤ split.desk.clock))
+  pub comment_hot_commits : (result : Option Reply) → IsIdle key → (IsNone result ↔ (last_number ≤ split.context.clock))
       → IfSome result (λ answer. HasStored split new (StoreComment author about item stars) index answer)
       → IfSome result (λ answer. HasCommitted opening (record { split = split; key = key }) (record { split = new; key = key }) (StoreComment author about item stars) index answer)
   comment_hot_commits None idle none stored = stored
   comment_hot_commits (Some answer) idle none stored =
       stored_commits opening split new key (StoreComment author about item stars) index answer stored (comment_takes_none split author about item stars index answer hot user)
-      (had_number split.desk.clock answer none) idle
+      (had_number split.context.clock answer none) idle
 
-  pub comment_keeps : (result : Option Reply) → (IsNone result ↔ (last_number ≤ split.desk.clock)) → IfNone result (new ≡ split)
-      → IfSome result (λ answer. HasStored split new (StoreComment author about item stars) index answer) → IsWorth (length opening) split key → IsWorth (length opening) new key
-  comment_keeps None none unchanged stored is = subst (λ (s : SplitState). IsWorth (length opening) s key) (sym unchanged) is
+  pub comment_keeps : (result : Option Reply) → (IsNone result ↔ (last_number ≤ split.context.clock)) → IfNone result (new ≡ split)
+      → IfSome result (λ answer. HasStored split new (StoreComment author about item stars) index answer) → IsExplained (length opening) split key → IsExplained (length opening) new key
+  comment_keeps None none unchanged stored is = subst (λ (s : SplitState). IsExplained (length opening) s key) (sym unchanged) is
   comment_keeps (Some answer) none unchanged stored is =
-      commit_worth opening (record { split = split; key = key }) (record { split = new; key = key }) (StoreComment author about item stars) index answer
+      commit_explained opening (record { split = split; key = key }) (record { split = new; key = key }) (StoreComment author about item stars) index answer
       (comment_hot_commits (Some answer) is.idle none stored) is

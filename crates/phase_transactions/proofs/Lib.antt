@@ -1,6 +1,8 @@
 pub mod Hots
 pub mod PutLemmas
 pub mod KeyLemmas
+pub mod TakeLemmas
+pub mod CommitLemmas
 pub mod FailLemmas
 pub mod SeeLemmas
 pub mod SingleLemmas
@@ -11,3 +13,6 @@ pub mod RightLemmas
 pub mod ItemLemmas
 pub mod HalfLemmas
 pub mod PermitLemmas
+pub mod StashedLemmas
+pub mod LastLemmas
+pub mod JoinedLemmas

@@ -1,4 +1,4 @@
--- What a split permit does with a request keeps what it is worth.
+-- What a split permit does with a request leaves it explained.
 use Rattle.std.proofs.Common.{◌≡◌, ℕ, ◌+◌, not, is_some, false, cond, List, [], ◌∷◌, map, filter, None, refl, sym, ap, subst, ◌∙◌}
 use Rattle.auction_rows.specs.declared.ids.Object.TheVariants.{Item, Category}
 use Rattle.auction_rows.specs.declared.requests.Request.{Request}
@@ -9,31 +9,34 @@ use Rattle.auction_rows.specs.Requests.{shard_of}
 use Rattle.item_shards.specs.declared.acts.Act.{Act}
 use Rattle.item_shards.specs.declared.acts.Act.TheVariants.{AddItem, ListItem, Bid, Comment, Buy, Look}
 use Rattle.shard_boxes.specs.Keys.{KeyState}
-use Rattle.phase_desks.specs.declared.items.NewItem.{NewItem}
-use Rattle.phase_desks.specs.Deeds.{hot_in, is_put_off}
-use Rattle.phase_desks.specs.Items.{item_request, next_item}
-use Rattle.phase_desks.specs.Slicing.{objects_of, after_acts}
-use Rattle.phase_desks.specs.Splits.{SplitState, setting_of}
-use Rattle.phase_transactions.specs.Performing.{shards_asked}
-use Rattle.phase_transactions.specs.Permits.{IsWorth}
+use Rattle.shard_boxes.specs.States.{ShardState}
+use Rattle.phase_contexts.specs.declared.items.NewItem.{NewItem}
+use Rattle.phase_contexts.specs.Txns.{hot_in, is_put_off}
+use Rattle.phase_contexts.specs.Items.{item_request, next_item}
+use Rattle.phase_contexts.specs.Slicing.{objects_of, after_acts}
+use Rattle.phase_contexts.specs.Splits.{SplitState, setting_of}
+use Rattle.phase_contexts.specs.Works.{Work, IsWorkOf}
+use Rattle.phase_transactions.specs.declared.fault.PermitFault.{PermitFault}
+use Rattle.phase_transactions.specs.Performing.{HasFailed, shards_asked}
+use Rattle.phase_transactions.specs.Permits.{PermitState, work_of, IsExplained}
 use Rattle.phase_transactions.proofs.PairLemmas.{cold_setting}
 
 -- an item that is stored takes its own shard
-pub item_taken : (shards : ℕ) (split : SplitState) (item : NewItem) → number_refusal split.desk.opening (item_request item) ≡ None → is_hot (objects_of split.slices) (Item (next_item split.desk)) ≡ false
+pub item_taken : (shards : ℕ) (split : SplitState) (item : NewItem) → number_refusal split.context.opening (item_request item) ≡ None → is_hot (objects_of split.slices) (Item (next_item split.context)) ≡ false
     → shards_asked shards split (item_request item)
-    ≡ shard_of (Item (next_item split.desk)) shards ∷ map (λ object. shard_of object shards) (filter (λ object. not (is_hot (hot_in (setting_of split shards)) object)) (Category item.facts.category ∷ []))
+    ≡ shard_of (Item (next_item split.context)) shards ∷ map (λ object. shard_of object shards) (filter (λ object. not (is_hot (hot_in (setting_of split shards)) object)) (Category item.facts.category ∷ []))
 item_taken shards split item allowed cold =
     let hot = hot_in (setting_of split shards) in
-    let id = Item (next_item split.desk) in
+    let id = Item (next_item split.context) in
     let rest = filter (λ object. not (is_hot hot object)) (Category item.facts.category ∷ []) in
     ap (λ refused. map (λ object. shard_of object shards) (cond (is_some refused) [] (filter (λ object. not (is_hot hot object)) (id ∷ Category item.facts.category ∷ [])))) allowed
     ∙ ap (λ b. map (λ object. shard_of object shards) (cond (not b) (id ∷ rest) rest)) (cold_setting split.slices id cold)
 
--- a try is worth nothing
-pub tried_worth : (shards : ℕ) (split tried : SplitState) (key : KeyState) → tried.desk ≡ record split.desk { tries = split.desk.tries + 1 } → tried.slices ≡ split.slices
-    → IsWorth shards split key → IsWorth shards tried key
-tried_worth shards split tried key counted same is =
-    subst (λ (s : SplitState). IsWorth shards s key) (λ i. record { desk = sym counted i; slices = sym same i })
+-- a try explains nothing
+pub tried_explained : (shards : ℕ) (split tried : SplitState) (key : KeyState) → tried.context ≡ record split.context { tries = split.context.tries + 1 } → tried.slices ≡ split.slices
+    → IsExplained shards split key → IsExplained shards tried key
+tried_explained shards split tried key counted same is =
+    subst (λ (s : SplitState). IsExplained shards s key) (λ i. record { context = sym counted i; slices = sym same i })
     (record { worker = is.worker; idle = is.idle; work = is.work })
 
 -- where nothing is hot, no request is put off, and no slice is written
@@ -55,3 +58,17 @@ no_slices (Bid id entry ∷ acts) = no_slices acts
 no_slices (Comment user stars ∷ acts) = no_slices acts
 no_slices (Buy id quantity ∷ acts) = no_slices acts
 no_slices (Look shown ∷ acts) = no_slices acts
+
+-- what was not performed leaves a permit explained
+pub fail_explained : (opening : List ShardState) (shards : ℕ) (old new : PermitState) (request : Request) (fault : PermitFault) → HasFailed opening old new request fault → IsExplained shards old.split old.key
+    → IsExplained shards new.split new.key
+fail_explained opening shards old new request fault failed is =
+    let worker : old.key.worker ≡ new.key.worker = sym failed.lines.worker in
+    let same : work_of old.split old.key ≡ work_of old.split new.key = λ i. record (work_of old.split old.key) { lines = λ t. sym (failed.lines.lines t) i } in
+    let kept : IsExplained shards old.split new.key = record {
+      worker = is.worker ∙ worker;
+      idle = failed.idle;
+      work = subst (λ (w : ℕ). IsWorkOf (setting_of old.split shards) w (work_of old.split new.key)) worker
+          (subst (λ (w : Work). IsWorkOf (setting_of old.split shards) old.key.worker w) same is.work);
+    } in
+    subst (λ (split : SplitState). IsExplained shards split new.key) (sym failed.split) kept

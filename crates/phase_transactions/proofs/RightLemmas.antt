@@ -27,8 +27,8 @@ use Rattle.item_shards.specs.declared.acts.Act.{Act}
 use Rattle.item_shards.specs.declared.acts.Act.TheVariants.{Look}
 use Rattle.item_shards.specs.declared.acts.Shown.TheVariants as shown
 use Rattle.item_shards.specs.Looking.{view_like}
-use Rattle.item_shards.specs.Shelves.{Shelf}
-use Rattle.item_shards.specs.Standing.{ShelfStandsFor}
+use Rattle.item_shards.specs.Contents.{Contents}
+use Rattle.item_shards.specs.Standing.{ContentsStandsFor}
 use Rattle.item_shards.specs.Values.{Value, value, stock, stock_in, stock_for}
 use Rattle.item_shards.specs.Views.{item_view, bids_view, category_view, user_view}
 use Rattle.item_shards.specs.Writing.{looks_of, writes_if}
@@ -37,15 +37,15 @@ use Rattle.shard_boxes.specs.declared.line.Line.{Line}
 use Rattle.shard_boxes.specs.Keys.{KeyState, no_seat, seat_at, seen_at}
 use Rattle.shard_boxes.specs.Lines.{after, AreTrueOf}
 use Rattle.shard_boxes.specs.States.{ShardState, state_at}
-use Rattle.phase_desks.specs.declared.counters.Counters.{Counters}
-use Rattle.phase_desks.specs.declared.found.Found.{Found}
-use Rattle.phase_desks.specs.Deeds.{Setting, Deed, hot_in, takes, line_on, stock_seen, refusal_by, SuitsItem, SuitsBids, IsAnswered}
-use Rattle.phase_desks.specs.Slicing.{stock_of}
+use Rattle.phase_contexts.specs.declared.counters.Counters.{Counters}
+use Rattle.phase_contexts.specs.declared.read_set.ReadSet.{ReadSet}
+use Rattle.phase_contexts.specs.Txns.{Setting, Txn, hot_in, takes, line_on, stock_seen, refusal_by, SuitsItem, SuitsBids, IsAnswered}
+use Rattle.phase_contexts.specs.Slicing.{stock_of}
 use Rattle.phase_transactions.specs.declared.fault.PermitFault.{PermitFault}
 use Rattle.phase_transactions.specs.Performing.{HasFailed, shards_asked}
-use Rattle.phase_transactions.specs.Permits.{PermitState, HasCommitted, deed_of}
-use Rattle.phase_desks.specs.Splits.{SplitState, CountsOf, HasStocks, setting_of}
-use Rattle.phase_desks.proofs.AnswerLemmas.{same_objects_of}
+use Rattle.phase_transactions.specs.Permits.{PermitState, HasCommitted, txn_of}
+use Rattle.phase_contexts.specs.Splits.{SplitState, CountsOf, HasStocks, setting_of}
+use Rattle.phase_contexts.proofs.AnswerLemmas.{same_objects_of}
 use Rattle.phase_transactions.specs.Replying.{SawTrue, StoodFor, HasFixed, StoodAsTaken}
 use Rattle.phase_transactions.proofs.LookLemmas.{look_true, value_there}
 
@@ -146,49 +146,49 @@ user_like (CategorySeen items) user v = refl
 user_like (UserSeen rating comments) user v = refl
 user_like (Refused reason) user v = refl
 
-module _ (z : Setting) (taken : ℕ → Shelf) (book : Book) (fixed : HasFixed z book) (counters : Counters) where
+module _ (z : Setting) (taken : ℕ → Contents) (book : Book) (fixed : HasFixed z book) (counters : Counters) where
   -- what a bid and a purchase saw of their item is what the book has
-  stock_right : (deed : Deed) (item : ItemId) (objects : List Object) (acts : List Act) → number_refusal z.opening deed.0.request ≡ None
-      → objects_of deed.0.request deed.0.reply ≡ Item item ∷ objects
-      → looks_of deed.1.stock deed.0.reply deed.0.request ++ writes_if (row_of_entry deed.0) ≡ Look (shown.Left item deed.1.stock) ∷ acts
-      → SawTrue z taken deed → StoodFor z taken book deed → stock_seen z deed item ≡ stock_in book item
-  stock_right deed item objects acts accepted needed acted saw stood = go (is_hot (hot_in z) (Item item)) refl where
-    go : (b : Bool) → is_hot (hot_in z) (Item item) ≡ b → cond b (stock_of z.stocks (Item item)) deed.1.stock ≡ stock_in book item
+  stock_right : (txn : Txn) (item : ItemId) (objects : List Object) (acts : List Act) → number_refusal z.opening txn.0.request ≡ None
+      → objects_of txn.0.request txn.0.reply ≡ Item item ∷ objects
+      → looks_of txn.1.stock txn.0.reply txn.0.request ++ writes_if (row_of_entry txn.0) ≡ Look (shown.Left item txn.1.stock) ∷ acts
+      → SawTrue z taken txn → StoodFor z taken book txn → stock_seen z txn item ≡ stock_in book item
+  stock_right txn item objects acts accepted needed acted saw stood = go (is_hot (hot_in z) (Item item)) refl where
+    go : (b : Bool) → is_hot (hot_in z) (Item item) ≡ b → cond b (stock_of z.stocks (Item item)) txn.1.stock ≡ stock_in book item
     go true hot = sym (fixed item hot)
     go false cold =
-        look_true z deed accepted taken saw (Item item) objects (shown.Left item deed.1.stock) acts needed acted refl cold
-        ∙ ap stock (value_there z deed accepted taken book stood (Item item) objects needed cold)
+        look_true z txn accepted taken saw (Item item) objects (shown.Left item txn.1.stock) acts needed acted refl cold
+        ∙ ap stock (value_there z txn accepted taken book stood (Item item) objects needed cold)
         ∙ stock_is book item
 
   -- what a comment saw of its item are the facts that the book has
-  facts_right : (deed : Deed) (item : ItemId) (objects : List Object) (acts : List Act) → number_refusal z.opening deed.0.request ≡ None
-      → objects_of deed.0.request deed.0.reply ≡ Item item ∷ objects
-      → looks_of deed.1.stock deed.0.reply deed.0.request ++ writes_if (row_of_entry deed.0) ≡ Look (shown.Facts item (option_map (λ s. s.0) deed.1.stock)) ∷ acts
-      → SawTrue z taken deed → StoodFor z taken book deed → option_map (λ s. s.0) (stock_seen z deed item) ≡ option_map (λ (s : Facts × ℕ). s.0) (stock_in book item)
-  facts_right deed item objects acts accepted needed acted saw stood = go (is_hot (hot_in z) (Item item)) refl where
-    go : (b : Bool) → is_hot (hot_in z) (Item item) ≡ b → option_map (λ s. s.0) (cond b (stock_of z.stocks (Item item)) deed.1.stock) ≡ option_map (λ (s : Facts × ℕ). s.0) (stock_in book item)
+  facts_right : (txn : Txn) (item : ItemId) (objects : List Object) (acts : List Act) → number_refusal z.opening txn.0.request ≡ None
+      → objects_of txn.0.request txn.0.reply ≡ Item item ∷ objects
+      → looks_of txn.1.stock txn.0.reply txn.0.request ++ writes_if (row_of_entry txn.0) ≡ Look (shown.Facts item (option_map (λ s. s.0) txn.1.stock)) ∷ acts
+      → SawTrue z taken txn → StoodFor z taken book txn → option_map (λ s. s.0) (stock_seen z txn item) ≡ option_map (λ (s : Facts × ℕ). s.0) (stock_in book item)
+  facts_right txn item objects acts accepted needed acted saw stood = go (is_hot (hot_in z) (Item item)) refl where
+    go : (b : Bool) → is_hot (hot_in z) (Item item) ≡ b → option_map (λ s. s.0) (cond b (stock_of z.stocks (Item item)) txn.1.stock) ≡ option_map (λ (s : Facts × ℕ). s.0) (stock_in book item)
     go true hot = ap (option_map (λ (s : Facts × ℕ). s.0)) (sym (fixed item hot))
     go false cold =
-        look_true z deed accepted taken saw (Item item) objects (shown.Facts item (option_map (λ s. s.0) deed.1.stock)) acts needed acted refl cold
-        ∙ ap (λ (v : Value). v.facts) (value_there z deed accepted taken book stood (Item item) objects needed cold)
+        look_true z txn accepted taken saw (Item item) objects (shown.Facts item (option_map (λ s. s.0) txn.1.stock)) acts needed acted refl cold
+        ∙ ap (λ (v : Value). v.facts) (value_there z txn accepted taken book stood (Item item) objects needed cold)
         ∙ sym (facts_in (facts_of book item) (left book item))
 
   -- a view showed what the book has
-  view_right : (deed : Deed) (object : Object) (acts : List Act) → number_refusal z.opening deed.0.request ≡ None
-      → objects_of deed.0.request deed.0.reply ≡ object ∷ []
-      → looks_of deed.1.stock deed.0.reply deed.0.request ++ writes_if (row_of_entry deed.0) ≡ Look (shown.Reply object deed.0.reply) ∷ acts
-      → is_hot (hot_in z) object ≡ false → SawTrue z taken deed → StoodFor z taken book deed → deed.0.reply ≡ view_like deed.0.reply object (value book object)
-  view_right deed object acts accepted needed acted cold saw stood =
-      look_true z deed accepted taken saw object [] (shown.Reply object deed.0.reply) acts needed acted refl cold
-      ∙ ap (view_like deed.0.reply object) (value_there z deed accepted taken book stood object [] needed cold)
+  view_right : (txn : Txn) (object : Object) (acts : List Act) → number_refusal z.opening txn.0.request ≡ None
+      → objects_of txn.0.request txn.0.reply ≡ object ∷ []
+      → looks_of txn.1.stock txn.0.reply txn.0.request ++ writes_if (row_of_entry txn.0) ≡ Look (shown.Reply object txn.0.reply) ∷ acts
+      → is_hot (hot_in z) object ≡ false → SawTrue z taken txn → StoodFor z taken book txn → txn.0.reply ≡ view_like txn.0.reply object (value book object)
+  view_right txn object acts accepted needed acted cold saw stood =
+      look_true z txn accepted taken saw object [] (shown.Reply object txn.0.reply) acts needed acted refl cold
+      ∙ ap (view_like txn.0.reply object) (value_there z txn accepted taken book stood object [] needed cold)
 
-  module _ (phase number worker index : ℕ) (found : Found) (counts : CountsOf book worker counters) where
-    abbrev deed_with : Request → Reply → Deed
-    deed_with request given = (record { phase = phase; number = number; worker = worker; index = index; request = request; reply = given }, found)
+  module _ (phase number worker index : ℕ) (found : ReadSet) (counts : CountsOf book worker counters) where
+    abbrev txn_with : Request → Reply → Txn
+    txn_with request given = (record { phase = phase; number = number; worker = worker; index = index; request = request; reply = given }, found)
 
     abbrev IsRightFor : Request → Type 0
-    IsRightFor request = (given : Reply) → SawTrue z taken (deed_with request given) → StoodFor z taken book (deed_with request given)
-        → IsAnswered z counters (deed_with request given) → given ≡ reply z.opening book worker request
+    IsRightFor request = (given : Reply) → SawTrue z taken (txn_with request given) → StoodFor z taken book (txn_with request given)
+        → IsAnswered z counters (txn_with request given) → given ≡ reply z.opening book worker request
 
     -- a store by what was seen of its item
     store_right : (request : Request) (given mine : Reply) (seen : Option (Facts × ℕ)) → MatchOption (refusal_by z.opening seen request) (given ≡ mine) (λ reason. given ≡ Refused reason)
@@ -206,30 +206,30 @@ module _ (z : Setting) (taken : ℕ → Shelf) (book : Book) (fixed : HasFixed z
     bid_right : (bidder : ℕ) (item : ItemId) (amount time : ℕ) → IsRightFor (StoreBid bidder item amount time)
     bid_right bidder item amount time given saw stood is =
         let request = StoreBid bidder item amount time in
-        let deed = deed_with request given in
-        store_right request given (BidStored (record { worker = worker; serial = counters.bids })) (stock_seen z deed item) is.answered
+        let txn = txn_with request given in
+        store_right request given (BidStored (record { worker = worker; serial = counters.bids })) (stock_seen z txn item) is.answered
         (ap (λ n. BidStored (record { worker = worker; serial = n })) (sym counts.bids))
-        (λ accepted. ap (refused_with request) (stock_right deed item [] (writes_if (row_of_entry deed.0)) accepted refl refl saw stood))
+        (λ accepted. ap (refused_with request) (stock_right txn item [] (writes_if (row_of_entry txn.0)) accepted refl refl saw stood))
 
     buy_right : (buyer : ℕ) (item : ItemId) (quantity time : ℕ) → IsRightFor (BuyNow buyer item quantity time)
     buy_right buyer item quantity time given saw stood is =
         let request = BuyNow buyer item quantity time in
-        let deed = deed_with request given in
-        store_right request given (Bought (record { worker = worker; serial = counters.buys })) (stock_seen z deed item) is.answered
+        let txn = txn_with request given in
+        store_right request given (Bought (record { worker = worker; serial = counters.buys })) (stock_seen z txn item) is.answered
         (ap (λ n. Bought (record { worker = worker; serial = n })) (sym counts.buys))
-        (λ accepted. ap (refused_with request) (stock_right deed item [] (writes_if (row_of_entry deed.0)) accepted refl refl saw stood))
+        (λ accepted. ap (refused_with request) (stock_right txn item [] (writes_if (row_of_entry txn.0)) accepted refl refl saw stood))
 
     comment_right : (author about : ℕ) (item : ItemId) (stars : ℤ) → IsRightFor (StoreComment author about item stars)
     comment_right author about item stars given saw stood is =
         let request = StoreComment author about item stars in
-        let deed = deed_with request given in
-        let seen = stock_seen z deed item in
+        let txn = txn_with request given in
+        let seen = stock_seen z txn item in
         let left_of = λ (s : Option (Facts × ℕ)). unwrap_or (option_map (λ t. t.1) s) 0 in
         store_right request given (CommentStored (record { worker = worker; serial = counters.comments })) seen is.answered
         (ap (λ n. CommentStored (record { worker = worker; serial = n })) (sym counts.comments))
         (λ accepted. comment_by_facts author about item stars (option_map (λ s. s.0) seen) (left_of seen) (left_of (stock_in book item))
         ∙ ap (λ (facts : Option Facts). item_refusal request facts (left_of (stock_in book item)))
-        (facts_right deed item (User about ∷ []) (writes_if (row_of_entry deed.0)) accepted refl refl saw stood))
+        (facts_right txn item (User about ∷ []) (writes_if (row_of_entry txn.0)) accepted refl refl saw stood))
 
     item_right : (facts : Facts) (time : ℕ) → IsRightFor (StoreItem facts time)
     item_right facts time given saw stood is =
@@ -239,26 +239,26 @@ module _ (z : Setting) (taken : ℕ → Shelf) (book : Book) (fixed : HasFixed z
     view_item_right : (item : ItemId) → IsRightFor (ViewItem item)
     view_item_right item given saw stood is =
         item_like given item (value book (Item item)) is.answered
-        (view_right (deed_with (ViewItem item) given) (Item item) [] refl refl refl (cold_of (is_hot (hot_in z) (Item item)) is.not_put_off) saw stood)
+        (view_right (txn_with (ViewItem item) given) (Item item) [] refl refl refl (cold_of (is_hot (hot_in z) (Item item)) is.not_put_off) saw stood)
         ∙ item_reply z.opening book worker item
 
     view_bids_right : (item : ItemId) → IsRightFor (ViewBids item)
     view_bids_right item given saw stood is =
         bids_like given item (value book (Item item)) is.answered
-        (view_right (deed_with (ViewBids item) given) (Item item) [] refl refl refl (cold_of (is_hot (hot_in z) (Item item)) is.not_put_off) saw stood)
+        (view_right (txn_with (ViewBids item) given) (Item item) [] refl refl refl (cold_of (is_hot (hot_in z) (Item item)) is.not_put_off) saw stood)
         ∙ bids_reply z.opening book worker item
 
     view_category_right : (category : ℕ) → IsRightFor (ViewCategory category)
     view_category_right category given saw stood is =
         viewed_by Unit (number_refusal z.opening (ViewCategory category)) given (category_view (value book (Category category))) is.answered
-        (λ accepted. view_right (deed_with (ViewCategory category) given) (Category category) [] accepted refl refl (cold_of (is_hot (hot_in z) (Category category)) is.not_put_off) saw stood
+        (λ accepted. view_right (txn_with (ViewCategory category) given) (Category category) [] accepted refl refl (cold_of (is_hot (hot_in z) (Category category)) is.not_put_off) saw stood
         ∙ category_like given category (value book (Category category)))
         ∙ category_reply_is z.opening book worker category
 
     view_user_right : (user : ℕ) → IsRightFor (ViewUser user)
     view_user_right user given saw stood is =
         viewed_by Unit (number_refusal z.opening (ViewUser user)) given (user_view (value book (User user))) is.answered
-        (λ accepted. view_right (deed_with (ViewUser user) given) (User user) [] accepted refl refl (cold_of (is_hot (hot_in z) (User user)) is.not_put_off) saw stood
+        (λ accepted. view_right (txn_with (ViewUser user) given) (User user) [] accepted refl refl (cold_of (is_hot (hot_in z) (User user)) is.not_put_off) saw stood
         ∙ user_like given user (value book (User user)))
         ∙ user_reply_is z.opening book worker user
 
@@ -272,11 +272,11 @@ module _ (z : Setting) (taken : ℕ → Shelf) (book : Book) (fixed : HasFixed z
     right_by (ViewCategory category) = view_category_right category
     right_by (ViewUser user) = view_user_right user
 
--- A deed's reply is the model's for every book for which the shards that it took stood.
-pub deed_right : (z : Setting) (taken : ℕ → Shelf) (counters : Counters) (deed : Deed) → SawTrue z taken deed → IsAnswered z counters deed
-    → (book : Book) → StoodFor z taken book deed → HasFixed z book → CountsOf book deed.0.worker counters → IsRight z.opening book deed.0
-deed_right z taken counters deed saw is book stood fixed counts =
-    right_by z taken book fixed counters deed.0.phase deed.0.number deed.0.worker deed.0.index deed.1 counts deed.0.request deed.0.reply saw stood is
+-- A transaction's reply is the model's for every book for which the shards that it took stood.
+pub txn_right : (z : Setting) (taken : ℕ → Contents) (counters : Counters) (txn : Txn) → SawTrue z taken txn → IsAnswered z counters txn
+    → (book : Book) → StoodFor z taken book txn → HasFixed z book → CountsOf book txn.0.worker counters → IsRight z.opening book txn.0
+txn_right z taken counters txn saw is book stood fixed counts =
+    right_by z taken book fixed counters txn.0.phase txn.0.number txn.0.worker txn.0.index txn.1 counts txn.0.request txn.0.reply saw stood is
 
 -- what is fixed of the hot items of a permit
 has_fixed : (split : SplitState) (shards : ℕ) (book : Book) → HasStocks book split.slices → HasFixed (setting_of split shards) book
@@ -295,17 +295,17 @@ pushed_back found last =
 -- so it is with what a permit commits
 pub commit_right : (opening : List ShardState) (old new : PermitState) (request : Request) (index : ℕ) (given : Reply) (done : HasCommitted opening old new request index given) (book : Book)
     → StoodAsTaken opening old new request index given done book
-    → HasStocks book old.split.slices → CountsOf book old.split.desk.journal.worker old.split.desk.counters
-    → given ≡ reply old.split.desk.opening book old.split.desk.journal.worker request
+    → HasStocks book old.split.slices → CountsOf book old.split.context.journal.worker old.split.context.counters
+    → given ≡ reply old.split.context.opening book old.split.context.journal.worker request
 commit_right opening old new request index given done book stood has counts =
     let z = setting_of old.split (length opening) in
-    let deed = deed_of old.split done.number request index given done.found in
-    let found_is : (shard : ℕ) (took : takes z shard deed ≡ true) → without_last (seen_at new.key shard) ≡ (done.puts shard took).found =
-    λ shard took. ap without_last (done.puts shard took).seen ∙ pushed_back (done.puts shard took).found (new.key.worker, line_on z shard deed) in
-    deed_right z (λ shard. (after (state_at opening shard) (without_last (seen_at new.key shard))).shelf) old.split.desk.counters deed
-    (λ shard took. subst (λ (found : List (ℕ × Line)). AreTrueOf (after (state_at opening shard) found).shelf (line_on z shard deed).acts) (sym (found_is shard took)) (done.puts shard took).follows.looks)
+    let txn = txn_of old.split done.number request index given done.found in
+    let found_is : (shard : ℕ) (took : takes z shard txn ≡ true) → without_last (seen_at new.key shard) ≡ (done.puts shard took).found =
+    λ shard took. ap without_last (done.puts shard took).seen ∙ pushed_back (done.puts shard took).found (new.key.worker, line_on z shard txn) in
+    txn_right z (λ shard. (after (state_at opening shard) (without_last (seen_at new.key shard))).contents) old.split.context.counters txn
+    (λ shard took. subst (λ (found : List (ℕ × Line)). AreTrueOf (after (state_at opening shard) found).contents (line_on z shard txn).acts) (sym (found_is shard took)) (done.puts shard took).follows.looks)
     done.answered book
-    (λ shard took. subst (λ (found : List (ℕ × Line)). ShelfStandsFor shard (length opening) (after (state_at opening shard) found).shelf book (hot_in z)) (sym (found_is shard took)) (stood shard took))
+    (λ shard took. subst (λ (found : List (ℕ × Line)). ContentsStandsFor shard (length opening) (after (state_at opening shard) found).contents book (hot_in z)) (sym (found_is shard took)) (stood shard took))
     (has_fixed old.split (length opening) book has) counts
 
 -- a commit with an empty footprint leaves the key, and so does a failure
@@ -315,7 +315,7 @@ same_key old new boxes worker many seats =
     λ i. record { boxes = boxes i; worker = worker i; seats = same i }
 
 pub commit_leaves : (opening : List ShardState) (old new : PermitState) (request : Request) (index : ℕ) (given : Reply) (done : HasCommitted opening old new request index given)
-    → (let z = setting_of old.split (length opening) in footprint z.opening z.shards (hot_in z) (deed_of old.split done.number request index given done.found).0 ≡ [])
+    → (let z = setting_of old.split (length opening) in footprint z.opening z.shards (hot_in z) (txn_of old.split done.number request index given done.found).0 ≡ [])
     → new.key ≡ old.key
 commit_leaves opening old new request index given done empty =
     same_key old.key new.key done.boxes done.worker done.seats (λ shard. done.others shard (ap (list_any (λ taken. taken == shard)) empty))

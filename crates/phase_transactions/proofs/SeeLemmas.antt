@@ -17,11 +17,11 @@ use Rattle.auction_rows.specs.Replies.{row_if}
 use Rattle.item_shards.specs.declared.acts.Act.TheVariants.{Buy, Look}
 use Rattle.item_shards.specs.declared.acts.Shown.TheVariants as shown
 use Rattle.item_shards.specs.declared.shard.Shard.{Shard}
-use Rattle.item_shards.specs.ShardShelf.{shelf, LiesIn}
+use Rattle.item_shards.specs.ShardContents.{contents, LiesIn}
 use Rattle.item_shards.specs.Values.{Value, stock, HasLeft}
 use Rattle.item_shards.specs.Writing.{writes_if, padded}
-use Rattle.phase_desks.specs.Deeds.{refusal_by, Answers}
-use Rattle.phase_desks.specs.Desks.{DeskState}
+use Rattle.phase_contexts.specs.Txns.{refusal_by, Answers}
+use Rattle.phase_contexts.specs.Contexts.{ContextState}
 use Rattle.phase_transactions.specs.Single.{HasSeen}
 
 -- where neither of two reasons holds, the second does not
@@ -46,19 +46,19 @@ left_to_buy buyer item quantity time value (Some facts) known is = record {
   enough = ltb-false (facts.quantity - value.bought) quantity (enough (nat_le facts.closes time) (nat_lt (facts.quantity - value.bought) quantity) is);
 }
 
-pub purchase_seen : (desk : DeskState) (shard : Shard) (buyer : ℕ) (item : ItemId) (quantity time : ℕ) (found : Option (Facts × ℕ)) (id : BuyId)
-    → LiesIn shard (Item item) → found ≡ stock (shelf shard (Item item)) → id ≡ record { worker = desk.journal.worker; serial = desk.counters.buys }
-    → None ≡ refusal_by desk.opening found (BuyNow buyer item quantity time)
-    → HasSeen desk shard (BuyNow buyer item quantity time) (record { stock = found; reply = Bought id; look = Look (shown.Left item found); write = Buy item quantity })
-purchase_seen desk shard buyer item quantity time found id here is next free =
+pub purchase_seen : (context : ContextState) (shard : Shard) (buyer : ℕ) (item : ItemId) (quantity time : ℕ) (found : Option (Facts × ℕ)) (id : BuyId)
+    → LiesIn shard (Item item) → found ≡ stock (contents shard (Item item)) → id ≡ record { worker = context.journal.worker; serial = context.counters.buys }
+    → None ≡ refusal_by context.opening found (BuyNow buyer item quantity time)
+    → HasSeen context shard (BuyNow buyer item quantity time) (record { stock = found; reply = Bought id; look = Look (shown.Left item found); write = Buy item quantity })
+purchase_seen context shard buyer item quantity time found id here is next free =
     let request = BuyNow buyer item quantity time in
-    let value = shelf shard (Item item) in
+    let value = contents shard (Item item) in
     let bought = row.Buy (record { id = id; item = item; buyer = buyer; quantity = quantity; time = time }) in
     let refused = λ (seen : Option (Facts × ℕ)). item_refusal request (option_map (λ s. s.0) seen) (unwrap_or (option_map (λ s. s.1) seen) 0) in
-    let none : None ≡ refused found = second (number_refusal desk.opening request) (refused found) free in
+    let none : None ≡ refused found = second (number_refusal context.opening request) (refused found) free in
     record {
-      acts = sym (ap (λ b. padded (Look (shown.Left item found) ∷ writes_if (row_if b bought))) (eq-eqb id.worker desk.journal.worker (ap (λ (n : BuyId). n.worker) next)));
+      acts = sym (ap (λ b. padded (Look (shown.Left item found) ∷ writes_if (row_if b bought))) (eq-eqb id.worker context.journal.worker (ap (λ (n : BuyId). n.worker) next)));
       can = (tt, ((here, left_to_buy buyer item quantity time value value.facts refl (none ∙ ap refused is)), tt));
       looks = (is, (tt, tt));
-      answered = subst (λ reasons. MatchOption reasons (Answers desk.counters desk.journal.worker request (Bought id)) (λ reason. Bought id ≡ Refused reason)) free (ap Bought next);
+      answered = subst (λ reasons. MatchOption reasons (Answers context.counters context.journal.worker request (Bought id)) (λ reason. Bought id ≡ Refused reason)) free (ap Bought next);
     }

@@ -1,9 +1,9 @@
 -- A transaction over the shard of one object is a commit.
-use Rattle.std.proofs.Common.{◌≡◌, ℕ, suc, max, ◌<◌, ◌==◌, ◌||◌, ◌&&◌, not, Bool, true, false, cond, if◌then◌else◌, List, [], ◌∷◌, ◌++◌, length, map, filter, Option, Some, None, MatchOption, unwrap_or, refl, sym, ap, subst, ◌∙◌, arith, append-nil, option_and_then}
-use Rattle.std.specs.Prelude.{is_some, IfSome, IfNone}
-use Rattle.std.specs.List.{AllByRecursion, list_any}
+use Rattle.std.proofs.Common.{◌≡◌, ℕ, ◌<◌, ◌==◌, ◌||◌, ◌&&◌, not, Bool, true, false, cond, if◌then◌else◌, List, [], ◌∷◌, ◌++◌, length, map, filter, Option, Some, None, MatchOption, unwrap_or, refl, sym, ap, subst, ◌∙◌, option_and_then}
+use Rattle.std.specs.Prelude.{is_some}
+use Rattle.std.specs.List.{AllByRecursion}
 use Rattle.std.specs.Option.{option_map_or}
-use Rattle.std.proofs.lemmas.Bool.{eqb-true, eq-eqb}
+use Rattle.std.proofs.lemmas.Bool.{eq-eqb, true≢false}
 use Rattle.auction_rows.specs.declared.ids.ItemId.{ItemId}
 use Rattle.auction_rows.specs.declared.ids.Object.{Object}
 use Rattle.auction_rows.specs.declared.ids.Object.TheVariants.{Item, User, Category}
@@ -18,24 +18,25 @@ use Rattle.auction_rows.specs.declared.rows.Row.TheVariants as row
 use Rattle.auction_rows.specs.Footprint.{objects_of as objects_needed, is_hot, objects_taken, footprint}
 use Rattle.auction_rows.specs.Refusals.{number_refusal}
 use Rattle.auction_rows.specs.Replies.{row_of, row_if}
-use Rattle.auction_rows.specs.Requests.{shard_of, item_of, is_view}
+use Rattle.auction_rows.specs.Requests.{shard_of, item_of, is_view, is_splittable}
 use Rattle.item_shards.specs.declared.acts.Act.{Act}
-use Rattle.item_shards.specs.declared.acts.Act.TheVariants.{AddItem, ListItem, Bid, Comment, Buy, Look}
-use Rattle.item_shards.specs.Shelves.{target}
+use Rattle.item_shards.specs.declared.shard.Shard.{Shard}
+use Rattle.item_shards.specs.Contents.{target}
 use Rattle.item_shards.specs.Writing.{padded, looks_of, writes_of, writes_if, is_cold_in, is_done_on, acts_owed}
-use Rattle.phase_laws.specs.Numbers.{greatest_by}
-use Rattle.shard_boxes.specs.declared.line.Line.{Line}
-use Rattle.shard_boxes.specs.Keys.{KeyState, lines_at}
+use Rattle.shard_boxes.specs.Keys.{KeyState}
 use Rattle.shard_boxes.specs.States.{ShardState}
-use Rattle.phase_desks.specs.Slicing.{objects_of, stocks_of, stock_of, after_acts}
-use Rattle.phase_desks.specs.Deeds.{hot_in, takes, line_on, greatest_clock, clock_found, refusal_by, is_put_off, Answers}
-use Rattle.phase_desks.specs.Desks.{DeskState}
-use Rattle.phase_desks.specs.Splits.{SplitState, setting_of}
-use Rattle.phase_desks.specs.Works.{Work, IsWorkOf}
-use Rattle.phase_transactions.specs.Permits.{IsIdle, deed_of, work_of, IsWorth, HasCommitted}
-use Rattle.phase_transactions.specs.Single.{only_object, acts_done, reason_by, found_on, HasDone, IsAtEnd}
-use Rattle.phase_transactions.proofs.Hots.{commit_worth}
-use Rattle.phase_transactions.proofs.KeyLemmas.{lines_put, idle_put, one_put, differs}
+use Rattle.phase_contexts.specs.declared.read_set.ReadSet.{ReadSet}
+use Rattle.phase_contexts.specs.Contexts.{ContextState}
+use Rattle.phase_contexts.specs.Slicing.{objects_of, stocks_of, stock_of, after_acts}
+use Rattle.phase_contexts.specs.Txns.{hot_in, refusal_by, is_put_off, Answers}
+use Rattle.phase_contexts.specs.Splits.{SplitState, setting_of}
+use Rattle.phase_transactions.specs.declared.commit.Commit.{Commit}
+use Rattle.phase_transactions.specs.Permits.{IsIdle, permit, done_at, txn_of, HasCommitted}
+use Rattle.phase_transactions.specs.declared.seen.Seen.{Seen}
+use Rattle.phase_transactions.specs.Putting.{IsOverOne, found_on}
+use Rattle.phase_transactions.specs.Single.{only_object, acts_done, acts_of, reason_by, IsAnswerBy, HasSeen, HasDone}
+use Rattle.phase_transactions.proofs.CommitLemmas.{over_its_shard}
+use Rattle.phase_transactions.proofs.TakeLemmas.{over_one_as}
 
 -- it needs that object alone, whatever the reply
 pub only_needed : (request : Request) (reply : Reply) (object : Object) → only_object request ≡ Some object → objects_needed request reply ≡ object ∷ []
@@ -101,7 +102,7 @@ all_done shard shards hot object (act ∷ acts) cold all =
     ∙ ap (λ b. cond b (act ∷ rest) rest) cold
     ∙ ap (λ (done : List Act). act ∷ done) (all_done shard shards hot object acts cold all.1)
 
--- what was seen of a cold item is what the deed found
+-- what was seen of a cold item is what the transaction found
 same_reason : (opening : Opening) (hot : List Object) (fixed : ItemId → Option (Facts × ℕ)) (stock : Option (Facts × ℕ)) (request : Request) (object : Object)
     → only_object request ≡ Some object → is_hot hot object ≡ false
     → reason_by opening stock request
@@ -128,63 +129,60 @@ not_put_off hot (ViewBids item) object is cold = ap (λ o. is_hot hot (unwrap_or
 not_put_off hot (ViewCategory category) object is cold = ap (λ o. is_hot hot (unwrap_or o (Category category)) || (false || false)) is ∙ ap (λ b. b || (false || false)) cold
 not_put_off hot (ViewUser user) object is cold = ap (λ o. is_hot hot (unwrap_or o (User user)) || (false || false)) is ∙ ap (λ b. b || (false || false)) cold
 
-greatest_one : (shard before : ℕ) → max (if shard == shard then before else 0) 0 ≡ before
-greatest_one shard before = ap (λ b. max (cond b before 0) 0) (eq-eqb shard shard refl) ∙ omega arith
+-- and the object of one that can't be split and is not put off is cold
+no_other : (b : Bool) → (b || (false || false)) ≡ false → b ≡ false
+no_other true is = is
+no_other false is = refl
 
-module _ (opening : List ShardState) (split : SplitState) (new : DeskState) (key back : KeyState) (request : Request) (object : Object) (index : ℕ) (reply : Reply) where
-  pub done_commits : only_object request ≡ Some object → number_refusal split.desk.opening request ≡ None → is_hot (objects_of (stocks_of split.slices)) object ≡ false
-      → shard_of object (length opening) < length key.seats → IsIdle key → HasDone opening split.desk new key back request object index reply
-      → split.slices ≡ after_acts split.slices (writes_if (row_of split.desk.journal.worker request reply))
-      → HasCommitted opening (record { split = split; key = key }) (record { split = record { desk = new; slices = split.slices }; key = back }) request index reply
-  done_commits only accepted cold known idle done unwritten =
+pub cold_where_performed : (hot : List Object) (request : Request) (object : Object) → only_object request ≡ Some object → is_splittable request ≡ false → is_put_off hot request ≡ false → is_hot hot object ≡ false
+cold_where_performed hot (StoreItem facts time) object is apart goes = absurd (cc)
+cold_where_performed hot (StoreBid bidder item amount time) object is apart goes = absurd (true≢false apart)
+cold_where_performed hot (StoreComment author about item stars) object is apart goes = absurd (cc)
+cold_where_performed hot (BuyNow buyer item quantity time) object is apart goes = subst (λ o. is_hot hot (unwrap_or o object) ≡ false) is (no_other (is_hot hot (Item item)) goes)
+cold_where_performed hot (ViewItem item) object is apart goes = subst (λ o. is_hot hot (unwrap_or o object) ≡ false) is (no_other (is_hot hot (Item item)) goes)
+cold_where_performed hot (ViewBids item) object is apart goes = subst (λ o. is_hot hot (unwrap_or o object) ≡ false) is (no_other (is_hot hot (Item item)) goes)
+cold_where_performed hot (ViewCategory category) object is apart goes = subst (λ o. is_hot hot (unwrap_or o object) ≡ false) is (no_other (is_hot hot (Category category)) goes)
+cold_where_performed hot (ViewUser user) object is apart goes = subst (λ o. is_hot hot (unwrap_or o object) ≡ false) is (no_other (is_hot hot (User user)) goes)
+
+module _ (opening : List ShardState) (split new : SplitState) (key back : KeyState) (request : Request) (object : Object) (index : ℕ) (done : Commit Reply) where
+  pub done_commits : only_object request ≡ Some object → number_refusal split.context.opening request ≡ None → is_hot (objects_of (stocks_of split.slices)) object ≡ false
+      → shard_of object (length opening) < length key.seats → IsIdle key → HasDone opening split.context key back request object index done
+      → new.context ≡ done_at split.context index request done → new.slices ≡ after_acts split.slices (writes_if (row_of split.context.journal.worker request done.reply))
+      → HasCommitted opening (permit split key) (permit new back) request index done.reply
+  done_commits only accepted cold known idle is committed sliced =
       let shards = length opening in
       let shard = shard_of object shards in
-      let worker = split.desk.journal.worker in
-      let found = found_on shard done.before done.stock in
+      let worker = split.context.journal.worker in
+      let stock = done.found.stock in
       let z = setting_of split shards in
       let hot = hot_in z in
-      let deed = deed_of split done.number request index reply found in
-      let acts = acts_done worker request done.stock reply in
-      let wide = looks_of done.stock reply request ++ writes_if (row_of worker request reply) in
-      let line : Line = record { number = done.number; before = done.before; index = index; acts = acts } in
-      let taken : objects_taken z.opening hot deed.0 ≡ object ∷ [] =
-      ap (λ reason. cond (is_some reason) [] (filter (λ o. not (is_hot hot o)) (objects_needed request reply))) accepted
-      ∙ ap (filter (λ o. not (is_hot hot o))) (only_needed request reply object only)
+      let txn = txn_of split done.number request index done.reply done.found in
+      let wide = looks_of stock done.reply request ++ writes_if (row_of worker request done.reply) in
+      let taken : objects_taken z.opening hot txn.0 ≡ object ∷ [] =
+      ap (λ reason. cond (is_some reason) [] (filter (λ o. not (is_hot hot o)) (objects_needed request done.reply))) accepted
+      ∙ ap (filter (λ o. not (is_hot hot o))) (only_needed request done.reply object only)
       ∙ ap (λ b. cond (not b) (object ∷ []) []) cold in
-      let prints : footprint z.opening shards hot deed.0 ≡ shard ∷ [] = ap (map (λ o. shard_of o shards)) taken in
-      let greatest : greatest_clock z deed ≡ done.before = ap (greatest_by (λ s. clock_found s deed)) prints ∙ greatest_one shard done.before in
-      let took : (t : ℕ) → takes z t deed ≡ ((shard == t) || false) = λ t. ap (list_any (λ s. s == t)) prints in
-      let same : (shard == shard) ≡ true = eq-eqb shard shard refl in
-      let here : is_cold_in shard shards hot object ≡ true = ap (λ c. not c && (shard == shard)) cold ∙ same in
-      let owes : acts_owed z.opening shard shards hot done.stock deed.0 ≡ acts =
+      let prints : footprint z.opening shards hot txn.0 ≡ shard ∷ [] = ap (map (λ o. shard_of o shards)) taken in
+      let here : is_cold_in shard shards hot object ≡ true = ap (λ c. not c && (shard == shard)) cold ∙ eq-eqb shard shard refl in
+      let owes : acts_owed z.opening shard shards hot stock txn.0 ≡ acts_done worker request stock done.reply =
       ap (λ reason. padded (filter (is_done_on shard shards hot) (cond (is_some reason) [] wide))) accepted
-      ∙ ap padded (all_done shard shards hot object wide here (acts_about worker request done.stock reply object only)) in
-      let owed : line ≡ line_on z shard deed = λ i. record {
-        number = done.number;
-        before = sym (ap (λ c. cond c done.before 0) same) i;
-        index = index;
-        acts = sym owes i;
-      } in
-      let put = one_put opening key back shard line (λ t. takes z t deed) (λ t. line_on z t deed) known idle done.put
-      (took shard ∙ ap (λ c. c || false) same) owed (λ t apart. took t ∙ ap (λ c. c || false) (differs shard t apart)) in
-      record {
-        number = done.number;
-        found = found;
-        numbered = done.numbered ∙ ap (λ n. suc (max split.desk.clock n)) (sym greatest);
-        within = done.within;
-        desk = done.desk_is;
-        slices = unwritten;
-        lines = put.lines;
-        puts = put.puts;
-        others = put.others;
-        seen = put.seen;
-        idle = put.idle;
-        worker = put.worker;
-        boxes = put.boxes;
-        seats = put.seats;
-        answered = record {
-          answered = subst (λ reasons. MatchOption reasons (Answers split.desk.counters worker request reply) (λ reason. reply ≡ Refused reason))
-              (same_reason z.opening hot (λ item. stock_of z.stocks (Item item)) done.stock request object only cold) done.answered;
-          not_put_off = not_put_off hot request object only cold;
-        };
-      }
+      ∙ ap padded (all_done shard shards hot object wide here (acts_about worker request stock done.reply object only)) in
+      over_its_shard opening split new key back request index done.reply done.number done.found committed sliced
+      (record {
+        answered = subst (λ reasons. MatchOption reasons (Answers split.context.counters worker request done.reply) (λ reason. done.reply ≡ Refused reason))
+            (same_reason z.opening hot (λ item. stock_of z.stocks (Item item)) stock request object only cold) is.answered;
+        not_put_off = not_put_off hot request object only cold;
+      })
+      shard (acts_done worker request stock done.reply) is.over owes known idle prints
+
+-- what was seen on the shard and done there
+pub has_done : (opening : List ShardState) (context : ContextState) (key back : KeyState) (request : Request) (object : Object) (index : ℕ) (saw : Shard) (seen : Seen Reply) (shard before number : ℕ) (found : ReadSet)
+    → HasSeen context saw request seen → shard ≡ shard_of object (length opening) → found ≡ found_on shard before seen.stock → IsOverOne opening context.clock key back shard number index found (acts_of seen)
+    → HasDone opening context key back request object index (record { number = number; reply = seen.reply; found = found })
+has_done opening context key back request object index saw seen shard before number found has shard_is found_is over =
+    let stock : seen.stock ≡ found.stock = sym (ap (λ (f : ReadSet). f.stock) found_is) in
+    record {
+      over = over_one_as opening context.clock context.clock key back shard (shard_of object (length opening)) number index found (acts_of seen) (acts_done context.journal.worker request found.stock seen.reply)
+          refl shard_is (has.acts ∙ ap (λ s. acts_done context.journal.worker request s seen.reply) stock) over;
+      answered = subst (λ s. IsAnswerBy context request s seen.reply) stock has.answered;
+    }

@@ -2,8 +2,11 @@ pub mod Permits
 pub mod Putting
 pub mod SeenOf
 pub mod Single
+pub mod Needing
 pub mod Pairs
+pub mod Taking
 pub mod Performing
 pub mod Halves
 pub mod Replying
 pub mod Items
+pub mod Stashed

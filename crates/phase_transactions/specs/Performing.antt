@@ -11,10 +11,10 @@ use Rattle.auction_rows.specs.Refusals.{number_refusal}
 use Rattle.item_shards.specs.CommitNumbers.{last_number}
 use Rattle.shard_boxes.specs.Keys.{KeyState, seat_at}
 use Rattle.shard_boxes.specs.States.{ShardState}
-use Rattle.phase_desks.specs.Deeds.{hot_in, is_put_off}
-use Rattle.phase_desks.specs.Desks.{next_entry, after_putting_off}
-use Rattle.phase_desks.specs.Slicing.{objects_of}
-use Rattle.phase_desks.specs.Splits.{SplitState, setting_of}
+use Rattle.phase_contexts.specs.Txns.{hot_in, is_put_off}
+use Rattle.phase_contexts.specs.Contexts.{next_entry, after_putting_off}
+use Rattle.phase_contexts.specs.Slicing.{objects_of}
+use Rattle.phase_contexts.specs.Splits.{SplitState, setting_of}
 use Rattle.phase_transactions.specs.declared.fault.Done.{Done}
 use Rattle.phase_transactions.specs.declared.fault.Done.TheVariants.{Committed, Stashed}
 use Rattle.phase_transactions.specs.declared.fault.PermitFault.{PermitFault}
@@ -30,25 +30,25 @@ done_of None = Stashed
 
 -- a permit with one try more
 abbrev pub with_try : PermitState → PermitState
-with_try permit = record permit { split = record permit.split { desk = record permit.split.desk { tries = permit.split.desk.tries + 1 } } }
+with_try permit = record permit { split = record permit.split { context = record permit.split.context { tries = permit.split.context.tries + 1 } } }
 
 -- the entry of a request, of which the objects are looked at alone: an item to be stored has the worker's next id
 abbrev pub entry_asked : SplitState → Request → Entry
 entry_asked split request =
-    next_entry split.desk 0 0 request (ItemStored (record { worker = split.desk.journal.worker; serial = split.desk.counters.items }))
+    next_entry split.context 0 0 request (ItemStored (record { worker = split.context.journal.worker; serial = split.context.counters.items }))
 
 -- the footprint of a request in a phase with so many shards
 abbrev pub shards_asked : ℕ → SplitState → Request → List ℕ
-shards_asked shards split request = footprint split.desk.opening shards (hot_in (setting_of split shards)) (entry_asked split request)
+shards_asked shards split request = footprint split.context.opening shards (hot_in (setting_of split shards)) (entry_asked split request)
 
 -- whether a request's footprint has the shard
 abbrev pub asks : ℕ → SplitState → Request → ℕ → Bool
-asks shards split request shard = takes_shard split.desk.opening shards (hot_in (setting_of split shards)) (entry_asked split request) shard
+asks shards split request shard = takes_shard split.context.opening shards (hot_in (setting_of split shards)) (entry_asked split request) shard
 
 -- the greatest of the worker's clock and of those that the key has last seen on the shards of a request's footprint
 abbrev pub greatest_seen : List ShardState → SplitState → KeyState → Request → ℕ
 greatest_seen opening split key request =
-    max split.desk.clock (greatest_by (clock_seen opening key) (shards_asked (length opening) split request))
+    max split.context.clock (greatest_by (clock_seen opening key) (shards_asked (length opening) split request))
 
 -- whether a request stores an item
 abbrev pub StoresItem : Request → Type 0
@@ -64,7 +64,7 @@ StoresItem (ViewUser user) = ⊥
 -- NumberFull exactly where the greatest clock is at the end of numbers, and Memory of an accepted store of an item alone
 abbrev pub IsCause : List ShardState → SplitState → KeyState → Request → PermitFault → Type 0
 IsCause opening split key request Memory =
-    (greatest_seen opening split key request < last_number) × StoresItem request × (number_refusal split.desk.opening request ≡ None)
+    (greatest_seen opening split key request < last_number) × StoresItem request × (number_refusal split.context.opening request ≡ None)
 IsCause opening split key request NumberFull = last_number ≤ greatest_seen opening split key request
 
 -- The request was not performed, for its cause, and was not to be put off: nothing has changed but what the key has seen of the
@@ -80,7 +80,7 @@ pub record HasFailed (opening : List ShardState) (old new : PermitState) (reques
 -- The request waits for the next joined phase: the stash gains it, one of the quota is used, and all else stays.
 pub record HasPutOff (old new : PermitState) (request : Request) (index : ℕ) : Type 0 where
   pub put_off : is_put_off (objects_of old.split.slices) request ≡ true
-  pub desk : new.split.desk ≡ after_putting_off old.split.desk index request
+  pub context : new.split.context ≡ after_putting_off old.split.context index request
   pub slices : new.split.slices ≡ old.split.slices
   pub key : new.key ≡ old.key
 

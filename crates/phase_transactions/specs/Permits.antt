@@ -1,4 +1,4 @@
--- What a permit and its receipt show, and what they are worth.
+-- What a permit and its receipt show, and by which transactions they are explained.
 use Rattle.std.specs.Prelude.{◌≡◌, ℕ, suc, max, ◌≤◌, true, false, if◌then◌else◌, List, [], ◌∷◌, ◌++◌, length}
 use Rattle.auction_rows.specs.declared.replies.Reply.{Reply}
 use Rattle.auction_rows.specs.declared.requests.Request.{Request}
@@ -7,23 +7,28 @@ use Rattle.item_shards.specs.CommitNumbers.{last_number}
 use Rattle.item_shards.specs.Writing.{writes_if}
 use Rattle.shard_boxes.specs.Keys.{KeyState, seat_at, lines_at, holds_at}
 use Rattle.shard_boxes.specs.States.{ShardState}
-use Rattle.phase_desks.specs.declared.counters.Counters.{Counters}
-use Rattle.phase_desks.specs.declared.found.Found.{Found}
-use Rattle.phase_desks.specs.Slicing.{after_acts}
-use Rattle.phase_desks.specs.Deeds.{Deed, greatest_clock, takes, line_on, IsAnswered}
-use Rattle.phase_desks.specs.Desks.{DeskState, next_entry, after_commit, with_one_less}
-use Rattle.phase_desks.specs.Splits.{SplitState, setting_of}
-use Rattle.phase_desks.specs.Works.{Work, IsWorkOf}
+use Rattle.phase_contexts.specs.declared.counters.Counters.{Counters}
+use Rattle.phase_contexts.specs.declared.read_set.ReadSet.{ReadSet}
+use Rattle.phase_contexts.specs.Slicing.{after_acts}
+use Rattle.phase_contexts.specs.Txns.{Txn, greatest_clock, takes, line_on, IsAnswered}
+use Rattle.phase_contexts.specs.Contexts.{ContextState, next_entry, after_commit, with_one_less}
+use Rattle.phase_contexts.specs.Splits.{SplitState, setting_of}
+use Rattle.phase_contexts.specs.Works.{Work, IsWorkOf}
+use Rattle.phase_transactions.specs.declared.commit.Commit.{Commit}
 use Rattle.phase_transactions.specs.Putting.{KeepsSeen, HasPut}
 
--- a split permit, or its receipt: the desk with the slices, and the key
+-- a split permit, or its receipt: the context with the slices, and the key
 pub record PermitState : Type 0 where
   pub split : SplitState
   pub key : KeyState
 
+-- a context with slices, and a key
+abbrev pub permit : SplitState → KeyState → PermitState
+permit split key = record { split = split; key = key }
+
 -- a joined permit has no slices
-abbrev pub joined : DeskState → SplitState
-joined desk = record { desk = desk; slices = [] }
+abbrev pub joined : ContextState → SplitState
+joined context = record { context = context; slices = [] }
 
 abbrev pub no_counters : Counters
 no_counters = record { items = 0; bids = 0; comments = 0; buys = 0; commits = 0 }
@@ -36,14 +41,14 @@ first_of (begun ∷ more) = begun
 -- what the worker has done
 abbrev pub work_of : SplitState → KeyState → Work
 work_of split key = record {
-  opened = (first_of split.desk.begun).0;
-  start = (first_of split.desk.begun).1;
-  entries = split.desk.journal.entries;
+  opened = (first_of split.context.begun).0;
+  start = (first_of split.context.begun).1;
+  entries = split.context.journal.entries;
   lines = λ shard. lines_at key shard;
-  clock = split.desk.clock;
-  counters = split.desk.counters;
+  clock = split.context.clock;
+  counters = split.context.counters;
   slices = split.slices;
-  deeds = split.desk.deeds;
+  txns = split.context.txns;
 }
 
 -- the key holds no shard
@@ -54,16 +59,20 @@ IsIdle key = (shard : ℕ) → holds_at key shard ≡ false
 abbrev pub IsUnused : KeyState → Type 0
 IsUnused key = (shard : ℕ) → (holds_at key shard ≡ false) × (lines_at key shard ≡ [])
 
--- what a permit keeps and its receipt is worth, in a phase with so many shards: its journal is the key's worker's, the key is
--- idle, and the journal, the key's lines, the clock, the counters and the slices are those of one list of deeds
-pub record IsWorth (shards : ℕ) (split : SplitState) (key : KeyState) : Type 0 where
-  pub worker : split.desk.journal.worker ≡ key.worker
+-- a permit, or its receipt, is explained by its transactions in a phase with so many shards: its journal is the key's worker's, the key is
+-- idle, and the journal, the key's lines, the clock, the counters and the slices are those of one list of transactions
+pub record IsExplained (shards : ℕ) (split : SplitState) (key : KeyState) : Type 0 where
+  pub worker : split.context.journal.worker ≡ key.worker
   pub idle : IsIdle key
   pub work : IsWorkOf (setting_of split shards) key.worker (work_of split key)
 
--- The deed of a commit at this number that found this.
-abbrev pub deed_of : SplitState → ℕ → Request → ℕ → Reply → Found → Deed
-deed_of split number request index answer found = (next_entry split.desk number index request answer, found)
+-- The transaction of a commit at this number that found this.
+abbrev pub txn_of : SplitState → ℕ → Request → ℕ → Reply → ReadSet → Txn
+txn_of split number request index answer found = (next_entry split.context number index request answer, found)
+
+-- a context after the commit of what a transaction did
+abbrev pub done_at : ContextState → ℕ → Request → Commit Reply → ContextState
+done_at context index request done = with_one_less (after_commit context done.number index request done.reply done.found)
 
 -- A request of the quota is committed: the journal gains the entry, its number is 1 + the greatest of the worker's clock and
 -- the clocks found, each shard of the footprint was taken and put back with the entry's line, and no other one was taken, what
@@ -71,21 +80,21 @@ deed_of split number request index answer found = (next_entry split.desk number 
 -- seen and by the counters.
 pub record HasCommitted (opening : List ShardState) (old new : PermitState) (request : Request) (index : ℕ) (answer : Reply) : Type 0 where
   pub number : ℕ
-  pub found : Found
+  pub found : ReadSet
   pub numbered : let z = setting_of old.split (length opening) in
-      number ≡ suc (max old.split.desk.clock (greatest_clock z (deed_of old.split number request index answer found)))
+      number ≡ suc (max old.split.context.clock (greatest_clock z (txn_of old.split number request index answer found)))
   pub within : number ≤ last_number
-  pub desk : new.split.desk ≡ with_one_less (after_commit old.split.desk number index request answer found)
-  pub slices : new.split.slices ≡ after_acts old.split.slices (writes_if (row_of old.split.desk.journal.worker request answer))
-  pub lines : (shard : ℕ) → let z = setting_of old.split (length opening) in let deed = deed_of old.split number request index answer found in
-      lines_at new.key shard ≡ (if takes z shard deed then lines_at old.key shard ++ line_on z shard deed ∷ [] else lines_at old.key shard)
-  pub puts : (shard : ℕ) → let z = setting_of old.split (length opening) in let deed = deed_of old.split number request index answer found in
-      takes z shard deed ≡ true → HasPut opening old.key new.key shard (line_on z shard deed)
-  pub others : (shard : ℕ) → let z = setting_of old.split (length opening) in let deed = deed_of old.split number request index answer found in
-      takes z shard deed ≡ false → seat_at new.key shard ≡ seat_at old.key shard
+  pub context : new.split.context ≡ with_one_less (after_commit old.split.context number index request answer found)
+  pub slices : new.split.slices ≡ after_acts old.split.slices (writes_if (row_of old.split.context.journal.worker request answer))
+  pub lines : (shard : ℕ) → let z = setting_of old.split (length opening) in let txn = txn_of old.split number request index answer found in
+      lines_at new.key shard ≡ (if takes z shard txn then lines_at old.key shard ++ line_on z shard txn ∷ [] else lines_at old.key shard)
+  pub puts : (shard : ℕ) → let z = setting_of old.split (length opening) in let txn = txn_of old.split number request index answer found in
+      takes z shard txn ≡ true → HasPut opening old.key new.key shard (line_on z shard txn)
+  pub others : (shard : ℕ) → let z = setting_of old.split (length opening) in let txn = txn_of old.split number request index answer found in
+      takes z shard txn ≡ false → seat_at new.key shard ≡ seat_at old.key shard
   pub seen : KeepsSeen old.key new.key
   pub idle : IsIdle new.key
   pub worker : new.key.worker ≡ old.key.worker
   pub boxes : new.key.boxes ≡ old.key.boxes
   pub seats : length new.key.seats ≡ length old.key.seats
-  pub answered : IsAnswered (setting_of old.split (length opening)) old.split.desk.counters (deed_of old.split number request index answer found)
+  pub answered : IsAnswered (setting_of old.split (length opening)) old.split.context.counters (txn_of old.split number request index answer found)

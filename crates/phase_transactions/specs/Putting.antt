@@ -1,20 +1,23 @@
 -- A shard that is put back with a line, and what a key has seen of it.
-use Rattle.std.specs.Prelude.{◌≡◌, ℕ, List, [], ◌∷◌, ◌++◌, Some}
+use Rattle.std.specs.Prelude.{◌≡◌, ℕ, suc, max, ◌≤◌, List, [], ◌∷◌, ◌++◌, Option, Some, None}
 use Rattle.phase_laws.specs.Replay.{SawInTurn}
+use Rattle.auction_rows.specs.declared.requests.Facts.{Facts}
+use Rattle.item_shards.specs.CommitNumbers.{last_number}
 use Rattle.item_shards.specs.declared.acts.Act.{Act}
 use Rattle.item_shards.specs.declared.shard.Shard.{Shard}
 use Rattle.item_shards.specs.Acting.{CanActOn}
-use Rattle.item_shards.specs.Shelves.{after_act}
-use Rattle.item_shards.specs.ShardShelf.{shard_number, shard_count, shelf, opening, rooms, clock}
+use Rattle.item_shards.specs.Contents.{after_act}
+use Rattle.item_shards.specs.ShardContents.{shard_number, shard_count, contents, opening, rooms, clock}
 use Rattle.shard_boxes.specs.declared.line.Line.{Line}
 use Rattle.shard_boxes.specs.Helds.{HeldState, taken_at}
 use Rattle.shard_boxes.specs.Keys.{KeyState, seen_at, taking, putting}
 use Rattle.shard_boxes.specs.Lines.{after, MayFollow, StartsWith}
 use Rattle.shard_boxes.specs.States.{ShardState, state_at}
+use Rattle.phase_contexts.specs.declared.read_set.ReadSet.{ReadSet}
 
 -- the acts can be done on a shard, one after the other
 abbrev pub CanDo : Shard → List Act → Type 0
-CanDo shard acts = SawInTurn (CanActOn (opening shard) (shard_number shard) (shard_count shard) (rooms shard)) after_act (shelf shard) acts
+CanDo shard acts = SawInTurn (CanActOn (opening shard) (shard_number shard) (shard_count shard) (rooms shard)) after_act (contents shard) acts
 
 -- the clock of a shard as the key has last seen it
 abbrev pub clock_seen : List ShardState → KeyState → ℕ → ℕ
@@ -43,6 +46,20 @@ pub record HasPutOne (opening : List ShardState) (old new : KeyState) (shard : �
   pub put : new ≡ putting (taking old shard seen) shard (Some line)
   pub later : StartsWith seen (seen_at old shard)
   pub follows : MayFollow (after (state_at opening shard) seen) line
+
+-- what is found on one shard
+abbrev pub found_on : ℕ → ℕ → Option (Facts × ℕ) → ReadSet
+found_on shard before stock = record { stock = stock; clocks = Some (shard, before) ∷ None ∷ [] }
+
+-- One shard was taken, found with its clock, and put back with a line of these acts, at 1 + the greater of the worker's clock and
+-- its own.
+pub record IsOverOne (opening : List ShardState) (own : ℕ) (old new : KeyState) (shard number index : ℕ) (found : ReadSet)
+    (acts : List Act) : Type 0 where
+  pub before : ℕ
+  pub put : HasPutOne opening old new shard (record { number = number; before = before; index = index; acts = acts })
+  pub numbered : number ≡ suc (max own before)
+  pub within : number ≤ last_number
+  pub found_is : found ≡ found_on shard before found.stock
 
 -- A shard that the key holds was put back with the line, which may follow it as it was taken.
 pub record IsPutWith (opening : List ShardState) (old new : KeyState) (held : HeldState) (line : Line) : Type 0 where

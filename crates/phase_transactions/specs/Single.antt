@@ -1,5 +1,5 @@
 -- Requests over the one shard of an object.
-use Rattle.std.specs.Prelude.{◌≡◌, ℕ, suc, max, ◌<◌, ◌≤◌, if◌then◌else◌, List, [], ◌∷◌, ◌++◌, Option, Some, None, MatchOption, option_and_then, length}
+use Rattle.std.specs.Prelude.{◌≡◌, ℕ, ◌<◌, if◌then◌else◌, List, [], ◌∷◌, ◌++◌, Option, Some, None, MatchOption, option_and_then, length}
 use Rattle.auction_rows.specs.declared.ids.Object.{Object}
 use Rattle.auction_rows.specs.declared.ids.Object.TheVariants.{Item, User, Category}
 use Rattle.auction_rows.specs.declared.numbers.Opening.{Opening}
@@ -12,20 +12,18 @@ use Rattle.auction_rows.specs.declared.requests.Request.TheVariants.{StoreItem, 
 use Rattle.auction_rows.specs.Refusals.{number_refusal}
 use Rattle.auction_rows.specs.Replies.{row_of}
 use Rattle.auction_rows.specs.Requests.{item_of, is_view, shard_of}
-use Rattle.item_shards.specs.CommitNumbers.{last_number}
 use Rattle.item_shards.specs.declared.acts.Act.{Act}
 use Rattle.item_shards.specs.declared.shard.Shard.{Shard}
-use Rattle.item_shards.specs.ShardShelf.{shelf}
+use Rattle.item_shards.specs.ShardContents.{contents}
 use Rattle.item_shards.specs.Writing.{looks_of, writes_if, padded}
-use Rattle.shard_boxes.specs.declared.line.Line.{Line}
-use Rattle.shard_boxes.specs.Keys.{KeyState, seen_at, taking, putting}
-use Rattle.shard_boxes.specs.Lines.{AreTrueOf, after, StartsWith}
+use Rattle.shard_boxes.specs.Keys.{KeyState}
+use Rattle.shard_boxes.specs.Lines.{AreTrueOf}
 use Rattle.shard_boxes.specs.States.{ShardState, state_at}
-use Rattle.phase_desks.specs.declared.found.Found.{Found}
+use Rattle.phase_transactions.specs.declared.commit.Commit.{Commit}
 use Rattle.phase_transactions.specs.declared.seen.Seen.{Seen}
-use Rattle.phase_desks.specs.Deeds.{Answers, refusal_by}
-use Rattle.phase_desks.specs.Desks.{DeskState, after_commit, with_one_less}
-use Rattle.phase_transactions.specs.Putting.{CanDo, HasPutOne}
+use Rattle.phase_contexts.specs.Txns.{Answers, refusal_by}
+use Rattle.phase_contexts.specs.Contexts.{ContextState}
+use Rattle.phase_transactions.specs.Putting.{CanDo, IsOverOne}
 
 -- the object whose shard a request takes, where it needs no other object
 abbrev pub only_object : Request → Option Object
@@ -47,48 +45,28 @@ abbrev pub reason_by : Opening → Option (Facts × ℕ) → Request → Option 
 reason_by opening stock request =
     if is_view request then number_refusal opening request else refusal_by opening (option_and_then (λ item. stock) (item_of request)) request
 
--- the reply to a desk's request is the answer by what was seen and by the counters
-abbrev pub IsAnswerBy : DeskState → Request → Option (Facts × ℕ) → Reply → Type 0
-IsAnswerBy desk request stock reply =
-    MatchOption (reason_by desk.opening stock request) (Answers desk.counters desk.journal.worker request reply) (λ reason. reply ≡ Refused reason)
+-- the reply to a context's request is the answer by what was seen and by the counters
+abbrev pub IsAnswerBy : ContextState → Request → Option (Facts × ℕ) → Reply → Type 0
+IsAnswerBy context request stock reply =
+    MatchOption (reason_by context.opening stock request) (Answers context.counters context.journal.worker request reply) (λ reason. reply ≡ Refused reason)
 
 abbrev pub acts_of : Seen Reply → List Act
 acts_of seen = seen.look ∷ seen.write ∷ []
 
--- What a desk's request sees on a shard: its acts can be done there, they look at what is there, and its reply is the answer.
-pub record HasSeen (desk : DeskState) (shard : Shard) (request : Request) (seen : Seen Reply) : Type 0 where
-  pub acts : acts_of seen ≡ acts_done desk.journal.worker request seen.stock seen.reply
+-- What a context's request sees on a shard: its acts can be done there, they look at what is there, and its reply is the answer.
+pub record HasSeen (context : ContextState) (shard : Shard) (request : Request) (seen : Seen Reply) : Type 0 where
+  pub acts : acts_of seen ≡ acts_done context.journal.worker request seen.stock seen.reply
   pub can : CanDo shard (acts_of seen)
-  pub looks : AreTrueOf (shelf shard) (acts_of seen)
-  pub answered : IsAnswerBy desk request seen.stock seen.reply
+  pub looks : AreTrueOf (contents shard) (acts_of seen)
+  pub answered : IsAnswerBy context request seen.stock seen.reply
 
 -- the shards of a phase are those of an auction with as many users and categories
 abbrev pub HaveOpening : List ShardState → Opening → Type 0
 HaveOpening opening start = (s : ℕ) → s < length opening → (state_at opening s).opening ≡ start
 
--- what is found on one shard
-abbrev pub found_on : ℕ → ℕ → Option (Facts × ℕ) → Found
-found_on shard before stock = record { stock = stock; clocks = Some (shard, before) ∷ None ∷ [] }
-
--- The shard of the object was taken and put back with the request's line, at 1 + the greater of the clocks, and the desk has
--- committed the request with the answer.
-pub record HasDone (opening : List ShardState) (desk new : DeskState) (key back : KeyState) (request : Request) (object : Object) (index : ℕ)
-    (reply : Reply) : Type 0 where
-  pub number : ℕ
-  pub before : ℕ
-  pub stock : Option (Facts × ℕ)
-  pub put : HasPutOne opening key back (shard_of object (length opening))
-      (record { number = number; before = before; index = index; acts = acts_done desk.journal.worker request stock reply })
-  pub numbered : number ≡ suc (max desk.clock before)
-  pub within : number ≤ last_number
-  pub desk_is : new ≡ with_one_less (after_commit desk number index request reply (found_on (shard_of object (length opening)) before stock))
-  pub answered : IsAnswerBy desk request stock reply
-
--- The greater of the clocks is at the end of numbers: the shard of the object was put back as it was taken, under a list that
--- goes on from what the key had seen of it, and the desk stays.
-pub record IsAtEnd (opening : List ShardState) (desk new : DeskState) (key back : KeyState) (object : Object) : Type 0 where
-  pub seen : List (ℕ × Line)
-  pub key_is : let s = shard_of object (length opening) in back ≡ putting (taking key s seen) s None
-  pub later : StartsWith seen (seen_at key (shard_of object (length opening)))
-  pub desk_is : new ≡ desk
-  pub full : last_number ≤ max desk.clock (after (state_at opening (shard_of object (length opening))) seen).clock
+-- The request was done over the shard of the object, and its reply is the answer.
+pub record HasDone (opening : List ShardState) (context : ContextState) (key back : KeyState) (request : Request) (object : Object) (index : ℕ)
+    (done : Commit Reply) : Type 0 where
+  pub over : IsOverOne opening context.clock key back (shard_of object (length opening)) done.number index done.found
+      (acts_done context.journal.worker request done.found.stock done.reply)
+  pub answered : IsAnswerBy context request done.found.stock done.reply

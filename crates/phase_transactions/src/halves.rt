@@ -5,26 +5,28 @@ ghost use Rattle.auction_rows.specs.Footprint.{is_hot};
 ghost use Rattle.auction_rows.specs.Refusals.{number_refusal};
 ghost use Rattle.auction_rows.specs.Requests.{shard_of};
 ghost use Rattle.item_shards.specs.CommitNumbers.{last_number};
-ghost use Rattle.item_shards.specs.ShardShelf.{clock};
+ghost use Rattle.item_shards.specs.ShardContents.{clock};
 ghost use Rattle.shard_boxes.specs.Keys.{holds_at};
-ghost use Rattle.phase_desks.specs.Bids.{comment_request};
-ghost use Rattle.phase_desks.specs.Deeds.{refusal_by};
-ghost use Rattle.phase_desks.specs.Slicing.{objects_of};
-ghost use Rattle.phase_desks.specs.Splits.{IsHot};
+ghost use Rattle.phase_contexts.specs.Bids.{comment_request};
+ghost use Rattle.phase_contexts.specs.Txns.{refusal_by};
+ghost use Rattle.phase_contexts.specs.Slicing.{objects_of};
+ghost use Rattle.phase_contexts.specs.Splits.{IsHot};
 ghost use Rattle.phase_transactions.specs.declared.fault.PermitFault.TheVariants.{NumberFull};
-ghost use Rattle.phase_transactions.specs.Permits.{IsIdle, HasCommitted};
-ghost use Rattle.phase_transactions.specs.Pairs.{IsAsTaken, IsAsBefore};
+ghost use Rattle.phase_transactions.specs.Permits.{IsIdle, permit, HasCommitted};
+ghost use Rattle.phase_transactions.specs.Pairs.{IsAsTaken};
 ghost use Rattle.phase_transactions.specs.Performing.{HasFailed};
 ghost use Rattle.phase_transactions.specs.Single.{HaveOpening};
-ghost use Rattle.phase_transactions.specs.Halves.{permit, HasPutUser, IsUntouched, HasCommentedUser, HasLooked};
+ghost use Rattle.phase_transactions.specs.Taking.{HasStayed};
+ghost use Rattle.phase_transactions.specs.Halves.{HasPutUser, IsUntouched, HasCommentedUser, HasLooked};
 
 use crate::commit::Commit;
 use crate::pairs::{alone, answer_comment, look_and};
 use crate::putting::put_with_line;
+use crate::taking::{found_on, take_next};
 use auction_rows::{Facts, Object, Refusal, Reply, shard_of};
 use ghost_log::Ghost;
 use item_shards::{Act, Shown};
-use phase_desks::{Comment, Desk, Found, SplitDesk};
+use phase_contexts::{Comment, Context, ReadSet, SplitContext};
 use shard_boxes::{Boxes, Held, Key, PhaseName, sums_fit};
 use std::sync::Wait;
 use worker_journals::Answer;
@@ -35,7 +37,7 @@ fn comment_user_at<N: PhaseName, R: Wait>(
     rt: &R,
     boxes: &Boxes<N>,
     key: &mut Key<N>,
-    desk: &Desk,
+    context: &Context,
     comment: &Comment,
     stock: Option<(Facts, u32)>,
     held: Held<N>,
@@ -48,13 +50,13 @@ fn comment_user_at<N: PhaseName, R: Wait>(
     requires user { held.number ≡ shard_of (User comment.now.about) (length N.opening) }
     requires later { clock held.shard < number }
     requires within { number ≤ last_number }
-    requires openings { HaveOpening N.opening desk.now.opening }
-    requires allowed { number_refusal desk.now.opening (comment_request comment.now) ≡ None }
-    ensures { HasPutUser N.opening desk.now comment.now stock number index key.old key.new held result }
+    requires openings { HaveOpening N.opening context.now.opening }
+    requires allowed { number_refusal context.now.opening (comment_request comment.now) ≡ None }
+    ensures { HasPutUser N.opening context.now comment.now stock number index key.old key.new held result }
 {
     let _known = comment.stars.value();
     sums_fit();
-    let (reply, act) = answer_comment(desk, comment, stock);
+    let (reply, act) = answer_comment(context, comment, stock);
     let acts = alone(act);
     put_with_line(rt, boxes, key, held, number, index, &acts);
     reply
@@ -67,7 +69,7 @@ fn comment_over_user<N: PhaseName, R: Wait>(
     rt: &R,
     boxes: &Boxes<N>,
     key: &mut Key<N>,
-    desk: &Desk,
+    context: &Context,
     comment: &Comment,
     stock: Option<(Facts, u32)>,
     user: u32,
@@ -76,28 +78,19 @@ fn comment_over_user<N: PhaseName, R: Wait>(
     requires of { key.old.boxes ≡ boxes.now }
     requires seats { length key.old.seats ≡ length N.opening }
     requires idle { IsIdle key.old }
-    requires openings { HaveOpening N.opening desk.now.opening }
-    requires allowed { number_refusal desk.now.opening (comment_request comment.now) ≡ None }
+    requires openings { HaveOpening N.opening context.now.opening }
+    requires allowed { number_refusal context.now.opening (comment_request comment.now) ≡ None }
     requires user { user ≡ shard_of (User comment.now.about) (length N.opening) }
     requires known { user < length N.opening }
-    ensures done { IfSome result (HasCommentedUser N.opening desk.now key.old key.new comment.now stock index) }
-    ensures refused { IfNone result (IsAsBefore N.opening desk.now desk.now key.old key.new user user) }
+    ensures done { IfSome result (HasCommentedUser N.opening context.now key.old key.new comment.now stock index) }
+    ensures stayed { IfNone result (HasStayed N.opening context.now.clock key.old key.new user user NumberFull) }
 {
-    let held = boxes.take(rt, key, user);
-    let before = held.shard().clock();
-    let Some(number) = desk.next_number(before) else {
-        boxes.put(rt, key, held, None);
-        return None;
-    };
-    let reply = comment_user_at(rt, boxes, key, desk, comment, stock, held, number, index);
-    let found = Found {
-        stock: Ghost::of(&None),
-        clocks: [Some((user, before)), None],
-    };
+    let (held, before, number) = take_next(rt, boxes, key, context, user)?;
+    let reply = comment_user_at(rt, boxes, key, context, comment, stock, held, number, index);
     Some(Commit {
         number,
         reply,
-        found,
+        found: found_on(user, before, Ghost::of(&None)),
     })
 }
 
@@ -108,35 +101,27 @@ fn look_over_item<N: PhaseName, R: Wait>(
     rt: &R,
     boxes: &Boxes<N>,
     key: &mut Key<N>,
-    desk: &Desk,
+    context: &Context,
     comment: &Comment,
     item: u32,
     index: u32,
-) -> Option<(u64, Option<Refusal>, Found)>
+) -> Option<(u64, Option<Refusal>, ReadSet)>
     requires of { key.old.boxes ≡ boxes.now }
     requires seats { length key.old.seats ≡ length N.opening }
     requires idle { IsIdle key.old }
     requires item { item ≡ shard_of (Item comment.now.item) (length N.opening) }
     requires known { item < length N.opening }
-    ensures looked { IfSome result (λ looked. HasLooked N.opening desk.now key.old key.new comment.now index looked.0 looked.2) }
+    ensures looked { IfSome result (λ looked. HasLooked N.opening context.now key.old key.new comment.now index looked.0 looked.2) }
     ensures answered { IfSome result (λ looked. looked.1
-        ≡ refusal_by desk.now.opening looked.2.stock (comment_request comment.now)) }
-    ensures refused { IfNone result (IsAsBefore N.opening desk.now desk.now key.old key.new item item) }
+        ≡ refusal_by context.now.opening looked.2.stock (comment_request comment.now)) }
+    ensures stayed { IfNone result (HasStayed N.opening context.now.clock key.old key.new item item NumberFull) }
 {
-    let held = boxes.take(rt, key, item);
-    let before = held.shard().clock();
-    let Some(number) = desk.next_number(before) else {
-        boxes.put(rt, key, held, None);
-        return None;
-    };
+    let (held, before, number) = take_next(rt, boxes, key, context, item)?;
     let stock = held.shard().stock(comment.item);
-    let refused = desk.refusal(&comment.request(), stock);
+    let refused = context.refusal(&comment.request(), stock);
     let acts = look_and(comment, &stock, Act::Look(Shown::Nothing));
     put_with_line(rt, boxes, key, held, number, index, &acts);
-    let found = Found {
-        stock: Ghost::of(&stock),
-        clocks: [Some((item, before)), None],
-    };
+    let found = found_on(item, before, Ghost::of(&stock));
     Some((number, refused, found))
 }
 
@@ -147,16 +132,16 @@ pub(crate) fn comment_on_hot_item<N: PhaseName, R: Wait>(
     rt: &R,
     boxes: &Boxes<N>,
     key: &mut Key<N>,
-    split: &mut SplitDesk,
+    split: &mut SplitContext,
     comment: &Comment,
     index: u32,
 ) -> Option<Ghost<Reply>>
     requires of { key.old.boxes ≡ boxes.now }
     requires seats { length key.old.seats ≡ length N.opening }
     requires idle { IsIdle key.old }
-    requires left { 0 < split.old.desk.left }
-    requires openings { HaveOpening N.opening split.old.desk.opening }
-    requires allowed { number_refusal split.old.desk.opening (comment_request comment.now) ≡ None }
+    requires left { 0 < split.old.context.left }
+    requires openings { HaveOpening N.opening split.old.context.opening }
+    requires allowed { number_refusal split.old.context.opening (comment_request comment.now) ≡ None }
     requires item { IsHot split.old (Item comment.now.item) }
     requires user { is_hot (objects_of split.old.slices) (User comment.now.about) ≡ false }
     ensures committed { IfSome result (λ reply. HasCommitted N.opening
@@ -167,8 +152,8 @@ pub(crate) fn comment_on_hot_item<N: PhaseName, R: Wait>(
 {
     let user = shard_of(Object::User(comment.about), boxes.shards());
     let stock = split.stock(comment.item);
-    let desk = split.desk();
-    let done = comment_over_user(rt, boxes, key, desk, comment, stock, user, index)?;
+    let context = split.context();
+    let done = comment_over_user(rt, boxes, key, context, comment, stock, user, index)?;
     let request = comment.request();
     split.commit_cold(done.number, index, &request, &done.reply, &done.found);
     Some(Ghost::of(&done.reply.to_reply()))
@@ -181,15 +166,15 @@ pub(crate) fn comment_about_hot_user<N: PhaseName, R: Wait>(
     rt: &R,
     boxes: &Boxes<N>,
     key: &mut Key<N>,
-    split: &mut SplitDesk,
+    split: &mut SplitContext,
     comment: &Comment,
     index: u32,
 ) -> Option<Ghost<Reply>>
     requires of { key.old.boxes ≡ boxes.now }
     requires seats { length key.old.seats ≡ length N.opening }
     requires idle { IsIdle key.old }
-    requires left { 0 < split.old.desk.left }
-    requires allowed { number_refusal split.old.desk.opening (comment_request comment.now) ≡ None }
+    requires left { 0 < split.old.context.left }
+    requires allowed { number_refusal split.old.context.opening (comment_request comment.now) ≡ None }
     requires item { is_hot (objects_of split.old.slices) (Item comment.now.item) ≡ false }
     requires user { IsHot split.old (User comment.now.about) }
     ensures committed { IfSome result (λ reply. HasCommitted N.opening
@@ -199,8 +184,8 @@ pub(crate) fn comment_about_hot_user<N: PhaseName, R: Wait>(
     ensures untouched { IsUntouched (length N.opening) split.old (comment_request comment.now) key.old key.new }
 {
     let item = shard_of(Object::Item(comment.item), boxes.shards());
-    let desk = split.desk();
-    let (number, refused, found) = look_over_item(rt, boxes, key, desk, comment, item, index)?;
+    let context = split.context();
+    let (number, refused, found) = look_over_item(rt, boxes, key, context, comment, item, index)?;
     let reply = split.commit_comment(number, index, comment, refused, &found);
     Some(Ghost::of(&reply.to_reply()))
 }

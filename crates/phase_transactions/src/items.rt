@@ -3,24 +3,28 @@ ghost use Rattle.std.specs.Prelude.{◌≡◌, ◌≢◌, ◌<◌, ◌≤◌, le
 ghost use Rattle.auction_rows.specs.declared.ids.Object.TheVariants.{Item, Category};
 ghost use Rattle.auction_rows.specs.Refusals.{number_refusal};
 ghost use Rattle.auction_rows.specs.Requests.{shard_of};
-ghost use Rattle.item_shards.specs.ShardShelf.{HasRoom, LiesIn};
+ghost use Rattle.item_shards.specs.ShardContents.{HasRoom, LiesIn};
 ghost use Rattle.shard_boxes.specs.States.{state_of, state_at};
-ghost use Rattle.phase_desks.specs.Items.{item_request, next_item};
-ghost use Rattle.phase_desks.specs.Splits.{IsHot};
+ghost use Rattle.phase_contexts.specs.Items.{item_request, next_item};
+ghost use Rattle.phase_contexts.specs.Splits.{IsHot};
 ghost use Rattle.phase_transactions.specs.declared.fault.PermitFault.TheVariants.{Memory};
 ghost use Rattle.phase_transactions.specs.Performing.{HasFailed};
-ghost use Rattle.phase_transactions.specs.Permits.{IsIdle, HasCommitted};
+ghost use Rattle.phase_transactions.specs.Pairs.{IsOverBoth};
+ghost use Rattle.phase_transactions.specs.Permits.{IsIdle, permit, HasCommitted};
+ghost use Rattle.phase_transactions.specs.Putting.{IsOverOne};
+ghost use Rattle.phase_transactions.specs.Taking.{HasStayed};
 ghost use Rattle.phase_transactions.specs.Single.{HaveOpening};
-ghost use Rattle.phase_transactions.specs.Items.{adds, lists, nothing_else, CanAlwaysDo, HasActed, HasActedOnBoth, HasStayed, stored_at, HasStoredCold, HasFailedCold};
+ghost use Rattle.phase_transactions.specs.Items.{adds, lists, nothing_else, CanAlwaysDo, HasStoredCold, HasFailedCold};
 
 use crate::commit::Commit;
 use crate::fault::PermitFault;
-use crate::pairs::{alone, put_both, put_both_back, take_both};
+use crate::pairs::{alone, put_both, put_both_back, take_both_next};
 use crate::putting::put_with_line;
+use crate::taking::{found_on, found_on_both, take_next};
 use auction_rows::{ItemId, Object, Reply, StoreReply, shard_of};
 use ghost_log::Ghost;
-use item_shards::{Act, Shown, next_number};
-use phase_desks::{Desk, Found, NewItem, SplitDesk};
+use item_shards::{Act, Shown};
+use phase_contexts::{Context, NewItem, ReadSet, SplitContext};
 use shard_boxes::{Boxes, Held, Key, PhaseName};
 use std::sync::Wait;
 use worker_journals::Answer;
@@ -40,55 +44,53 @@ fn prepare<N: PhaseName>(held: &mut Held<N>, id: ItemId) -> Result<(), PermitFau
 }
 
 /// Adds an item on its shard, and does a second act there, at 1 + the greater of the worker's clock and the shard's. It
-/// gives that number and the clock that was found.
+/// gives that number and what was found.
 fn add_over_one<N: PhaseName, R: Wait>(
     rt: &R,
     boxes: &Boxes<N>,
     key: &mut Key<N>,
-    clock: u64,
+    context: &Context,
     shard: u32,
     item: &NewItem,
     id: ItemId,
     second: Act,
     index: u32,
-) -> Result<(u64, u64), PermitFault>
+) -> Result<(u64, ReadSet), PermitFault>
     requires of { key.old.boxes ≡ boxes.now }
     requires seats { length key.old.seats ≡ length N.opening }
     requires idle { IsIdle key.old }
     requires known { shard < length N.opening }
     requires home { shard ≡ shard_of (Item id) (length N.opening) }
     requires second { CanAlwaysDo N.opening shard second }
-    ensures added { IfOk result (λ at.
-        HasActed N.opening clock key.old key.new shard at.0 at.1 index (adds item.now id ∷ second ∷ [])) }
-    ensures stayed { IfErr result (HasStayed N.opening clock key.old key.new shard shard) }
+    ensures added { IfOk result (λ done. IsOverOne N.opening context.now.clock key.old key.new shard done.0 index done.1 (adds item.now id ∷ second ∷ [])) }
+    ensures stock { IfOk result (λ done. done.1.stock ≡ None) }
+    ensures stayed { IfErr result (HasStayed N.opening context.now.clock key.old key.new shard shard) }
 {
-    let mut held = boxes.take(rt, key, shard);
-    let before = held.shard().clock();
-    let Some(number) = next_number(clock, before) else {
-        boxes.put(rt, key, held, None);
+    let Some(next) = take_next(rt, boxes, key, context, shard) else {
         return Err(PermitFault::NumberFull);
     };
+    let (mut held, before, number) = next;
     if let Err(fault) = prepare(&mut held, id) {
         boxes.put(rt, key, held, None);
         return Err(fault);
     }
     let acts = [Act::AddItem(id, item.facts), second];
     put_with_line(rt, boxes, key, held, number, index, &acts);
-    Ok((number, before))
+    Ok((number, found_on(shard, before, Ghost::of(&None))))
 }
 
 /// Adds an item on its shard and lists it on another one, that of its category, at 1 + the greatest of the worker's clock
-/// and theirs. It gives that number and the clocks that were found.
+/// and theirs. It gives that number and what was found.
 fn add_over_two<N: PhaseName, R: Wait>(
     rt: &R,
     boxes: &Boxes<N>,
     key: &mut Key<N>,
-    clock: u64,
+    context: &Context,
     shards: (u32, u32),
     item: &NewItem,
     id: ItemId,
     index: u32,
-) -> Result<(u64, u64, u64), PermitFault>
+) -> Result<(u64, ReadSet), PermitFault>
     requires of { key.old.boxes ≡ boxes.now }
     requires seats { length key.old.seats ≡ length N.opening }
     requires idle { IsIdle key.old }
@@ -96,17 +98,15 @@ fn add_over_two<N: PhaseName, R: Wait>(
     requires apart { shards.0 ≢ shards.1 }
     requires home { shards.0 ≡ shard_of (Item id) (length N.opening) }
     requires list { CanAlwaysDo N.opening shards.1 (lists item.now id) }
-    ensures added { IfOk result (λ at. HasActedOnBoth N.opening clock key.old key.new shards.0 shards.1 at.0 at.1 at.2 index
+    ensures added { IfOk result (λ done. IsOverBoth N.opening context.now.clock key.old key.new shards.0 shards.1 done.0 index done.1
         (adds item.now id ∷ nothing_else ∷ []) (lists item.now id ∷ nothing_else ∷ [])) }
-    ensures stayed { IfErr result (HasStayed N.opening clock key.old key.new shards.0 shards.1) }
+    ensures stock { IfOk result (λ done. done.1.stock ≡ None) }
+    ensures stayed { IfErr result (HasStayed N.opening context.now.clock key.old key.new shards.0 shards.1) }
 {
-    let (mut on_item, on_category) = take_both(rt, boxes, key, shards.0, shards.1);
-    let first = on_item.shard().clock();
-    let second = on_category.shard().clock();
-    let Some(number) = next_number(clock, first.max(second)) else {
-        put_both_back(rt, boxes, key, on_item, on_category);
+    let Some(next) = take_both_next(rt, boxes, key, context, shards.0, shards.1) else {
         return Err(PermitFault::NumberFull);
     };
+    let ((mut on_item, on_category), (first, second), number) = next;
     if let Err(fault) = prepare(&mut on_item, id) {
         put_both_back(rt, boxes, key, on_item, on_category);
         return Err(fault);
@@ -123,7 +123,8 @@ fn add_over_two<N: PhaseName, R: Wait>(
         &add,
         &list,
     );
-    Ok((number, first, second))
+    let found = found_on_both((shards.0, first), (shards.1, second), Ghost::of(&None));
+    Ok((number, found))
 }
 
 /// Stores the worker's next item over the one shard in which it and its category lie.
@@ -131,7 +132,7 @@ fn store_over_one<N: PhaseName, R: Wait>(
     rt: &R,
     boxes: &Boxes<N>,
     key: &mut Key<N>,
-    desk: &Desk,
+    context: &Context,
     item: &NewItem,
     shard: u32,
     index: u32,
@@ -139,33 +140,18 @@ fn store_over_one<N: PhaseName, R: Wait>(
     requires of { key.old.boxes ≡ boxes.now }
     requires seats { length key.old.seats ≡ length N.opening }
     requires idle { IsIdle key.old }
-    requires opening { HaveOpening N.opening desk.now.opening }
-    requires allowed { number_refusal desk.now.opening (item_request item.now) ≡ None }
-    requires home { shard ≡ shard_of (Item (next_item desk.now)) (length N.opening) }
+    requires opening { HaveOpening N.opening context.now.opening }
+    requires allowed { number_refusal context.now.opening (item_request item.now) ≡ None }
+    requires home { shard ≡ shard_of (Item (next_item context.now)) (length N.opening) }
     requires listed { shard ≡ shard_of (Category item.now.facts.category) (length N.opening) }
     requires known { shard < length N.opening }
-    ensures cold { IfOk result (λ done. HasStoredCold N.opening
-        desk.now (stored_at desk.now index item.now done) key.old key.new item.now index done.reply) }
-    ensures later { IfOk result (λ done. desk.now.clock < done.number) }
-    ensures failed { IfErr result (HasFailedCold N.opening desk.now key.old key.new item.now) }
+    ensures cold { IfOk result (HasStoredCold N.opening context.now key.old key.new item.now index) }
+    ensures later { IfOk result (λ done. context.now.clock < done.number) }
+    ensures failed { IfErr result (HasFailedCold N.opening context.now key.old key.new item.now) }
 {
-    let id = desk.next_item();
+    let id = context.next_item();
     let list = Act::ListItem(item.facts.category, item.entry(id));
-    let (number, before) = add_over_one(
-        rt,
-        boxes,
-        key,
-        desk.clock(),
-        shard,
-        item,
-        id,
-        list,
-        index,
-    )?;
-    let found = Found {
-        stock: Ghost::of(&None),
-        clocks: [Some((shard, before)), None],
-    };
+    let (number, found) = add_over_one(rt, boxes, key, context, shard, item, id, list, index)?;
     Ok(Commit {
         number,
         reply: Answer::store(StoreReply::ItemStored(id)),
@@ -178,7 +164,7 @@ fn store_over_two<N: PhaseName, R: Wait>(
     rt: &R,
     boxes: &Boxes<N>,
     key: &mut Key<N>,
-    desk: &Desk,
+    context: &Context,
     item: &NewItem,
     shards: (u32, u32),
     index: u32,
@@ -186,32 +172,18 @@ fn store_over_two<N: PhaseName, R: Wait>(
     requires of { key.old.boxes ≡ boxes.now }
     requires seats { length key.old.seats ≡ length N.opening }
     requires idle { IsIdle key.old }
-    requires opening { HaveOpening N.opening desk.now.opening }
-    requires allowed { number_refusal desk.now.opening (item_request item.now) ≡ None }
-    requires home { shards.0 ≡ shard_of (Item (next_item desk.now)) (length N.opening) }
+    requires opening { HaveOpening N.opening context.now.opening }
+    requires allowed { number_refusal context.now.opening (item_request item.now) ≡ None }
+    requires home { shards.0 ≡ shard_of (Item (next_item context.now)) (length N.opening) }
     requires listed { shards.1 ≡ shard_of (Category item.now.facts.category) (length N.opening) }
     requires known { (shards.0 < length N.opening) × (shards.1 < length N.opening) }
     requires apart { shards.0 ≢ shards.1 }
-    ensures cold { IfOk result (λ done. HasStoredCold N.opening
-        desk.now (stored_at desk.now index item.now done) key.old key.new item.now index done.reply) }
-    ensures later { IfOk result (λ done. desk.now.clock < done.number) }
-    ensures failed { IfErr result (HasFailedCold N.opening desk.now key.old key.new item.now) }
+    ensures cold { IfOk result (HasStoredCold N.opening context.now key.old key.new item.now index) }
+    ensures later { IfOk result (λ done. context.now.clock < done.number) }
+    ensures failed { IfErr result (HasFailedCold N.opening context.now key.old key.new item.now) }
 {
-    let id = desk.next_item();
-    let (number, first, second) = add_over_two(
-        rt,
-        boxes,
-        key,
-        desk.clock(),
-        shards,
-        item,
-        id,
-        index,
-    )?;
-    let found = Found {
-        stock: Ghost::of(&None),
-        clocks: [Some((shards.0, first)), Some((shards.1, second))],
-    };
+    let id = context.next_item();
+    let (number, found) = add_over_two(rt, boxes, key, context, shards, item, id, index)?;
     Ok(Commit {
         number,
         reply: Answer::store(StoreReply::ItemStored(id)),
@@ -219,35 +191,34 @@ fn store_over_two<N: PhaseName, R: Wait>(
     })
 }
 
-/// Stores the worker's next item, which the opening does not refuse, for the desk to commit: over its shard and its
+/// Stores the worker's next item, which the opening does not refuse, for the context to commit: over its shard and its
 /// category's, which are taken in ascending order, and once where they are one. Its room is the only memory that is asked
 /// for, after the number is known. After a fault nothing has changed but what the key has seen.
 pub(crate) fn store_over_shards<N: PhaseName, R: Wait>(
     rt: &R,
     boxes: &Boxes<N>,
     key: &mut Key<N>,
-    desk: &Desk,
+    context: &Context,
     item: &NewItem,
     index: u32,
 ) -> Result<Commit<Answer<'static>>, PermitFault>
     requires of { key.old.boxes ≡ boxes.now }
     requires seats { length key.old.seats ≡ length N.opening }
     requires idle { IsIdle key.old }
-    requires opening { HaveOpening N.opening desk.now.opening }
-    requires allowed { number_refusal desk.now.opening (item_request item.now) ≡ None }
-    ensures cold { IfOk result (λ done. HasStoredCold N.opening
-        desk.now (stored_at desk.now index item.now done) key.old key.new item.now index done.reply) }
-    ensures later { IfOk result (λ done. desk.now.clock < done.number) }
-    ensures failed { IfErr result (HasFailedCold N.opening desk.now key.old key.new item.now) }
+    requires opening { HaveOpening N.opening context.now.opening }
+    requires allowed { number_refusal context.now.opening (item_request item.now) ≡ None }
+    ensures cold { IfOk result (HasStoredCold N.opening context.now key.old key.new item.now index) }
+    ensures later { IfOk result (λ done. context.now.clock < done.number) }
+    ensures failed { IfErr result (HasFailedCold N.opening context.now key.old key.new item.now) }
 {
     let shards = boxes.shards();
-    let id = desk.next_item();
+    let id = context.next_item();
     let home = shard_of(Object::Item(id), shards);
     let listed = shard_of(Object::Category(item.facts.category), shards);
     if home == listed {
-        store_over_one(rt, boxes, key, desk, item, home, index)
+        store_over_one(rt, boxes, key, context, item, home, index)
     } else {
-        store_over_two(rt, boxes, key, desk, item, (home, listed), index)
+        store_over_two(rt, boxes, key, context, item, (home, listed), index)
     }
 }
 
@@ -256,41 +227,26 @@ pub(crate) fn store_in_hot_category<N: PhaseName, R: Wait>(
     rt: &R,
     boxes: &Boxes<N>,
     key: &mut Key<N>,
-    split: &mut SplitDesk,
+    split: &mut SplitContext,
     item: &NewItem,
     index: u32,
 ) -> Result<Ghost<Reply>, PermitFault>
     requires of { key.old.boxes ≡ boxes.now }
     requires seats { length key.old.seats ≡ length N.opening }
     requires idle { IsIdle key.old }
-    requires left { 0 < split.old.desk.left }
-    requires allowed { number_refusal split.old.desk.opening (item_request item.now) ≡ None }
+    requires left { 0 < split.old.context.left }
+    requires allowed { number_refusal split.old.context.opening (item_request item.now) ≡ None }
     requires hot { IsHot split.old (Category item.now.facts.category) }
     ensures committed { IfOk result (λ reply. HasCommitted N.opening
-        (record { split = split.old; key = key.old }) (record { split = split.new; key = key.new })
-        (item_request item.now) index reply) }
+        (permit split.old key.old) (permit split.new key.new) (item_request item.now) index reply) }
     ensures failed { IfErr result (HasFailed N.opening
-        (record { split = split.old; key = key.old }) (record { split = split.new; key = key.new })
-        (item_request item.now)) }
+        (permit split.old key.old) (permit split.new key.new) (item_request item.now)) }
 {
     let id = split.next_item();
     let home = shard_of(Object::Item(id), boxes.shards());
     let nothing = Act::Look(Shown::Nothing);
-    let (number, before) = add_over_one(
-        rt,
-        boxes,
-        key,
-        split.clock(),
-        home,
-        item,
-        id,
-        nothing,
-        index,
-    )?;
-    let found = Found {
-        stock: Ghost::of(&None),
-        clocks: [Some((home, before)), None],
-    };
+    let context = split.context();
+    let (number, found) = add_over_one(rt, boxes, key, context, home, item, id, nothing, index)?;
     let reply = split.store_item(number, index, item, &found);
     Ok(Ghost::of(&reply.to_reply()))
 }

@@ -6,38 +6,38 @@ ghost use Rattle.auction_rows.specs.Book.{Book};
 ghost use Rattle.auction_rows.specs.Footprint.{footprint};
 ghost use Rattle.auction_rows.specs.History.{IsRight};
 ghost use Rattle.auction_rows.specs.Replies.{reply};
-ghost use Rattle.item_shards.specs.Shelves.{Shelf};
+ghost use Rattle.item_shards.specs.Contents.{Contents};
 ghost use Rattle.shard_boxes.specs.declared.line.Line.{Line};
 ghost use Rattle.shard_boxes.specs.Keys.{KeyState, taking, putting, lines_at, added};
 ghost use Rattle.shard_boxes.specs.States.{ShardState};
-ghost use Rattle.phase_desks.specs.declared.counters.Counters.{Counters};
-ghost use Rattle.phase_desks.specs.Deeds.{Setting, Deed, hot_in, IsAnswered};
-ghost use Rattle.phase_desks.specs.Splits.{setting_of, CountsOf, HasStocks};
+ghost use Rattle.phase_contexts.specs.declared.counters.Counters.{Counters};
+ghost use Rattle.phase_contexts.specs.Txns.{Setting, Txn, hot_in, IsAnswered};
+ghost use Rattle.phase_contexts.specs.Splits.{setting_of, CountsOf, HasStocks};
 ghost use Rattle.phase_transactions.specs.declared.fault.PermitFault.{PermitFault};
 ghost use Rattle.phase_transactions.specs.Performing.{HasFailed, shards_asked};
-ghost use Rattle.phase_transactions.specs.Permits.{PermitState, HasCommitted, IsWorth, IsIdle, deed_of};
+ghost use Rattle.phase_transactions.specs.Permits.{PermitState, HasCommitted, IsExplained, IsIdle, txn_of};
 ghost use Rattle.phase_transactions.specs.Replying.{SawTrue, StoodFor, HasFixed, StoodAsTaken};
 
-/// A commit of a request keeps what a permit is worth.
-pub fn commits_keep_worth()
+/// After the commit of a request a permit is still explained by its transactions.
+pub fn commits_stay_explained()
     ensures { (opening : List ShardState) (old new : PermitState) (request : Request) (index : ℕ) (reply : Reply) →
         HasCommitted opening old new request index reply →
-        IsWorth (length opening) old.split old.key → IsWorth (length opening) new.split new.key }
+        IsExplained (length opening) old.split old.key → IsExplained (length opening) new.split new.key }
 {}
 
 /// A commit's reply is the model's for every book for which the shards that it took stood, but for hot objects, in
 /// which hot items have what is fixed of them, and which its worker's counters counted.
 pub fn replies_are_right()
-    ensures deeds { (z : Setting) (taken : ℕ → Shelf) (counters : Counters) (deed : Deed) →
-        SawTrue z taken deed → IsAnswered z counters deed →
-        (book : Book) → StoodFor z taken book deed → HasFixed z book → CountsOf book deed.0.worker counters →
-        IsRight z.opening book deed.0 }
+    ensures txns { (z : Setting) (taken : ℕ → Contents) (counters : Counters) (txn : Txn) →
+        SawTrue z taken txn → IsAnswered z counters txn →
+        (book : Book) → StoodFor z taken book txn → HasFixed z book → CountsOf book txn.0.worker counters →
+        IsRight z.opening book txn.0 }
     ensures commits { (opening : List ShardState) (old new : PermitState) (request : Request) (index : ℕ) (answer : Reply)
         (done : HasCommitted opening old new request index answer) (book : Book) →
-        let desk = old.split.desk in
+        let context = old.split.context in
         StoodAsTaken opening old new request index answer done book → HasStocks book old.split.slices →
-        CountsOf book desk.journal.worker desk.counters →
-        answer ≡ reply desk.opening book desk.journal.worker request }
+        CountsOf book context.journal.worker context.counters →
+        answer ≡ reply context.opening book context.journal.worker request }
 {}
 
 /// A request with an empty footprint leaves the key as it was, whether it was committed or not.
@@ -45,8 +45,8 @@ pub fn empty_footprints_leave_keys()
     ensures commits { (opening : List ShardState) (old new : PermitState) (request : Request) (index : ℕ) (answer : Reply)
         (done : HasCommitted opening old new request index answer) →
         let z = setting_of old.split (length opening) in
-        let deed = deed_of old.split done.number request index answer done.found in
-        footprint z.opening z.shards (hot_in z) deed.0 ≡ [] → new.key ≡ old.key }
+        let txn = txn_of old.split done.number request index answer done.found in
+        footprint z.opening z.shards (hot_in z) txn.0 ≡ [] → new.key ≡ old.key }
     ensures failures { (opening : List ShardState) (old new : PermitState) (request : Request) (fault : PermitFault) →
         HasFailed opening old new request fault → shards_asked (length opening) old.split request ≡ [] →
         new.key ≡ old.key }

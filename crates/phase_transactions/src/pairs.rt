@@ -4,30 +4,32 @@ ghost use Rattle.auction_rows.specs.declared.ids.Object.TheVariants.{Item, User}
 ghost use Rattle.auction_rows.specs.Refusals.{number_refusal};
 ghost use Rattle.auction_rows.specs.Requests.{shard_of};
 ghost use Rattle.item_shards.specs.CommitNumbers.{last_number};
-ghost use Rattle.item_shards.specs.ShardShelf.{clock, shelf};
+ghost use Rattle.item_shards.specs.ShardContents.{clock, contents};
 ghost use Rattle.item_shards.specs.declared.acts.Act.TheVariants.{Look};
 ghost use Rattle.item_shards.specs.declared.acts.Shown.TheVariants as shown;
 ghost use Rattle.shard_boxes.specs.Keys.{holds_at, seen_at, HoldsNoneFrom};
 ghost use Rattle.shard_boxes.specs.Lines.{AreTrueOf};
 ghost use Rattle.shard_boxes.specs.States.{state_at};
-ghost use Rattle.phase_desks.specs.Bids.{comment_request};
+ghost use Rattle.phase_contexts.specs.Bids.{comment_request};
+ghost use Rattle.phase_transactions.specs.declared.fault.PermitFault.TheVariants.{NumberFull};
 ghost use Rattle.phase_transactions.specs.Putting.{CanDo, line_of};
 ghost use Rattle.phase_transactions.specs.Permits.{IsIdle};
-ghost use Rattle.phase_transactions.specs.Halves.{done_at};
-ghost use Rattle.phase_transactions.specs.Pairs.{HoldsBoth, HasSameLines, LeavesOthers, HasPutBoth, HasPutTwo, IsAsTaken, IsCommentAnswer, comment_look, HasPutComment, HasCommented, HasPutCommentInOne, HasCommentedInOne, HasCommittedCold, IsAsBefore};
+ghost use Rattle.phase_transactions.specs.Pairs.{HoldsBoth, HasSameLines, LeavesOthers, HasTakenBoth, IsNextOfBoth, HasPutBoth, HasPutTwo, IsAsTaken, IsCommentAnswer, comment_look, HasPutComment, HasCommented, HasPutCommentInOne, HasCommentedInOne, HasCommentedCold};
+ghost use Rattle.phase_transactions.specs.Taking.{HasStayed};
 
 use crate::commit::Commit;
 use crate::putting::put_with_line;
+use crate::taking::{found_on, found_on_both, take_next};
 use auction_rows::{Facts, Object, StoreReply, shard_of};
 use ghost_log::Ghost;
 use item_shards::{Act, Shown};
-use phase_desks::{Comment, Desk, Found};
+use phase_contexts::{Comment, Context};
 use shard_boxes::{Boxes, Held, Key, PhaseName, sums_fit};
 use std::sync::Wait;
 use worker_journals::Answer;
 
 /// Takes two shards, the lesser first.
-pub(crate) fn take_both<N: PhaseName, R: Wait>(
+fn take_both<N: PhaseName, R: Wait>(
     rt: &R,
     boxes: &Boxes<N>,
     key: &mut Key<N>,
@@ -56,6 +58,36 @@ pub(crate) fn take_both<N: PhaseName, R: Wait>(
         let greater = boxes.take(rt, key, one);
         (greater, lesser)
     }
+}
+
+/// Takes two shards, and gives them with their clocks and the number of a commit there: 1 + the greatest of these clocks and
+/// the worker's own. None exactly where that is past the end of numbers, and then they go back as they were.
+pub(crate) fn take_both_next<N: PhaseName, R: Wait>(
+    rt: &R,
+    boxes: &Boxes<N>,
+    key: &mut Key<N>,
+    context: &Context,
+    one: u32,
+    other: u32,
+) -> Option<((Held<N>, Held<N>), (u64, u64), u64)>
+    requires of { key.old.boxes ≡ boxes.now }
+    requires one { one < length N.opening }
+    requires other { other < length N.opening }
+    requires apart { one ≢ other }
+    requires seats { length key.old.seats ≡ length N.opening }
+    requires idle { IsIdle key.old }
+    ensures taken { IfSome result (λ next. HasTakenBoth N.opening N.workers key.old key.new one other next.0) }
+    ensures next { IfSome result (λ next. IsNextOfBoth context.now.clock next.0 next.1 next.2) }
+    ensures stayed { IfNone result (HasStayed N.opening context.now.clock key.old key.new one other NumberFull) }
+{
+    let (on_one, on_other) = take_both(rt, boxes, key, one, other);
+    let first = on_one.shard().clock();
+    let second = on_other.shard().clock();
+    let Some(number) = context.next_number(first.max(second)) else {
+        put_both_back(rt, boxes, key, on_one, on_other);
+        return None;
+    };
+    Some(((on_one, on_other), (first, second), number))
 }
 
 /// Puts two shards back as they were taken.
@@ -97,7 +129,7 @@ pub(crate) fn put_both<N: PhaseName, R: Wait>(
     requires later { (clock held.0.shard < number) × (clock held.1.shard < number) }
     requires within { number ≤ last_number }
     requires can { CanDo held.0.shard first.now × CanDo held.1.shard second.now }
-    requires looks { AreTrueOf (shelf held.0.shard) first.now × AreTrueOf (shelf held.1.shard) second.now }
+    requires looks { AreTrueOf (contents held.0.shard) first.now × AreTrueOf (contents held.1.shard) second.now }
     ensures { HasPutTwo N.opening key.old key.new held.0.number held.1.number
         (line_of number index first.now held.0.shard) (line_of number index second.now held.1.shard) }
 {
@@ -108,19 +140,19 @@ pub(crate) fn put_both<N: PhaseName, R: Wait>(
 
 /// The reply to a comment by what was seen of its item, and what it does to the user whom it is about.
 pub(crate) fn answer_comment(
-    desk: &Desk,
+    context: &Context,
     comment: &Comment,
     seen: Option<(Facts, u32)>,
 ) -> (Answer<'static>, Act)
-    ensures { IsCommentAnswer desk.now seen comment.now result.0 result.1 }
+    ensures { IsCommentAnswer context.now seen comment.now result.0 result.1 }
 {
-    match desk.refusal(&comment.request(), seen) {
+    match context.refusal(&comment.request(), seen) {
         Some(reason) => (
             Answer::store(StoreReply::Refused(reason)),
             Act::Look(Shown::Nothing),
         ),
         None => (
-            Answer::store(StoreReply::CommentStored(desk.next_comment())),
+            Answer::store(StoreReply::CommentStored(context.next_comment())),
             Act::Comment(comment.about, comment.stars),
         ),
     }
@@ -151,7 +183,7 @@ fn comment_at<N: PhaseName, R: Wait>(
     rt: &R,
     boxes: &Boxes<N>,
     key: &mut Key<N>,
-    desk: &Desk,
+    context: &Context,
     comment: &Comment,
     held: (Held<N>, Held<N>),
     number: u64,
@@ -165,15 +197,15 @@ fn comment_at<N: PhaseName, R: Wait>(
     requires user { held.1.number ≡ shard_of (User comment.now.about) (length N.opening) }
     requires later { (clock held.0.shard < number) × (clock held.1.shard < number) }
     requires within { number ≤ last_number }
-    requires openings { (s : ℕ) → s < length N.opening → (state_at N.opening s).opening ≡ desk.now.opening }
-    requires allowed { number_refusal desk.now.opening (comment_request comment.now) ≡ None }
-    ensures { HasPutComment N.opening desk.now comment.now number index key.old key.new held.0 held.1 result.1 result.0 }
+    requires openings { (s : ℕ) → s < length N.opening → (state_at N.opening s).opening ≡ context.now.opening }
+    requires allowed { number_refusal context.now.opening (comment_request comment.now) ≡ None }
+    ensures { HasPutComment N.opening context.now comment.now number index key.old key.new held.0 held.1 result.1 result.0 }
 {
     let (on_item, on_user) = held;
     let _known = comment.stars.value();
     sums_fit();
     let seen = on_item.shard().stock(comment.item);
-    let (reply, act) = answer_comment(desk, comment, seen);
+    let (reply, act) = answer_comment(context, comment, seen);
     let looks = look_and(comment, &seen, Act::Look(Shown::Nothing));
     let writes = alone(act);
     put_both(
@@ -196,7 +228,7 @@ fn comment_over_two<N: PhaseName, R: Wait>(
     rt: &R,
     boxes: &Boxes<N>,
     key: &mut Key<N>,
-    desk: &Desk,
+    context: &Context,
     comment: &Comment,
     item: u32,
     user: u32,
@@ -205,34 +237,23 @@ fn comment_over_two<N: PhaseName, R: Wait>(
     requires of { key.old.boxes ≡ boxes.now }
     requires seats { length key.old.seats ≡ length N.opening }
     requires idle { IsIdle key.old }
-    requires openings { (s : ℕ) → s < length N.opening → (state_at N.opening s).opening ≡ desk.now.opening }
-    requires allowed { number_refusal desk.now.opening (comment_request comment.now) ≡ None }
+    requires openings { (s : ℕ) → s < length N.opening → (state_at N.opening s).opening ≡ context.now.opening }
+    requires allowed { number_refusal context.now.opening (comment_request comment.now) ≡ None }
     requires item { item ≡ shard_of (Item comment.now.item) (length N.opening) }
     requires user { user ≡ shard_of (User comment.now.about) (length N.opening) }
     requires known { (item < length N.opening) × (user < length N.opening) }
     requires apart { item ≢ user }
-    ensures done { IfSome result (λ done. HasCommented N.opening
-        desk.now (done_at desk.now index (comment_request comment.now) done) key.old key.new comment.now index done.reply) }
-    ensures later { IfSome result (λ done. desk.now.clock < done.number) }
-    ensures refused { IfNone result (IsAsBefore N.opening desk.now desk.now key.old key.new item user) }
+    ensures done { IfSome result (HasCommented N.opening context.now key.old key.new comment.now index) }
+    ensures later { IfSome result (λ done. context.now.clock < done.number) }
+    ensures stayed { IfNone result (HasStayed N.opening context.now.clock key.old key.new item user NumberFull) }
 {
-    let (on_item, on_user) = take_both(rt, boxes, key, item, user);
-    let first = on_item.shard().clock();
-    let second = on_user.shard().clock();
-    let Some(number) = desk.next_number(first.max(second)) else {
-        put_both_back(rt, boxes, key, on_item, on_user);
-        return None;
-    };
-    let held = (on_item, on_user);
-    let (reply, seen) = comment_at(rt, boxes, key, desk, comment, held, number, index);
-    let found = Found {
-        stock: Ghost::of(&seen),
-        clocks: [Some((item, first)), Some((user, second))],
-    };
+    let next = take_both_next(rt, boxes, key, context, item, user)?;
+    let (held, (first, second), number) = next;
+    let (reply, seen) = comment_at(rt, boxes, key, context, comment, held, number, index);
     Some(Commit {
         number,
         reply,
-        found,
+        found: found_on_both((item, first), (user, second), Ghost::of(&seen)),
     })
 }
 
@@ -242,7 +263,7 @@ fn comment_in_one<N: PhaseName, R: Wait>(
     rt: &R,
     boxes: &Boxes<N>,
     key: &mut Key<N>,
-    desk: &Desk,
+    context: &Context,
     comment: &Comment,
     held: Held<N>,
     number: u64,
@@ -255,14 +276,14 @@ fn comment_in_one<N: PhaseName, R: Wait>(
     requires user { held.number ≡ shard_of (User comment.now.about) (length N.opening) }
     requires later { clock held.shard < number }
     requires within { number ≤ last_number }
-    requires openings { (s : ℕ) → s < length N.opening → (state_at N.opening s).opening ≡ desk.now.opening }
-    requires allowed { number_refusal desk.now.opening (comment_request comment.now) ≡ None }
-    ensures { HasPutCommentInOne N.opening desk.now comment.now number index key.old key.new held result.1 result.0 }
+    requires openings { (s : ℕ) → s < length N.opening → (state_at N.opening s).opening ≡ context.now.opening }
+    requires allowed { number_refusal context.now.opening (comment_request comment.now) ≡ None }
+    ensures { HasPutCommentInOne N.opening context.now comment.now number index key.old key.new held result.1 result.0 }
 {
     let _known = comment.stars.value();
     sums_fit();
     let seen = held.shard().stock(comment.item);
-    let (reply, act) = answer_comment(desk, comment, seen);
+    let (reply, act) = answer_comment(context, comment, seen);
     let acts = look_and(comment, &seen, act);
     put_with_line(rt, boxes, key, held, number, index, &acts);
     (reply, seen)
@@ -275,7 +296,7 @@ fn comment_over_one<N: PhaseName, R: Wait>(
     rt: &R,
     boxes: &Boxes<N>,
     key: &mut Key<N>,
-    desk: &Desk,
+    context: &Context,
     comment: &Comment,
     shard: u32,
     index: u32,
@@ -283,35 +304,25 @@ fn comment_over_one<N: PhaseName, R: Wait>(
     requires of { key.old.boxes ≡ boxes.now }
     requires seats { length key.old.seats ≡ length N.opening }
     requires idle { IsIdle key.old }
-    requires openings { (s : ℕ) → s < length N.opening → (state_at N.opening s).opening ≡ desk.now.opening }
-    requires allowed { number_refusal desk.now.opening (comment_request comment.now) ≡ None }
+    requires openings { (s : ℕ) → s < length N.opening → (state_at N.opening s).opening ≡ context.now.opening }
+    requires allowed { number_refusal context.now.opening (comment_request comment.now) ≡ None }
     requires item { shard ≡ shard_of (Item comment.now.item) (length N.opening) }
     requires user { shard ≡ shard_of (User comment.now.about) (length N.opening) }
     requires known { shard < length N.opening }
-    ensures done { IfSome result (λ done. HasCommentedInOne N.opening
-        desk.now (done_at desk.now index (comment_request comment.now) done) key.old key.new comment.now index done.reply) }
-    ensures later { IfSome result (λ done. desk.now.clock < done.number) }
-    ensures refused { IfNone result (IsAsBefore N.opening desk.now desk.now key.old key.new shard shard) }
+    ensures done { IfSome result (HasCommentedInOne N.opening context.now key.old key.new comment.now index) }
+    ensures later { IfSome result (λ done. context.now.clock < done.number) }
+    ensures stayed { IfNone result (HasStayed N.opening context.now.clock key.old key.new shard shard NumberFull) }
 {
-    let held = boxes.take(rt, key, shard);
-    let before = held.shard().clock();
-    let Some(number) = desk.next_number(before) else {
-        boxes.put(rt, key, held, None);
-        return None;
-    };
-    let (reply, seen) = comment_in_one(rt, boxes, key, desk, comment, held, number, index);
-    let found = Found {
-        stock: Ghost::of(&seen),
-        clocks: [Some((shard, before)), None],
-    };
+    let (held, before, number) = take_next(rt, boxes, key, context, shard)?;
+    let (reply, seen) = comment_in_one(rt, boxes, key, context, comment, held, number, index);
     Some(Commit {
         number,
         reply,
-        found,
+        found: found_on(shard, before, Ghost::of(&seen)),
     })
 }
 
-/// A comment that the opening does not refuse, for the desk to commit: over the shards of its item and of the user whom it
+/// A comment that the opening does not refuse, for the context to commit: over the shards of its item and of the user whom it
 /// is about, which are taken in ascending order, and once where they are one. None exactly where the greatest of the
 /// worker's clock and theirs is at the end of numbers, and then nothing has changed but what the key has seen. It takes no
 /// memory.
@@ -319,27 +330,26 @@ pub(crate) fn comment_over_shards<N: PhaseName, R: Wait>(
     rt: &R,
     boxes: &Boxes<N>,
     key: &mut Key<N>,
-    desk: &Desk,
+    context: &Context,
     comment: &Comment,
     index: u32,
 ) -> Option<Commit<Answer<'static>>>
     requires of { key.old.boxes ≡ boxes.now }
     requires seats { length key.old.seats ≡ length N.opening }
     requires idle { IsIdle key.old }
-    requires openings { (s : ℕ) → s < length N.opening → (state_at N.opening s).opening ≡ desk.now.opening }
-    requires allowed { number_refusal desk.now.opening (comment_request comment.now) ≡ None }
-    ensures cold { IfSome result (λ done. HasCommittedCold N.opening
-        desk.now (done_at desk.now index (comment_request comment.now) done) key.old key.new comment.now index done.reply) }
-    ensures later { IfSome result (λ done. desk.now.clock < done.number) }
-    ensures refused { IfNone result (IsAsBefore N.opening desk.now desk.now key.old key.new
-        (shard_of (Item comment.now.item) (length N.opening)) (shard_of (User comment.now.about) (length N.opening))) }
+    requires openings { (s : ℕ) → s < length N.opening → (state_at N.opening s).opening ≡ context.now.opening }
+    requires allowed { number_refusal context.now.opening (comment_request comment.now) ≡ None }
+    ensures cold { IfSome result (HasCommentedCold N.opening context.now key.old key.new comment.now index) }
+    ensures later { IfSome result (λ done. context.now.clock < done.number) }
+    ensures stayed { IfNone result (HasStayed N.opening context.now.clock key.old key.new
+        (shard_of (Item comment.now.item) (length N.opening)) (shard_of (User comment.now.about) (length N.opening)) NumberFull) }
 {
     let shards = boxes.shards();
     let item = shard_of(Object::Item(comment.item), shards);
     let user = shard_of(Object::User(comment.about), shards);
     if item == user {
-        comment_over_one(rt, boxes, key, desk, comment, item, index)
+        comment_over_one(rt, boxes, key, context, comment, item, index)
     } else {
-        comment_over_two(rt, boxes, key, desk, comment, item, user, index)
+        comment_over_two(rt, boxes, key, context, comment, item, user, index)
     }
 }

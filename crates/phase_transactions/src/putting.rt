@@ -1,7 +1,7 @@
 //! Shards that go back with a line.
 ghost use Rattle.std.specs.Prelude.{◌≡◌, ◌<◌, ◌≤◌, true};
 ghost use Rattle.item_shards.specs.CommitNumbers.{last_number};
-ghost use Rattle.item_shards.specs.ShardShelf.{clock, shelf};
+ghost use Rattle.item_shards.specs.ShardContents.{clock, contents};
 ghost use Rattle.shard_boxes.specs.States.{state_of};
 ghost use Rattle.shard_boxes.specs.Lines.{AreTrueOf};
 ghost use Rattle.shard_boxes.specs.Keys.{holds_at};
@@ -28,7 +28,7 @@ pub(crate) fn put_with_line<N: PhaseName, R: Wait>(
     requires later { clock held.shard < number }
     requires within { number ≤ last_number }
     requires can { CanDo held.shard acts.now }
-    requires looks { AreTrueOf (shelf held.shard) acts.now }
+    requires looks { AreTrueOf (contents held.shard) acts.now }
     ensures { IsPutWith N.opening key.old key.new held (line_of number index acts.now held.shard) }
 {
     let [first, second] = acts;

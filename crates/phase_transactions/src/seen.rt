@@ -7,9 +7,9 @@ ghost use Rattle.auction_rows.specs.Refusals.{number_refusal};
 ghost use Rattle.auction_rows.specs.Requests.{is_view};
 ghost use Rattle.item_shards.specs.CommitNumbers.{last_number};
 ghost use Rattle.item_shards.specs.Looking.{view_like};
-ghost use Rattle.item_shards.specs.ShardShelf.{clock, opening, shelf, LiesIn};
+ghost use Rattle.item_shards.specs.ShardContents.{clock, opening, contents, LiesIn};
 ghost use Rattle.shard_boxes.specs.States.{state_of, IsWithin};
-ghost use Rattle.phase_desks.specs.Deeds.{SuitsItem, SuitsBids};
+ghost use Rattle.phase_contexts.specs.Txns.{SuitsItem, SuitsBids};
 ghost use Rattle.phase_transactions.specs.Single.{only_object, HasSeen};
 
 use auction_rows::{
@@ -17,7 +17,7 @@ use auction_rows::{
 };
 use ghost_log::Ghost;
 use item_shards::{Act, Shard, Shown};
-use phase_desks::Desk;
+use phase_contexts::Context;
 use worker_journals::Answer;
 
 /// The facts and the number left of the item that a store needs, where it is stored, for proofs alone; the reply; and
@@ -63,13 +63,17 @@ impl Seen<Answer<'static>> {
 }
 
 /// What a bid or a purchase sees on the shard of its item, where the opening does not refuse it.
-pub(crate) fn see_store(desk: &Desk, shard: &Shard, request: &Request) -> Seen<Answer<'static>>
+pub(crate) fn see_store(
+    context: &Context,
+    shard: &Shard,
+    request: &Request,
+) -> Seen<Answer<'static>>
     requires here { (object : Object) → only_object request.now ≡ Some object → LiesIn shard.now object }
     requires one { (only_object request.now ≡ None) → ⊥ }
     requires store { is_view request.now ≡ false }
     requires within { IsWithin (state_of shard.now) }
     requires later { clock shard.now < last_number }
-    ensures { HasSeen desk.now shard.now request.now result }
+    ensures { HasSeen context.now shard.now request.now result }
 {
     match *request {
         Request::StoreBid {
@@ -77,26 +81,26 @@ pub(crate) fn see_store(desk: &Desk, shard: &Shard, request: &Request) -> Seen<A
             item,
             amount,
             time,
-        } => see_bid(desk, shard, bidder, item, amount, time),
+        } => see_bid(context, shard, bidder, item, amount, time),
         Request::BuyNow {
             buyer,
             item,
             quantity,
             time,
-        } => see_purchase(desk, shard, buyer, item, quantity, time),
+        } => see_purchase(context, shard, buyer, item, quantity, time),
         _ => unreachable!(),
     }
 }
 
 /// What a view sees on the shard of its object, where the opening does not refuse it.
-pub(crate) fn see_view(desk: &Desk, shard: &Shard, request: &Request) -> Seen<Reply>
+pub(crate) fn see_view(context: &Context, shard: &Shard, request: &Request) -> Seen<Reply>
     requires here { (object : Object) → only_object request.now ≡ Some object → LiesIn shard.now object }
     requires view { is_view request.now ≡ true }
-    requires opening { opening shard.now ≡ desk.now.opening }
-    requires accepted { number_refusal desk.now.opening request.now ≡ None }
-    ensures { HasSeen desk.now shard.now request.now result }
+    requires opening { opening shard.now ≡ context.now.opening }
+    requires accepted { number_refusal context.now.opening request.now ≡ None }
+    ensures { HasSeen context.now shard.now request.now result }
 {
-    let _desk = desk;
+    let _context = context;
     match *request {
         Request::ViewItem { item } => Seen::view(Object::Item(item), item_seen(shard, item)),
         Request::ViewBids { item } => Seen::view(Object::Item(item), bids_seen(shard, item)),
@@ -110,7 +114,7 @@ pub(crate) fn see_view(desk: &Desk, shard: &Shard, request: &Request) -> Seen<Re
 
 // A bid: it is the worker's next where the item does not refuse it.
 fn see_bid(
-    desk: &Desk,
+    context: &Context,
     shard: &Shard,
     bidder: u32,
     item: ItemId,
@@ -120,7 +124,7 @@ fn see_bid(
     requires here { LiesIn shard.now (Item item) }
     requires within { IsWithin (state_of shard.now) }
     requires later { clock shard.now < last_number }
-    ensures { HasSeen desk.now shard.now (StoreBid bidder item amount time) result }
+    ensures { HasSeen context.now shard.now (StoreBid bidder item amount time) result }
 {
     let request = Request::StoreBid {
         bidder,
@@ -129,10 +133,10 @@ fn see_bid(
         time,
     };
     let stock = &shard.stock(item);
-    if let Some(reason) = desk.refusal(&request, *stock) {
+    if let Some(reason) = context.refusal(&request, *stock) {
         return Seen::refusal(item, stock, reason);
     }
-    let id = desk.next_bid();
+    let id = context.next_bid();
     let entry = BidEntry {
         amount,
         time,
@@ -149,7 +153,7 @@ fn see_bid(
 
 // A purchase: it is the worker's next where the item does not refuse it.
 fn see_purchase(
-    desk: &Desk,
+    context: &Context,
     shard: &Shard,
     buyer: u32,
     item: ItemId,
@@ -157,7 +161,7 @@ fn see_purchase(
     time: u64,
 ) -> Seen<Answer<'static>>
     requires here { LiesIn shard.now (Item item) }
-    ensures { HasSeen desk.now shard.now (BuyNow buyer item quantity time) result }
+    ensures { HasSeen context.now shard.now (BuyNow buyer item quantity time) result }
 {
     let request = Request::BuyNow {
         buyer,
@@ -166,10 +170,10 @@ fn see_purchase(
         time,
     };
     let stock = &shard.stock(item);
-    if let Some(reason) = desk.refusal(&request, *stock) {
+    if let Some(reason) = context.refusal(&request, *stock) {
         return Seen::refusal(item, stock, reason);
     }
-    let id = desk.next_buy();
+    let id = context.next_buy();
     Seen {
         stock: Ghost::of(stock),
         reply: Answer::store(StoreReply::Bought(id)),
@@ -181,7 +185,7 @@ fn see_purchase(
 /// The reply to a view of an item, which is what its shard shows.
 fn item_seen(shard: &Shard, item: ItemId) -> Reply
     requires { LiesIn shard.now (Item item) }
-    ensures shown { result ≡ view_like result (Item item) (shelf shard.now (Item item)) }
+    ensures shown { result ≡ view_like result (Item item) (contents shard.now (Item item)) }
     ensures suits { SuitsItem result }
 {
     shard.view_item(item)
@@ -190,7 +194,7 @@ fn item_seen(shard: &Shard, item: ItemId) -> Reply
 /// The reply to a view of an item's bids, which is what its shard shows.
 fn bids_seen(shard: &Shard, item: ItemId) -> Reply
     requires { LiesIn shard.now (Item item) }
-    ensures shown { result ≡ view_like result (Item item) (shelf shard.now (Item item)) }
+    ensures shown { result ≡ view_like result (Item item) (contents shard.now (Item item)) }
     ensures suits { SuitsBids result }
 {
     shard.view_bids(item)

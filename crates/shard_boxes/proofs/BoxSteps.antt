@@ -6,7 +6,7 @@ use lib.ListN.{get_elem?}
 use Rattle.crossbeam_queue.specs.Fifo.{Pushes, Pops, Learns}
 use Rattle.crossbeam_queue.proofs.Lists.{at_set, set_here}
 use Rattle.item_shards.specs.declared.shard.Shard.{Shard}
-use Rattle.item_shards.specs.ShardShelf.{shard_number}
+use Rattle.item_shards.specs.ShardContents.{shard_number}
 use Rattle.shard_boxes.specs.declared.line.Line.{Line}
 use Rattle.shard_boxes.specs.declared.rule.View.{View}
 use Rattle.shard_boxes.specs.States.{ShardState, state_of, state_at, IsOpened}

@@ -5,7 +5,7 @@ use Rattle.shard_boxes.specs.declared.line.Line.{Line}
 use Rattle.shard_boxes.specs.declared.rule.View.{View}
 use Rattle.shard_boxes.specs.Rule.{IsKept, HasParts, maker, opened, first_of, rest_of, joined}
 use Rattle.item_shards.specs.declared.shard.Shard.{Shard}
-use Rattle.item_shards.specs.ShardShelf.{shard_number}
+use Rattle.item_shards.specs.ShardContents.{shard_number}
 use Rattle.shard_boxes.specs.Passes.{LeaveState}
 use Rattle.shard_boxes.specs.Keys.{BoxId, KeyState, key_at, no_seat, holds_at, lines_at, IsNewKey}
 use Rattle.shard_boxes.specs.Seats.{own_of, seat_of, places_of, key_of, AreFor}

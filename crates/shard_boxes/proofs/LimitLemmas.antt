@@ -13,7 +13,7 @@ use Rattle.item_shards.specs.declared.acts.Act.TheVariants.{AddItem, ListItem, B
 use Rattle.item_shards.specs.CommitNumbers.{last_number}
 use Rattle.item_shards.specs.Limits.{AreStars}
 use Rattle.item_shards.specs.Values.{Value}
-use Rattle.item_shards.specs.Shelves.{Shelf, changed, with_facts, bid_on, bought_of, comment_about, item_listed, after_act, after_acts}
+use Rattle.item_shards.specs.Contents.{Contents, changed, with_facts, bid_on, bought_of, comment_about, item_listed, after_act, after_acts}
 use Rattle.shard_boxes.specs.declared.line.Line.{Line}
 use Rattle.shard_boxes.specs.States.{ShardState, IsWithin}
 use Rattle.shard_boxes.specs.Lines.{after_line}
@@ -21,10 +21,10 @@ use Rattle.shard_boxes.specs.GivenStars.{ActGivesStars}
 use Rattle.shard_boxes.specs.Limits.{SumsFit, IsWellFormed}
 
 -- counts of at most n, and ratings of at most r away from 0
-record WithinBy (n r : ℕ) (shelf : Shelf) : Type 0 where
-  bids : (id : ItemId) → (shelf (Item id)).bids.bids ≤ n
-  comments : (user : ℕ) → (shelf (User user)).comments.comments ≤ n
-  ratings : (user : ℕ) → unsigned_abs (shelf (User user)).comments.rating ≤ r
+record WithinBy (n r : ℕ) (contents : Contents) : Type 0 where
+  bids : (id : ItemId) → (contents (Item id)).bids.bids ≤ n
+  comments : (user : ℕ) → (contents (User user)).comments.comments ≤ n
+  ratings : (user : ℕ) → unsigned_abs (contents (User user)).comments.rating ≤ r
 
 -- a change by which a count rises by at most 1, and a rating goes at most 5 further from 0
 record IsSmall (change : Value → Value) : Type 0 where
@@ -32,11 +32,11 @@ record IsSmall (change : Value → Value) : Type 0 where
   comments : (v : Value) → (change v).comments.comments ≤ v.comments.comments + 1
   rating : (v : Value) → unsigned_abs (change v).comments.rating ≤ unsigned_abs v.comments.rating + 5
 
-changed_within : (object : Object) (change : Value → Value) (shelf : Shelf) (n r : ℕ) → IsSmall change → WithinBy n r shelf → WithinBy (n + 1) (r + 5) (changed object change shelf)
-changed_within object change shelf n r small h = record {
-  bids = λ id. one_bids (same_object object (Item id)) (shelf (Item id)) (h.bids id);
-  comments = λ user. one_comments (same_object object (User user)) (shelf (User user)) (h.comments user);
-  ratings = λ user. one_rating (same_object object (User user)) (shelf (User user)) (h.ratings user);
+changed_within : (object : Object) (change : Value → Value) (contents : Contents) (n r : ℕ) → IsSmall change → WithinBy n r contents → WithinBy (n + 1) (r + 5) (changed object change contents)
+changed_within object change contents n r small h = record {
+  bids = λ id. one_bids (same_object object (Item id)) (contents (Item id)) (h.bids id);
+  comments = λ user. one_comments (same_object object (User user)) (contents (User user)) (h.comments user);
+  ratings = λ user. one_rating (same_object object (User user)) (contents (User user)) (h.ratings user);
 } where
   one_bids : (b : Bool) (v : Value) → v.bids.bids ≤ n → (cond b (change v) v).bids.bids ≤ n + 1
   one_bids true v le = omega (arith, small.bids v, le)
@@ -50,8 +50,8 @@ changed_within object change shelf n r small h = record {
   one_rating true v le = omega (arith, small.rating v, le)
   one_rating false v le = omega (arith, le)
 
-weaken : (n m r q : ℕ) (shelf : Shelf) → n ≤ m → r ≤ q → WithinBy n r shelf → WithinBy m q shelf
-weaken n m r q shelf a b h = record {
+weaken : (n m r q : ℕ) (contents : Contents) → n ≤ m → r ≤ q → WithinBy n r contents → WithinBy m q contents
+weaken n m r q contents a b h = record {
   bids = λ id. omega (arith, h.bids id, a);
   comments = λ user. omega (arith, h.comments user, a);
   ratings = λ user. omega (arith, h.ratings user, b);
@@ -60,26 +60,26 @@ weaken n m r q shelf a b h = record {
 further : (z stars : ℤ) → AreStars stars → unsigned_abs (z +ℤ stars) ≤ unsigned_abs z + 5
 further z stars are = omega (arith, ints)
 
-act_within : (act : Act) (shelf : Shelf) (n r : ℕ) → ActGivesStars act → WithinBy n r shelf → WithinBy (n + 1) (r + 5) (after_act shelf act)
-act_within (AddItem id facts) shelf n r are h = changed_within (Item id) (with_facts facts) shelf n r (record { bids = λ v. omega arith; comments = λ v. omega arith; rating = λ v. omega arith }) h
-act_within (ListItem category entry) shelf n r are h = changed_within (Category category) (item_listed entry) shelf n r (record { bids = λ v. omega arith; comments = λ v. omega arith; rating = λ v. omega arith }) h
-act_within (Bid id entry) shelf n r are h = changed_within (Item id) (bid_on entry) shelf n r (record { bids = λ v. omega arith; comments = λ v. omega arith; rating = λ v. omega arith }) h
-act_within (Comment user stars) shelf n r are h = changed_within (User user) (comment_about stars) shelf n r (record { bids = λ v. omega arith; comments = λ v. omega arith; rating = λ v. further v.comments.rating stars are }) h
-act_within (Buy id quantity) shelf n r are h = changed_within (Item id) (bought_of quantity) shelf n r (record { bids = λ v. omega arith; comments = λ v. omega arith; rating = λ v. omega arith }) h
-act_within (Look shown) shelf n r are h = weaken n (n + 1) r (r + 5) shelf (omega arith) (omega arith) h
+act_within : (act : Act) (contents : Contents) (n r : ℕ) → ActGivesStars act → WithinBy n r contents → WithinBy (n + 1) (r + 5) (after_act contents act)
+act_within (AddItem id facts) contents n r are h = changed_within (Item id) (with_facts facts) contents n r (record { bids = λ v. omega arith; comments = λ v. omega arith; rating = λ v. omega arith }) h
+act_within (ListItem category entry) contents n r are h = changed_within (Category category) (item_listed entry) contents n r (record { bids = λ v. omega arith; comments = λ v. omega arith; rating = λ v. omega arith }) h
+act_within (Bid id entry) contents n r are h = changed_within (Item id) (bid_on entry) contents n r (record { bids = λ v. omega arith; comments = λ v. omega arith; rating = λ v. omega arith }) h
+act_within (Comment user stars) contents n r are h = changed_within (User user) (comment_about stars) contents n r (record { bids = λ v. omega arith; comments = λ v. omega arith; rating = λ v. further v.comments.rating stars are }) h
+act_within (Buy id quantity) contents n r are h = changed_within (Item id) (bought_of quantity) contents n r (record { bids = λ v. omega arith; comments = λ v. omega arith; rating = λ v. omega arith }) h
+act_within (Look shown) contents n r are h = weaken n (n + 1) r (r + 5) contents (omega arith) (omega arith) h
 
-two_within : (acts : List Act) (shelf : Shelf) (n r : ℕ) → length acts ≡ 2 → AllByRecursion ActGivesStars acts → WithinBy n r shelf → WithinBy (n + 1 + 1) (r + 5 + 5) (after_acts shelf acts)
-two_within [] shelf n r two stars h = absurd (omega arith)
-two_within (a ∷ []) shelf n r two stars h = absurd (omega arith)
-two_within (a ∷ b ∷ []) shelf n r two stars h = act_within b (after_act shelf a) (n + 1) (r + 5) stars.1.0 (act_within a shelf n r stars.0 h)
-two_within (a ∷ b ∷ c ∷ rest) shelf n r two stars h = absurd (omega arith)
+two_within : (acts : List Act) (contents : Contents) (n r : ℕ) → length acts ≡ 2 → AllByRecursion ActGivesStars acts → WithinBy n r contents → WithinBy (n + 1 + 1) (r + 5 + 5) (after_acts contents acts)
+two_within [] contents n r two stars h = absurd (omega arith)
+two_within (a ∷ []) contents n r two stars h = absurd (omega arith)
+two_within (a ∷ b ∷ []) contents n r two stars h = act_within b (after_act contents a) (n + 1) (r + 5) stars.1.0 (act_within a contents n r stars.0 h)
+two_within (a ∷ b ∷ c ∷ rest) contents n r two stars h = absurd (omega arith)
 
 -- the limits go with the clock, which each line raises
 pub line_within : (state : ShardState) (line : Line) → IsWithin state → state.clock < line.number → IsWellFormed line → IsWithin (after_line state line)
 line_within state line h later well =
     let n : ℕ = 16000000 + 2 * state.clock in
     let r : ℕ = 80000000 + 10 * state.clock in
-    let after = two_within line.acts state.shelf n r well.two well.stars (record { bids = h.bids; comments = h.comments; ratings = h.ratings }) in
+    let after = two_within line.acts state.contents n r well.two well.stars (record { bids = h.bids; comments = h.comments; ratings = h.ratings }) in
     record {
       bids = λ id. omega (arith, after.bids id, later);
       comments = λ user. omega (arith, after.comments user, later);
@@ -89,22 +89,22 @@ line_within state line h later well =
 rating_fits : (z stars : ℤ) (r : ℕ) → unsigned_abs z ≤ r → r + 5 < 2 ^ 63 → AreStars stars → FitsSigned w64 (z +ℤ stars)
 rating_fits z stars r le small are = fits_signed_from_abs w64 (z +ℤ stars) (omega (arith, further z stars are, le, small))
 
-act_fits : (act : Act) (shelf : Shelf) (n r : ℕ) → WithinBy n r shelf → ActGivesStars act → n + 1 < 2 ^ 64 → r + 5 < 2 ^ 63 → SumsFit shelf act
-act_fits (AddItem id facts) shelf n r h are a b = tt
-act_fits (ListItem category entry) shelf n r h are a b = tt
-act_fits (Bid id entry) shelf n r h are a b = omega (arith, h.bids id, a)
-act_fits (Comment user stars) shelf n r h are a b =
-    (rating_fits (shelf (User user)).comments.rating stars r (h.ratings user) b are, omega (arith, h.comments user, a))
-act_fits (Buy id quantity) shelf n r h are a b = tt
-act_fits (Look shown) shelf n r h are a b = tt
+act_fits : (act : Act) (contents : Contents) (n r : ℕ) → WithinBy n r contents → ActGivesStars act → n + 1 < 2 ^ 64 → r + 5 < 2 ^ 63 → SumsFit contents act
+act_fits (AddItem id facts) contents n r h are a b = tt
+act_fits (ListItem category entry) contents n r h are a b = tt
+act_fits (Bid id entry) contents n r h are a b = omega (arith, h.bids id, a)
+act_fits (Comment user stars) contents n r h are a b =
+    (rating_fits (contents (User user)).comments.rating stars r (h.ratings user) b are, omega (arith, h.comments user, a))
+act_fits (Buy id quantity) contents n r h are a b = tt
+act_fits (Look shown) contents n r h are a b = tt
 
 pub two_fit : (state : ShardState) (first second : Act) → IsWithin state → state.clock < last_number → ActGivesStars first → ActGivesStars second
-    → SawInTurn SumsFit after_act state.shelf (first ∷ second ∷ [])
+    → SawInTurn SumsFit after_act state.contents (first ∷ second ∷ [])
 two_fit state first second h below are are' =
     let n : ℕ = 16000000 + 2 * state.clock in
     let r : ℕ = 80000000 + 10 * state.clock in
-    let now : WithinBy n r state.shelf = record { bids = h.bids; comments = h.comments; ratings = h.ratings } in
-    let then : WithinBy (n + 1) (r + 5) (after_act state.shelf first) = act_within first state.shelf n r are now in (
-      act_fits first state.shelf n r now are (omega (arith, below)) (omega (arith, below)),
-      (act_fits second (after_act state.shelf first) (n + 1) (r + 5) then are' (omega (arith, below)) (omega (arith, below)), tt),
+    let now : WithinBy n r state.contents = record { bids = h.bids; comments = h.comments; ratings = h.ratings } in
+    let then : WithinBy (n + 1) (r + 5) (after_act state.contents first) = act_within first state.contents n r are now in (
+      act_fits first state.contents n r now are (omega (arith, below)) (omega (arith, below)),
+      (act_fits second (after_act state.contents first) (n + 1) (r + 5) then are' (omega (arith, below)) (omega (arith, below)), tt),
     )

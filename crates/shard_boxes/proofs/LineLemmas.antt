@@ -71,7 +71,7 @@ linked_of workers o [] h = tt
 linked_of workers o (e ∷ lines) h = (h.1.found, linked_of workers (after_line o e.1) lines h.2)
 
 looks_of : (workers : ℕ) (o : ShardState) (lines : List (ℕ × Line)) → IsLawful workers o lines
-    → SawInTurn (λ (found : ShardState) (e : ℕ × Line). AreTrueOf found.shelf e.1.acts) (λ found e. after_line found e.1) o lines
+    → SawInTurn (λ (found : ShardState) (e : ℕ × Line). AreTrueOf found.contents e.1.acts) (λ found e. after_line found e.1) o lines
 looks_of workers o [] h = tt
 looks_of workers o (e ∷ lines) h = (h.1.looks, looks_of workers (after_line o e.1) lines h.2)
 

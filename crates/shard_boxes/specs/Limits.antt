@@ -5,19 +5,19 @@ use Rattle.std.specs.List.{AllByRecursion}
 use Rattle.auction_rows.specs.declared.ids.Object.TheVariants.{Item, User}
 use Rattle.item_shards.specs.declared.acts.Act.{Act}
 use Rattle.item_shards.specs.declared.acts.Act.TheVariants.{AddItem, ListItem, Bid, Comment, Buy, Look}
-use Rattle.item_shards.specs.Shelves.{Shelf}
+use Rattle.item_shards.specs.Contents.{Contents}
 use Rattle.shard_boxes.specs.declared.line.Line.{Line}
 use Rattle.shard_boxes.specs.GivenStars.{ActGivesStars}
 
 -- the sums that an act makes fit their types
-abbrev pub SumsFit : Shelf → Act → Type 0
-SumsFit shelf (AddItem id facts) = ⊤
-SumsFit shelf (ListItem category entry) = ⊤
-SumsFit shelf (Bid id entry) = (shelf (Item id)).bids.bids + 1 < 2 ^ 64
-SumsFit shelf (Comment user stars) =
-    FitsSigned w64 ((shelf (User user)).comments.rating +ℤ stars) × ((shelf (User user)).comments.comments + 1 < 2 ^ 64)
-SumsFit shelf (Buy id quantity) = ⊤
-SumsFit shelf (Look shown) = ⊤
+abbrev pub SumsFit : Contents → Act → Type 0
+SumsFit contents (AddItem id facts) = ⊤
+SumsFit contents (ListItem category entry) = ⊤
+SumsFit contents (Bid id entry) = (contents (Item id)).bids.bids + 1 < 2 ^ 64
+SumsFit contents (Comment user stars) =
+    FitsSigned w64 ((contents (User user)).comments.rating +ℤ stars) × ((contents (User user)).comments.comments + 1 < 2 ^ 64)
+SumsFit contents (Buy id quantity) = ⊤
+SumsFit contents (Look shown) = ⊤
 
 -- the line has two acts, and the stars that they give are such
 pub record IsWellFormed (line : Line) : Type 0 where

@@ -6,13 +6,13 @@ use Rattle.phase_laws.specs.Order.{IsAscendingByNumber, part}
 use Rattle.phase_laws.specs.Replay.{SawInTurn}
 use Rattle.item_shards.specs.declared.acts.Act.{Act}
 use Rattle.item_shards.specs.Looking.{IsTrueAct}
-use Rattle.item_shards.specs.Shelves.{Shelf, after_act, after_acts}
+use Rattle.item_shards.specs.Contents.{Contents, after_act, after_acts}
 use Rattle.shard_boxes.specs.declared.line.Line.{Line}
 use Rattle.shard_boxes.specs.States.{ShardState, state_at, IsWithin}
 
 -- the shard after a line: its acts are done, and its number is the clock
 abbrev pub after_line : ShardState → Line → ShardState
-after_line state line = record state { clock = line.number; shelf = after_acts state.shelf line.acts }
+after_line state line = record state { clock = line.number; contents = after_acts state.contents line.acts }
 
 -- the shard after the lines of all workers, in order
 abbrev pub after : ShardState → List (ℕ × Line) → ShardState
@@ -27,15 +27,15 @@ lines_of worker lines = map (λ entry. entry.1) (part (λ entry. entry.0) worker
 abbrev pub StartsWith : List (ℕ × Line) → List (ℕ × Line) → Type 0
 StartsWith lines seen = (more : List (ℕ × Line)) × (lines ≡ seen ++ more)
 
--- each look carries what the shelf shows of its object, after the acts before it
-abbrev pub AreTrueOf : Shelf → List Act → Type 0
-AreTrueOf shelf acts = SawInTurn IsTrueAct after_act shelf acts
+-- each look carries what the contents shows of its object, after the acts before it
+abbrev pub AreTrueOf : Contents → List Act → Type 0
+AreTrueOf contents acts = SawInTurn IsTrueAct after_act contents acts
 
 -- the line tells the clock of the shard, its number is greater, and its looks are true
 pub record MayFollow (state : ShardState) (line : Line) : Type 0 where
   pub found : line.before ≡ state.clock
   pub later : state.clock < line.number
-  pub looks : AreTrueOf state.shelf line.acts
+  pub looks : AreTrueOf state.contents line.acts
 
 -- the shard is the one of this number with which the phase opened, after these lines of workers below a number: they ascend
 -- in number, each one's `before` is the number of the line before it, 0 at first, and their looks are true
@@ -45,7 +45,7 @@ pub record IsHistory (opening : List ShardState) (workers number : ℕ) (lines :
   pub workers_are : AllByRecursion (λ entry. entry.0 < workers) lines
   pub ascending : IsAscendingByNumber (λ entry. entry.1.number) lines
   pub linked : IsLinkedFrom (λ entry. entry.1.number) (λ entry. entry.1.before) 0 lines
-  pub looks : SawInTurn (λ (found : ShardState) entry. AreTrueOf found.shelf entry.1.acts) (λ found entry. after_line found entry.1) (state_at opening number) lines
+  pub looks : SawInTurn (λ (found : ShardState) entry. AreTrueOf found.contents entry.1.acts) (λ found entry. after_line found entry.1) (state_at opening number) lines
   pub number_is : state.number ≡ number
   pub shards_is : state.shards ≡ length opening
   pub opening_is : state.opening ≡ (state_at opening number).opening

@@ -3,7 +3,7 @@ use Rattle.std.specs.Prelude.{◌≡◌, ℕ, ◌+◌, ◌<◌, ◌≤◌, ltb, 
 use mathlib.Core.Option.{some}
 use lib.ListN.{get_elem?}
 use Rattle.item_shards.specs.declared.shard.Shard.{Shard}
-use Rattle.item_shards.specs.ShardShelf.{shard_number}
+use Rattle.item_shards.specs.ShardContents.{shard_number}
 use Rattle.shard_boxes.specs.declared.line.Line.{Line}
 use Rattle.shard_boxes.specs.declared.rule.View.{View}
 use Rattle.shard_boxes.specs.States.{ShardState, state_of, state_at, IsWithin, IsOpened}

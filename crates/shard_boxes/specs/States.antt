@@ -1,12 +1,13 @@
 -- What a shard shows.
 use Rattle.std.specs.Prelude.{◌≡◌, ℕ, ◌+◌, ◌*◌, ◌<◌, ◌≤◌, List, length, slice_index_or, unsigned_abs}
+use Rattle.auction_rows.specs.declared.limits.TheConstants.{MOST_ROWS}
 use Rattle.auction_rows.specs.declared.ids.ItemId.{ItemId}
 use Rattle.auction_rows.specs.declared.ids.Object.TheVariants.{Item, User}
 use Rattle.auction_rows.specs.declared.numbers.Opening.{Opening}
 use Rattle.item_shards.specs.declared.shard.Shard.{Shard}
 use Rattle.item_shards.specs.Values.{blank}
-use Rattle.item_shards.specs.Shelves.{Shelf}
-use Rattle.item_shards.specs.ShardShelf.{shard_number, shard_count, opening as opening_of, clock as clock_of, shelf as shelf_of}
+use Rattle.item_shards.specs.Contents.{Contents}
+use Rattle.item_shards.specs.ShardContents.{shard_number, shard_count, opening as opening_of, clock as clock_of, contents as contents_of}
 
 -- which shard it is, of how many, the users and categories of its auction, its clock, and the value of each object
 pub record ShardState : Type 0 where
@@ -14,7 +15,7 @@ pub record ShardState : Type 0 where
   pub shards : ℕ
   pub opening : Opening
   pub clock : ℕ
-  pub shelf : Shelf
+  pub contents : Contents
 
 abbrev pub state_of : Shard → ShardState
 state_of shard = record {
@@ -22,14 +23,14 @@ state_of shard = record {
   shards = shard_count shard;
   opening = opening_of shard;
   clock = clock_of shard;
-  shelf = shelf_of shard;
+  contents = contents_of shard;
 }
 
 -- counts and ratings as large as transactions can have made them by the clock, which each of them raises: by two acts each
 pub record IsWithin (state : ShardState) : Type 0 where
-  pub bids : (id : ItemId) → (state.shelf (Item id)).bids.bids ≤ 16000000 + 2 * state.clock
-  pub comments : (user : ℕ) → (state.shelf (User user)).comments.comments ≤ 16000000 + 2 * state.clock
-  pub ratings : (user : ℕ) → unsigned_abs (state.shelf (User user)).comments.rating ≤ 80000000 + 10 * state.clock
+  pub bids : (id : ItemId) → (state.contents (Item id)).bids.bids ≤ MOST_ROWS + 2 * state.clock
+  pub comments : (user : ℕ) → (state.contents (User user)).comments.comments ≤ MOST_ROWS + 2 * state.clock
+  pub ratings : (user : ℕ) → unsigned_abs (state.contents (User user)).comments.rating ≤ 80000000 + 10 * state.clock
 
 -- a shard with which a phase may open: of this number, of so many, at clock 0
 pub record IsOpened (shards number : ℕ) (state : ShardState) : Type 0 where
@@ -39,7 +40,7 @@ pub record IsOpened (shards number : ℕ) (state : ShardState) : Type 0 where
   pub within : IsWithin state
 
 abbrev pub no_shard : ShardState
-no_shard = record { number = 0; shards = 0; opening = record { users = 0; categories = 0 }; clock = 0; shelf = λ object. blank }
+no_shard = record { number = 0; shards = 0; opening = record { users = 0; categories = 0 }; clock = 0; contents = λ object. blank }
 
 -- the shard of this number
 abbrev pub state_at : List ShardState → ℕ → ShardState

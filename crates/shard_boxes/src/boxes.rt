@@ -23,13 +23,14 @@ pub struct Boxes<N: PhaseName> {
 
 impl<N: PhaseName> Model for Boxes<N> {
     ghost use Rattle.std.specs.Prelude.{◌≡◌, ◌<◌, ◌≤◌, List, length, vec_len, vec_capacity};
+    ghost use Rattle.auction_rows.specs.declared.limits.TheConstants.{MOST_SHARDS};
     ghost use Rattle.shard_boxes.specs.Keys.{BoxId};
 
     ghost Value = { List BoxId };
 
     ghost view = { λ b. b.places.items };
 
-    ghost invariant = { λ b. (vec_len b.places ≡ length N.opening) × (length N.opening ≤ 64) × (0 < N.workers)
+    ghost invariant = { λ b. (vec_len b.places ≡ length N.opening) × (length N.opening ≤ MOST_SHARDS) × (0 < N.workers)
         × (vec_len b.answer ≡ 0) × (length N.opening ≤ vec_capacity b.answer) × (0 < length N.opening) };
 }
 

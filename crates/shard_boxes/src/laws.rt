@@ -3,7 +3,7 @@ ghost use Rattle.std.specs.Prelude.{◌<◌, ◌∷◌, []};
 ghost use Rattle.phase_laws.specs.Replay.{SawInTurn};
 ghost use Rattle.item_shards.specs.declared.acts.Act.{Act};
 ghost use Rattle.item_shards.specs.CommitNumbers.{last_number};
-ghost use Rattle.item_shards.specs.Shelves.{after_act};
+ghost use Rattle.item_shards.specs.Contents.{after_act};
 ghost use Rattle.shard_boxes.specs.GivenStars.{ActGivesStars};
 ghost use Rattle.shard_boxes.specs.Limits.{SumsFit};
 ghost use Rattle.shard_boxes.specs.States.{ShardState, IsWithin};
@@ -12,5 +12,5 @@ ghost use Rattle.shard_boxes.specs.States.{ShardState, IsWithin};
 pub fn sums_fit()
     ensures { (state : ShardState) (first second : Act) →
         IsWithin state → state.clock < last_number → ActGivesStars first → ActGivesStars second →
-        SawInTurn SumsFit after_act state.shelf (first ∷ second ∷ []) }
+        SawInTurn SumsFit after_act state.contents (first ∷ second ∷ []) }
 {}

@@ -8,6 +8,7 @@ use crate::boxes::Boxes;
 use crate::key::Key;
 use crate::phase::PhaseName;
 use crate::place::{Leave, Place};
+use auction_rows::{MOST_SHARDS, MOST_WORKERS};
 use item_shards::Shard;
 use std::alloc::{AllocError, Global};
 use std::marker::PhantomData;
@@ -23,10 +24,10 @@ impl<N: PhaseName> Boxes<N> {
         workers: u32,
     ) -> Result<(Boxes<N>, Vec<Key<N>>), (Vec<Shard>, AllocError)>
         requires opening { map state_of shards.items ≡ N.opening }
-        requires few { (0 < length N.opening) × (length N.opening ≤ 64) }
+        requires few { (0 < length N.opening) × (length N.opening ≤ MOST_SHARDS) }
         requires opened { AreOpened N.opening }
         requires workers { workers ≡ N.workers }
-        requires some { (0 < N.workers) × (N.workers ≤ 16) }
+        requires some { (0 < N.workers) × (N.workers ≤ MOST_WORKERS) }
         ensures boxes { IfOk result (λ r. length r.0 ≡ length N.opening) }
         ensures keys { IfOk result (λ r. AreNewKeys r.0 N.workers r.1.items) }
         ensures err { IfErr result (λ e. e.0 ≡ shards) }

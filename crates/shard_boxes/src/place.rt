@@ -1,7 +1,7 @@
 //! One box, and the passes to it.
 ghost use Rattle.std.specs.Prelude.{◌≡◌, ◌+◌, ◌<◌, [], true, false, length, IfOk};
 ghost use Rattle.crossbeam_queue.specs.Passes.{view, IsPassOf};
-ghost use Rattle.item_shards.specs.ShardShelf.{shard_number};
+ghost use Rattle.item_shards.specs.ShardContents.{shard_number};
 ghost use Rattle.shard_boxes.specs.States.{state_of, state_at, AreOpened};
 ghost use Rattle.shard_boxes.specs.Lines.{after};
 ghost use Rattle.shard_boxes.specs.Limits.{IsWellFormedIfAny};

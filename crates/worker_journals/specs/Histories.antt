@@ -2,6 +2,7 @@
 use Rattle.std.specs.Prelude.{◌≡◌, ℕ, ◌≤◌, List, [], ◌∷◌, ◌++◌, length, map}
 use Rattle.std.specs.Global.{Vec}
 use Rattle.std.specs.List.{flat_map, AllByRecursion}
+use Rattle.auction_rows.specs.declared.limits.TheConstants.{MOST_WORKERS}
 use Rattle.auction_rows.specs.declared.rows.Entry.{Entry}
 use Rattle.worker_journals.specs.Journals.{JournalView, IsLawful, closed_journal}
 use Rattle.worker_journals.specs.Merged.{merged, AreByWorker}
@@ -22,7 +23,7 @@ with_phase history journals =
 
 -- the journals of a phase: of at most 16 workers, in the order of these
 pub record ArePhase (journals : List JournalView) : Type 0 where
-  pub few : length journals ≤ 16
+  pub few : length journals ≤ MOST_WORKERS
   pub by_worker : AreByWorker journals
   pub lawful : AllByRecursion IsLawful journals
 

@@ -10,6 +10,7 @@ ghost use Rattle.worker_journals.specs.Histories.{ArePhase, no_history, with_pha
 use crate::entry_ref::EntryRef;
 use crate::journal::Journal;
 use crate::merging::Merging;
+use auction_rows::MOST_WORKERS;
 use std::alloc::{AllocError, Global};
 use std::marker::Model;
 
@@ -48,7 +49,7 @@ impl History {
     /// Adds a phase at the end, by the journals of its at most 16 workers, in the order of these. Memory that they don't fill is
     /// given back. Where memory is refused, the history stays as it was; a count of entries past 64 bits is want of memory.
     pub fn add_phase(&mut self, journals: Vec<Journal>) -> Result<(), AllocError>
-        requires few { vec_len journals ≤ 16 }
+        requires few { vec_len journals ≤ MOST_WORKERS }
         requires by_worker { AreByWorker journals.items }
         ensures added { OnOk result (self.new ≡ with_phase self.old journals.items) }
         ensures lawful { OnOk result (AllByRecursion IsLawful journals.items) }

@@ -7,18 +7,16 @@ ghost use Rattle.worker_journals.specs.Places.{IsLeastOf, lesser, number_at};
 
 use crate::entry_ref::EntryRef;
 use crate::journal::Journal;
+use auction_rows::MOST_WORKERS;
 use std::marker::Model;
-
-// How many workers there are at most.
-const WORKERS: usize = 16;
 
 /// The entries of a phase's journals that are left, by number, and those of one number by worker. It takes no memory.
 #[derive(Drop)]
 pub(crate) struct Merging<'a> {
     journals: &'a [Journal],
     // The place of each journal's next entry, and its number.
-    places: [usize; WORKERS],
-    numbers: [Option<u64>; WORKERS],
+    places: [usize; MOST_WORKERS],
+    numbers: [Option<u64>; MOST_WORKERS],
 }
 
 impl<'a> Model for Merging<'a> {
@@ -40,13 +38,13 @@ impl<'a> Merging<'a> {
         requires { ArePhase journals.now }
         ensures { result ≡ merged journals.now }
     {
-        let mut numbers = [None; WORKERS];
+        let mut numbers = [None; MOST_WORKERS];
         for worker in 0..journals.len() {
             numbers[worker] = number_at(&journals[worker], 0);
         }
         Merging {
             journals,
-            places: [0; WORKERS],
+            places: [0; MOST_WORKERS],
             numbers,
         }
     }

@@ -3,7 +3,7 @@ use Rattle.std.specs.List.{flat_map}
 use Rattle.std.specs.List.Sorted.{IsPermutation}
 use Rattle.std.proofs.lemmas.List.Sorted.{IsPermutation-refl, IsPermutation-append, IsPermutation-reverse}
 use Rattle.phase_transactions.specs.Permits.{PermitState}
-use Rattle.phase_desks.specs.Slicing.{slices_in}
+use Rattle.phase_contexts.specs.Slicing.{slices_in}
 use Rattle.phase_closing.specs.Merging.{slices_left}
 use Rattle.phase_closing.proofs.reconciling.slices_may_be_popped.Goals as goal
 

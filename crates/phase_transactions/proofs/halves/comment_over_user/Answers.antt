@@ -1,22 +1,24 @@
-use Rattle.std.proofs.Common.{◌<◌, length, refl, sym, ap, subst, ◌∙◌}
-use Rattle.item_shards.specs.ShardShelf.{clock}
-use Rattle.phase_transactions.proofs.FailLemmas.{clock_back, one_full}
-use Rattle.phase_transactions.proofs.KeyLemmas.{one_back, one_seen, one_others}
+use Rattle.std.proofs.Common.{[], ◌∷◌, length, refl}
+use Rattle.auction_rows.specs.declared.ids.Object.TheVariants.{User}
+use Rattle.auction_rows.specs.Requests.{shard_of}
+use Rattle.item_shards.specs.declared.acts.Act.TheVariants.{Look}
+use Rattle.item_shards.specs.declared.acts.Shown.TheVariants as shown
+use Rattle.phase_transactions.proofs.TakeLemmas.{over_one, over_one_as}
 use Rattle.phase_transactions.proofs.halves.comment_over_user.Goals as goal
 
-pub returns-in_default-clause-refused : goal.returns-in_default-clause-refused
-returns-in_default-clause-refused g c =
-    let known : c.args.user < length c.args.key.now.seats = subst (λ n. c.args.user < n) (sym c.requires.seats) c.requires.known in
-    let back = one_back c.args.key.now c.take-held.new.key c.put.new.key c.args.user c.take-held.result.number _ c.take-held.ensures.key c.put.ensures c.take-held.ensures.number known c.requires.idle c.take-held.ensures.later in
+pub returns-clause-done : goal.returns-clause-done
+returns-clause-done g c =
     let opening = g.N.PhaseName.opening in
+    let own = c.args.context.now.clock in
+    let key = c.args.key.now in
+    let back = c.comment_user_at-reply.new.key in
+    let number = c.in_ok-held.number in
+    let put = c.comment_user_at-reply.ensures in
+    let acts = put.act ∷ Look shown.Nothing ∷ [] in
     record {
-      desk = refl;
-      lines = back.0;
-      others = one_others c.args.key.now c.take-held.new.key c.put.new.key c.args.user c.take-held.result.number _ c.take-held.ensures.key c.put.ensures c.take-held.ensures.number known;
-      idle = back.1;
-      full = one_full c.args.desk.now.clock c.clock-before.result _
-          (clock_back opening g.N.PhaseName.workers c.args.user c.args.user c.take-held.new.key c.put.new.key c.take-held.result.shard refl c.take-held.ensures.history
-          (one_seen c.args.key.now c.take-held.new.key c.put.new.key c.args.user c.take-held.result.number _ c.take-held.ensures.key c.put.ensures c.take-held.ensures.number known)
-          ∙ sym (c.clock-before.ensures ∙ ap clock c.shard.ensures))
-          (c.in_default.ensures.none.0 refl);
+      act = put.act;
+      answer = put.answer;
+      over = over_one_as opening own own key back c.args.user (shard_of (User c.args.comment.now.about) (length opening)) number c.args.index c.found_on.result acts acts refl c.requires.user refl
+          (over_one opening g.N.PhaseName.workers own key c.take_next.new.key back c.args.user c.in_ok-held.held c.in_ok-held.ensures.taken c.in_ok-held.before number c.args.index
+          acts c.found_on.result c.of.result c.in_ok-held.ensures.next put.put c.found_on.ensures);
     }

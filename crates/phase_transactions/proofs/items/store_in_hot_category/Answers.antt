@@ -1,14 +1,13 @@
-use Rattle.std.proofs.Common.{◌≡◌, ◌<◌, true, false, length, refl, sym, ap, subst, ◌∙◌}
+use Rattle.std.proofs.Common.{◌≡◌, ◌<◌, true, false, length, sym, ap, subst, ◌∙◌}
 use Rattle.auction_rows.specs.declared.ids.ItemId.{ItemId}
 use Rattle.auction_rows.specs.declared.ids.Object.TheVariants.{Item}
 use Rattle.auction_rows.specs.Footprint.{is_hot}
 use Rattle.auction_rows.specs.Requests.{shard_of}
-use Rattle.phase_desks.specs.Desks.{after_commit, with_one_less}
-use Rattle.phase_desks.specs.Items.{item_request}
-use Rattle.phase_desks.specs.Slicing.{objects_of}
-use Rattle.phase_transactions.specs.Pairs.{found_on_one}
+use Rattle.phase_contexts.specs.Contexts.{ContextState}
+use Rattle.phase_contexts.specs.Slicing.{objects_of}
 use Rattle.phase_transactions.proofs.HalfLemmas.{as_told}
-use Rattle.phase_transactions.proofs.ItemLemmas.{err_as, item_fails, stayed_as, hot_stored}
+use Rattle.phase_transactions.proofs.ItemLemmas.{err_as, item_fails, hot_stored}
+use Rattle.phase_transactions.proofs.TakeLemmas.{stayed_as}
 use Rattle.phase_transactions.proofs.items.store_in_hot_category.Goals as goal
 
 pub returns-in_err-number-clause-failed : goal.returns-in_err-number-clause-failed
@@ -18,19 +17,17 @@ returns-in_err-number-clause-failed g c =
     let fault = c.in_err-number.field-0.0 in
     let home_is = c.shard_of-home.ensures.shard ∙ ap (shard_of (Item c.next_item-id.result)) c.shards.ensures.count ∙ ap (λ (i : ItemId). shard_of (Item i) (length opening)) c.next_item-id.ensures.next in
     err_as c.from_residual.result fault _ c.from_residual.ensures.1
-    (item_fails opening split split c.args.key.now c.add_over_one.new.key c.args.item.now true fault c.requires.allowed
-    (subst (λ (i : ItemId). is_hot (objects_of split.slices) (Item i) ≡ false) c.next_item-id.ensures.next c.next_item-id.ensures.cold) c.requires.hot refl
-    (stayed_as opening c.clock.result split.desk.clock c.args.key.now c.add_over_one.new.key c.shard_of-home.result _ c.shard_of-home.result _ fault c.clock.ensures home_is home_is c.in_err-number.ensures.stayed))
+    (item_fails opening split c.args.key.now c.add_over_one.new.key c.args.item.now true fault c.requires.allowed
+    (subst (λ (i : ItemId). is_hot (objects_of split.slices) (Item i) ≡ false) c.next_item-id.ensures.next c.next_item-id.ensures.cold) c.requires.hot
+    (stayed_as opening c.context-context.result.now.clock split.context.clock c.args.key.now c.add_over_one.new.key c.shard_of-home.result _ c.shard_of-home.result _ fault (ap (λ (d : ContextState). d.clock) c.context-context.ensures) home_is home_is c.in_err-number.ensures.stayed))
 
 pub returns-clause-committed : goal.returns-clause-committed
 returns-clause-committed g c =
     let opening = g.N.PhaseName.opening in
     let within : c.shard_of-home.result < length c.args.key.now.seats =
     subst (λ n. c.shard_of-home.result < n) (c.shards.ensures.count ∙ sym c.requires.seats) c.shard_of-home.ensures.within in
-    as_told _ _ _ _ _ _ _ (c.of-2.ensures ∙ c.to_reply.ensures)
-    (hot_stored opening c.args.split.now c.store_item-reply.new.self c.args.key.now c.add_over_one.new.key c.args.item.now c.next_item-id.result c.clock.result c.shard_of-home.result c.args.index c.in_ok-number.number c.in_ok-number.before c.store_item-reply.result
-    c.requires.allowed c.next_item-id.ensures.cold c.requires.hot c.next_item-id.ensures.next c.clock.ensures (c.shard_of-home.ensures.shard ∙ ap (shard_of (Item c.next_item-id.result)) c.shards.ensures.count) within c.requires.idle
-    c.in_ok-number.ensures.added c.store_item-reply.ensures.reply
-    (c.store_item-reply.ensures.desk ∙ (λ i. with_one_less (after_commit c.args.split.now.desk c.in_ok-number.number c.args.index (item_request c.args.item.now) c.store_item-reply.result
-    (found_on_one (c.of.ensures i) (c.shard_of-home.result, c.in_ok-number.before)))))
-    c.store_item-reply.ensures.slices)
+    as_told _ _ _ _ _ _ _ (c.of.ensures ∙ c.to_reply.ensures)
+    (hot_stored opening c.args.split.now c.store_item-reply.new.self c.args.key.now c.add_over_one.new.key c.args.item.now c.next_item-id.result c.context-context.result.now.clock c.shard_of-home.result c.args.index
+    c.in_ok-number.number c.in_ok-number.found c.store_item-reply.result
+    c.requires.allowed c.next_item-id.ensures.cold c.requires.hot c.next_item-id.ensures.next (ap (λ (d : ContextState). d.clock) c.context-context.ensures) (c.shard_of-home.ensures.shard ∙ ap (shard_of (Item c.next_item-id.result)) c.shards.ensures.count) within c.requires.idle
+    c.in_ok-number.ensures.added c.store_item-reply.ensures.reply c.store_item-reply.ensures.context c.store_item-reply.ensures.slices)

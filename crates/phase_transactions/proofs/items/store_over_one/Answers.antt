@@ -1,32 +1,25 @@
-use Rattle.std.proofs.Common.{◌<◌, ℕ, Option, ◌∷◌, [], length, sym, subst}
+use Rattle.std.proofs.Common.{◌<◌, ◌∷◌, [], length, sym, subst}
 use Rattle.auction_rows.specs.declared.ids.ItemEntry.{ItemEntry}
-use Rattle.auction_rows.specs.declared.replies.Reply.{Reply}
-use Rattle.auction_rows.specs.declared.replies.Reply.TheVariants.{ItemStored}
-use Rattle.auction_rows.specs.declared.requests.Facts.{Facts}
 use Rattle.item_shards.specs.declared.acts.Act.TheVariants.{ListItem}
-use Rattle.phase_transactions.specs.Items.{adds, stored_at, HasActed, HasStoredCold}
-use Rattle.phase_transactions.specs.Pairs.{found_on_one}
+use Rattle.phase_transactions.specs.Items.{adds}
+use Rattle.phase_transactions.specs.Putting.{IsOverOne}
 use Rattle.phase_transactions.proofs.ItemLemmas.{err_as, cold_failed, cold_stored_one}
 use Rattle.phase_transactions.proofs.items.store_over_one.Goals as goal
 
 pub returns-in_err-number-clause-failed : goal.returns-in_err-number-clause-failed
 returns-in_err-number-clause-failed g c =
-    let opening = g.N.PhaseName.opening in
     let fault = c.in_err-number.field-0.0 in
-    err_as c.from_residual.result fault _ c.from_residual.ensures.1 (λ slices cold.
-    cold_failed opening c.args.desk.now c.args.key.now c.add_over_one.new.key c.args.item.now c.next_item-id.result c.clock.result c.args.index 0 c.requires.allowed c.next_item-id.ensures c.clock.ensures slices cold
-    c.args.shard c.args.shard fault c.requires.home c.requires.listed c.in_err-number.ensures.stayed)
+    err_as c.from_residual.result fault _ c.from_residual.ensures.1
+    (cold_failed g.N.PhaseName.opening c.args.context.now c.args.key.now c.add_over_one.new.key c.args.item.now c.next_item-id.result c.args.index
+    c.requires.allowed c.next_item-id.ensures c.args.shard c.args.shard fault c.requires.home c.requires.listed c.in_err-number.ensures.stayed)
 
 pub returns-clause-cold : goal.returns-clause-cold
 returns-clause-cold g c =
-    let stored = λ (s : Option (Facts × ℕ)) (reply : Reply). HasStoredCold g.N.PhaseName.opening c.args.desk.now (stored_at c.args.desk.now c.args.index c.args.item.now (record {
-      number = c.in_ok-number.number;
-      reply = reply;
-      found = found_on_one s (c.args.shard, c.in_ok-number.before);
-    })) c.args.key.now c.add_over_one.new.key c.args.item.now c.args.index reply in
-    subst (stored c.of.result) (sym c.store.ensures) (subst (λ (s : Option (Facts × ℕ)). stored s (ItemStored c.next_item-id.result)) (sym c.of.ensures) (λ slices cold.
-    let known : c.args.shard < length c.args.key.now.seats = subst (λ n. c.args.shard < n) (sym c.requires.seats) c.requires.known in
+    let opening = g.N.PhaseName.opening in
     let item = c.args.item.now in
-    let listed = λ (entry : ItemEntry). HasActed g.N.PhaseName.opening c.clock.result c.args.key.now c.add_over_one.new.key c.args.shard c.in_ok-number.number c.in_ok-number.before c.args.index (adds item c.next_item-id.result ∷ ListItem item.facts.category entry ∷ []) in
-    cold_stored_one g.N.PhaseName.opening c.args.desk.now c.args.key.now c.add_over_one.new.key c.args.item.now c.next_item-id.result c.clock.result c.args.index c.in_ok-number.number c.requires.allowed c.next_item-id.ensures c.clock.ensures slices cold
-    c.args.shard c.in_ok-number.before c.requires.home c.requires.listed known c.requires.idle (subst listed c.entry.ensures c.in_ok-number.ensures.added)))
+    let known : c.args.shard < length c.args.key.now.seats = subst (λ n. c.args.shard < n) (sym c.requires.seats) c.requires.known in
+    let listed = λ (entry : ItemEntry). IsOverOne opening c.args.context.now.clock c.args.key.now c.add_over_one.new.key c.args.shard c.in_ok-number.number c.args.index c.in_ok-number.found
+    (adds item c.next_item-id.result ∷ ListItem item.facts.category entry ∷ []) in
+    cold_stored_one opening c.args.context.now c.args.key.now c.add_over_one.new.key item c.next_item-id.result c.args.index
+    c.requires.allowed c.next_item-id.ensures c.args.shard c.in_ok-number.number c.in_ok-number.found c.store.result c.store.ensures
+    c.requires.home c.requires.listed known c.requires.idle (subst listed c.entry.ensures c.in_ok-number.ensures.added)

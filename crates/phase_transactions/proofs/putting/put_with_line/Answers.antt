@@ -1,8 +1,8 @@
 use Rattle.std.proofs.Common.{Some, get_or, ap, subst, ◌∙◌, List}
 use Rattle.item_shards.specs.declared.acts.Act.{Act}
 use Rattle.item_shards.specs.declared.shard.Shard.{Shard}
-use Rattle.item_shards.specs.ShardShelf.{clock, shelf, rooms, IsSameShard}
-use Rattle.item_shards.specs.Shelves.{after_act}
+use Rattle.item_shards.specs.ShardContents.{clock, contents, rooms, IsSameShard}
+use Rattle.item_shards.specs.Contents.{after_act}
 use Rattle.shard_boxes.specs.Keys.{putting}
 use Rattle.shard_boxes.specs.Lines.{AreTrueOf}
 use Rattle.phase_transactions.specs.Putting.{CanDo}
@@ -18,7 +18,7 @@ act-requires-2 g c =
     can_next old c.act.new.self (get_or c.args.acts.now 0 c.index-acts-0.result) (get_or c.args.acts.now 1 c.index-acts-1.result)
     (subst (λ (s : Shard). IsSameShard s c.act.new.self) lent c.act.ensures.same)
     (c.act.ensures.rooms ∙ ap rooms lent)
-    (c.act.ensures.shelf ∙ ap (λ (s : Shard). after_act (shelf s) (get_or c.args.acts.now 0 c.index-acts-0.result)) lent)
+    (c.act.ensures.contents ∙ ap (λ (s : Shard). after_act (contents s) (get_or c.args.acts.now 0 c.index-acts-0.result)) lent)
     can.1.0
 
 pub put-requires-clause-may : goal.put-requires-clause-may
@@ -32,9 +32,9 @@ put-requires-clause-may g c =
     (c.of.ensures ∙ acts) c.requires.taken
     (c.clock-before.ensures ∙ ap clock c.shard.ensures)
     (subst (λ (s : Shard). IsSameShard s c.act.new.self) lent c.act.ensures.same) c.act-2.ensures.same c.set_clock.ensures.same
-    (c.act.ensures.shelf ∙ ap (λ (s : Shard). after_act (shelf s) first) lent) c.act-2.ensures.shelf c.set_clock.ensures.shelf c.set_clock.ensures.clock
+    (c.act.ensures.contents ∙ ap (λ (s : Shard). after_act (contents s) first) lent) c.act-2.ensures.contents c.set_clock.ensures.contents c.set_clock.ensures.clock
     c.requires.later
-    (subst (λ (both : List Act). AreTrueOf (shelf old) both) acts c.requires.looks)
+    (subst (λ (both : List Act). AreTrueOf (contents old) both) acts c.requires.looks)
 
 pub returns : goal.returns
 returns g c =

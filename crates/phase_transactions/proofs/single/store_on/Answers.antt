@@ -1,7 +1,21 @@
-use Rattle.std.proofs.Common.{sym, ap, ◌∙◌}
-use Rattle.shard_boxes.specs.Helds.{taken_at}
+use Rattle.std.proofs.Common.{ap, ◌∙◌}
+use Rattle.auction_rows.specs.Requests.{shard_of}
+use Rattle.phase_transactions.proofs.SingleLemmas.{has_done}
+use Rattle.phase_transactions.proofs.TakeLemmas.{over_one}
 use Rattle.phase_transactions.proofs.single.store_on.Goals as goal
 
-pub put_with_line-requires-clause-taken : goal.put_with_line-requires-clause-taken
-put_with_line-requires-clause-taken g c =
-    c.take-held.ensures.history.state_is ∙ ap (taken_at g.N.PhaseName.opening c.take-held.new.key) (sym c.take-held.ensures.number)
+pub returns-clause-done : goal.returns-clause-done
+returns-clause-done g c =
+    let opening = g.N.PhaseName.opening in
+    let context = c.args.context.now in
+    let key = c.args.key.now in
+    let back = c.put_with_line.new.key in
+    let shard = c.shard_of-shard.result in
+    let held = c.in_ok-held.held in
+    let before = c.in_ok-held.before in
+    let number = c.in_ok-held.number in
+    let seen = c.see_store-stock.result in
+    has_done opening context key back c.args.request.now c.args.object c.args.index c.shard.result.now seen shard before number c.found_on.result c.see_store-stock.ensures
+    (c.shard_of-shard.ensures.shard ∙ ap (shard_of c.args.object) c.shards.ensures.count) c.found_on.ensures
+    (over_one opening g.N.PhaseName.workers context.clock key c.take_next.new.key back shard held c.in_ok-held.ensures.taken before number c.args.index _ c.found_on.result seen.stock
+    c.in_ok-held.ensures.next c.put_with_line.ensures c.found_on.ensures)

@@ -1,6 +1,6 @@
 use Rattle.std.proofs.Common.{◌≡◌, ◌+◌, ◌<◌, List, slice_index_or, length, refl, sym, ap, ◌∙◌, subst, arith, rules}
 use Rattle.std.specs.Vec.Iter.{into_iter_items}
-use Rattle.item_shards.specs.ShardShelf.{shard_number}
+use Rattle.item_shards.specs.ShardContents.{shard_number}
 use Rattle.shard_boxes.specs.States.{ShardState, state_at}
 use Rattle.shard_boxes.specs.Passes.{LeaveState}
 use Rattle.shard_boxes.specs.Rule.{maker}

@@ -11,5 +11,5 @@ returns-clause-bad c = none_for c.row_of.result (λ none book holds.
 
 pub returns-clause-row : goal.returns-clause-row
 returns-clause-row c = some_for c.row_of.result (λ row is book holds.
-    row_added (opening_of c.args.self.now) book c.args.opened.now row (omega (arith, c.if-opened-ge16.false))
+    row_added (opening_of c.args.self.now) book c.args.opened.now row (omega (arith, c.if-opened-ge-MOST_WORKERS.false))
     (ap (row_of c.args.opened.now.worker c.args.opened.now.request) (sym (c.in_ok-reply.ensures.reply book holds)) ∙ sym c.row_of.ensures ∙ is))

@@ -3,15 +3,15 @@ use Rattle.std.specs.Prelude.{is_some}
 use Rattle.auction_rows.specs.declared.ids.Object.TheVariants.{Item}
 use Rattle.auction_rows.specs.declared.requests.Facts.{Facts}
 use Rattle.item_shards.specs.Values.{Value}
-use Rattle.item_shards.specs.ShardShelf.{HasRoom}
+use Rattle.item_shards.specs.ShardContents.{HasRoom}
 use Rattle.item_shards.proofs.shard.Shard.facts.Goals as goal
 
-pub returns-in-Some-clause-shelf : goal.returns-in-Some-clause-shelf
-returns-in-Some-clause-shelf c = search rules
+pub returns-in-Some-clause-contents : goal.returns-in-Some-clause-contents
+returns-in-Some-clause-contents c = search rules
 
 pub returns-in-Some-clause-book : goal.returns-in-Some-clause-book
 returns-in-Some-clause-book c book hot stands cold =
-    returns-in-Some-clause-shelf c ∙ ap (λ (v : Value). v.facts) (stands (Item c.args.item) c.requires.here cold)
+    returns-in-Some-clause-contents c ∙ ap (λ (v : Value). v.facts) (stands (Item c.args.item) c.requires.here cold)
 
 pub returns-in-Some-clause-room : goal.returns-in-Some-clause-room
 returns-in-Some-clause-room c =

@@ -1,20 +1,20 @@
 use Rattle.std.proofs.Common.{ap, ◌∙◌, rules}
 use Rattle.auction_rows.specs.declared.ids.Object.TheVariants.{Item}
 use Rattle.item_shards.specs.Views.{item_view}
-use Rattle.item_shards.specs.ShardShelf.{opening}
+use Rattle.item_shards.specs.ShardContents.{opening}
 use Rattle.item_shards.proofs.AnswerLemmas.{item_reply}
 use Rattle.item_shards.proofs.shard.Shard.view_item.Goals as goal
 
-pub returns-clause-shelf : goal.returns-clause-shelf
-returns-clause-shelf c = search rules
+pub returns-clause-contents : goal.returns-clause-contents
+returns-clause-contents c = search rules
 
 pub returns-clause-book : goal.returns-clause-book
 returns-clause-book c book hot stands cold worker =
-    returns-clause-shelf c ∙ ap item_view (stands (Item c.args.item) c.requires.here cold) ∙ item_reply (opening c.args.self.now) book worker c.args.item
+    returns-clause-contents c ∙ ap item_view (stands (Item c.args.item) c.requires.here cold) ∙ item_reply (opening c.args.self.now) book worker c.args.item
 
-pub returns-in_default-facts-clause-shelf : goal.returns-in_default-facts-clause-shelf
-returns-in_default-facts-clause-shelf c = search rules
+pub returns-in_default-facts-clause-contents : goal.returns-in_default-facts-clause-contents
+returns-in_default-facts-clause-contents c = search rules
 
 pub returns-in_default-facts-clause-book : goal.returns-in_default-facts-clause-book
 returns-in_default-facts-clause-book c book hot stands cold worker =
-    returns-in_default-facts-clause-shelf c ∙ ap item_view (stands (Item c.args.item) c.requires.here cold) ∙ item_reply (opening c.args.self.now) book worker c.args.item
+    returns-in_default-facts-clause-contents c ∙ ap item_view (stands (Item c.args.item) c.requires.here cold) ∙ item_reply (opening c.args.self.now) book worker c.args.item

@@ -7,14 +7,14 @@ use Rattle.item_shards.specs.declared.acts.Act.TheVariants.{ListItem}
 use Rattle.auction_rows.specs.declared.ids.Object.TheVariants.{Item, Category}
 use Rattle.auction_rows.specs.declared.rows.Row.TheVariants as row
 use Rattle.item_shards.specs.Acting.{CanActOn}
-use Rattle.item_shards.specs.Shelves.{Shelf, after_acts}
-use Rattle.item_shards.specs.ShardShelf.{shelf, opening, rooms}
+use Rattle.item_shards.specs.Contents.{Contents, after_acts}
+use Rattle.item_shards.specs.ShardContents.{contents, opening, rooms}
 use Rattle.item_shards.specs.Writing.{writes_of}
 use Rattle.item_shards.proofs.SerialLemmas.{either_way, has_own_room, lies_as}
 use Rattle.item_shards.proofs.shard.Shard.write.Goals as goal
 
 pub returns-in_err-prepare_item-in-Item-clause-refused : goal.returns-in_err-prepare_item-in-Item-clause-refused
-returns-in_err-prepare_item-in-Item-clause-refused c = either_way c.from_residual.result c.prepare_item.ensures.shelf
+returns-in_err-prepare_item-in-Item-clause-refused c = either_way c.from_residual.result c.prepare_item.ensures.contents
 
 pub act-requires : goal.act-requires
 act-requires c =
@@ -28,7 +28,7 @@ pub act-requires-in-Item : goal.act-requires-in-Item
 act-requires-in-Item c =
     let old = c.args.self.now in
     let listed = Category c.in-Item.row.facts.category in
-    let can = subst (λ r. AllByRecursion (CanActOn (opening old) old.parts.value.number old.parts.value.shards (λ id. true) (shelf old)) (writes_of r)) c.in-Item.is (c.requires.can (λ id. true) (λ id e here. refl)) in (
+    let can = subst (λ r. AllByRecursion (CanActOn (opening old) old.parts.value.number old.parts.value.shards (λ id. true) (contents old)) (writes_of r)) c.in-Item.is (c.requires.can (λ id. true) (λ id e here. refl)) in (
       lies_as c.prepare_item.new.self c.act.new.self c.act.ensures.same listed
           (lies_as old c.prepare_item.new.self c.prepare_item.ensures.same listed (c.requires.has_all listed)),
       subst (λ (start : Opening). c.in-Item.row.facts.category < start.categories) (sym (c.act.ensures.same.opening ∙ c.prepare_item.ensures.same.opening)) can.1.0.1,
@@ -37,31 +37,31 @@ act-requires-in-Item c =
 pub act-requires-in-Bid : goal.act-requires-in-Bid
 act-requires-in-Bid c =
     let shard = c.args.self.now in
-    (subst (λ r. AllByRecursion (CanActOn (opening shard) shard.parts.value.number shard.parts.value.shards (λ id. true) (shelf shard)) (writes_of r)) c.in-Bid.is (c.requires.can (λ id. true) (λ id e here. refl))).0
+    (subst (λ r. AllByRecursion (CanActOn (opening shard) shard.parts.value.number shard.parts.value.shards (λ id. true) (contents shard)) (writes_of r)) c.in-Bid.is (c.requires.can (λ id. true) (λ id e here. refl))).0
 
 pub act-requires-in-Comment : goal.act-requires-in-Comment
 act-requires-in-Comment c =
     let shard = c.args.self.now in
-    (subst (λ r. AllByRecursion (CanActOn (opening shard) shard.parts.value.number shard.parts.value.shards (λ id. true) (shelf shard)) (writes_of r)) c.in-Comment.is (c.requires.can (λ id. true) (λ id e here. refl))).0
+    (subst (λ r. AllByRecursion (CanActOn (opening shard) shard.parts.value.number shard.parts.value.shards (λ id. true) (contents shard)) (writes_of r)) c.in-Comment.is (c.requires.can (λ id. true) (λ id e here. refl))).0
 
 pub act-requires-in-Buy : goal.act-requires-in-Buy
 act-requires-in-Buy c =
     let shard = c.args.self.now in
-    (subst (λ r. AllByRecursion (CanActOn (opening shard) shard.parts.value.number shard.parts.value.shards (λ id. true) (shelf shard)) (writes_of r)) c.in-Buy.is (c.requires.can (λ id. true) (λ id e here. refl))).0
+    (subst (λ r. AllByRecursion (CanActOn (opening shard) shard.parts.value.number shard.parts.value.shards (λ id. true) (contents shard)) (writes_of r)) c.in-Buy.is (c.requires.can (λ id. true) (λ id e here. refl))).0
 
 pub returns-in_ok-prepare_item-in-Item-clause-written : goal.returns-in_ok-prepare_item-in-Item-clause-written
 returns-in_ok-prepare_item-in-Item-clause-written c =
     let r = c.in-Item.row in
-    c.act-in-Item.ensures.shelf
-    ∙ ap (λ (shown : Shelf). after_acts shown (ListItem r.facts.category (item_entry r) ∷ [])) c.act.ensures.shelf
-    ∙ ap (λ (shown : Shelf). after_acts shown (writes_of (row.Item r))) c.prepare_item.ensures.shelf
-    ∙ ap (λ one. after_acts (shelf c.args.self.now) (writes_of one)) (sym c.in-Item.is)
+    c.act-in-Item.ensures.contents
+    ∙ ap (λ (shown : Contents). after_acts shown (ListItem r.facts.category (item_entry r) ∷ [])) c.act.ensures.contents
+    ∙ ap (λ (shown : Contents). after_acts shown (writes_of (row.Item r))) c.prepare_item.ensures.contents
+    ∙ ap (λ one. after_acts (contents c.args.self.now) (writes_of one)) (sym c.in-Item.is)
 
 pub returns-in-Bid-clause-written : goal.returns-in-Bid-clause-written
-returns-in-Bid-clause-written c = c.act-in-Bid.ensures.shelf ∙ ap (λ r. after_acts (shelf c.args.self.now) (writes_of r)) (sym c.in-Bid.is)
+returns-in-Bid-clause-written c = c.act-in-Bid.ensures.contents ∙ ap (λ r. after_acts (contents c.args.self.now) (writes_of r)) (sym c.in-Bid.is)
 
 pub returns-in-Comment-clause-written : goal.returns-in-Comment-clause-written
-returns-in-Comment-clause-written c = c.act-in-Comment.ensures.shelf ∙ ap (λ r. after_acts (shelf c.args.self.now) (writes_of r)) (sym c.in-Comment.is)
+returns-in-Comment-clause-written c = c.act-in-Comment.ensures.contents ∙ ap (λ r. after_acts (contents c.args.self.now) (writes_of r)) (sym c.in-Comment.is)
 
 pub returns-in-Buy-clause-written : goal.returns-in-Buy-clause-written
-returns-in-Buy-clause-written c = c.act-in-Buy.ensures.shelf ∙ ap (λ r. after_acts (shelf c.args.self.now) (writes_of r)) (sym c.in-Buy.is)
+returns-in-Buy-clause-written c = c.act-in-Buy.ensures.contents ∙ ap (λ r. after_acts (contents c.args.self.now) (writes_of r)) (sym c.in-Buy.is)

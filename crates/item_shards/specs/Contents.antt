@@ -1,0 +1,73 @@
+-- A contents: objects by their values, and what acts and merges do to it.
+use Rattle.std.specs.Prelude.{ℕ, ℤ, ◌+◌, List, fold, if◌then◌else◌, is_some, Option, Some, None}
+use Rattle.auction_rows.specs.declared.ids.ItemEntry.{ItemEntry}
+use Rattle.auction_rows.specs.declared.ids.BidEntry.{BidEntry}
+use Rattle.auction_rows.specs.declared.requests.Facts.{Facts}
+use Rattle.auction_rows.specs.declared.ids.Object.{Object}
+use Rattle.auction_rows.specs.declared.ids.Object.TheVariants.{Item, User, Category}
+use Rattle.auction_rows.specs.Requests.{same_object}
+use Rattle.item_shards.specs.declared.acts.Act.{Act}
+use Rattle.item_shards.specs.declared.acts.Act.TheVariants.{AddItem, ListItem, Bid, Comment, Buy, Look}
+use Rattle.item_shards.specs.declared.acts.Shown.TheVariants.{Nothing, Facts as ShownFacts, Left, Reply}
+use Rattle.item_shards.specs.declared.slices.ItemSlice.{ItemSlice}
+use Rattle.item_shards.specs.declared.slices.UserSlice.{UserSlice}
+use Rattle.item_shards.specs.declared.slices.CategorySlice.{CategorySlice}
+use Rattle.item_shards.specs.Slices.{with_bid, with_bids, with_comment, with_comments, with_item, with_items}
+use Rattle.item_shards.specs.Values.{Value}
+
+abbrev pub Contents : Type 0
+Contents = Object → Value
+
+-- the contents with one object's value changed
+abbrev pub changed : Object → (Value → Value) → Contents → Contents
+changed object change contents other = if same_object object other then change (contents other) else contents other
+
+-- the object that an act is about, if there is one
+abbrev pub target : Act → Option Object
+target (AddItem id facts) = Some (Item id)
+target (ListItem category entry) = Some (Category category)
+target (Bid id entry) = Some (Item id)
+target (Comment user stars) = Some (User user)
+target (Buy id quantity) = Some (Item id)
+target (Look Nothing) = None
+target (Look (ShownFacts id facts)) = Some (Item id)
+target (Look (Left id seen)) = Some (Item id)
+target (Look (Reply object reply)) = Some object
+
+-- an item's facts are those that it was first stored with
+abbrev pub with_facts : Facts → Value → Value
+with_facts facts value = record value { facts = if is_some value.facts then value.facts else Some facts }
+
+abbrev pub bid_on : BidEntry → Value → Value
+bid_on bid value = record value { bids = with_bid value.bids bid }
+
+abbrev pub bought_of : ℕ → Value → Value
+bought_of quantity value = record value { bought = value.bought + quantity }
+
+abbrev pub comment_about : ℤ → Value → Value
+comment_about stars value = record value { comments = with_comment value.comments stars }
+
+abbrev pub item_listed : ItemEntry → Value → Value
+item_listed entry value = record value { items = with_item value.items entry }
+
+-- what a slice of its kind does to a value
+abbrev pub bids_merged : ItemSlice → Value → Value
+bids_merged slice value = record value { bids = with_bids value.bids slice }
+
+abbrev pub comments_merged : UserSlice → Value → Value
+comments_merged slice value = record value { comments = with_comments value.comments slice }
+
+abbrev pub items_merged : CategorySlice → Value → Value
+items_merged slice value = record value { items = with_items value.items slice }
+
+-- the contents after an act: a look leaves it
+abbrev pub after_act : Contents → Act → Contents
+after_act contents (AddItem id facts) = changed (Item id) (with_facts facts) contents
+after_act contents (ListItem category entry) = changed (Category category) (item_listed entry) contents
+after_act contents (Bid id entry) = changed (Item id) (bid_on entry) contents
+after_act contents (Comment user stars) = changed (User user) (comment_about stars) contents
+after_act contents (Buy id quantity) = changed (Item id) (bought_of quantity) contents
+after_act contents (Look shown) = contents
+
+abbrev pub after_acts : Contents → List Act → Contents
+after_acts contents acts = fold after_act contents acts

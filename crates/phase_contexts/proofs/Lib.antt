@@ -1,0 +1,9 @@
+pub mod Places
+pub mod RowSlices
+pub mod Keeping
+pub mod ContextLemmas
+pub mod FewLemmas
+pub mod AnswerLemmas
+pub mod StashLemmas
+pub mod StoredLemmas
+pub mod ItemLemmas

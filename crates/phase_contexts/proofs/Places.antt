@@ -1,0 +1,183 @@
+-- The slices by place: what is found there, and what a write there leaves.
+use Rattle.std.proofs.Common.{◌≡◌, ℕ, zero, suc, ◌++◌, ◌∷◌, [], Bool, true, false, cond, if◌then◌else◌, ◌||◌, List, map, take, slice_get, get_or, position, IfSome, Option, Some, None, is_some, refl, sym, ap, subst, ◌∙◌}
+use Rattle.std.proofs.lemmas.Bool.{true≢false}
+use Rattle.std.proofs.lemmas.List.Quantifiers.{position-Some}
+use Rattle.std.proofs.lemmas.Option.{slice_get-get_or}
+use Rattle.std.specs.List.{IsDistinct, AllByRecursion}
+use Rattle.std.specs.Map.{lookup}
+use Rattle.indexmap.specs.Layout.{set_value_at}
+use Rattle.auction_rows.specs.contracts.ids.ObjectPartialEq.TheImpl.{eq-value as object_eq}
+use Rattle.auction_rows.specs.declared.ids.Object.{Object}
+use Rattle.auction_rows.specs.declared.ids.Object.TheVariants.{Item, User, Category}
+use Rattle.auction_rows.specs.declared.requests.Facts.{Facts}
+use Rattle.auction_rows.specs.Book.{Book}
+use Rattle.auction_rows.specs.Footprint.{is_hot}
+use Rattle.auction_rows.specs.Requests.{same_object}
+use Rattle.auction_rows.proofs.RequestLemmas.{same_object-true, same_objects}
+use Rattle.item_shards.specs.declared.slices.Slice.{Slice}
+use Rattle.item_shards.specs.Values.{blank, value}
+use Rattle.item_shards.proofs.StandingLemmas.{blank_of_none}
+use Rattle.phase_contexts.specs.declared.slices.Hot.{Hot}
+use Rattle.phase_contexts.specs.Slicing.{objects_of, slice_of, slices_of, stocks_of, stock_of, changed, IsAt, HasAtMost, AreFew}
+
+-- objects are equal where they are the same one
+eq_is_same : (a b : Object) → object_eq.it a b ≡ same_object a b
+eq_is_same (Item i) (Item j) = refl
+eq_is_same (Item i) (User user) = refl
+eq_is_same (Item i) (Category category) = refl
+eq_is_same (User user) (Item j) = refl
+eq_is_same (User user) (User other) = refl
+eq_is_same (User user) (Category category) = refl
+eq_is_same (Category category) (Item j) = refl
+eq_is_same (Category category) (User user) = refl
+eq_is_same (Category category) (Category other) = refl
+
+-- the keys of a map of objects are distinct objects
+pub distinct_objects : (objects : List Object) → IsDistinct object_eq.it objects → IsDistinct same_object objects
+distinct_objects objects distinct = subst (λ (eq : Object → Object → Bool). IsDistinct eq objects) (λ i a b. eq_is_same a b i) distinct
+
+-- being the same one goes both ways
+not_same : (a b : Object) → same_object a b ≡ false → same_object b a ≡ false
+not_same a b apart = go (same_object b a) refl
+  where
+    go : (is : Bool) → same_object b a ≡ is → is ≡ false
+    go false e = refl
+    go true e = absurd (true≢false (sym ((same_objects a b).1 (sym (same_object-true b a e))) ∙ apart))
+
+pub same_either_way : (a b : Object) → same_object a b ≡ same_object b a
+same_either_way a b = go (same_object a b) refl
+  where
+    go : (is : Bool) → same_object a b ≡ is → is ≡ same_object b a
+    go false e = sym (not_same a b e)
+    go true e = sym ((same_objects b a).1 (sym (same_object-true a b e)))
+
+-- what holds of each element holds of the one at a place
+all_at : {X : Type 0} (P : X → Type 0) (xs : List X) (k : ℕ) (x : X) → AllByRecursion P xs → slice_get xs k ≡ Some x → P x
+all_at P [] k x all at = absurd (cc)
+all_at P (y ∷ ys) zero x all at = subst P (cc) all.0
+all_at P (y ∷ ys) (suc k) x all at = all_at P ys k x all.1 at
+
+-- the slices of other objects stay
+others_stay : (object : Object) (change : Slice → Slice) (hots : List (Object × Hot)) → AllByRecursion (λ other. same_object object other ≡ false) (objects_of hots) → changed object change hots ≡ hots
+others_stay object change [] all = refl
+others_stay object change (hot ∷ hots) all = λ i.
+    (hot.0, cond (all.0 i) (record hot.1 { slice = change hot.1.slice }) hot.1) ∷ others_stay object change hots all.1 i
+
+-- a write at the place of an object changes its slice alone
+pub placed : (object : Object) (change : Slice → Slice) (hots : List (Object × Hot)) (place : ℕ) (old new : Hot)
+    → IsDistinct same_object (objects_of hots) → IsAt hots place object → Some old ≡ slice_get (map (λ hot. hot.1) hots) place → new ≡ record old { slice = change old.slice }
+    → set_value_at hots place new ≡ changed object change hots
+unfolding IsDistinct
+placed object change [] place old new distinct at is written = refl
+placed object change (hot ∷ hots) zero old new distinct at is written =
+    let here : hot.0 ≡ object = cc in
+    let was : old ≡ hot.1 = cc in
+    let rest = others_stay object change hots (subst (λ o. AllByRecursion (λ other. same_object o other ≡ false) (objects_of hots)) here distinct.0) in
+    (λ i. (hot.0, (written ∙ ap (λ (h : Hot). record h { slice = change h.slice }) was ∙ ap (λ b. cond b (record hot.1 { slice = change hot.1.slice }) hot.1) (sym ((same_objects object hot.0).1 (sym here)))) i) ∷ hots)
+    ∙ ap (λ hs. (hot.0, if same_object object hot.0 then record hot.1 { slice = change hot.1.slice } else hot.1) ∷ hs) (sym rest)
+placed object change (hot ∷ hots) (suc place) old new distinct at is written =
+    let apart = not_same hot.0 object (all_at (λ other. same_object hot.0 other ≡ false) (objects_of hots) place object distinct.0 at) in
+    (λ i. (hot.0, cond (sym apart i) (record hot.1 { slice = change hot.1.slice }) hot.1) ∷ placed object change hots place old new distinct.1 at is written i)
+
+-- an object that stands at a place has a slice there
+pub none_there : {A : Type 0} (object : Object) (hots : List (Object × Hot)) (place : ℕ) → IsAt hots place object → None ≡ slice_get (map (λ hot. hot.1) hots) place → A
+none_there object [] place at none = absurd (cc)
+none_there object (hot ∷ hots) zero at none = absurd (cc)
+none_there object (hot ∷ hots) (suc place) at none = none_there object hots place at none
+
+-- and that slice is one of few operations
+pub few_there : (hots : List (Object × Hot)) (place : ℕ) (hot : Hot) → AreFew 1000000 hots → Some hot ≡ slice_get (map (λ hot. hot.1) hots) place → HasAtMost 1000000 hot.slice
+few_there [] place hot few is = absurd (cc)
+few_there (first ∷ hots) zero hot few is = let same : first.1 ≡ hot = cc in subst (λ (h : Hot). HasAtMost 1000000 h.slice) same few.0
+few_there (first ∷ hots) (suc place) hot few is = few_there hots place hot few.1 is
+
+-- an object that is found is hot
+found_here : (object : Object) (hot : Object × Hot) (hots : List (Object × Hot)) (b : Bool) → b ≡ same_object hot.0 object → is_some (lookup (object_eq.it object) hots) ≡ is_hot (objects_of hots) object
+    → is_some (cond b (Some hot.1) (lookup (object_eq.it object) hots)) ≡ is_hot (objects_of (hot ∷ hots)) object
+found_here object hot hots true e rest = ap (λ b. b || is_hot (objects_of hots) object) e
+found_here object hot hots false e rest = rest ∙ ap (λ b. b || is_hot (objects_of hots) object) e
+
+pub hot_where_found : (object : Object) (hots : List (Object × Hot)) → is_some (lookup (object_eq.it object) hots) ≡ is_hot (objects_of hots) object
+hot_where_found object [] = refl
+hot_where_found object (hot ∷ hots) = found_here object hot hots (object_eq.it object hot.0) (eq_is_same object hot.0 ∙ same_either_way object hot.0) (hot_where_found object hots)
+
+-- and stands where it is found
+pub at_where_found : (object : Object) (hots : List (Object × Hot)) (found : Option ℕ) → found ≡ position (object_eq.it object) (objects_of hots) → IfSome found (λ place. IsAt hots place object)
+at_where_found object hots None is = tt
+at_where_found object hots (Some place) is =
+    let found = position-Some (object_eq.it object) (objects_of hots) place object (sym is) in
+    let same = same_object-true object (get_or (objects_of hots) place object) (sym (eq_is_same object (get_or (objects_of hots) place object)) ∙ found.1) in
+    slice_get-get_or (objects_of hots) place object found.0 ∙ ap Some (sym same)
+
+-- an object that comes later is not found among the slices of those before it
+later_absent : (object : Object) (first : Object × Option (Facts × ℕ)) (firsts : List (Object × Option (Facts × ℕ))) → same_object first.0 object ≡ false → lookup (object_eq.it object) (slices_of firsts []) ≡ None
+    → lookup (object_eq.it object) (slices_of (first ∷ firsts) []) ≡ None
+later_absent object first firsts apart rest =
+    ap (λ b. cond b (Some (record { stock = first.1; slice = slice_of first.0 (value [] first.0) })) (lookup (object_eq.it object) (slices_of firsts [])))
+    (eq_is_same object first.0 ∙ same_either_way object first.0 ∙ apart)
+    ∙ rest
+
+pub absent_before : (stocks : List (Object × Option (Facts × ℕ))) (k : ℕ) (object : Object) → IsDistinct same_object (objects_of stocks) → slice_get (objects_of stocks) k ≡ Some object
+    → lookup (object_eq.it object) (slices_of (take k stocks) []) ≡ None
+unfolding IsDistinct
+absent_before [] k object distinct at = absurd (cc)
+absent_before (first ∷ stocks) zero object distinct at = refl
+absent_before (first ∷ stocks) (suc k) object distinct at =
+    later_absent object first (take k stocks) (all_at (λ other. same_object first.0 other ≡ false) (objects_of stocks) k object distinct.0 at) (absent_before stocks k object distinct.1 at)
+
+-- one more object with its identity slice
+pub one_more : (stocks : List (Object × Option (Facts × ℕ))) (k : ℕ) (object : Object) (stock : Option (Facts × ℕ)) → slice_get stocks k ≡ Some (object, stock)
+    → slices_of (take (suc k) stocks) [] ≡ slices_of (take k stocks) [] ++ (object, record { stock = stock; slice = slice_of object blank }) ∷ []
+one_more [] k object stock at = absurd (cc)
+one_more (first ∷ stocks) zero object stock at =
+    let here : first ≡ (object, stock) = cc in
+    ap (λ s. slices_of (s ∷ []) []) here ∙ ap (λ v. (object, record { stock = stock; slice = slice_of object v }) ∷ []) (blank_of_none object)
+one_more (first ∷ stocks) (suc k) object stock at = ap (λ hots. (first.0, record { stock = first.1; slice = slice_of first.0 (value [] first.0) }) ∷ hots) (one_more stocks k object stock at)
+
+-- what is fixed of the objects stays
+pub stocks_stay : (hots : List (Object × Hot)) (place : ℕ) (old new : Hot) → Some old ≡ slice_get (map (λ hot. hot.1) hots) place → new.stock ≡ old.stock → stocks_of (set_value_at hots place new) ≡ stocks_of hots
+stocks_stay [] place old new is stays = refl
+stocks_stay (hot ∷ hots) zero old new is stays =
+    let was : old ≡ hot.1 = cc in
+    λ i. (hot.0, (stays ∙ ap (λ (h : Hot). h.stock) was) i) ∷ stocks_of hots
+stocks_stay (hot ∷ hots) (suc place) old new is stays = ap (λ stocks. (hot.0, hot.1.stock) ∷ stocks) (stocks_stay hots place old new is stays)
+
+pub stocks_of_rows : (stocks : List (Object × Option (Facts × ℕ))) (rows : Book) → stocks_of (slices_of stocks rows) ≡ stocks
+stocks_of_rows [] rows = refl
+stocks_of_rows (stock ∷ stocks) rows = ap (λ more. stock ∷ more) (stocks_of_rows stocks rows)
+
+pub all_before : {X : Type 0} (P : X → Type 0) (xs ys : List X) → AllByRecursion P (xs ++ ys) → AllByRecursion P xs
+all_before P [] ys all = tt
+all_before P (x ∷ xs) ys all = (all.0, all_before P xs ys all.1)
+
+pub stocks-append : (hots more : List (Object × Hot)) → stocks_of (hots ++ more) ≡ stocks_of hots ++ stocks_of more
+stocks-append [] more = refl
+stocks-append (hot ∷ hots) more = ap (λ stocks. (hot.0, hot.1.stock) ∷ stocks) (stocks-append hots more)
+
+-- what is fixed of an object is found where it stands
+found_stock : (object : Object) (hot : Hot) (first : Object × Hot) (hots : List (Object × Hot)) (b : Bool) → b ≡ same_object first.0 object
+    → cond b (Some first.1) (lookup (object_eq.it object) hots) ≡ Some hot → (lookup (object_eq.it object) hots ≡ Some hot → stock_of (stocks_of hots) object ≡ hot.stock)
+    → hot.stock ≡ stock_of (stocks_of (first ∷ hots)) object
+found_stock object hot first hots true e is rest =
+    let here : first.1 ≡ hot = cc in
+    sym (ap (λ (h : Hot). h.stock) here) ∙ ap (λ b. cond b first.1.stock (stock_of (stocks_of hots) object)) e
+found_stock object hot first hots false e is rest = sym (rest is) ∙ ap (λ b. cond b first.1.stock (stock_of (stocks_of hots) object)) e
+
+pub stock_found : (object : Object) (hot : Hot) (hots : List (Object × Hot)) → lookup (object_eq.it object) hots ≡ Some hot → stock_of (stocks_of hots) object ≡ hot.stock
+stock_found object hot [] is = absurd (cc)
+stock_found object hot (first ∷ hots) is =
+    sym (found_stock object hot first hots (object_eq.it object first.0) (eq_is_same object first.0 ∙ same_either_way object first.0) is (stock_found object hot hots))
+
+-- the object that is read at a place is the one that stands there
+pub at_and_there : (object : Object) (hots : List (Object × Hot)) (place : ℕ) (key : Object) (hot : Hot) → IsAt hots place object → Some (key, hot) ≡ slice_get hots place → key ≡ object
+at_and_there object [] place key hot at is = absurd (cc)
+at_and_there object (first ∷ hots) zero key hot at is =
+    let read : first ≡ (key, hot) = cc in
+    let stands : first.0 ≡ object = cc in
+    sym (ap (λ (h : Object × Hot). h.0) read) ∙ stands
+at_and_there object (first ∷ hots) (suc place) key hot at is = at_and_there object hots place key hot at is
+
+pub none_at : {A : Type 0} (object : Object) (hots : List (Object × Hot)) (place : ℕ) → IsAt hots place object → None ≡ slice_get hots place → A
+none_at object [] place at none = absurd (cc)
+none_at object (hot ∷ hots) zero at none = absurd (cc)
+none_at object (hot ∷ hots) (suc place) at none = none_at object hots place at none

@@ -1,0 +1,56 @@
+-- What a worker has done in a phase, and by which transactions that is explained.
+use Rattle.std.specs.Prelude.{◌≡◌, ℕ, suc, max, if◌then◌else◌, List, [], ◌∷◌, ◌++◌, map, fold}
+use Rattle.std.specs.List.{AllByRecursion}
+use Rattle.phase_laws.specs.Numbers.{last_by, IsNumberedFrom}
+use Rattle.phase_laws.specs.Replay.{SawInTurn}
+use Rattle.auction_rows.specs.declared.ids.Object.{Object}
+use Rattle.auction_rows.specs.declared.rows.Entry.{Entry}
+use Rattle.auction_rows.specs.History.{row_of_entry, rows_of}
+use Rattle.item_shards.specs.Writing.{writes_if}
+use Rattle.shard_boxes.specs.declared.line.Line.{Line}
+use Rattle.phase_contexts.specs.declared.counters.Counters.{Counters}
+use Rattle.phase_contexts.specs.declared.slices.Hot.{Hot}
+use Rattle.phase_contexts.specs.Slicing.{slices_of, after_acts}
+use Rattle.phase_contexts.specs.Txns.{Setting, Txn, entry_of, number_of, greatest_clock, takes, line_on, lines_owed, IsAnswered, after_txn}
+
+-- what a worker has done: with which counters and which clock it began, its journal, the lines of its key by shard, its
+-- clock, its counters, the slices of the hot objects, and the transactions behind all that
+pub record Work : Type 0 where
+  pub opened : Counters
+  pub start : ℕ
+  pub entries : List Entry
+  pub lines : ℕ → List Line
+  pub clock : ℕ
+  pub counters : Counters
+  pub slices : List (Object × Hot)
+  pub txns : List Txn
+
+-- What a permit and its receipt keep: from the counters and the clock with which the worker began, its transactions give all
+-- the rest.
+pub record IsWorkOf (z : Setting) (worker : ℕ) (work : Work) : Type 0 where
+  pub own : AllByRecursion (λ txn. (entry_of txn).worker ≡ worker) work.txns
+  pub entries : work.entries ≡ map entry_of work.txns
+  pub lines : (shard : ℕ) → work.lines shard ≡ lines_owed z shard work.txns
+  pub clocked : work.clock ≡ last_by number_of work.start work.txns
+  pub counts : work.counters ≡ fold after_txn work.opened work.txns
+  pub numbered : IsNumberedFrom number_of (greatest_clock z) work.start work.txns
+  pub answered : SawInTurn (IsAnswered z) after_txn work.opened work.txns
+  pub sliced : work.slices ≡ slices_of z.stocks (rows_of work.entries)
+
+-- What a commit owes: its number is 1 + the greatest of the worker's clock and the clocks found, and its reply is the
+-- answer by what was seen and by the counters.
+pub record IsCommitOf (z : Setting) (worker : ℕ) (work : Work) (txn : Txn) : Type 0 where
+  pub own : (entry_of txn).worker ≡ worker
+  pub numbered : number_of txn ≡ suc (max work.clock (greatest_clock z txn))
+  pub answered : IsAnswered z work.counters txn
+
+-- the work after a commit
+abbrev pub with_txn : Setting → Work → Txn → Work
+with_txn z work txn = record work {
+  entries = work.entries ++ entry_of txn ∷ [];
+  lines = λ shard. if takes z shard txn then work.lines shard ++ line_on z shard txn ∷ [] else work.lines shard;
+  clock = number_of txn;
+  counters = after_txn work.counters txn;
+  slices = after_acts work.slices (writes_if (row_of_entry (entry_of txn)));
+  txns = work.txns ++ txn ∷ [];
+}

@@ -1,9 +1,0 @@
-pub mod Places
-pub mod RowSlices
-pub mod Keeping
-pub mod DeskLemmas
-pub mod FewLemmas
-pub mod AnswerLemmas
-pub mod StashLemmas
-pub mod StoredLemmas
-pub mod ItemLemmas

@@ -1,3 +1,0 @@
-pub mod StashedLemmas
-pub mod LastLemmas
-pub mod JoinedLemmas

@@ -1,0 +1,40 @@
+-- A shard that a transaction takes, and what stays where it can't go on.
+use Rattle.std.specs.Prelude.{◌≡◌, ℕ, suc, max, ◌<◌, ◌≤◌, true, List}
+use Rattle.item_shards.specs.CommitNumbers.{last_number}
+use Rattle.item_shards.specs.declared.shard.Shard.{Shard}
+use Rattle.item_shards.specs.ShardContents.{clock}
+use Rattle.shard_boxes.specs.Helds.{HeldState}
+use Rattle.shard_boxes.specs.Keys.{KeyState, holds_at, seen_at, taking}
+use Rattle.shard_boxes.specs.Lines.{StartsWith}
+use Rattle.shard_boxes.specs.States.{ShardState}
+use Rattle.phase_transactions.specs.declared.fault.PermitFault.{PermitFault}
+use Rattle.phase_transactions.specs.declared.fault.PermitFault.TheVariants.{Memory, NumberFull}
+use Rattle.phase_transactions.specs.Pairs.{IsAsTaken, HasSameLines, LeavesOthers}
+use Rattle.phase_transactions.specs.Permits.{IsIdle}
+use Rattle.phase_transactions.specs.Putting.{clock_seen}
+
+-- The key has taken the shard.
+pub record HasTaken (opening : List ShardState) (workers : ℕ) (old new : KeyState) (shard : ℕ) (held : HeldState) : Type 0 where
+  pub key : new ≡ taking old shard (seen_at new shard)
+  pub later : StartsWith (seen_at new shard) (seen_at old shard)
+  pub number : held.number ≡ shard
+  pub holds : holds_at new held.number ≡ true
+  pub history : IsAsTaken opening workers new held
+
+-- the shard's clock, and the number of a commit there: 1 + the greater of it and the worker's own
+pub record IsNext (own : ℕ) (shard : Shard) (before number : ℕ) : Type 0 where
+  pub before_is : before ≡ clock shard
+  pub numbered : number ≡ suc (max own before)
+  pub within : number ≤ last_number
+
+-- the numbers are at their end, or else memory was refused
+abbrev pub IsCauseAt : ℕ → PermitFault → Type 0
+IsCauseAt greatest Memory = greatest < last_number
+IsCauseAt greatest NumberFull = last_number ≤ greatest
+
+-- Nothing has changed but what the key has seen of two shards, or of one, which went back as they were.
+pub record HasStayed (opening : List ShardState) (own : ℕ) (key back : KeyState) (one other : ℕ) (fault : PermitFault) : Type 0 where
+  pub lines : HasSameLines key back
+  pub others : LeavesOthers key back one other
+  pub idle : IsIdle back
+  pub cause : IsCauseAt (max own (max (clock_seen opening back one) (clock_seen opening back other))) fault

@@ -1,0 +1,21 @@
+use Rattle.std.proofs.Common.{◌≡◌, ◌<◌, ap, sym, ◌∙◌, insert, length, eqb-true, arith}
+use Rattle.std.proofs.lemmas.Bool.{eqb-false}
+use Rattle.split_records.proofs.Places.{put_within, put_for_last}
+use Rattle.split_records.proofs.top.put_at.Goals as goal
+use Rattle.split_records.proofs.top.put_at.Goals.{then-is_full+else-index, else-is_full}
+
+pub returns : goal.returns
+returns g c =
+    let k = g.row.K in
+    let index = c.args.index in
+    let held = c.args.entries.now.items in
+    c.insert.ensures.items ∙ elim c.if-is_full.branch [
+      | then-is_full+else-index w ↦
+          let full : length held ≡ k = eqb-true _ _ (sym c.is_full.ensures.value ∙ w.if-is_full.true) in
+          let before : index < k = omega (arith, c.requires, w.if-index.false, full) in
+          ap (λ entries. insert entries.items index c.args.entry) w.entries-is ∙ ap (λ items. insert items index c.args.entry) w.pop.ensures.rest ∙ put_for_last k index held c.args.entry before full
+      | else-is_full w ↦
+          let more : length held ≡ k → ⊥ = eqb-false _ _ (sym c.is_full.ensures.value ∙ w.if-is_full.false) in
+          let room : length held < k = omega (arith, c.is_full.ensures.fits, more) in
+          ap (λ entries. insert entries.items index c.args.entry) w.entries-is ∙ put_within k index held c.args.entry c.requires room
+    ]
