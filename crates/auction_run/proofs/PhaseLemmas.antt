@@ -22,8 +22,8 @@ use Rattle.run_serving.specs.Run.{first_index, calls_of, calls_given, HasPerform
 use Rattle.run_serving.specs.Serving.{call_of, script_of}
 use Rattle.shard_boxes.specs.Keys.{BoxId}
 use Rattle.shard_boxes.specs.States.{ShardState, state_of}
-use Rattle.phase_desks.specs.Slicing.{objects_of, stocks_of, slices_of}
-use Rattle.phase_desks.specs.Stashes.{StashState}
+use Rattle.phase_contexts.specs.Slicing.{objects_of, stocks_of, slices_of}
+use Rattle.phase_contexts.specs.Stashes.{StashState}
 use Rattle.phase_transactions.specs.declared.fault.PermitFault.TheVariants.{NumberFull}
 use Rattle.phase_transactions.specs.Permits.{PermitState}
 use Rattle.phase_transactions.specs.Single.{HaveOpening}
@@ -184,8 +184,8 @@ module _ (policy : Policy) (scripts : List (List Request)) (state : JoinedState)
   begins : (w : ℕ) → w < length scripts → IsBegun floor w (slice_index quotas w) (stash_at handed w) (receipt_at permits w)
   begins w less = begun.1 w no_receipt (omega (arith, less, workers_are))
 
-  left_is : (w : ℕ) → w < length scripts → (receipt_at permits w).split.desk.left ≡ quota_of policy state.phase (script_of scripts w)
-  left_is w less = ap (λ (p : PermitState). p.split.desk.left) (begins w less).new ∙ quotas_are w less
+  left_is : (w : ℕ) → w < length scripts → (receipt_at permits w).split.context.left ≡ quota_of policy state.phase (script_of scripts w)
+  left_is w less = ap (λ (p : PermitState). p.split.context.left) (begins w less).new ∙ quotas_are w less
 
   stash_is : (w : ℕ) → w < length scripts → stashed (receipt_at permits w) ≡ (stash_at handed w).requests
   stash_is w less = ap (λ (p : PermitState). stashed p) (begins w less).new
@@ -202,7 +202,7 @@ module _ (policy : Policy) (scripts : List (List Request)) (state : JoinedState)
   pub permits_of : ArePermitsOf state.phase 0 permits
   permits_of = of_workers state.phase 0 permits (λ w below.
       let less : w < length scripts = omega (arith, below, as_many) in record {
-        phase_is = ap (λ (p : PermitState). p.split.desk.journal.phase) (begins w less).new ∙ phase_is;
+        phase_is = ap (λ (p : PermitState). p.split.context.journal.phase) (begins w less).new ∙ phase_is;
         worker_is = (begins w less).key.worker_is ∙ (let e : w ≡ 0 + w = omega arith in e);
       })
 
@@ -214,11 +214,11 @@ module _ (policy : Policy) (scripts : List (List Request)) (state : JoinedState)
       let less : w < length scripts = omega (arith, below, as_many) in
       let left = left_is w less in
       let waits : length (stashed (receipt_at permits w)) ≡ length (stash_at handed w).requests = ap length (stash_is w less) in
-      let tries : (receipt_at permits w).split.desk.tries ≡ 0 = ap (λ (p : PermitState). p.split.desk.tries) (begins w less).new in
+      let tries : (receipt_at permits w).split.context.tries ≡ 0 = ap (λ (p : PermitState). p.split.context.tries) (begins w less).new in
       let few = room w less in
       let fits = within (cond (is_split state.phase) policy.split_quota policy.joined_quota) (length (script_of scripts w)) (first_index policy state.phase) first first_is in record {
         boxes_are = (begins w less).key.boxes_are ∙ sym same;
-        opening_is = subst (HaveOpening opening) (sym (ap (λ (p : PermitState). p.split.desk.opening) (begins w less).new)) have;
+        opening_is = subst (HaveOpening opening) (sym (ap (λ (p : PermitState). p.split.context.opening) (begins w less).new)) have;
         short = may.short w;
         given = subst (λ n. n ≤ length (script_of scripts w) - first) (sym left) fits;
         tries = omega (arith, left, waits, tries, few);
@@ -234,13 +234,13 @@ module _ (policy : Policy) (scripts : List (List Request)) (state : JoinedState)
       let less : w < length scripts = omega (arith, below, as_many) in
       all-append (IsCallOf (script_of scripts w)) (stashed (receipt_at permits w)) (calls_for (task (receipt_at permits w) (script_of scripts w) first))
       (subst (AllByRecursion (IsCallOf (script_of scripts w))) (sym (stash_is w less)) (own w))
-      (calls_of_its first (receipt_at permits w).split.desk.left (script_of scripts w)))
+      (calls_of_its first (receipt_at permits w).split.context.left (script_of scripts w)))
 
   pub split_end : IsFirstFault IsDoneSplit (λ t. HasStoppedSplit opening (calls_for t) t.permit) (tasks permits scripts first) NumberFull →
       (worker : ℕ) × HasMetTheEnd (script_of scripts worker)
   split_end = first_end IsDoneSplit (λ t. HasStoppedSplit opening (calls_for t) t.permit) (λ t. calls_for t)
       (λ t receipt met its. met_end opening t.script (calls_for t) met.before met.call met.left receipt its met.calls_are met.cause)
-      permits scripts first (λ w below. calls_of_its first (receipt_at permits w).split.desk.left (script_of scripts w))
+      permits scripts first (λ w below. calls_of_its first (receipt_at permits w).split.context.left (script_of scripts w))
 
   pub replays_on : (after : JoinedState) (entries : List Entry) →
       ((book : Book) → StandFor opening floor.counters book [] → ReplaysFrom floor.opening book entries) →
@@ -255,8 +255,8 @@ module _ (policy : Policy) (scripts : List (List Request)) (state : JoinedState)
 
   module _ (receipts : List PermitState) (count : length receipts ≡ length permits)
       (same : (w : ℕ) → w < length scripts → IsSamePermit (receipt_at permits w) (receipt_at receipts w)) where
-    journal_phase : (w : ℕ) → w < length scripts → (receipt_at receipts w).split.desk.journal.phase ≡ floor.phase
-    journal_phase w less = (same w less).phase ∙ ap (λ (p : PermitState). p.split.desk.journal.phase) (begins w less).new
+    journal_phase : (w : ℕ) → w < length scripts → (receipt_at receipts w).split.context.journal.phase ≡ floor.phase
+    journal_phase w less = (same w less).phase ∙ ap (λ (p : PermitState). p.split.context.journal.phase) (begins w less).new
 
     -- the receipts are those of the phase
     pub are_receipts : AreReceiptsOf floor receipts
@@ -266,10 +266,10 @@ module _ (policy : Policy) (scripts : List (List Request)) (state : JoinedState)
           let less : w < length scripts = omega (arith, below, workers_are) in record {
             boxes_are = (same w less).boxes ∙ (begins w less).key.boxes_are;
             worker_is = (same w less).worker ∙ (begins w less).key.worker_is;
-            opening_is = (same w less).opening ∙ ap (λ (p : PermitState). p.split.desk.opening) (begins w less).new;
+            opening_is = (same w less).opening ∙ ap (λ (p : PermitState). p.split.context.opening) (begins w less).new;
             phase_is = journal_phase w less;
             stocks_are = (same w less).stocks ∙ ap (λ (p : PermitState). stocks_of p.split.slices) (begins w less).new ∙ stocks_back floor.stocks;
-            begun = (same w less).begun ∙ ap (λ (p : PermitState). p.split.desk.begun) (begins w less).new;
+            begun = (same w less).begun ∙ ap (λ (p : PermitState). p.split.context.begun) (begins w less).new;
           },
     )
 

@@ -5,7 +5,7 @@ use Rattle.std.proofs.lemmas.Bool.{cases_lt}
 use Rattle.auction_rows.specs.declared.requests.Request.{Request}
 use Rattle.auction_rows.specs.Book.{Book}
 use Rattle.item_shards.specs.OpeningRows.{rows_by}
-use Rattle.phase_desks.specs.Stashes.{StashState}
+use Rattle.phase_contexts.specs.Stashes.{StashState}
 use Rattle.run_serving.specs.Serving.{script_of}
 use Rattle.auction_run.specs.Beginning.{AreShort}
 use Rattle.auction_run.specs.Phases.{lists, waiting_in}

@@ -10,16 +10,16 @@ use Rattle.auction_rows.specs.declared.rows.Entry.{Entry}
 use Rattle.auction_rows.specs.Phases.{is_put_off}
 use Rattle.auction_rows.specs.Replies.{row_of}
 use Rattle.item_shards.specs.Writing.{writes_if}
-use Rattle.phase_desks.specs.Desks.{DeskState}
-use Rattle.phase_desks.specs.Slicing.{objects_of, stocks_of}
-use Rattle.phase_desks.proofs.StoredLemmas.{objects-acts}
+use Rattle.phase_contexts.specs.Contexts.{ContextState}
+use Rattle.phase_contexts.specs.Slicing.{objects_of, stocks_of}
+use Rattle.phase_contexts.proofs.StoredLemmas.{objects-acts}
 use Rattle.phase_transactions.proofs.Hots.{stocks-acts}
 use Rattle.phase_transactions.specs.declared.fault.Done.{Done}
 use Rattle.phase_transactions.specs.declared.fault.Done.TheVariants.{Committed, Stashed}
 use Rattle.phase_transactions.specs.declared.fault.PermitFault.{PermitFault}
 use Rattle.phase_transactions.specs.Performing.{HasDealtWith, HasFailed, IsCause, with_try}
 use Rattle.phase_transactions.specs.Permits.{PermitState, HasCommitted}
-use Rattle.phase_permits.specs.Stashed.{with_first_called, HasPerformedFirst, HasFailedFirst}
+use Rattle.phase_transactions.specs.Stashed.{with_first_called, HasPerformedFirst, HasFailedFirst}
 use Rattle.run_serving.specs.Serving.{call_of}
 use Rattle.shard_boxes.specs.States.{ShardState}
 use Rattle.worker_journals.specs.Journals.{JournalView, commit_in}
@@ -60,18 +60,18 @@ module _ (opening : List ShardState) (old new : PermitState) (request : Request)
   commit_same answer h = record {
     boxes = h.boxes;
     worker = h.worker;
-    opening = ap (λ d. d.opening) h.desk;
-    begun = ap (λ d. d.begun) h.desk;
-    phase = ap (λ d. d.journal.phase) h.desk;
-    writer = ap (λ d. d.journal.worker) h.desk;
-    hot = ap objects_of h.slices ∙ objects-acts old.split.slices (writes_if (row_of old.split.desk.journal.worker request answer));
-    stocks = ap stocks_of h.slices ∙ stocks-acts old.split.slices (writes_if (row_of old.split.desk.journal.worker request answer));
-    own = λ are. subst (λ (d : DeskState). AreOfPhaseIn d.journal) (sym h.desk)
-        (all_of_more (λ (e : Entry). e.phase ≡ old.split.desk.journal.phase) old.split.desk.journal.entries (commit_in old.split.desk.journal h.number index request answer) are refl);
+    opening = ap (λ d. d.opening) h.context;
+    begun = ap (λ d. d.begun) h.context;
+    phase = ap (λ d. d.journal.phase) h.context;
+    writer = ap (λ d. d.journal.worker) h.context;
+    hot = ap objects_of h.slices ∙ objects-acts old.split.slices (writes_if (row_of old.split.context.journal.worker request answer));
+    stocks = ap stocks_of h.slices ∙ stocks-acts old.split.slices (writes_if (row_of old.split.context.journal.worker request answer));
+    own = λ are. subst (λ (d : ContextState). AreOfPhaseIn d.journal) (sym h.context)
+        (all_of_more (λ (e : Entry). e.phase ≡ old.split.context.journal.phase) old.split.context.journal.entries (commit_in old.split.context.journal h.number index request answer) are refl);
   }
 
   pub commit_calls : (answer : Reply) → HasCommitted opening old new request index answer → committed new ≡ committed old ++ (index, request) ∷ []
-  commit_calls answer h = ap (λ d. map call_of d.journal.entries) h.desk ∙ map-append call_of old.split.desk.journal.entries _
+  commit_calls answer h = ap (λ d. map call_of d.journal.entries) h.context ∙ map-append call_of old.split.context.journal.entries _
 
 pub next_same : (opening : List ShardState) (old new : PermitState) (request : Request) (index : ℕ) (answer : Reply) →
     HasCommitted opening (with_try old) new request index answer → IsSamePermit old new
@@ -91,13 +91,13 @@ dealt_same opening old new request index (Committed answer) h = next_same openin
 dealt_same opening old new request index Stashed h = record {
   boxes = ap (λ k. k.boxes) h.key;
   worker = ap (λ k. k.worker) h.key;
-  opening = ap (λ d. d.opening) h.desk;
-  begun = ap (λ d. d.begun) h.desk;
-  phase = ap (λ d. d.journal.phase) h.desk;
-  writer = ap (λ d. d.journal.worker) h.desk;
+  opening = ap (λ d. d.opening) h.context;
+  begun = ap (λ d. d.begun) h.context;
+  phase = ap (λ d. d.journal.phase) h.context;
+  writer = ap (λ d. d.journal.worker) h.context;
   hot = ap objects_of h.slices;
   stocks = ap stocks_of h.slices;
-  own = λ are. subst (λ (d : DeskState). AreOfPhaseIn d.journal) (sym h.desk) are;
+  own = λ are. subst (λ (d : ContextState). AreOfPhaseIn d.journal) (sym h.context) are;
 }
 
 -- one call more of those from an index on, where some of each are kept
@@ -136,7 +136,7 @@ next_is k xs x is =
     sym (take-append-drop (k + 1) xs) ∙ ap (λ ys. ys ++ drop (k + 1) xs) is ∙ append_assoc (take k xs) (x ∷ []) (drop (k + 1) xs)
 
 pub first_calls : (opening : List ShardState) (old new : PermitState) (answer : Option Reply) →
-    IfNone answer (old.split.desk.stash.requests ≡ []) → IfNone answer (new ≡ with_try old) → IfSome answer (HasPerformedFirst opening (with_try old) new) →
+    IfNone answer (old.split.context.stash.requests ≡ []) → IfNone answer (new ≡ with_try old) → IfSome answer (HasPerformedFirst opening (with_try old) new) →
     (committed new ≡ committed old ++ take 1 (stashed old)) × (stashed new ≡ drop 1 (stashed old))
 first_calls opening old new None none same done = (
   ap (λ (p : PermitState). committed p) same ∙ sym (ap (λ ss. committed old ++ take 1 ss) none ∙ append-nil (committed old)),
@@ -145,7 +145,7 @@ first_calls opening old new None none same done = (
 first_calls opening old new (Some answer) none same done = (
   commit_calls opening (with_first_called (with_try old)) new done.request done.index answer done.committed
       ∙ ap (λ cs. committed old ++ cs) (sym (first_one (stashed old) (done.index, done.request) done.first)),
-  ap (λ (d : DeskState). d.stash.requests) done.committed.desk,
+  ap (λ (d : ContextState). d.stash.requests) done.committed.context,
 )
 
 pub stash_more : (k : ℕ) (ss cs old now : List (ℕ × Request)) → now ≡ cs ++ take 1 (drop k ss) → cs ≡ old ++ take k ss → now ≡ old ++ take (k + 1) ss
@@ -169,7 +169,7 @@ module _ (opening : List ShardState) (old mid new : PermitState) (fault : Permit
     call = call;
     left = drop (k + 1) calls;
     calls_are = here;
-    done = ap (λ sp. map call_of sp.desk.journal.entries) failed.split ∙ was;
+    done = ap (λ sp. map call_of sp.context.journal.entries) failed.split ∙ was;
     cause = subst (λ sp. IsCause opening sp new.key call.1 fault) (sym failed.split) failed.cause;
   }
 
@@ -194,8 +194,8 @@ module _ (opening : List ShardState) (old mid new : PermitState) (fault : Permit
     call = call;
     left = drop (k + 1) calls;
     calls_are = next_is k calls call next;
-    done = ap (λ sp. map call_of sp.desk.journal.entries) failed.split ∙ was;
-    waits = ap (λ sp. sp.desk.stash.requests) failed.split ∙ waits;
+    done = ap (λ sp. map call_of sp.context.journal.entries) failed.split ∙ was;
+    waits = ap (λ sp. sp.context.stash.requests) failed.split ∙ waits;
     cause = subst (λ sp. IsCause opening sp new.key call.1 fault) (sym failed.split) failed.cause;
   }
 

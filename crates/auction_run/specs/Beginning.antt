@@ -1,5 +1,6 @@
 -- What has to hold of what a run is handed, before it begins.
 use Rattle.std.specs.Prelude.{ℕ, ◌+◌, ◌<◌, ◌≤◌, ◌↔◌, List, All, Result, Ok, Err, length, OnOk, IsErrOf}
+use Rattle.auction_rows.specs.declared.limits.TheConstants.{MOST_HOT, MOST_OF_A_WORKER, MOST_SHARDS, MOST_WORKERS}
 use Rattle.auction_rows.specs.declared.requests.Request.{Request}
 use Rattle.auction_rows.specs.Book.{Book}
 use Rattle.item_shards.specs.Counting.{worker_of}
@@ -12,24 +13,24 @@ use Rattle.auction_run.specs.declared.fault.RunFault.TheVariants.{Workers, Shard
 -- there are 1 to 16 scripts, and each row is of a worker that has one
 pub record HaveWorkers (rows : Book) (scripts : List (List Request)) : Type 0 where
   pub some : 0 < length scripts
-  pub few : length scripts ≤ 16
+  pub few : length scripts ≤ MOST_WORKERS
   pub own : All (λ row. worker_of row < length scripts) rows
 
 -- there are 1 to 64 shards
 pub record HasShards (policy : Policy) : Type 0 where
   pub some : 0 < policy.shards
-  pub few : policy.shards ≤ 64
+  pub few : policy.shards ≤ MOST_SHARDS
 
 -- neither quota is 0, nor is the threshold, and at most 64 objects may be hot
 pub record HasQuotas (policy : Policy) : Type 0 where
   pub joined : 0 < policy.joined_quota
   pub split : 0 < policy.split_quota
   pub threshold : 0 < policy.threshold
-  pub hot : policy.hot_max ≤ 64
+  pub hot : policy.hot_max ≤ MOST_HOT
 
 -- no worker's rows and script have more than 1,000,000 together
 abbrev pub AreShort : Book → List (List Request) → Type 0
-AreShort rows scripts = (worker : ℕ) → worker < length scripts → rows_by rows worker + length (script_of scripts worker) ≤ 1000000
+AreShort rows scripts = (worker : ℕ) → worker < length scripts → rows_by rows worker + length (script_of scripts worker) ≤ MOST_OF_A_WORKER
 
 -- what each answer of the check says: all four hold, or the fault is that of the first that doesn't
 abbrev pub IsFirstToFail : {T : Type 0} → Result T RunFault → Type 0 → Type 0 → Type 0 → Type 0 → Type 0

@@ -3,9 +3,10 @@ use Rattle.std.specs.declared.alloc.Global.{Global}
 use Rattle.std.specs.Prelude.{ℕ, ◌≡◌, ◌+◌, ◌<◌, ◌≤◌, ◌^◌, true, false, List, [], map, length, Vec, Result, IsErrOf, ⊤}
 use Rattle.std.specs.List.{AllByRecursion}
 use Rattle.std.specs.HashSet.{HashSet}
+use Rattle.auction_rows.specs.declared.limits.TheConstants.{MOST_OF_A_WORKER}
 use Rattle.auction_rows.specs.declared.ids.Object.{Object}
 use Rattle.auction_rows.specs.declared.requests.Request.{Request}
-use Rattle.phase_desks.specs.Stashes.{StashState}
+use Rattle.phase_contexts.specs.Stashes.{StashState}
 use Rattle.phase_closing.specs.Standing.{counters_at}
 use Rattle.phase_floor.specs.Floors.{stash_at}
 use Rattle.phase_floor.specs.States.{JoinedState, states_of, DoAllExist}
@@ -46,11 +47,11 @@ pub record MayPerform (policy : Policy) (scripts : List (List Request)) (state :
   pub scripts_are : length scripts ≡ length state.counters
   pub stashes_are : length stashes ≡ length state.counters
   pub shards_are : length state.shards ≡ policy.shards
-  pub short : (worker : ℕ) → length (script_of scripts worker) ≤ 1000000
+  pub short : (worker : ℕ) → length (script_of scripts worker) ≤ MOST_OF_A_WORKER
   -- what a worker committed, what waits and its quota are no more than 1,000,000
   pub room : (worker : ℕ) → worker < length state.counters →
       (counters_at state.counters worker).commits + length (waiting_in stashes worker)
-      + quota_of policy state.phase (script_of scripts worker) ≤ 1000000
+      + quota_of policy state.phase (script_of scripts worker) ≤ MOST_OF_A_WORKER
   -- nothing is hot in a joined phase, and what is hot in a split one is there
   pub joined : is_split state.phase ≡ false → hot ≡ []
   pub exist : DoAllExist state.opening (states_of state) hot

@@ -1,6 +1,8 @@
 -- What the workers of a phase have to do, and what they have done.
 use Rattle.std.specs.Prelude.{◌≡◌, ℕ, ◌+◌, ◌-◌, ◌<◌, ◌≤◌, ◌⊎◌, not, List, [], ◌∷◌, ◌++◌, length, Result, Ok, Err, Option, Some, None, ⊤}
 use Rattle.std.specs.List.{filter}
+use Rattle.auction_rows.specs.declared.limits.TheConstants.{MOST_TRIES}
+use Rattle.auction_rows.specs.declared.limits.TheConstants.{MOST_OF_A_WORKER}
 use Rattle.auction_rows.specs.declared.requests.Request.{Request}
 use Rattle.auction_rows.specs.Phases.{is_put_off}
 use Rattle.shard_boxes.specs.Keys.{BoxId}
@@ -31,15 +33,15 @@ tasks (permit ∷ permits) (script ∷ scripts) first = task permit script first
 
 -- the calls that the worker is given
 abbrev pub calls_for : Task → List (ℕ × Request)
-calls_for t = calls_from t.first t.permit.split.desk.left t.script
+calls_for t = calls_from t.first t.permit.split.context.left t.script
 
 -- it can be done in a phase that began with these shards, with these boxes
 pub record CanBeDone (opening : List ShardState) (boxes : List BoxId) (t : Task) : Type 0 where
   pub boxes_are : t.permit.key.boxes ≡ boxes
-  pub opening_is : HaveOpening opening t.permit.split.desk.opening
-  pub short : length t.script ≤ 1000000
-  pub given : t.permit.split.desk.left ≤ length t.script - t.first
-  pub tries : t.permit.split.desk.tries + length (stashed t.permit) + t.permit.split.desk.left ≤ 1000000000
+  pub opening_is : HaveOpening opening t.permit.split.context.opening
+  pub short : length t.script ≤ MOST_OF_A_WORKER
+  pub given : t.permit.split.context.left ≤ length t.script - t.first
+  pub tries : t.permit.split.context.tries + length (stashed t.permit) + t.permit.split.context.left ≤ MOST_TRIES
 
 -- it was done in a joined phase: what waited is committed, and then what was given
 pub record IsDoneJoined (t : Task) (receipt : PermitState) : Type 0 where

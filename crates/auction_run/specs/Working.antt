@@ -5,7 +5,7 @@ use Rattle.auction_rows.specs.declared.ids.Object.{Object}
 use Rattle.auction_rows.specs.declared.requests.Request.{Request}
 use Rattle.auction_rows.specs.Phases.{is_put_off}
 use Rattle.shard_boxes.specs.States.{ShardState}
-use Rattle.phase_desks.specs.Slicing.{objects_of, stocks_of}
+use Rattle.phase_contexts.specs.Slicing.{objects_of, stocks_of}
 use Rattle.phase_transactions.specs.declared.fault.PermitFault.{PermitFault}
 use Rattle.phase_transactions.specs.declared.fault.PermitFault.TheVariants.{NumberFull}
 use Rattle.phase_transactions.specs.Performing.{IsCause}
@@ -23,11 +23,11 @@ IsCallOf script call = slice_get script call.0 ≡ Some call.1
 
 -- the calls that a permit has committed
 abbrev pub committed : PermitState → List (ℕ × Request)
-committed permit = map call_of permit.split.desk.journal.entries
+committed permit = map call_of permit.split.context.journal.entries
 
 -- the calls that wait in its stash
 abbrev pub stashed : PermitState → List (ℕ × Request)
-stashed permit = permit.split.desk.stash.requests
+stashed permit = permit.split.context.stash.requests
 
 -- the objects that are hot for it
 abbrev pub hot_for : PermitState → List Object
@@ -35,7 +35,7 @@ hot_for permit = objects_of permit.split.slices
 
 -- it is of this phase and this worker
 pub record IsPermitOf (phase worker : ℕ) (permit : PermitState) : Type 0 where
-  pub phase_is : permit.split.desk.journal.phase ≡ phase
+  pub phase_is : permit.split.context.journal.phase ≡ phase
   pub worker_is : permit.key.worker ≡ worker
 
 -- permits of this phase, of the workers from this one on
@@ -45,17 +45,17 @@ ArePermitsOf phase worker (permit ∷ more) = IsPermitOf phase worker permit × 
 
 -- its entries are of its journal's phase
 abbrev pub AreOfPhase : PermitState → Type 0
-AreOfPhase permit = AllByRecursion (λ e. e.phase ≡ permit.split.desk.journal.phase) permit.split.desk.journal.entries
+AreOfPhase permit = AllByRecursion (λ e. e.phase ≡ permit.split.context.journal.phase) permit.split.context.journal.entries
 
 -- What a permit is of (boxes, worker, phase, users and categories, hot objects) is unchanged, and entries that are added are of
 -- its phase.
 pub record IsSamePermit (old new : PermitState) : Type 0 where
   pub boxes : new.key.boxes ≡ old.key.boxes
   pub worker : new.key.worker ≡ old.key.worker
-  pub opening : new.split.desk.opening ≡ old.split.desk.opening
-  pub begun : new.split.desk.begun ≡ old.split.desk.begun
-  pub phase : new.split.desk.journal.phase ≡ old.split.desk.journal.phase
-  pub writer : new.split.desk.journal.worker ≡ old.split.desk.journal.worker
+  pub opening : new.split.context.opening ≡ old.split.context.opening
+  pub begun : new.split.context.begun ≡ old.split.context.begun
+  pub phase : new.split.context.journal.phase ≡ old.split.context.journal.phase
+  pub writer : new.split.context.journal.worker ≡ old.split.context.journal.worker
   pub hot : hot_for new ≡ hot_for old
   pub stocks : stocks_of new.split.slices ≡ stocks_of old.split.slices
   pub own : AreOfPhase old → AreOfPhase new

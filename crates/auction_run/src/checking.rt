@@ -7,7 +7,7 @@ ghost use Rattle.auction_run.specs.Beginning.{HaveWorkers, HasShards, HasQuotas,
 ghost use Rattle.auction_run.specs.Phases.{lists};
 
 use crate::fault::RunFault;
-use auction_rows::{Request, Row};
+use auction_rows::{MOST_HOT, MOST_OF_A_WORKER, MOST_SHARDS, MOST_WORKERS, Request, Row};
 use item_shards::OpeningBook;
 use run_serving::Policy;
 
@@ -40,7 +40,7 @@ fn have_workers(rows: &[Row], scripts: &[Vec<Request>]) -> bool
     ensures { IsTrue result ↔ HaveWorkers rows.now (lists scripts.now) }
 {
     let workers = scripts.len();
-    if workers == 0 || workers > 16 {
+    if workers == 0 || workers > MOST_WORKERS {
         return false;
     }
     rows.iter().all(|row| (worker_of(row) as usize) < workers)
@@ -50,7 +50,7 @@ fn have_workers(rows: &[Row], scripts: &[Vec<Request>]) -> bool
 fn has_shards(policy: Policy) -> bool
     ensures { IsTrue result ↔ HasShards policy }
 {
-    policy.shards > 0 && policy.shards <= 64
+    policy.shards > 0 && policy.shards as usize <= MOST_SHARDS
 }
 
 // Whether neither quota is 0, nor is the threshold, and at most 64 objects may be hot.
@@ -60,17 +60,17 @@ fn has_quotas(policy: Policy) -> bool
     policy.joined_quota > 0
         && policy.split_quota > 0
         && policy.threshold > 0
-        && policy.hot_max <= 64
+        && policy.hot_max as usize <= MOST_HOT
 }
 
 // Whether no worker's rows and script have more than 1,000,000 together.
 fn are_short(book: &OpeningBook, scripts: &[Vec<Request>]) -> bool
-    requires { length scripts.now ≤ 16 }
+    requires { length scripts.now ≤ MOST_WORKERS }
     ensures { IsTrue result ↔ AreShort (rows_of book.now) (lists scripts.now) }
 {
     let counts = rows_by_each(book.rows());
     for worker in 0..scripts.len() {
-        if scripts[worker].len() > 1_000_000 - counts[worker] {
+        if scripts[worker].len() > MOST_OF_A_WORKER as usize - counts[worker] {
             return false;
         }
     }
@@ -78,13 +78,13 @@ fn are_short(book: &OpeningBook, scripts: &[Vec<Request>]) -> bool
 }
 
 // How many rows are of each worker below 16.
-fn rows_by_each(rows: &[Row]) -> [usize; 16]
-    ensures { (worker : ℕ) → worker < 16 → slice_index result worker ≡ rows_by rows.now worker }
+fn rows_by_each(rows: &[Row]) -> [usize; MOST_WORKERS]
+    ensures { (worker : ℕ) → worker < MOST_WORKERS → slice_index result worker ≡ rows_by rows.now worker }
 {
-    let mut counts = [0; 16];
+    let mut counts = [0; MOST_WORKERS];
     for row in rows {
         let worker = worker_of(row) as usize;
-        if worker < 16 {
+        if worker < MOST_WORKERS {
             counts[worker] += 1;
         }
     }

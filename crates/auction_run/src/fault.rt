@@ -2,7 +2,7 @@
 ghost use Rattle.std.specs.Prelude.{◌≡◌};
 
 use phase_floor::FloorFault;
-use phase_permits::PermitFault;
+use phase_transactions::PermitFault;
 use std::alloc::{AllocError, AllocFailed};
 use thiserror::Error;
 

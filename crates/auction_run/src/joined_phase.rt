@@ -14,7 +14,7 @@ use crate::quotas::quotas;
 use crate::round::Round;
 use crate::serving::serve_all;
 use phase_floor::Joined;
-use phase_permits::Stash;
+use phase_transactions::Stash;
 use shard_boxes::PhaseName;
 use std::alloc::Global;
 use std::sync::Wait;

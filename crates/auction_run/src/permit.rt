@@ -8,7 +8,7 @@ ghost use Rattle.auction_run.specs.Working.{stashed, IsPermitOf, HasStopped, Has
 use crate::gate::Gate;
 use crate::worker::{Post, perform_joined, perform_split};
 use auction_rows::Request;
-use phase_permits::{JoinedPermit, JoinedReceipt, PermitFault, SplitPermit, SplitReceipt};
+use phase_transactions::{JoinedPermit, JoinedReceipt, PermitFault, SplitPermit, SplitReceipt};
 use shard_boxes::{Boxes, PhaseName};
 use std::sync::Wait;
 

@@ -12,8 +12,8 @@ use crate::permit::Permit;
 use crate::round::Round;
 use crate::threads::{Job, work};
 use crate::worker::Post;
-use auction_rows::Request;
-use phase_permits::PermitFault;
+use auction_rows::{MOST_WORKERS, Request};
+use phase_transactions::PermitFault;
 use shard_boxes::{Boxes, PhaseName};
 use std::alloc::{AllocError, Global};
 use std::sync::Wait;
@@ -97,7 +97,7 @@ where
     R: Threads + Wait + Sync,
     G: Gate + Sync,
     requires workers { vec_len permits ≡ length round.scripts.now }
-    requires few { length round.scripts.now ≤ 16 }
+    requires few { length round.scripts.now ≤ MOST_WORKERS }
     requires can { AllByRecursion (CanBeDone N.opening boxes.now) (tasks (map P.shows permits.items) (lists round.scripts.now) round.first) }
     requires of { ArePermitsOf round.phase 0 (map P.shows permits.items) }
     ensures done { IfOk result (λ receipts.
@@ -135,7 +135,7 @@ fn own_tasks<'a, N: PhaseName, P: Permit<N>, R, G>(
     round: Round<'a, G>,
 ) -> Result<Vec<WorkerTask<'a, N, P, R, G>>, AllocError>
     requires workers { into_iter_len permits ≡ length round.scripts.now }
-    requires few { length round.scripts.now ≤ 16 }
+    requires few { length round.scripts.now ≤ MOST_WORKERS }
     requires can { AllByRecursion (CanBeDone N.opening boxes.now)
         (tasks (map P.shows (into_iter_items permits)) (lists round.scripts.now) round.first) }
     requires of { ArePermitsOf round.phase 0 (map P.shows (into_iter_items permits)) }

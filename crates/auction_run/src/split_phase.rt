@@ -16,7 +16,7 @@ use crate::serving::serve_all;
 use auction_rows::Object;
 use indexmap::IndexSet;
 use phase_floor::Joined;
-use phase_permits::Stash;
+use phase_transactions::Stash;
 use shard_boxes::PhaseName;
 use std::alloc::Global;
 use std::sync::Wait;

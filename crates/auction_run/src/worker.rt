@@ -2,14 +2,14 @@
 ghost use Rattle.std.specs.Prelude.{◌≡◌, ◌+◌, ◌-◌, ◌≤◌, ◌<◌, ◌++◌, ◌∷◌, [], not, length, take, drop, OnOk, IfErr};
 ghost use Rattle.std.specs.List.{filter};
 ghost use Rattle.auction_rows.specs.Phases.{is_put_off};
-ghost use Rattle.phase_permits.specs.Stashed.{HasFailedFirst};
+ghost use Rattle.phase_transactions.specs.Stashed.{HasFailedFirst};
 ghost use Rattle.phase_transactions.specs.Performing.{HasFailed, with_try};
 ghost use Rattle.phase_transactions.specs.Single.{HaveOpening};
 ghost use Rattle.auction_run.specs.Working.{calls_from, committed, stashed, hot_for, IsPermitOf, IsSamePermit, HasStopped, HasStoppedSplit};
 
 use crate::gate::Gate;
-use auction_rows::Request;
-use phase_permits::{JoinedPermit, PermitFault, SplitPermit};
+use auction_rows::{MOST_OF_A_WORKER, MOST_TRIES, Request};
+use phase_transactions::{JoinedPermit, PermitFault, SplitPermit};
 use shard_boxes::{Boxes, PhaseName};
 use std::sync::Wait;
 
@@ -42,16 +42,16 @@ pub(crate) fn perform_joined<N: PhaseName, R: Wait, G: Gate>(
     first: usize,
 ) -> Result<(), PermitFault>
     requires of { permit.old.key.boxes ≡ boxes.now }
-    requires opening { HaveOpening N.opening permit.old.split.desk.opening }
+    requires opening { HaveOpening N.opening permit.old.split.context.opening }
     requires post { IsPermitOf post.now.phase post.now.worker permit.old }
-    requires short { length script.now ≤ 1000000 }
-    requires given { permit.old.split.desk.left ≤ length script.now - first }
-    requires tries { permit.old.split.desk.tries + length (stashed permit.old) + permit.old.split.desk.left ≤ 1000000000 }
+    requires short { length script.now ≤ MOST_OF_A_WORKER }
+    requires given { permit.old.split.context.left ≤ length script.now - first }
+    requires tries { permit.old.split.context.tries + length (stashed permit.old) + permit.old.split.context.left ≤ MOST_TRIES }
     ensures same { OnOk result (IsSamePermit permit.old permit.new) }
     ensures calls { OnOk result (committed permit.new ≡ committed permit.old
-        ++ (stashed permit.old ++ calls_from first permit.old.split.desk.left script.now)) }
+        ++ (stashed permit.old ++ calls_from first permit.old.split.context.left script.now)) }
     ensures stash { OnOk result (stashed permit.new ≡ []) }
-    ensures stopped { IfErr result (HasStopped N.opening (stashed permit.old ++ calls_from first permit.old.split.desk.left script.now)
+    ensures stopped { IfErr result (HasStopped N.opening (stashed permit.old ++ calls_from first permit.old.split.context.left script.now)
         permit.old permit.new) }
 {
     perform_stash(rt, boxes, post, permit)?;
@@ -66,13 +66,13 @@ fn perform_stash<N: PhaseName, R: Wait, G: Gate>(
     permit: &mut JoinedPermit<N>,
 ) -> Result<(), PermitFault>
     requires of { permit.old.key.boxes ≡ boxes.now }
-    requires opening { HaveOpening N.opening permit.old.split.desk.opening }
-    requires tries { permit.old.split.desk.tries + length (stashed permit.old) ≤ 1000000000 }
+    requires opening { HaveOpening N.opening permit.old.split.context.opening }
+    requires tries { permit.old.split.context.tries + length (stashed permit.old) ≤ MOST_TRIES }
     ensures same { OnOk result (IsSamePermit permit.old permit.new) }
     ensures calls { OnOk result (committed permit.new ≡ committed permit.old ++ stashed permit.old) }
     ensures stash { OnOk result (stashed permit.new ≡ []) }
-    ensures left { OnOk result (permit.new.split.desk.left ≡ permit.old.split.desk.left) }
-    ensures tries { OnOk result (permit.new.split.desk.tries ≤ permit.old.split.desk.tries + length (stashed permit.old)) }
+    ensures left { OnOk result (permit.new.split.context.left ≡ permit.old.split.context.left) }
+    ensures tries { OnOk result (permit.new.split.context.tries ≤ permit.old.split.context.tries + length (stashed permit.old)) }
     ensures stopped { IfErr result (HasStopped N.opening (stashed permit.old) permit.old permit.new) }
 {
     for _call in 0..permit.stashed() {
@@ -89,13 +89,13 @@ fn perform_first<N: PhaseName, R: Wait, G: Gate>(
     permit: &mut JoinedPermit<N>,
 ) -> Result<(), PermitFault>
     requires of { permit.old.key.boxes ≡ boxes.now }
-    requires opening { HaveOpening N.opening permit.old.split.desk.opening }
-    requires tries { permit.old.split.desk.tries < 1000000000 }
+    requires opening { HaveOpening N.opening permit.old.split.context.opening }
+    requires tries { permit.old.split.context.tries < MOST_TRIES }
     ensures same { OnOk result (IsSamePermit permit.old permit.new) }
     ensures calls { OnOk result (committed permit.new ≡ committed permit.old ++ take 1 (stashed permit.old)) }
     ensures stash { OnOk result (stashed permit.new ≡ drop 1 (stashed permit.old)) }
-    ensures left { OnOk result (permit.new.split.desk.left ≡ permit.old.split.desk.left) }
-    ensures tries { OnOk result (permit.new.split.desk.tries ≤ permit.old.split.desk.tries + 1) }
+    ensures left { OnOk result (permit.new.split.context.left ≡ permit.old.split.context.left) }
+    ensures tries { OnOk result (permit.new.split.context.tries ≤ permit.old.split.context.tries + 1) }
     ensures failed { IfErr result (HasFailedFirst N.opening (with_try permit.old) permit.new) }
 {
     let Some((index, _request)) = permit.first_stashed() else {
@@ -118,14 +118,14 @@ fn perform_quota<N: PhaseName, R: Wait, G: Gate>(
     first: usize,
 ) -> Result<(), PermitFault>
     requires of { permit.old.key.boxes ≡ boxes.now }
-    requires opening { HaveOpening N.opening permit.old.split.desk.opening }
-    requires short { length script.now ≤ 1000000 }
-    requires given { permit.old.split.desk.left ≤ length script.now - first }
-    requires tries { permit.old.split.desk.tries + permit.old.split.desk.left ≤ 1000000000 }
+    requires opening { HaveOpening N.opening permit.old.split.context.opening }
+    requires short { length script.now ≤ MOST_OF_A_WORKER }
+    requires given { permit.old.split.context.left ≤ length script.now - first }
+    requires tries { permit.old.split.context.tries + permit.old.split.context.left ≤ MOST_TRIES }
     ensures same { OnOk result (IsSamePermit permit.old permit.new) }
-    ensures calls { OnOk result (committed permit.new ≡ committed permit.old ++ calls_from first permit.old.split.desk.left script.now) }
+    ensures calls { OnOk result (committed permit.new ≡ committed permit.old ++ calls_from first permit.old.split.context.left script.now) }
     ensures stash { OnOk result (stashed permit.new ≡ stashed permit.old) }
-    ensures stopped { IfErr result (HasStopped N.opening (calls_from first permit.old.split.desk.left script.now) permit.old permit.new) }
+    ensures stopped { IfErr result (HasStopped N.opening (calls_from first permit.old.split.context.left script.now) permit.old permit.new) }
 {
     for place in 0..permit.left() {
         let index = first + place as usize;
@@ -144,14 +144,14 @@ fn perform_next<N: PhaseName, R: Wait, G: Gate>(
     index: u32,
 ) -> Result<(), PermitFault>
     requires of { permit.old.key.boxes ≡ boxes.now }
-    requires opening { HaveOpening N.opening permit.old.split.desk.opening }
-    requires left { 0 < permit.old.split.desk.left }
-    requires tries { permit.old.split.desk.tries < 1000000000 }
+    requires opening { HaveOpening N.opening permit.old.split.context.opening }
+    requires left { 0 < permit.old.split.context.left }
+    requires tries { permit.old.split.context.tries < MOST_TRIES }
     ensures same { OnOk result (IsSamePermit permit.old permit.new) }
     ensures calls { OnOk result (committed permit.new ≡ committed permit.old ++ (index, request.now) ∷ []) }
     ensures stash { OnOk result (stashed permit.new ≡ stashed permit.old) }
-    ensures left { OnOk result (permit.new.split.desk.left ≡ permit.old.split.desk.left - 1) }
-    ensures tries { OnOk result (permit.new.split.desk.tries ≡ permit.old.split.desk.tries + 1) }
+    ensures left { OnOk result (permit.new.split.context.left ≡ permit.old.split.context.left - 1) }
+    ensures tries { OnOk result (permit.new.split.context.tries ≡ permit.old.split.context.tries + 1) }
     ensures failed { IfErr result (HasFailed N.opening (with_try permit.old) permit.new request.now) }
 {
     post.arrive(index);
@@ -172,17 +172,17 @@ pub(crate) fn perform_split<N: PhaseName, R: Wait, G: Gate>(
     first: usize,
 ) -> Result<(), PermitFault>
     requires of { permit.old.key.boxes ≡ boxes.now }
-    requires opening { HaveOpening N.opening permit.old.split.desk.opening }
+    requires opening { HaveOpening N.opening permit.old.split.context.opening }
     requires post { IsPermitOf post.now.phase post.now.worker permit.old }
-    requires short { length script.now ≤ 1000000 }
-    requires given { permit.old.split.desk.left ≤ length script.now - first }
-    requires tries { permit.old.split.desk.tries + permit.old.split.desk.left ≤ 1000000000 }
+    requires short { length script.now ≤ MOST_OF_A_WORKER }
+    requires given { permit.old.split.context.left ≤ length script.now - first }
+    requires tries { permit.old.split.context.tries + permit.old.split.context.left ≤ MOST_TRIES }
     ensures same { OnOk result (IsSamePermit permit.old permit.new) }
     ensures calls { OnOk result (committed permit.new ≡ committed permit.old
-        ++ filter (λ call. not (is_put_off (hot_for permit.old) call.1)) (calls_from first permit.old.split.desk.left script.now)) }
+        ++ filter (λ call. not (is_put_off (hot_for permit.old) call.1)) (calls_from first permit.old.split.context.left script.now)) }
     ensures stash { OnOk result (stashed permit.new ≡ stashed permit.old
-        ++ filter (λ call. is_put_off (hot_for permit.old) call.1) (calls_from first permit.old.split.desk.left script.now)) }
-    ensures stopped { IfErr result (HasStoppedSplit N.opening (calls_from first permit.old.split.desk.left script.now) permit.old permit.new) }
+        ++ filter (λ call. is_put_off (hot_for permit.old) call.1) (calls_from first permit.old.split.context.left script.now)) }
+    ensures stopped { IfErr result (HasStoppedSplit N.opening (calls_from first permit.old.split.context.left script.now) permit.old permit.new) }
 {
     for place in 0..permit.left() {
         let index = first + place as usize;
@@ -201,16 +201,16 @@ fn deal_with_next<N: PhaseName, R: Wait, G: Gate>(
     index: u32,
 ) -> Result<(), PermitFault>
     requires of { permit.old.key.boxes ≡ boxes.now }
-    requires opening { HaveOpening N.opening permit.old.split.desk.opening }
-    requires left { 0 < permit.old.split.desk.left }
-    requires tries { permit.old.split.desk.tries < 1000000000 }
+    requires opening { HaveOpening N.opening permit.old.split.context.opening }
+    requires left { 0 < permit.old.split.context.left }
+    requires tries { permit.old.split.context.tries < MOST_TRIES }
     ensures same { OnOk result (IsSamePermit permit.old permit.new) }
     ensures calls { OnOk result (committed permit.new ≡ committed permit.old
         ++ filter (λ call. not (is_put_off (hot_for permit.old) call.1)) ((index, request.now) ∷ [])) }
     ensures stash { OnOk result (stashed permit.new ≡ stashed permit.old
         ++ filter (λ call. is_put_off (hot_for permit.old) call.1) ((index, request.now) ∷ [])) }
-    ensures left { OnOk result (permit.new.split.desk.left ≡ permit.old.split.desk.left - 1) }
-    ensures tries { OnOk result (permit.new.split.desk.tries ≡ permit.old.split.desk.tries + 1) }
+    ensures left { OnOk result (permit.new.split.context.left ≡ permit.old.split.context.left - 1) }
+    ensures tries { OnOk result (permit.new.split.context.tries ≡ permit.old.split.context.tries + 1) }
     ensures failed { IfErr result (HasFailed N.opening (with_try permit.old) permit.new request.now) }
 {
     post.arrive(index);

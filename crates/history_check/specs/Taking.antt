@@ -1,5 +1,6 @@
 -- A replay that has performed the entries of a history so far.
 use Rattle.std.specs.Prelude.{ℕ, ◌+◌, ◌≡◌, ◌<◌, ◌≤◌, Bool, if◌then◌else◌, true, false, List, Option, length, count_by, get_or}
+use Rattle.auction_rows.specs.declared.limits.TheConstants.{MOST_WORKERS}
 use Rattle.auction_rows.specs.declared.numbers.Opening.{Opening}
 use Rattle.auction_rows.specs.declared.requests.Request.{Request}
 use Rattle.auction_rows.specs.declared.rows.Entry.{Entry}
@@ -26,9 +27,9 @@ pub record HasTaken (opening : Opening) (start : Book) (scripts : List (List Req
   pub few : length (book_after opening start history) ≤ replay.rows
   pub count : replay.rows ≡ length start + length history
   pub places : HasPlaces replay.marks.rows.items scripts
-  pub marks : (worker index : ℕ) → worker < 16 →
+  pub marks : (worker index : ℕ) → worker < MOST_WORKERS →
       count_by (is_of worker index) history ≡ (if is_marked replay.marks.rows.items worker index then 1 else 0)
-  pub turns : (worker : ℕ) → worker < 16 → get_or replay.turns.next worker 0 ≡ turn_after worker history
+  pub turns : (worker : ℕ) → worker < MOST_WORKERS → get_or replay.turns.next worker 0 ≡ turn_after worker history
 
 -- it has performed some entries, from some book on
 pub record CanTake (scripts : List (List Request)) (replay : Replay) : Type 0 where
@@ -45,7 +46,7 @@ AreMarked scripts rows = (worker index : ℕ) → index < length (script_of scri
 -- the request with this index of this worker's script has none
 pub record IsUnmarked (scripts : List (List Request)) (rows : List (List Bool)) (worker index : ℕ) : Type 0 where
   pub has_request : index < length (script_of scripts worker)
-  pub worker_below : worker < 16
+  pub worker_below : worker < MOST_WORKERS
   pub no_mark : is_marked rows worker index ≡ false
 
 -- It has performed the entries whose lines were read of a text, so many, where the text is known.

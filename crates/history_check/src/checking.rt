@@ -8,8 +8,8 @@ ghost use Rattle.history_check.specs.Texts.{lines_of, ReadsLine};
 ghost use Rattle.history_check.specs.Checking.{IsAccepted, IsVerdict};
 
 use crate::lines::{CheckFault, Order, Verdict};
-use crate::replay::{MOST_ROWS, Replay};
-use auction_rows::Request;
+use crate::replay::Replay;
+use auction_rows::{MOST_ROWS, MOST_WORKERS, Request};
 use item_shards::OpeningBook;
 use std::alloc::Global;
 use std::io::{BufRead, Error, ErrorKind};
@@ -49,13 +49,13 @@ pub fn check_history<R: BufRead>(
     reader: &mut R,
     line: &mut Vec<u8>,
 ) -> Result<Verdict, CheckFault>
-    requires workers { length scripts.now ≤ 16 }
+    requires workers { length scripts.now ≤ MOST_WORKERS }
     ensures verdict { IfOk result (λ verdict. IfSome (R.remaining reader.old) (λ text.
         IsVerdict (opening_of book.now) (rows_of book.now) (lists scripts.now) order text verdict)) }
     ensures accepted { IfOk result (λ verdict. IfSome (R.remaining reader.old) (λ text.
         IsAccepted (opening_of book.now) (rows_of book.now) (lists scripts.now) order text → verdict ≡ Replays)) }
     ensures too_long { IsErrOf result TooLong → IfSome (R.remaining reader.old) (λ text.
-        16000000 < length (rows_of book.now) + length (lines_of text)) }
+        MOST_ROWS < length (rows_of book.now) + length (lines_of text)) }
 {
     let mut replay = Replay::new(alloc, book, scripts, order)?;
     for number in 0..MOST_ROWS + 1 {

@@ -14,5 +14,5 @@ mod turns;
 pub use checking::check_history;
 pub use lines::{CheckFault, Order, Verdict, Wrong};
 pub use places::{Place, read_line};
-pub use replay::{MOST_ROWS, Replay};
+pub use replay::Replay;
 pub use text_laws::{lines_are_placed, texts_are_lines};

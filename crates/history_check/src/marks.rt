@@ -4,13 +4,13 @@ ghost use Rattle.run_serving.specs.Serving.{script_of};
 ghost use Rattle.history_check.specs.Scripts.{lists, request_at};
 ghost use Rattle.history_check.specs.Marks.{is_marked, HasPlaces, AreWide};
 
-use auction_rows::Request;
+use auction_rows::{MOST_WORKERS, Request};
 use std::alloc::{AllocError, Global};
 
 /// For each index a mark for each of 16 workers.
 #[derive(Drop)]
 pub struct Marks {
-    pub(crate) rows: Vec<[bool; 16]>,
+    pub(crate) rows: Vec<[bool; MOST_WORKERS]>,
     ghost wide: { AreWide rows.items },
 }
 
@@ -39,17 +39,17 @@ impl Marks {
     /// A place for each request of each script, with no mark.
     pub fn new(alloc: Global, scripts: &[Vec<Request>]) -> Result<Marks, AllocError>
         ensures places { IfOk result (λ marks. HasPlaces marks.rows.items (lists scripts.now)) }
-        ensures none { IfOk result (λ marks. (worker index : ℕ) → worker < 16 → is_marked marks.rows.items worker index ≡ false) }
+        ensures none { IfOk result (λ marks. (worker index : ℕ) → worker < MOST_WORKERS → is_marked marks.rows.items worker index ≡ false) }
     {
         let places = longest(scripts);
         Ok(Marks {
-            rows: vec![in alloc; [false; 16]; places]?,
+            rows: vec![in alloc; [false; MOST_WORKERS]; places]?,
         })
     }
 
     /// Whether a place has a mark.
     pub fn has(&self, worker: usize, index: usize) -> bool
-        requires worker { worker < 16 }
+        requires worker { worker < MOST_WORKERS }
         requires index { index < length self.now.rows.items }
         ensures { result ≡ is_marked self.now.rows.items worker index }
     {
@@ -59,10 +59,10 @@ impl Marks {
 
     /// Marks a place.
     pub fn mark(&mut self, worker: usize, index: usize)
-        requires worker { worker < 16 }
+        requires worker { worker < MOST_WORKERS }
         requires index { index < length self.old.rows.items }
         ensures places { length self.new.rows.items ≡ length self.old.rows.items }
-        ensures marked { (w i : ℕ) → w < 16 → is_marked self.new.rows.items w i
+        ensures marked { (w i : ℕ) → w < MOST_WORKERS → is_marked self.new.rows.items w i
             ≡ (if (worker == w) && (index == i) then true else is_marked self.old.rows.items w i) }
     {
         let mut row = self.rows[index];

@@ -17,13 +17,10 @@ use crate::lines::{CheckFault, Order, Wrong};
 use crate::marks::{Marks, request_of};
 use crate::places::{Place, read_line};
 use crate::turns::{Turns, is_bound};
-use auction_rows::{Reply, Request};
+use auction_rows::{MOST_ROWS, MOST_WORKERS, Reply, Request};
 use auction_text::push_reply;
 use item_shards::{OpeningBook, SerialAuction};
 use std::alloc::{AllocError, Global};
-
-/// How many rows and lines there may be.
-pub const MOST_ROWS: usize = 16_000_000;
 
 /// An auction of one thread that has performed the lines of a history so far.
 #[derive(Drop)]
@@ -74,7 +71,7 @@ impl Replay {
         scripts: &[Vec<Request>],
         line: &[u8],
     ) -> Result<Option<Wrong>, CheckFault>
-        requires workers { length scripts.now ≤ 16 }
+        requires workers { length scripts.now ≤ MOST_WORKERS }
         requires taken { CanTake (lists scripts.now) self.old }
         ensures right { IfOk result (λ found. IfNone found ((opening : Opening) (start : Rows) (order : Asked) (history : List Entry) →
             HasTaken opening start (lists scripts.now) order history self.old →
@@ -83,7 +80,7 @@ impl Replay {
         ensures wrong { IfOk result (λ found. IfSome found (λ why. (opening : Opening) (start : Rows) (order : Asked) (history : List Entry) →
             HasTaken opening start (lists scripts.now) order history self.old →
             IsWrong opening start (lists scripts.now) order history line.now why)) }
-        ensures too_long { IsErrOf result TooLong → 16000000 ≤ self.old.rows }
+        ensures too_long { IsErrOf result TooLong → MOST_ROWS ≤ self.old.rows }
     {
         match read_line(line) {
             Some((place, text)) => self.perform_at(scripts, place, text),
@@ -93,7 +90,7 @@ impl Replay {
 
     // Whether a line of a later request of the script stands before the request of a place, and may not.
     fn is_late(&self, place: Place, request: Request) -> bool
-        requires { place.worker < 16 }
+        requires { place.worker < MOST_WORKERS }
         ensures { result ≡ is_late self.now.order request place.index (get_or self.now.turns.next place.worker 0) }
     {
         is_bound(self.order, request) && self.turns.is_late(place.worker as usize, place.index)
@@ -106,7 +103,7 @@ impl Replay {
         place: Place,
         text: &[u8],
     ) -> Result<Option<Wrong>, CheckFault>
-        requires workers { length scripts.now ≤ 16 }
+        requires workers { length scripts.now ≤ MOST_WORKERS }
         requires taken { CanTake (lists scripts.now) self.old }
         requires fits { Fits place }
         ensures right { IfOk result (λ found. IfNone found ((opening : Opening) (start : Rows) (order : Asked) (history : List Entry) →
@@ -116,7 +113,7 @@ impl Replay {
         ensures wrong { IfOk result (λ found. IfSome found (λ why. (opening : Opening) (start : Rows) (order : Asked) (history : List Entry) (line : List ℕ) →
             HasTaken opening start (lists scripts.now) order history self.old → IsLineOf line place text.now →
             IsWrong opening start (lists scripts.now) order history line why)) }
-        ensures too_long { IsErrOf result TooLong → 16000000 ≤ self.old.rows }
+        ensures too_long { IsErrOf result TooLong → MOST_ROWS ≤ self.old.rows }
     {
         let Some(request) = request_of(scripts, place.worker, place.index) else {
             return Ok(Some(Wrong::NoRequest));
@@ -142,7 +139,7 @@ impl Replay {
 
     /// A request that has stood in no line, if there is one: its worker and its index.
     pub fn lacks(&self, scripts: &[Vec<Request>]) -> Option<(usize, usize)>
-        requires workers { length scripts.now ≤ 16 }
+        requires workers { length scripts.now ≤ MOST_WORKERS }
         requires taken { CanTake (lists scripts.now) self.now }
         ensures none { IfNone result (AreMarked (lists scripts.now) self.now.marks.rows.items) }
         ensures some { IfSome result (λ place. IsUnmarked (lists scripts.now) self.now.marks.rows.items place.0 place.1) }

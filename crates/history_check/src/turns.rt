@@ -3,12 +3,12 @@ ghost use Rattle.std.specs.Prelude.{◌≡◌, ◌==◌, ◌<◌, ◌^◌, ℕ, 
 ghost use Rattle.history_check.specs.Orders.{is_bound};
 
 use crate::lines::Order;
-use auction_rows::{Request, is_splittable};
+use auction_rows::{MOST_WORKERS, Request, is_splittable};
 
 /// For each of 16 workers one past the greatest index of its entries.
 #[derive(Drop)]
 pub struct Turns {
-    pub(crate) next: [u64; 16],
+    pub(crate) next: [u64; MOST_WORKERS],
 }
 
 impl Turns {
@@ -16,12 +16,14 @@ impl Turns {
     pub fn new() -> Turns
         ensures { (worker : ℕ) → get_or result.next worker 0 ≡ 0 }
     {
-        Turns { next: [0; 16] }
+        Turns {
+            next: [0; MOST_WORKERS],
+        }
     }
 
     /// Whether an entry of a worker has a greater index.
     pub fn is_late(&self, worker: usize, index: u32) -> bool
-        requires { worker < 16 }
+        requires { worker < MOST_WORKERS }
         ensures { result ≡ nat_lt index (get_or self.now.next worker 0) }
     {
         u64::from(index) < self.next[worker]
@@ -29,8 +31,8 @@ impl Turns {
 
     /// Adds an entry.
     pub fn pass(&mut self, worker: usize, index: u32)
-        requires { worker < 16 }
-        ensures { (other : ℕ) → other < 16 → get_or self.new.next other 0
+        requires { worker < MOST_WORKERS }
+        ensures { (other : ℕ) → other < MOST_WORKERS → get_or self.new.next other 0
             ≡ (if worker == other then max (get_or self.old.next other 0) (suc index) else get_or self.old.next other 0) }
     {
         let next = u64::from(index) + 1;

@@ -5,9 +5,9 @@ ghost use Rattle.phase_floor.specs.Floors.{AreBegun};
 ghost use Rattle.phase_floor.specs.States.{states_of};
 
 use crate::vases::{bid, look_for_memory, only, vases};
-use auction_rows::Request;
+use auction_rows::{MOST_TRIES, Request};
 use phase_floor::{Joined, JoinedFloor};
-use phase_permits::{JoinedPermit, Stash};
+use phase_transactions::{JoinedPermit, Stash};
 use shard_boxes::PhaseName;
 use std::alloc::Global;
 use std::sync::Wait;
@@ -53,7 +53,7 @@ fn perform_first<N: PhaseName, R: Wait + Print>(
     requires { IsReceipt floor.now 0 permit.old }
     ensures { IsReceipt floor.now 0 permit.new }
 {
-    if permit.tries() >= 1_000_000_000 {
+    if permit.tries() >= MOST_TRIES {
         return;
     }
     let _ = match permit.perform_stashed(rt, floor.boxes()) {
@@ -74,7 +74,7 @@ fn attempt<N: PhaseName, R: Wait + Print>(
     ensures { IsReceipt floor.now 0 permit.new }
 {
     let left = permit.left();
-    if left == 0 || permit.tries() >= 1_000_000_000 {
+    if left == 0 || permit.tries() >= MOST_TRIES {
         return false;
     }
     match permit.perform(rt, floor.boxes(), request, index) {

@@ -16,7 +16,7 @@ use crate::windows::two_publishes;
 use auction_rows::{Object, Request};
 use indexmap::IndexSet;
 use phase_floor::Joined;
-use phase_permits::Stash;
+use phase_transactions::Stash;
 use std::alloc::{AllocError, Global};
 use std::io;
 use std::marker::Brand;

@@ -6,10 +6,10 @@ ghost use Rattle.phase_floor.specs.Floors.{AreBegun};
 ghost use Rattle.phase_floor.specs.States.{states_of};
 
 use crate::vases::{VIEW, bid, only, vases};
-use auction_rows::{Object, Request};
+use auction_rows::{MOST_TRIES, Object, Request};
 use indexmap::IndexSet;
 use phase_floor::{Joined, SplitFloor};
-use phase_permits::SplitPermit;
+use phase_transactions::SplitPermit;
 use shard_boxes::PhaseName;
 use std::alloc::Global;
 use std::sync::Wait;
@@ -56,7 +56,7 @@ fn attempt<N: PhaseName, R: Wait + Print>(
     ensures { IsReceipt floor.now 0 permit.new }
 {
     let left = permit.left();
-    if left == 0 || permit.tries() >= 1_000_000_000 {
+    if left == 0 || permit.tries() >= MOST_TRIES {
         return false;
     }
     match permit.perform(rt, floor.boxes(), request, index) {

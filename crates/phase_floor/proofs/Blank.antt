@@ -5,12 +5,12 @@ use Rattle.std.proofs.lemmas.List.{length-map}
 use Rattle.auction_rows.specs.declared.ids.Object.TheVariants.{Item, User}
 use Rattle.auction_rows.specs.declared.numbers.Opening.{Opening}
 use Rattle.item_shards.specs.declared.shard.Shard.{Shard}
-use Rattle.item_shards.specs.ShardShelf.{IsNewShard}
+use Rattle.item_shards.specs.ShardContents.{IsNewShard}
 use Rattle.item_shards.specs.Values.{Value}
 use Rattle.item_shards.proofs.StandingLemmas.{blank_of_none}
 use Rattle.shard_boxes.specs.States.{ShardState, state_of, state_at, IsOpened}
-use Rattle.phase_desks.specs.declared.counters.Counters.{Counters}
-use Rattle.phase_desks.specs.Splits.{CountsOf}
+use Rattle.phase_contexts.specs.declared.counters.Counters.{Counters}
+use Rattle.phase_contexts.specs.Splits.{CountsOf}
 use Rattle.phase_transactions.specs.Permits.{no_counters}
 use Rattle.phase_floor.specs.Making.{IsBlank, AreBlank}
 use Rattle.phase_closing.specs.Standing.{counters_at}

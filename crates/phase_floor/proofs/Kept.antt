@@ -14,11 +14,11 @@ use Rattle.auction_rows.specs.History.{book_after}
 use Rattle.auction_rows.specs.Requests.{shard_of}
 use Rattle.item_shards.specs.declared.shard.Shard.{Shard}
 use Rattle.item_shards.specs.Limits.{GivesStars, HasStars}
-use Rattle.item_shards.specs.ShardShelf.{kept}
+use Rattle.item_shards.specs.ShardContents.{kept}
 use Rattle.item_shards.specs.Values.{Value, blank, value}
 use Rattle.item_shards.proofs.CountLemmas.{bids_at_most, comments_at_most, rating_at_most}
 use Rattle.shard_boxes.specs.States.{ShardState, state_of, state_at, IsWithin, AreOpened}
-use Rattle.phase_desks.specs.declared.counters.Counters.{Counters}
+use Rattle.phase_contexts.specs.declared.counters.Counters.{Counters}
 use Rattle.phase_transactions.specs.Permits.{PermitState}
 use Rattle.phase_closing.specs.Phases.{HasClosed, receipt_at, counters_of}
 use Rattle.phase_closing.specs.Standing.{StandFor, AreOfWorkers, counters_at}
@@ -33,7 +33,7 @@ use Rattle.phase_floor.proofs.BookSize.{size_at_most}
 
 elsewhere : (shards : List Shard) (s : ℕ) → s < length shards → (object : Object)
     → (shard_of object (state_at (map state_of shards) s).shards == (state_at (map state_of shards) s).number) ≡ false
-    → (state_at (map state_of shards) s).shelf object ≡ blank
+    → (state_at (map state_of shards) s).contents object ≡ blank
 elsewhere [] s below object apart = absurd (omega arith)
 elsewhere (shard ∷ shards) zero below object apart = ap (λ b. cond b (kept shard object) blank) apart
 elsewhere (shard ∷ shards) (suc s) below object apart = elsewhere shards s (omega (arith, below)) object apart
@@ -56,22 +56,22 @@ module _ (opening : Opening) (shards : List Shard) (counters : List Counters) (r
     abbrev state : ShardState
     state = state_at (map state_of shards) s
 
-    over : most < measure (state.shelf object) → (book : Book) → AllByRecursion HasStars book → AreOfWorkers (length counters) book → StandFor (map state_of shards) counters book [] → ⊥
+    over : most < measure (state.contents object) → (book : Book) → AllByRecursion HasStars book → AreOfWorkers (length counters) book → StandFor (map state_of shards) counters book [] → ⊥
     over more book stars own holds = at (shard_of object state.shards == state.number) refl where
       at : (b : Bool) → (shard_of object state.shards == state.number) ≡ b → ⊥
       at true here =
           let lies : shard_of object (length (map state_of shards)) ≡ s =
           ap (shard_of object) (sym (ready.numbered s below).1) ∙ eqb-true (shard_of object state.shards) state.number here ∙ (ready.numbered s below).0 in
-          let is : measure (state.shelf object) ≡ measure (value book object) = ap measure (holds.shards s below object lies refl) in
+          let is : measure (state.contents object) ≡ measure (value book object) = ap measure (holds.shards s below object lies refl) in
           let low = some book stars (size book own holds) in
           omega (arith, is, low, more)
       at false apart =
           let same : length (map state_of shards) ≡ length shards = simp length-map in
-          let is : measure (state.shelf object) ≡ measure blank = ap measure (elsewhere shards s (omega (arith, below, same)) object apart) in
+          let is : measure (state.contents object) ≡ measure blank = ap measure (elsewhere shards s (omega (arith, below, same)) object apart) in
           omega (arith, is, none, more)
 
-    measured : measure (state.shelf object) ≤ most
-    measured = not_over (measure (state.shelf object)) most (λ more. of_a_book (λ book is stars own holds. over more book stars own holds))
+    measured : measure (state.contents object) ≤ most
+    measured = not_over (measure (state.contents object)) most (λ more. of_a_book (λ book is stars own holds. over more book stars own holds))
 
   within : (s : ℕ) → s < length (map state_of shards) → IsWithin (state_at (map state_of shards) s)
   within s below = record {

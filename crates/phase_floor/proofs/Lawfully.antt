@@ -6,7 +6,7 @@ use Rattle.auction_rows.specs.declared.ids.Object.{Object}
 use Rattle.auction_rows.specs.declared.rows.Entry.{Entry}
 use Rattle.auction_rows.specs.Requests.{shard_of}
 use Rattle.shard_boxes.specs.States.{ShardState, state_at, no_shard}
-use Rattle.phase_desks.specs.Slicing.{objects_of}
+use Rattle.phase_contexts.specs.Slicing.{objects_of}
 use Rattle.phase_transactions.specs.Permits.{PermitState}
 use Rattle.phase_closing.specs.Lawful.{ClosesLawfully}
 use Rattle.phase_closing.specs.Merging.{after_merge}
@@ -19,14 +19,14 @@ use Rattle.phase_floor.specs.Floors.{FloorState}
 -- clocks don't matter to what shards show of an object
 same_value : (states : List ShardState) (object : Object) → value_on (map at_start states) object ≡ value_on states object
 same_value states object =
-    ap (λ n. (state_at (map at_start states) (shard_of object n)).shelf object) (length-map states at_start)
-    ∙ ap (λ (state : ShardState). state.shelf object) (get_or-map at_start states (shard_of object (length states)) no_shard)
+    ap (λ n. (state_at (map at_start states) (shard_of object n)).contents object) (length-map states at_start)
+    ∙ ap (λ (state : ShardState). state.contents object) (get_or-map at_start states (shard_of object (length states)) no_shard)
 
 started : (p : Phase) (states : List ShardState) → ClosesLawfully p states → ClosesLawfully p (map at_start states)
 started p states lawful = record {
   numbers = lawful.numbers;
   parts = lawful.parts;
-  deeds = lawful.deeds;
+  txns = lawful.txns;
   entries = lawful.entries;
   lists = lawful.lists;
   given = lawful.given;
@@ -53,5 +53,5 @@ module _ (opening : List ShardState) (floor : FloorState) (receipts : List Permi
       let merged = fold after_merge reconciled.given reconciled.order in record {
         given = reconciled.given;
         lawful = left p merged states reconciled.states_are (split_lawful p reconciled.closed merged
-            (record { order = reconciled.order; each = reconciled.each; count = as_many reconciled.order reconciled.given; shelves = λ s below. refl }));
+            (record { order = reconciled.order; each = reconciled.each; count = as_many reconciled.order reconciled.given; contents = λ s below. refl }));
       }

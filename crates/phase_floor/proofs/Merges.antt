@@ -13,7 +13,7 @@ use Rattle.item_shards.specs.declared.items.ItemRecord.{ItemRecord}
 use Rattle.item_shards.specs.declared.shard.Shard.{Shard}
 use Rattle.item_shards.specs.declared.slices.Slice.{Slice}
 use Rattle.item_shards.specs.Records.{item_value}
-use Rattle.item_shards.specs.ShardShelf.{shard_number, shard_count, shelf, HasRoom}
+use Rattle.item_shards.specs.ShardContents.{shard_number, shard_count, contents, HasRoom}
 use Rattle.item_shards.specs.Values.{blank}
 use Rattle.shard_boxes.specs.States.{ShardState, state_of, state_at}
 use Rattle.phase_closing.specs.Merging.{with_slice, after_merge}
@@ -53,7 +53,7 @@ room_if true None some = some
 room_if true (Some record_there) some = refl
 room_if false found some = absurd (false≢true some)
 
-pub has_room : (shard : Shard) (item : ItemId) → IsSome (shelf shard (Item item)).facts → HasRoom shard item
+pub has_room : (shard : Shard) (item : ItemId) → IsSome (contents shard (Item item)).facts → HasRoom shard item
 has_room shard item some = room_if (shard_of (Item item) (shard_count shard) == shard_number shard) (get same_item shard.parts.value.items item) some
 
 -- the shards with one changed at its place

@@ -9,9 +9,9 @@ use Rattle.auction_rows.specs.Book.{Book}
 use Rattle.auction_rows.specs.Replies.{row_of}
 use Rattle.item_shards.specs.Writing.{writes_if}
 use Rattle.shard_boxes.specs.States.{ShardState}
-use Rattle.phase_desks.specs.Slicing.{stocks_of, slices_of}
-use Rattle.phase_desks.specs.Stashes.{StashState}
-use Rattle.phase_permits.specs.Stashed.{with_first_called, HasPerformedFirst}
+use Rattle.phase_contexts.specs.Slicing.{stocks_of, slices_of}
+use Rattle.phase_contexts.specs.Stashes.{StashState}
+use Rattle.phase_transactions.specs.Stashed.{with_first_called, HasPerformedFirst}
 use Rattle.phase_transactions.proofs.Hots.{stocks-acts}
 use Rattle.phase_transactions.specs.declared.fault.Done.{Done}
 use Rattle.phase_transactions.specs.declared.fault.Done.TheVariants.{Committed, Stashed}
@@ -29,10 +29,10 @@ begun_receipt : (floor : FloorState) (w quota : ℕ) (stash : StashState) (permi
 begun_receipt floor w quota stash permit begun = record {
   boxes_are = begun.key.boxes_are;
   worker_is = begun.key.worker_is;
-  opening_is = ap (λ (p : PermitState). p.split.desk.opening) begun.new;
-  phase_is = ap (λ (p : PermitState). p.split.desk.journal.phase) begun.new;
+  opening_is = ap (λ (p : PermitState). p.split.context.opening) begun.new;
+  phase_is = ap (λ (p : PermitState). p.split.context.journal.phase) begun.new;
   stocks_are = ap (λ (p : PermitState). stocks_of p.split.slices) begun.new ∙ stocks_of_slices floor.stocks [];
-  begun = ap (λ (p : PermitState). p.split.desk.begun) begun.new;
+  begun = ap (λ (p : PermitState). p.split.context.begun) begun.new;
 }
 
 -- new permits are such
@@ -64,10 +64,10 @@ module _ (opening : List ShardState) (floor : FloorState) (w : ℕ) (old new : P
   committed answer h = record {
     boxes_are = h.boxes ∙ was.boxes_are;
     worker_is = h.worker ∙ was.worker_is;
-    opening_is = ap (λ d. d.opening) h.desk ∙ was.opening_is;
-    phase_is = ap (λ d. d.journal.phase) h.desk ∙ was.phase_is;
-    stocks_are = ap stocks_of h.slices ∙ stocks-acts old.split.slices (writes_if (row_of old.split.desk.journal.worker request answer)) ∙ was.stocks_are;
-    begun = ap (λ d. d.begun) h.desk ∙ was.begun;
+    opening_is = ap (λ d. d.opening) h.context ∙ was.opening_is;
+    phase_is = ap (λ d. d.journal.phase) h.context ∙ was.phase_is;
+    stocks_are = ap stocks_of h.slices ∙ stocks-acts old.split.slices (writes_if (row_of old.split.context.journal.worker request answer)) ∙ was.stocks_are;
+    begun = ap (λ d. d.begun) h.context ∙ was.begun;
   }
 
   pub dealt : (done : Done) → HasDealtWith opening (with_try old) new request index done → IsReceipt floor w new
@@ -75,10 +75,10 @@ module _ (opening : List ShardState) (floor : FloorState) (w : ℕ) (old new : P
   dealt Stashed h = record {
     boxes_are = ap (λ k. k.boxes) h.key ∙ was.boxes_are;
     worker_is = ap (λ k. k.worker) h.key ∙ was.worker_is;
-    opening_is = ap (λ d. d.opening) h.desk ∙ was.opening_is;
-    phase_is = ap (λ d. d.journal.phase) h.desk ∙ was.phase_is;
+    opening_is = ap (λ d. d.opening) h.context ∙ was.opening_is;
+    phase_is = ap (λ d. d.journal.phase) h.context ∙ was.phase_is;
     stocks_are = ap stocks_of h.slices ∙ was.stocks_are;
-    begun = ap (λ d. d.begun) h.desk ∙ was.begun;
+    begun = ap (λ d. d.begun) h.context ∙ was.begun;
   }
 
 -- the permit that has performed what waited longest, if anything did

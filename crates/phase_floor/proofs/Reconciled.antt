@@ -15,8 +15,8 @@ use Rattle.auction_rows.specs.History.{book_after}
 use Rattle.item_shards.specs.declared.slices.Slice.{Slice}
 use Rattle.item_shards.proofs.CanActLemmas.{all_both}
 use Rattle.shard_boxes.specs.States.{ShardState, state_at}
-use Rattle.phase_desks.specs.declared.slices.Hot.{Hot}
-use Rattle.phase_desks.specs.Slicing.{objects_of, stocks_of, slices_in, AreFew}
+use Rattle.phase_contexts.specs.declared.slices.Hot.{Hot}
+use Rattle.phase_contexts.specs.Slicing.{objects_of, stocks_of, slices_in, AreFew}
 use Rattle.phase_transactions.specs.Permits.{PermitState}
 use Rattle.phase_closing.specs.Phases.{HasClosed, receipt_at, no_receipt, counters_of}
 use Rattle.phase_closing.specs.Standing.{StandFor}
@@ -123,4 +123,4 @@ module _ (opening : List ShardState) (workers : ℕ) (floor : FloorState) (is_op
     stand_after book holds =
         start_stands merged states states_are (map counters_of receipts) (book_after floor.opening book entries)
         (reconciled_stand (phase_of opening floor receipts given entries) closed book holds merged
-        (record { order = order; each = each; count = as_many_merged order given; shelves = λ s below. refl }))
+        (record { order = order; each = each; count = as_many_merged order given; contents = λ s below. refl }))

@@ -13,10 +13,10 @@ use Rattle.auction_rows.specs.Requests.{shard_of}
 use Rattle.auction_rows.proofs.HistoryLemmas.{own_row}
 use Rattle.item_shards.specs.declared.acts.Act.{Act}
 use Rattle.item_shards.specs.declared.shard.Shard.{Shard}
-use Rattle.item_shards.specs.ShardShelf.{IsSameShard, clock, shelf, shard_number, shard_count, opening as opening_of}
+use Rattle.item_shards.specs.ShardContents.{IsSameShard, clock, contents, shard_number, shard_count, opening as opening_of}
 use Rattle.item_shards.specs.Acting.{CanActOn}
 use Rattle.item_shards.specs.Limits.{IsWithinLimits}
-use Rattle.item_shards.specs.Shelves.{Shelf, target, after_act, after_acts}
+use Rattle.item_shards.specs.Contents.{Contents, target, after_act, after_acts}
 use Rattle.item_shards.specs.Writing.{writes_of, writes_if, is_cold_in, is_done_on, done_on}
 use Rattle.item_shards.proofs.CanActLemmas.{row_can}
 use Rattle.item_shards.proofs.SerialLemmas.{after_own}
@@ -26,22 +26,22 @@ use Rattle.phase_closing.specs.Standing.{ShardsStandFor}
 use Rattle.phase_floor.specs.Resuming.{AreNumbered, AreReady, CanWriteOn, HaveDone, with_acts}
 
 abbrev pub acted : Act → ShardState → ShardState
-acted act state = record state { shelf = after_act state.shelf act }
+acted act state = record state { contents = after_act state.contents act }
 
 module _ (states : List ShardState) (numbered : AreNumbered states) (place : ℕ) (below : place < length states) (object : Object) (act : Act)
     (about : target act ≡ Some object) (lies : shard_of object (length states) ≡ place) where
   here : (k : ℕ) → is_done_on k (length states) [] act ≡ (place == k)
   here k = (λ i. option_map_or (is_cold_in k (length states) []) (about i) false) ∙ ap (λ p. p == k) lies
 
-  through : (sh : Shelf) (t : Bool) → after_acts sh (cond t (act ∷ []) []) ≡ cond t (after_act sh act) sh
+  through : (sh : Contents) (t : Bool) → after_acts sh (cond t (act ∷ []) []) ≡ cond t (after_act sh act) sh
   through sh true = refl
   through sh false = refl
 
   with_is : (s : ℕ) → s < length states → (t : Bool) → (place == s) ≡ t
-      → with_acts (length states) (act ∷ []) (state_at states s) ≡ record (state_at states s) { shelf = cond t (after_act (state_at states s).shelf act) (state_at states s).shelf }
+      → with_acts (length states) (act ∷ []) (state_at states s) ≡ record (state_at states s) { contents = cond t (after_act (state_at states s).contents act) (state_at states s).contents }
   with_is s low t e =
-      ap (λ b. record (state_at states s) { shelf = after_acts (state_at states s).shelf (cond b (act ∷ []) []) }) (here (state_at states s).number ∙ ap (λ k. place == k) (numbered s low).0 ∙ e)
-      ∙ ap (λ (sh : Shelf). record (state_at states s) { shelf = sh }) (through (state_at states s).shelf t)
+      ap (λ b. record (state_at states s) { contents = after_acts (state_at states s).contents (cond b (act ∷ []) []) }) (here (state_at states s).number ∙ ap (λ k. place == k) (numbered s low).0 ∙ e)
+      ∙ ap (λ (sh : Contents). record (state_at states s) { contents = sh }) (through (state_at states s).contents t)
 
   -- an act on the shard where its object lies
   pub one_done : (new : ShardState) → new ≡ acted act (state_at states place) → HaveDone states (set states place new) (act ∷ [])
@@ -54,7 +54,7 @@ module _ (states : List ShardState) (numbered : AreNumbered states) (place : ℕ
           ap (state_at (set states place new)) (sym same) ∙ get_or-set_same states place new no_shard below ∙ is ∙ ap (λ k. acted act (state_at states k)) same ∙ sym (with_is s low true e)
       at false e = get_or-set_other states place s new no_shard (λ same. false≢true (sym e ∙ eq-eqb place s (sym same))) ∙ sym (with_is s low false e)
 
-both_done : (p : Act → Bool) (sh : Shelf) (one : Act) (rest : List Act) (t : Bool) → after_acts (after_acts sh (cond t (one ∷ []) [])) rest ≡ after_acts sh (cond t (one ∷ rest) rest)
+both_done : (p : Act → Bool) (sh : Contents) (one : Act) (rest : List Act) (t : Bool) → after_acts (after_acts sh (cond t (one ∷ []) [])) rest ≡ after_acts sh (cond t (one ∷ rest) rest)
 both_done p sh one rest true = refl
 both_done p sh one rest false = refl
 
@@ -66,7 +66,7 @@ two_done old mid new one other first second = record {
       second.each s (omega (arith, low, first.len))
       ∙ ap (λ n. with_acts n (other ∷ []) (state_at mid s)) first.len
       ∙ ap (with_acts (length old) (other ∷ [])) (first.each s low)
-      ∙ ap (λ (sh : Shelf). record (state_at old s) { shelf = sh }) (both_done (is_done_on (state_at old s).number (length old) []) (state_at old s).shelf one
+      ∙ ap (λ (sh : Contents). record (state_at old s) { contents = sh }) (both_done (is_done_on (state_at old s).number (length old) []) (state_at old s).contents one
       (done_on (state_at old s).number (length old) [] (other ∷ [])) (is_done_on (state_at old s).number (length old) [] one));
 }
 
@@ -86,17 +86,17 @@ module _ (opening : Opening) (old new : List ShardState) (r : Row) (ready : AreR
   pub stand_next : HaveDone old new (writes_of r) → (b : Book) → ShardsStandFor old b [] → ShardsStandFor new (b ++ r ∷ []) []
   stand_next done b stand = λ s low object lies cold.
       let known : s < length old = omega (arith, low, done.len) in let state = state_at old s in
-      ap (λ (now : ShardState). now.shelf object) (done.each s known)
-      ∙ ap (λ k. after_acts state.shelf (done_on k (length old) [] (writes_of r)) object) (ready.numbered s known).0
-      ∙ row_stands s (length old) state.shelf b [] r (stand s known) object (ap (shard_of object) (sym done.len) ∙ lies) cold
+      ap (λ (now : ShardState). now.contents object) (done.each s known)
+      ∙ ap (λ k. after_acts state.contents (done_on k (length old) [] (writes_of r)) object) (ready.numbered s known).0
+      ∙ row_stands s (length old) state.contents b [] r (stand s known) object (ap (shard_of object) (sym done.len) ∙ lies) cold
 
   -- the row that goes on a book can be written where the shards stand for it
   pub can_write : (b : Book) → ShardsStandFor old b [] → GoOn opening b (r ∷ []) → IsWithinLimits (b ++ r ∷ []) → CanWriteOn old r
   can_write b stand goes limits = λ s low.
       let state = state_at old s in
-      subst (λ (start : Opening). AllByRecursion (λ act. is_done_on s (length old) [] act ≡ true → CanActOn start s (length old) (λ id. true) state.shelf act) (writes_of r)) (sym (ready.opening_is s low))
-      (subst (λ o. AllByRecursion (λ act. is_done_on s (length old) [] act ≡ true → CanActOn opening s (length old) (λ id. true) state.shelf act) (writes_if o)) (own_row r)
-      (row_can opening s (length old) (λ id. true) state.shelf b [] (stand s low) None (commit_of r) goes.0 (subst IsWithinLimits (sym (after_own opening b r goes)) limits) (λ id is lies. refl)))
+      subst (λ (start : Opening). AllByRecursion (λ act. is_done_on s (length old) [] act ≡ true → CanActOn start s (length old) (λ id. true) state.contents act) (writes_of r)) (sym (ready.opening_is s low))
+      (subst (λ o. AllByRecursion (λ act. is_done_on s (length old) [] act ≡ true → CanActOn opening s (length old) (λ id. true) state.contents act) (writes_if o)) (own_row r)
+      (row_can opening s (length old) (λ id. true) state.contents b [] (stand s low) None (commit_of r) goes.0 (subst IsWithinLimits (sym (after_own opening b r goes)) limits) (λ id is lies. refl)))
 
 -- what a shard shows that is read from a list of them
 pub seen : (shards : List Shard) (place : ℕ) → place < length shards → (old : Shard) → old ≡ get_or shards place old → state_of old ≡ state_at (map state_of shards) place
@@ -104,27 +104,27 @@ seen shards place low old is = ap state_of is ∙ sym (get_or-map state_of shard
 
 -- one shard acts, of those that are numbered
 pub act_done : (shards : List Shard) → AreNumbered (map state_of shards) → (place : ℕ) → place < length shards → (object : Object) (act : Act) → target act ≡ Some object
-    → shard_of object (length shards) ≡ place → (old new : Shard) → old ≡ get_or shards place old → IsSameShard old new → clock new ≡ clock old → shelf new ≡ after_act (shelf old) act
+    → shard_of object (length shards) ≡ place → (old new : Shard) → old ≡ get_or shards place old → IsSameShard old new → clock new ≡ clock old → contents new ≡ after_act (contents old) act
     → HaveDone (map state_of shards) (map state_of (set shards place new)) (act ∷ [])
-act_done shards numbered place low object act about lies old new is same clock_is shelf_is =
+act_done shards numbered place low object act about lies old new is same clock_is contents_is =
     let many : length (map state_of shards) ≡ length shards = simp length-map in
-    let made : state_of new ≡ acted act (state_of old) = (λ i. record { number = same.number i; shards = same.shards i; opening = same.opening i; clock = clock_is i; shelf = shelf_is i }) in
+    let made : state_of new ≡ acted act (state_of old) = (λ i. record { number = same.number i; shards = same.shards i; opening = same.opening i; clock = clock_is i; contents = contents_is i }) in
     subst (λ states. HaveDone (map state_of shards) states (act ∷ [])) (sym (map-set state_of shards place new))
     (one_done (map state_of shards) numbered place (omega (arith, low, many)) object act about (ap (shard_of object) many ∙ lies) (state_of new) (made ∙ ap (acted act) (seen shards place low old is)))
 
 -- the acts of a row that are on the shard at a place can be done there
 pub can_there : (shards : List Shard) → AreNumbered (map state_of shards) → (r : Row) → CanWriteOn (map state_of shards) r → (place : ℕ) → place < length shards → (old : Shard) → old ≡ get_or shards place old
-    → AllByRecursion (λ act. is_done_on place (length shards) [] act ≡ true → CanActOn (opening_of old) (shard_number old) (shard_count old) (λ id. true) (shelf old) act) (writes_of r)
+    → AllByRecursion (λ act. is_done_on place (length shards) [] act ≡ true → CanActOn (opening_of old) (shard_number old) (shard_count old) (λ id. true) (contents old) act) (writes_of r)
 can_there shards numbered r can place low old is =
     let many : length (map state_of shards) ≡ length shards = simp length-map in
     let below : place < length (map state_of shards) = omega (arith, low, many) in
     let at = seen shards place low old is in
     let number_is : place ≡ shard_number old = sym (ap (λ (state : ShardState). state.number) at ∙ (numbered place below).0) in
     let count_is : length (map state_of shards) ≡ shard_count old = sym (ap (λ (state : ShardState). state.shards) at ∙ (numbered place below).1) in
-    subst (λ n. AllByRecursion (λ act. is_done_on place n [] act ≡ true → CanActOn (opening_of old) (shard_number old) (shard_count old) (λ id. true) (shelf old) act) (writes_of r)) many
-    (subst (λ n. AllByRecursion (λ act. is_done_on place (length (map state_of shards)) [] act ≡ true → CanActOn (opening_of old) (shard_number old) n (λ id. true) (shelf old) act) (writes_of r)) count_is
-    (subst (λ n. AllByRecursion (λ act. is_done_on place (length (map state_of shards)) [] act ≡ true → CanActOn (opening_of old) n (length (map state_of shards)) (λ id. true) (shelf old) act) (writes_of r)) number_is
-    (subst (λ (state : ShardState). AllByRecursion (λ act. is_done_on place (length (map state_of shards)) [] act ≡ true → CanActOn state.opening place (length (map state_of shards)) (λ id. true) state.shelf act) (writes_of r)) (sym at)
+    subst (λ n. AllByRecursion (λ act. is_done_on place n [] act ≡ true → CanActOn (opening_of old) (shard_number old) (shard_count old) (λ id. true) (contents old) act) (writes_of r)) many
+    (subst (λ n. AllByRecursion (λ act. is_done_on place (length (map state_of shards)) [] act ≡ true → CanActOn (opening_of old) (shard_number old) n (λ id. true) (contents old) act) (writes_of r)) count_is
+    (subst (λ n. AllByRecursion (λ act. is_done_on place (length (map state_of shards)) [] act ≡ true → CanActOn (opening_of old) n (length (map state_of shards)) (λ id. true) (contents old) act) (writes_of r)) number_is
+    (subst (λ (state : ShardState). AllByRecursion (λ act. is_done_on place (length (map state_of shards)) [] act ≡ true → CanActOn state.opening place (length (map state_of shards)) (λ id. true) state.contents act) (writes_of r)) (sym at)
     (can place below))))
 
 -- what lies in the shard of a place, of as many as there are
@@ -138,10 +138,10 @@ lies_there shards numbered object place low lies old is =
     ∙ sym (ap (λ (state : ShardState). state.number) at ∙ (numbered place below).0)
 
 -- a shard that shows what it showed
-pub shown_still : (shards : List Shard) (place : ℕ) → place < length shards → (old new : Shard) → old ≡ get_or shards place old → IsSameShard old new → clock new ≡ clock old → shelf new ≡ shelf old
+pub shown_still : (shards : List Shard) (place : ℕ) → place < length shards → (old new : Shard) → old ≡ get_or shards place old → IsSameShard old new → clock new ≡ clock old → contents new ≡ contents old
     → map state_of (set shards place new) ≡ map state_of shards
-shown_still shards place low old new is same clock_is shelf_is =
-    let made : state_of new ≡ state_of old = (λ i. record { number = same.number i; shards = same.shards i; opening = same.opening i; clock = clock_is i; shelf = shelf_is i }) in
+shown_still shards place low old new is same clock_is contents_is =
+    let made : state_of new ≡ state_of old = (λ i. record { number = same.number i; shards = same.shards i; opening = same.opening i; clock = clock_is i; contents = contents_is i }) in
     map-set state_of shards place new ∙ ap (λ state. set (map state_of shards) place state) (made ∙ seen shards place low old is) ∙ simp set-get_or
 
 pub numbered_next : (old new : List ShardState) (acts : List Act) → AreNumbered old → HaveDone old new acts → AreNumbered new

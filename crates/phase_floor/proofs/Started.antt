@@ -6,8 +6,8 @@ use Rattle.auction_rows.specs.Book.{Book}
 use Rattle.auction_rows.specs.History.{book_after}
 use Rattle.auction_rows.specs.Requests.{shard_of}
 use Rattle.shard_boxes.specs.States.{ShardState, state_at, no_shard}
-use Rattle.phase_desks.specs.declared.counters.Counters.{Counters}
-use Rattle.phase_desks.specs.Slicing.{objects_of}
+use Rattle.phase_contexts.specs.declared.counters.Counters.{Counters}
+use Rattle.phase_contexts.specs.Slicing.{objects_of}
 use Rattle.phase_transactions.specs.Permits.{PermitState}
 use Rattle.phase_closing.specs.Phases.{HasClosed, counters_of}
 use Rattle.phase_closing.specs.Standing.{StandFor}
@@ -28,7 +28,7 @@ module _ (given states : List ShardState) (states_are : states ≡ map at_start 
   start_stands counters book holds = record {
     shards = λ s below object lies cold.
         let known : s < length given = omega (arith, below, same_length) in
-        ap (λ (state : ShardState). state.shelf object) (started s known)
+        ap (λ (state : ShardState). state.contents object) (started s known)
         ∙ holds.shards s known object (ap (λ n. shard_of object n) (sym same_length) ∙ lies) cold;
     counts = holds.counts;
   }

@@ -9,7 +9,7 @@ use Rattle.auction_rows.specs.Book.{Book}
 use Rattle.auction_rows.specs.Replies.{reply}
 use Rattle.auction_rows.specs.Requests.{number_of, shard_of}
 use Rattle.item_shards.specs.declared.shard.Shard.{Shard}
-use Rattle.item_shards.specs.ShardShelf.{LiesIn, opening, shard_number, shard_count, shelf, ForEachBook, StandsFor as ShardStandsFor}
+use Rattle.item_shards.specs.ShardContents.{LiesIn, opening, shard_number, shard_count, contents, ForEachBook, StandsFor as ShardStandsFor}
 use Rattle.shard_boxes.specs.States.{ShardState, state_of, state_at}
 use Rattle.shard_boxes.proofs.Leaves.{state_is}
 use Rattle.phase_closing.specs.Phases.{value_on}
@@ -46,12 +46,12 @@ module _ (state : JoinedState) (kept : IsKept state.opening (states_of state) st
   pub opening_is : opening shard ≡ state.opening
   opening_is = ap (λ (s : ShardState). s.opening) seen ∙ kept.opening_is place inside
 
-  pub value_is : shelf shard object ≡ value_on (states_of state) object
-  value_is = ap (λ (s : ShardState). s.shelf object) seen ∙ ap (λ n. (state_at (states_of state) (shard_of object n)).shelf object) (sym same)
+  pub value_is : contents shard object ≡ value_on (states_of state) object
+  value_is = ap (λ (s : ShardState). s.contents object) seen ∙ ap (λ n. (state_at (states_of state) (shard_of object n)).contents object) (sym same)
 
   pub stands : (book : Book) → StandsFor state book → ShardStandsFor shard book []
   stands book h other here cold =
-      ap (λ (s : ShardState). s.shelf other) seen ∙ h.shards place inside other (ap (shard_of other) (same ∙ sym count) ∙ here ∙ number) cold
+      ap (λ (s : ShardState). s.contents other) seen ∙ h.shards place inside other (ap (shard_of other) (same ∙ sym count) ∙ here ∙ number) cold
 
 -- the reply of a view of an object that is not hot
 pub replies : (shard : Shard) (object : Object) (start : Opening) (answer : Reply) (request : Request) → opening shard ≡ start

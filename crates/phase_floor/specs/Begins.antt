@@ -1,11 +1,12 @@
 -- When a phase begins, and when it does not.
 use Rattle.std.specs.Prelude.{◌≡◌, ℕ, ◌+◌, ◌<◌, List, [], Option, length, slice_index, slice_index_or}
+use Rattle.auction_rows.specs.declared.limits.TheConstants.{MOST_OF_A_WORKER}
 use Rattle.auction_rows.specs.declared.ids.Object.{Object}
 use Rattle.auction_rows.specs.declared.requests.Facts.{Facts}
 use Rattle.worker_journals.specs.Journals.{empty_journal}
-use Rattle.phase_desks.specs.declared.counters.Counters.{Counters}
-use Rattle.phase_desks.specs.Slicing.{slices_of}
-use Rattle.phase_desks.specs.Stashes.{StashState}
+use Rattle.phase_contexts.specs.declared.counters.Counters.{Counters}
+use Rattle.phase_contexts.specs.Slicing.{slices_of}
+use Rattle.phase_contexts.specs.Stashes.{StashState}
 use Rattle.phase_closing.specs.Standing.{counters_at}
 use Rattle.phase_floor.specs.declared.kits.Kit.{Kit}
 use Rattle.phase_floor.specs.Floors.{stash_at}
@@ -16,7 +17,7 @@ asked_in_all counters stashes quotas w = (counters_at counters w).commits + leng
 
 -- what some worker has committed, what waits and its quota are more than 1,000,000 together
 abbrev pub IsTooLong : List Counters → List StashState → List ℕ → Type 0
-IsTooLong counters stashes quotas = (w : ℕ) × (w < length counters) × (1000000 < asked_in_all counters stashes quotas w)
+IsTooLong counters stashes quotas = (w : ℕ) × (w < length counters) × (MOST_OF_A_WORKER < asked_in_all counters stashes quotas w)
 
 -- an empty stash with room for a quota
 abbrev pub empty_stash : ℕ → StashState

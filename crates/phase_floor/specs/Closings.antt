@@ -2,15 +2,16 @@
 use Rattle.std.specs.Prelude.{◌≡◌, ℕ, ◌<◌, ◌≤◌, List, [], ◌∷◌, map, fold, length, reverse, ⊤}
 use Rattle.std.specs.List.{AllByRecursion}
 use Rattle.std.specs.List.Sorted.{IsPermutation}
+use Rattle.auction_rows.specs.declared.limits.TheConstants.{MOST_SHARDS}
 use Rattle.auction_rows.specs.declared.numbers.Opening.{Opening}
 use Rattle.auction_rows.specs.declared.rows.Entry.{Entry}
 use Rattle.shard_boxes.specs.States.{ShardState, state_at}
 use Rattle.auction_rows.specs.declared.ids.Object.{Object}
 use Rattle.auction_rows.specs.declared.ids.Object.TheVariants.{Item, User, Category}
 use Rattle.item_shards.specs.declared.slices.Slice.{Slice}
-use Rattle.phase_desks.specs.declared.slices.Hot.{Hot}
-use Rattle.phase_desks.specs.Slicing.{stocks_of, slices_in}
-use Rattle.phase_desks.specs.Stashes.{StashState}
+use Rattle.phase_contexts.specs.declared.slices.Hot.{Hot}
+use Rattle.phase_contexts.specs.Slicing.{stocks_of, slices_in}
+use Rattle.phase_contexts.specs.Stashes.{StashState}
 use Rattle.phase_transactions.specs.Permits.{PermitState}
 use Rattle.phase_transactions.specs.Single.{HaveOpening}
 use Rattle.phase_closing.specs.Phases.{Phase, HasClosed, receipt_at}
@@ -23,10 +24,10 @@ use Rattle.phase_floor.specs.Floors.{FloorState}
 pub record IsReceipt (floor : FloorState) (worker : ℕ) (receipt : PermitState) : Type 0 where
   pub boxes_are : receipt.key.boxes ≡ floor.boxes
   pub worker_is : receipt.key.worker ≡ worker
-  pub opening_is : receipt.split.desk.opening ≡ floor.opening
-  pub phase_is : receipt.split.desk.journal.phase ≡ floor.phase
+  pub opening_is : receipt.split.context.opening ≡ floor.opening
+  pub phase_is : receipt.split.context.journal.phase ≡ floor.phase
   pub stocks_are : stocks_of receipt.split.slices ≡ floor.stocks
-  pub begun : receipt.split.desk.begun ≡ (counters_at floor.counters worker, 0) ∷ []
+  pub begun : receipt.split.context.begun ≡ (counters_at floor.counters worker, 0) ∷ []
 
 -- each worker's receipt of the phase, in order
 abbrev pub AreReceiptsOf : FloorState → List PermitState → Type 0
@@ -34,7 +35,7 @@ AreReceiptsOf floor receipts =
     (length receipts ≡ length floor.counters) × ((w : ℕ) → w < length floor.counters → IsReceipt floor w (receipt_at receipts w))
 
 abbrev pub stash_of : PermitState → StashState
-stash_of receipt = receipt.split.desk.stash
+stash_of receipt = receipt.split.context.stash
 
 abbrev pub sliced_of : PermitState → List (Object × Hot)
 sliced_of receipt = receipt.split.slices
@@ -98,7 +99,7 @@ from_the_last slices = reverse (slices_in slices)
 -- shards of one auction, numbered from 0
 pub record AreOfOne (states : List ShardState) : Type 0 where
   pub some : 0 < length states
-  pub few : length states ≤ 64
+  pub few : length states ≤ MOST_SHARDS
   pub number_is : (s : ℕ) → s < length states → (state_at states s).number ≡ s
   pub shards_is : (s : ℕ) → s < length states → (state_at states s).shards ≡ length states
   pub opening_is : HaveOpening states (opening_in states)

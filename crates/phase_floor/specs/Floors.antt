@@ -8,10 +8,10 @@ use Rattle.auction_rows.specs.Requests.{same_object}
 use Rattle.shard_boxes.specs.Keys.{BoxId, KeyState, IsNewKey}
 use Rattle.shard_boxes.specs.States.{ShardState}
 use Rattle.worker_journals.specs.Journals.{empty_journal}
-use Rattle.phase_desks.specs.declared.counters.Counters.{Counters}
-use Rattle.phase_desks.specs.Desks.{new_desk}
-use Rattle.phase_desks.specs.Slicing.{objects_of, slices_of, IsStocked}
-use Rattle.phase_desks.specs.Stashes.{StashState}
+use Rattle.phase_contexts.specs.declared.counters.Counters.{Counters}
+use Rattle.phase_contexts.specs.Contexts.{new_context}
+use Rattle.phase_contexts.specs.Slicing.{objects_of, slices_of, IsStocked}
+use Rattle.phase_contexts.specs.Stashes.{StashState}
 use Rattle.phase_transactions.specs.Permits.{PermitState}
 use Rattle.phase_closing.specs.Phases.{IsReadFrom}
 use Rattle.phase_closing.specs.Standing.{counters_at}
@@ -45,7 +45,7 @@ pub record IsOpen (states : List ShardState) (workers : ℕ) (floor : FloorState
 abbrev pub new_permit : FloorState → ℕ → ℕ → StashState → KeyState → PermitState
 new_permit floor worker quota stash key = record {
   split = record {
-    desk = new_desk floor.opening (counters_at floor.counters worker) (empty_journal floor.phase worker (length stash.requests + quota))
+    context = new_context floor.opening (counters_at floor.counters worker) (empty_journal floor.phase worker (length stash.requests + quota))
         stash quota 0;
     slices = slices_of floor.stocks [];
   };

@@ -11,7 +11,7 @@ pub record IsBlank (opening : Opening) (shards number : ℕ) (state : ShardState
   pub shards_is : state.shards ≡ shards
   pub opening_is : state.opening ≡ opening
   pub clock_is : state.clock ≡ 0
-  pub nothing : (object : Object) → state.shelf object ≡ blank
+  pub nothing : (object : Object) → state.contents object ≡ blank
 
 -- the shards with numbers below `count`, of `shards` in all, are blank
 abbrev pub AreBlank : Opening → ℕ → ℕ → List ShardState → Type 0

@@ -1,6 +1,7 @@
 -- The state that an auction is resumed with.
 use Rattle.std.specs.Prelude.{◌≡◌, ℕ, ◌+◌, ◌<◌, true, List, [], length}
 use Rattle.std.specs.List.{AllByRecursion}
+use Rattle.auction_rows.specs.declared.limits.TheConstants.{MOST_ROWS}
 use Rattle.auction_rows.specs.declared.numbers.Opening.{Opening}
 use Rattle.auction_rows.specs.declared.rows.Row.{Row}
 use Rattle.auction_rows.specs.declared.rows.Row.TheVariants as row
@@ -8,10 +9,10 @@ use Rattle.auction_rows.specs.Book.{Book, items_stored, bids_stored, comments_st
 use Rattle.item_shards.specs.declared.acts.Act.{Act}
 use Rattle.item_shards.specs.Acting.{CanActOn}
 use Rattle.item_shards.specs.OpeningRows.{rows_by}
-use Rattle.item_shards.specs.Shelves.{after_acts}
+use Rattle.item_shards.specs.Contents.{after_acts}
 use Rattle.item_shards.specs.Writing.{writes_of, is_done_on, done_on}
 use Rattle.shard_boxes.specs.States.{ShardState, state_at}
-use Rattle.phase_desks.specs.declared.counters.Counters.{Counters}
+use Rattle.phase_contexts.specs.declared.counters.Counters.{Counters}
 use Rattle.phase_transactions.specs.Single.{HaveOpening}
 
 -- a worker's counters by its rows of a book: each row was a commit
@@ -28,11 +29,11 @@ counters_in book worker = record {
 abbrev pub CanWriteOn : List ShardState → Row → Type 0
 CanWriteOn states row = (s : ℕ) → s < length states →
     AllByRecursion (λ act. is_done_on s (length states) [] act ≡ true →
-    CanActOn (state_at states s).opening s (length states) (λ id. true) (state_at states s).shelf act) (writes_of row)
+    CanActOn (state_at states s).opening s (length states) (λ id. true) (state_at states s).contents act) (writes_of row)
 
 -- a shard after those of the acts that are about its objects
 abbrev pub with_acts : ℕ → List Act → ShardState → ShardState
-with_acts shards acts state = record state { shelf = after_acts state.shelf (done_on state.number shards [] acts) }
+with_acts shards acts state = record state { contents = after_acts state.contents (done_on state.number shards [] acts) }
 
 -- each of the shards is what the acts on its objects make of it
 pub record HaveDone (old new : List ShardState) (acts : List Act) : Type 0 where
@@ -48,11 +49,11 @@ with_row (row.Buy r) counters = record counters { buys = counters.buys + 1; comm
 
 -- so few that one more fits
 pub record HaveRoom (counters : Counters) : Type 0 where
-  pub items : counters.items < 16000000
-  pub bids : counters.bids < 16000000
-  pub comments : counters.comments < 16000000
-  pub buys : counters.buys < 16000000
-  pub commits : counters.commits < 16000000
+  pub items : counters.items < MOST_ROWS
+  pub bids : counters.bids < MOST_ROWS
+  pub comments : counters.comments < MOST_ROWS
+  pub buys : counters.buys < MOST_ROWS
+  pub commits : counters.commits < MOST_ROWS
 
 -- each shard has its place for number, and is one of as many as there are
 abbrev pub AreNumbered : List ShardState → Type 0

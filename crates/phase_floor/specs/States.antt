@@ -1,6 +1,7 @@
 -- The state between two phases, and the books for which it stands.
 use Rattle.std.specs.Prelude.{ℕ, ◌<◌, ◌≤◌, List, [], IsSome, length, map}
 use Rattle.std.specs.List.{AllByRecursion}
+use Rattle.auction_rows.specs.declared.limits.TheConstants.{MOST_OF_A_WORKER, MOST_SHARDS, MOST_WORKERS}
 use Rattle.auction_rows.specs.declared.ids.Object.{Object}
 use Rattle.auction_rows.specs.declared.ids.Object.TheVariants.{Item, User, Category}
 use Rattle.auction_rows.specs.declared.numbers.Opening.{Opening}
@@ -10,7 +11,7 @@ use Rattle.item_shards.specs.declared.shard.Shard.{Shard}
 use Rattle.item_shards.specs.Limits.{HasStars}
 use Rattle.item_shards.specs.Values.{stock}
 use Rattle.shard_boxes.specs.States.{ShardState, state_of, AreOpened}
-use Rattle.phase_desks.specs.declared.counters.Counters.{Counters}
+use Rattle.phase_contexts.specs.declared.counters.Counters.{Counters}
 use Rattle.phase_transactions.specs.Single.{HaveOpening}
 use Rattle.phase_closing.specs.Phases.{value_on}
 use Rattle.phase_closing.specs.Standing.{StandFor, AreOfWorkers, counters_at, stores}
@@ -44,7 +45,7 @@ DoAllExist opening states objects = AllByRecursion (DoesExist opening states) ob
 -- no more stores of a worker than commits, and at most 1,000,000 of these
 pub record IsWithinLimit (counters : Counters) : Type 0 where
   pub stored : stores counters ≤ counters.commits
-  pub commits : counters.commits ≤ 1000000
+  pub commits : counters.commits ≤ MOST_OF_A_WORKER
 
 abbrev pub AreWithinLimit : List Counters → Type 0
 AreWithinLimit counters = (w : ℕ) → w < length counters → IsWithinLimit (counters_at counters w)
@@ -59,9 +60,9 @@ AreOfABook opening states counters =
 -- a book
 pub record IsKept (opening : Opening) (states : List ShardState) (counters : List Counters) : Type 0 where
   pub some_shards : 0 < length states
-  pub few_shards : length states ≤ 64
+  pub few_shards : length states ≤ MOST_SHARDS
   pub some_workers : 0 < length counters
-  pub few_workers : length counters ≤ 16
+  pub few_workers : length counters ≤ MOST_WORKERS
   pub opened : AreOpened states
   pub opening_is : HaveOpening states opening
   pub limits : AreWithinLimit counters

@@ -11,7 +11,8 @@ use crate::floor::JoinedFloor;
 use crate::joined::Joined;
 use crate::journals::new_journals;
 use crate::quotas::is_too_long;
-use phase_permits::{JoinedPermit, Stash};
+use auction_rows::MOST_OF_A_WORKER;
+use phase_transactions::{JoinedPermit, Stash};
 use shard_boxes::{Boxes, Key, PhaseName};
 use std::alloc::Global;
 use std::sync::Wait;
@@ -104,7 +105,7 @@ impl<N: PhaseName> JoinedFloor<N> {
         requires journals { (w : ℕ) (d : JournalView) → w < N.workers →
             slice_index_or journals.items w d
             ≡ empty_journal self.now.phase w (length (stash_at stashes.items w).requests + slice_index quotas.now w) }
-        requires fits { (w : ℕ) → w < N.workers → asked_in_all self.now.counters stashes.items quotas.now w ≤ 1000000 }
+        requires fits { (w : ℕ) → w < N.workers → asked_in_all self.now.counters stashes.items quotas.now w ≤ MOST_OF_A_WORKER }
         ensures { AreBegun self.now quotas.now stashes.items result.items }
     {
         let mut w = 0;

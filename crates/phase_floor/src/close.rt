@@ -12,7 +12,7 @@ use crate::fault::FloorFault;
 use crate::floor::JoinedFloor;
 use crate::joined::Joined;
 use crate::settle::Settled;
-use phase_permits::{JoinedReceipt, Stash};
+use phase_transactions::{JoinedReceipt, Stash};
 use shard_boxes::PhaseName;
 use std::alloc::Global;
 use std::sync::Wait;

@@ -4,7 +4,7 @@ ghost use Rattle.phase_transactions.specs.Single.{HaveOpening};
 
 use crate::kits::Stocks;
 use auction_rows::Opening;
-use phase_permits::Counters;
+use phase_transactions::Counters;
 use shard_boxes::{Boxes, PhaseName};
 use std::marker::Model;
 

@@ -3,7 +3,8 @@ ghost use Rattle.std.specs.Prelude.{◌≡◌, ◌+◌, ◌<◌, ◌≤◌, ℕ,
 ghost use Rattle.worker_journals.specs.Journals.{empty_journal, JournalView};
 ghost use Rattle.phase_floor.specs.Floors.{stash_at};
 
-use phase_permits::Stash;
+use auction_rows::{MOST_OF_A_WORKER, MOST_WORKERS};
+use phase_transactions::Stash;
 use std::alloc::{AllocError, Global};
 use worker_journals::Journal;
 
@@ -15,9 +16,9 @@ pub(crate) fn new_journals(
     quotas: &[u32],
 ) -> Result<Vec<Journal>, AllocError>
     requires stashes { length stashes.now ≡ length quotas.now }
-    requires few { length quotas.now ≤ 16 }
+    requires few { length quotas.now ≤ MOST_WORKERS }
     requires fit { (w : ℕ) → w < length quotas.now →
-        length (stash_at stashes.now w).requests + slice_index quotas.now w ≤ 1000000 }
+        length (stash_at stashes.now w).requests + slice_index quotas.now w ≤ MOST_OF_A_WORKER }
     ensures len { IfOk result (λ journals. vec_len journals ≡ length quotas.now) }
     ensures each { IfOk result (λ journals. (w : ℕ) (d : JournalView) → w < length quotas.now →
         slice_index_or journals.items w d

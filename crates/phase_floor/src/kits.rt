@@ -2,12 +2,12 @@
 ghost use Rattle.std.specs.Prelude.{◌≡◌, ◌+◌, ◌<◌, ◌≤◌, ℕ, [], length, vec_len, IsTrue, ◌↔◌, IfOk, slice_index};
 ghost use Rattle.std.specs.List.{AllByRecursion, IsDistinct};
 ghost use Rattle.auction_rows.specs.Requests.{same_object};
-ghost use Rattle.phase_desks.specs.Slicing.{objects_of, IsStocked};
+ghost use Rattle.phase_contexts.specs.Slicing.{objects_of, IsStocked};
 ghost use Rattle.phase_floor.specs.Begins.{IsTooLong, AreKits};
 
 use crate::quotas::is_over;
-use auction_rows::{Facts, Object};
-use phase_permits::{Counters, Slices, Stash};
+use auction_rows::{Facts, MOST_WORKERS, Object};
+use phase_transactions::{Counters, Slices, Stash};
 use std::alloc::{AllocError, Global};
 use worker_journals::Journal;
 
@@ -42,7 +42,7 @@ pub(crate) fn new_kits(
     stocks: &Stocks,
     quotas: &[u32],
 ) -> Result<Vec<Kit>, AllocError>
-    requires few { length quotas.now ≤ 16 }
+    requires few { length quotas.now ≤ MOST_WORKERS }
     requires distinct { IsDistinct same_object (objects_of stocks.now.items) }
     requires stocked { AllByRecursion IsStocked stocks.now.items }
     ensures len { IfOk result (λ kits. vec_len kits ≡ length quotas.now) }

@@ -6,9 +6,9 @@ ghost use Rattle.phase_floor.specs.Making.{AreBlank};
 ghost use Rattle.phase_floor.specs.States.{StandsFor};
 
 use crate::joined::Joined;
-use auction_rows::Opening;
+use auction_rows::{MOST_SHARDS, MOST_WORKERS, Opening};
 use item_shards::Shard;
-use phase_permits::Counters;
+use phase_transactions::Counters;
 use std::alloc::{AllocError, Global};
 
 impl Joined {
@@ -19,8 +19,8 @@ impl Joined {
         workers: u32,
         shards: u32,
     ) -> Result<Joined, AllocError>
-        requires workers { (0 < workers) × (workers ≤ 16) }
-        requires shards { (0 < shards) × (shards ≤ 64) }
+        requires workers { (0 < workers) × (workers ≤ MOST_WORKERS) }
+        requires shards { (0 < shards) × (shards ≤ MOST_SHARDS) }
         ensures opening { IfOk result (λ joined. joined.opening ≡ opening) }
         ensures phase { IfOk result (λ joined. joined.phase ≡ 0) }
         ensures shards { IfOk result (λ joined. length joined.shards ≡ shards) }

@@ -3,7 +3,8 @@ ghost use Rattle.std.specs.Prelude.{◌≡◌, ◌≤◌, ◌<◌, ℕ, [], leng
 ghost use Rattle.phase_closing.specs.Phases.{receipt_at, key_of, journal_of, counters_of};
 ghost use Rattle.phase_floor.specs.Closings.{stash_of, sliced_of};
 
-use phase_permits::{Counters, JoinedReceipt, Slices, SplitReceipt, Stash};
+use auction_rows::MOST_OF_A_WORKER;
+use phase_transactions::{Counters, JoinedReceipt, Slices, SplitReceipt, Stash};
 use shard_boxes::{Key, PhaseName};
 use std::alloc::{AllocError, Global};
 use worker_journals::Journal;
@@ -19,8 +20,8 @@ pub(crate) struct Parts<N: PhaseName> {
 }
 
 impl<N: PhaseName> Parts<N> {
-    ghost use Rattle.phase_desks.specs.Slicing.{AreFew};
-    ghost use Rattle.phase_transactions.specs.Permits.{IsWorth};
+    ghost use Rattle.phase_contexts.specs.Slicing.{AreFew};
+    ghost use Rattle.phase_transactions.specs.Permits.{IsExplained};
 
     // Room for those of so many workers, and for the slices of so many.
     fn with_room(alloc: Global, workers: usize, sliced: usize) -> Result<Parts<N>, AllocError>
@@ -49,10 +50,10 @@ impl<N: PhaseName> Parts<N> {
         ensures keys { IfOk result (λ parts. parts.keys.items ≡ map key_of receipts.items) }
         ensures counters { IfOk result (λ parts. parts.counters.items ≡ map counters_of receipts.items) }
         ensures slices { IfOk result (λ parts. parts.slices.items ≡ []) }
-        ensures worth { OnOk result ((w : ℕ) → w < length receipts.items → let receipt = receipt_at receipts.items w in
-            IsWorth (length N.opening) receipt.split receipt.key) }
+        ensures explained { OnOk result ((w : ℕ) → w < length receipts.items → let receipt = receipt_at receipts.items w in
+            IsExplained (length N.opening) receipt.split receipt.key) }
         ensures limit { OnOk result ((w : ℕ) → w < length receipts.items →
-            (counters_of (receipt_at receipts.items w)).commits ≤ 1000000) }
+            (counters_of (receipt_at receipts.items w)).commits ≤ MOST_OF_A_WORKER) }
     {
         let mut parts = Parts::with_room(alloc, receipts.len(), 0)?;
         for receipt in receipts {
@@ -75,11 +76,11 @@ impl<N: PhaseName> Parts<N> {
         ensures keys { IfOk result (λ parts. parts.keys.items ≡ map key_of receipts.items) }
         ensures counters { IfOk result (λ parts. parts.counters.items ≡ map counters_of receipts.items) }
         ensures slices { IfOk result (λ parts. parts.slices.items ≡ map sliced_of receipts.items) }
-        ensures worth { OnOk result ((w : ℕ) → w < length receipts.items → let receipt = receipt_at receipts.items w in
-            IsWorth (length N.opening) receipt.split receipt.key) }
+        ensures explained { OnOk result ((w : ℕ) → w < length receipts.items → let receipt = receipt_at receipts.items w in
+            IsExplained (length N.opening) receipt.split receipt.key) }
         ensures limit { OnOk result ((w : ℕ) → w < length receipts.items →
-            (counters_of (receipt_at receipts.items w)).commits ≤ 1000000) }
-        ensures few { OnOk result ((w : ℕ) → w < length receipts.items → AreFew 1000000 (receipt_at receipts.items w).split.slices) }
+            (counters_of (receipt_at receipts.items w)).commits ≤ MOST_OF_A_WORKER) }
+        ensures few { OnOk result ((w : ℕ) → w < length receipts.items → AreFew MOST_OF_A_WORKER (receipt_at receipts.items w).split.slices) }
     {
         let mut parts = Parts::with_room(alloc, receipts.len(), receipts.len())?;
         for receipt in receipts {

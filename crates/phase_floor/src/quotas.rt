@@ -3,15 +3,15 @@ ghost use Rattle.std.specs.Prelude.{◌≡◌, ◌+◌, ◌<◌, ◌≤◌, leng
 ghost use Rattle.phase_floor.specs.Begins.{IsTooLong, asked_in_all};
 ghost use Rattle.phase_floor.specs.Floors.{stash_at};
 
-use phase_permits::{Counters, Stash};
-
-const MOST: u64 = 1_000_000;
+use auction_rows::MOST_OF_A_WORKER;
+use phase_transactions::{Counters, Stash};
 
 // Whether these are more than 1,000,000 together.
 pub(crate) fn is_over(commits: u32, waiting: usize, quota: u32) -> bool
-    ensures { IsTrue result ↔ (1000000 < commits + waiting + quota) }
+    ensures { IsTrue result ↔ (MOST_OF_A_WORKER < commits + waiting + quota) }
 {
-    waiting as u64 > MOST || commits as u64 + waiting as u64 + quota as u64 > MOST
+    waiting as u64 > MOST_OF_A_WORKER
+        || commits as u64 + waiting as u64 + quota as u64 > MOST_OF_A_WORKER
 }
 
 // Whether some worker has committed and shall perform more than 1,000,000 requests.

@@ -12,9 +12,11 @@ ghost use Rattle.phase_floor.specs.States.{StandsFor};
 
 use crate::joined::Joined;
 use crate::making::{new_shards, nothing_counted};
-use auction_rows::{BidEntry, ItemEntry, Object, Opening, Row, shard_of};
+use auction_rows::{
+    BidEntry, ItemEntry, MOST_ROWS, MOST_SHARDS, MOST_WORKERS, Object, Opening, Row, shard_of,
+};
 use item_shards::{Act, OpeningBook, Shard};
-use phase_permits::Counters;
+use phase_transactions::Counters;
 use std::alloc::{AllocError, Global};
 
 impl Joined {
@@ -26,8 +28,8 @@ impl Joined {
         workers: u32,
         shards: u32,
     ) -> Result<Joined, AllocError>
-        requires workers { (0 < workers) × (workers ≤ 16) }
-        requires shards { (0 < shards) × (shards ≤ 64) }
+        requires workers { (0 < workers) × (workers ≤ MOST_WORKERS) }
+        requires shards { (0 < shards) × (shards ≤ MOST_SHARDS) }
         requires own { All (λ row. worker_of row < workers) (rows_of book.now) }
         ensures opening { IfOk result (λ joined. joined.opening ≡ opening_of book.now) }
         ensures phase { IfOk result (λ joined. joined.phase ≡ 0) }
@@ -52,7 +54,7 @@ impl Joined {
 // The counters of so many workers for the rows of a book.
 fn count_rows(alloc: Global, workers: u32, rows: &[Row]) -> Result<Vec<Counters>, AllocError>
     requires own { All (λ row. worker_of row < workers) rows.now }
-    requires few { length rows.now ≤ 16000000 }
+    requires few { length rows.now ≤ MOST_ROWS }
     ensures len { IfOk result (λ counters. length counters.items ≡ workers) }
     ensures each { IfOk result (λ counters. (w : ℕ) → w < workers →
         counters_at counters.items w ≡ counters_in rows.now w) }

@@ -12,9 +12,9 @@ use crate::fault::FloorFault;
 use crate::floor::JoinedFloor;
 use crate::parts::Parts;
 use crate::reset::reset_clocks;
-use auction_rows::Opening;
+use auction_rows::{MOST_OF_A_WORKER, Opening};
 use item_shards::Shard;
-use phase_permits::{Counters, JoinedReceipt, Stash};
+use phase_transactions::{Counters, JoinedReceipt, Stash};
 use shard_boxes::PhaseName;
 use std::alloc::Global;
 use std::sync::Wait;
@@ -54,7 +54,7 @@ impl<N: PhaseName> JoinedFloor<N> {
         ensures open { OnOk result (IsOpen N.opening N.workers self) }
         ensures stars { OnOk result (AllByRecursion (λ entry. GivesStars entry.request) (added history.old.entries history.new.entries)) }
         ensures limit { OnOk result ((w : ℕ) → w < length receipts.items →
-            (counters_of (receipt_at receipts.items w)).commits ≤ 1000000) }
+            (counters_of (receipt_at receipts.items w)).commits ≤ MOST_OF_A_WORKER) }
     {
         let JoinedFloor {
             opening,

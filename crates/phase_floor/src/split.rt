@@ -9,9 +9,9 @@ use crate::fault::BeginFault;
 use crate::floor::SplitFloor;
 use crate::joined::Joined;
 use crate::kits::{Kit, Stocks, is_over_quota, new_kits};
-use auction_rows::{Facts, Object};
+use auction_rows::{Facts, MOST_OF_A_WORKER, Object};
 use indexmap::IndexSet;
-use phase_permits::SplitPermit;
+use phase_transactions::SplitPermit;
 use shard_boxes::{Boxes, Key, PhaseName};
 use std::alloc::{AllocError, Global};
 use std::sync::Wait;
@@ -19,7 +19,7 @@ use std::sync::Wait;
 impl Joined {
     ghost use Rattle.std.specs.List.{AllByRecursion};
     ghost use Rattle.phase_closing.specs.Phases.{IsReadFrom};
-    ghost use Rattle.phase_desks.specs.Slicing.{objects_of, IsStocked};
+    ghost use Rattle.phase_contexts.specs.Slicing.{objects_of, IsStocked};
     ghost use Rattle.phase_floor.specs.States.{DoesExist, DoAllExist, states_of};
 
     /// Begins a split phase: a permit for each worker to perform its quota, with a slice of each hot object. The phase is of
@@ -161,7 +161,7 @@ impl<N: PhaseName> SplitFloor<N> {
         requires keys { AreNewKeys self.now.boxes N.workers keys.items }
         requires lens { (vec_len kits ≡ N.workers) × (length quotas.now ≡ N.workers) }
         requires kits { AreKits self.now.phase self.now.stocks quotas.now N.workers kits.items }
-        requires fits { (w : ℕ) → w < N.workers → asked_in_all self.now.counters [] quotas.now w ≤ 1000000 }
+        requires fits { (w : ℕ) → w < N.workers → asked_in_all self.now.counters [] quotas.now w ≤ MOST_OF_A_WORKER }
         ensures { AreBegun self.now quotas.now (map empty_stash quotas.now) result.items }
     {
         let mut w = 0;

@@ -19,7 +19,8 @@ use crate::merge::merge_all;
 use crate::parts::Parts;
 use crate::reset::reset_clocks;
 use crate::settle::Settled;
-use phase_permits::{SplitReceipt, Stash};
+use auction_rows::MOST_OF_A_WORKER;
+use phase_transactions::{SplitReceipt, Stash};
 use shard_boxes::PhaseName;
 use std::alloc::Global;
 use std::sync::Wait;
@@ -94,7 +95,7 @@ impl<N: PhaseName> SplitFloor<N> {
         ensures open { OnOk result (IsOpen N.opening N.workers self) }
         ensures stars { OnOk result (AllByRecursion (λ entry. GivesStars entry.request) (added history.old.entries history.new.entries)) }
         ensures limit { OnOk result ((w : ℕ) → w < length receipts.items →
-            (counters_of (receipt_at receipts.items w)).commits ≤ 1000000) }
+            (counters_of (receipt_at receipts.items w)).commits ≤ MOST_OF_A_WORKER) }
     {
         let SplitFloor {
             opening,

@@ -9,7 +9,7 @@ impl Joined {
     ghost use Rattle.auction_rows.specs.Book.{Book};
     ghost use Rattle.auction_rows.specs.Replies.{reply};
     ghost use Rattle.auction_rows.specs.Requests.{is_view};
-    ghost use Rattle.item_shards.specs.ShardShelf.{LiesIn, opening, shelf, StandsFor as ShardStandsFor};
+    ghost use Rattle.item_shards.specs.ShardContents.{LiesIn, opening, contents, StandsFor as ShardStandsFor};
     ghost use Rattle.phase_closing.specs.Phases.{value_on};
     ghost use Rattle.phase_floor.specs.States.{states_of, StandsFor};
 
@@ -37,7 +37,7 @@ impl Joined {
     pub(crate) fn shard(&self, object: Object) -> &Shard
         ensures here { LiesIn result.now object }
         ensures opening { opening result.now ≡ self.now.opening }
-        ensures value { shelf result.now object ≡ value_on (states_of self.now) object }
+        ensures value { contents result.now object ≡ value_on (states_of self.now) object }
         ensures books { (book : Book) → StandsFor self.now book → ShardStandsFor result.now book [] }
     {
         &self.shards[shard_of(object, self.shards.len() as u32) as usize]

@@ -5,7 +5,7 @@ ghost use Rattle.item_shards.specs.OpeningBooks.{opening_of, rows_of};
 use crate::VIEW;
 use crate::timed::Timed;
 use anyhow::Result;
-use auction_rows::{ItemId, Opening, Request};
+use auction_rows::{ItemId, MOST_WORKERS, Opening, Request};
 use auction_run::{FreeGate, Policy, WindowBoard, run, run_shown};
 use auction_text::read_scripts;
 use auction_window::{PhaseLog, Publisher, Window, WindowName};
@@ -146,7 +146,7 @@ fn look_alone<J: WindowName + Send + Sync + 'static, R: Threads + Wait + Sync>(
     requires log { log ≡ J.log }
     requires opening { opening_of book.now ≡ J.opening }
     requires rows { rows_of book.now ≡ J.rows }
-    requires windows { (0 < windows) × (windows ≤ 16) }
+    requires windows { (0 < windows) × (windows ≤ MOST_WORKERS) }
 {
     let (publisher, windows) = Publisher::<J>::new(rt, alloc, log, book, windows)?;
     let started = start_all(rt, alloc, windows, LOOKS);
@@ -195,7 +195,7 @@ where
     requires log { log ≡ J.log }
     requires opening { opening_of book.now ≡ J.opening }
     requires rows { rows_of book.now ≡ J.rows }
-    requires windows { (0 < windows) × (windows ≤ 16) }
+    requires windows { (0 < windows) × (windows ≤ MOST_WORKERS) }
 {
     let (publisher, made) = Publisher::<J>::new(rt, alloc, log, book, windows)?;
     let started = start_all(rt, alloc, made, most);

@@ -7,7 +7,7 @@ use Rattle.auction_rows.specs.declared.requests.Request.{Request}
 use Rattle.run_laws.specs.Phases.{is_split}
 use Rattle.run_serving.specs.Run.{first_index}
 use Rattle.run_serving.specs.Serving.{script_of}
-use Rattle.phase_desks.specs.Slicing.{objects_of}
+use Rattle.phase_contexts.specs.Slicing.{objects_of}
 use Rattle.phase_transactions.specs.declared.fault.PermitFault.TheVariants.{NumberFull}
 use Rattle.worker_journals.specs.Merged.{added}
 use Rattle.auction_run.specs.Phases.{lists, quota_of}

@@ -6,7 +6,7 @@ use Rattle.auction_run.proofs.worker.perform_quota.Given as goal
 abbrev pub invariant-loop-place : goal.invariant-loop-place
 invariant-loop-place g l =
     IsSamePermit l.fn.permit l.permit
-    × (committed l.permit ≡ committed l.fn.permit ++ take l.place (calls_from l.first l.fn.permit.split.desk.left l.script))
+    × (committed l.permit ≡ committed l.fn.permit ++ take l.place (calls_from l.first l.fn.permit.split.context.left l.script))
     × (stashed l.permit ≡ stashed l.fn.permit)
-    × (l.permit.split.desk.left + l.place ≡ l.fn.permit.split.desk.left)
-    × (l.permit.split.desk.tries ≡ l.fn.permit.split.desk.tries + l.place)
+    × (l.permit.split.context.left + l.place ≡ l.fn.permit.split.context.left)
+    × (l.permit.split.context.tries ≡ l.fn.permit.split.context.tries + l.place)

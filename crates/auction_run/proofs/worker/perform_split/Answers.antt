@@ -19,10 +19,10 @@ loop-place-preserved g c =
     let first : ℕ = c.args.first in
     let k : ℕ = c.loop-place.place in
     let request : Request = c.index-script-index.result in
-    let calls : List (ℕ × Request) = calls_from c.args.first c.args.permit.now.split.desk.left c.args.script.now in
-    let less : c.loop-place.place < c.args.permit.now.split.desk.left = omega (arith, c.loop-place-test.true, c.left-place-end.ensures) in
+    let calls : List (ℕ × Request) = calls_from c.args.first c.args.permit.now.split.context.left c.args.script.now in
+    let less : c.loop-place.place < c.args.permit.now.split.context.left = omega (arith, c.loop-place-test.true, c.left-place-end.ensures) in
     let next : take (k + 1) calls ≡ take k calls ++ (first + k, request) ∷ [] =
-    next_call first old.split.desk.left k c.args.script.now request less c.requires.given c.index-script-index.is in (
+    next_call first old.split.context.left k c.args.script.now request less c.requires.given c.index-script-index.is in (
       same_after old mid new was.0 step.same,
       kept_more (λ call. not (is_put_off (hot_for old) call.1)) (committed mid) (take k calls) (committed new) (committed old) (take (k + 1) calls) (first + k, request)
           (subst (λ (hot : List Object). committed new ≡ committed mid ++ filter (λ (call : ℕ × Request). not (is_put_off hot call.1)) ((first + k, request) ∷ [])) was.0.hot step.calls) was.1 next,
@@ -39,10 +39,10 @@ returns-in_err-deal_with_next-clause-stopped g c =
     let first : ℕ = c.args.first in
     let k : ℕ = c.loop-place.place in
     let request : Request = c.index-script-index.result in
-    let calls : List (ℕ × Request) = calls_from c.args.first c.args.permit.now.split.desk.left c.args.script.now in
-    let less : c.loop-place.place < c.args.permit.now.split.desk.left = omega (arith, c.loop-place-test.true, c.left-place-end.ensures) in
+    let calls : List (ℕ × Request) = calls_from c.args.first c.args.permit.now.split.context.left c.args.script.now in
+    let less : c.loop-place.place < c.args.permit.now.split.context.left = omega (arith, c.loop-place-test.true, c.left-place-end.ensures) in
     let next : take (k + 1) calls ≡ take k calls ++ (first + k, request) ∷ [] =
-    next_call first old.split.desk.left k c.args.script.now request less c.requires.given c.index-script-index.is in
+    next_call first old.split.context.left k c.args.script.now request less c.requires.given c.index-script-index.is in
     err_as c.from_residual.result c.in_err-deal_with_next.field-0.0 _ c.from_residual.ensures.1
     (stopped_split g.N.PhaseName.opening old c.loop-place.permit c.deal_with_next.new.permit c.in_err-deal_with_next.field-0.0 k calls (first + k, request) next was.1 was.2
     c.in_err-deal_with_next.ensures.failed)

@@ -9,8 +9,8 @@ abbrev pub invariant-loop-place : goal.invariant-loop-place
 invariant-loop-place g l =
     IsSamePermit l.fn.permit l.permit
     × (committed l.permit ≡ committed l.fn.permit
-    ++ filter (λ call. not (is_put_off (hot_for l.fn.permit) call.1)) (take l.place (calls_from l.first l.fn.permit.split.desk.left l.script)))
+    ++ filter (λ call. not (is_put_off (hot_for l.fn.permit) call.1)) (take l.place (calls_from l.first l.fn.permit.split.context.left l.script)))
     × (stashed l.permit ≡ stashed l.fn.permit
-    ++ filter (λ call. is_put_off (hot_for l.fn.permit) call.1) (take l.place (calls_from l.first l.fn.permit.split.desk.left l.script)))
-    × (l.permit.split.desk.left + l.place ≡ l.fn.permit.split.desk.left)
-    × (l.permit.split.desk.tries ≡ l.fn.permit.split.desk.tries + l.place)
+    ++ filter (λ call. is_put_off (hot_for l.fn.permit) call.1) (take l.place (calls_from l.first l.fn.permit.split.context.left l.script)))
+    × (l.permit.split.context.left + l.place ≡ l.fn.permit.split.context.left)
+    × (l.permit.split.context.tries ≡ l.fn.permit.split.context.tries + l.place)

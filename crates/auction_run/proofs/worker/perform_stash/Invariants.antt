@@ -8,5 +8,5 @@ invariant-loop-call g l =
     IsSamePermit l.fn.permit l.permit
     × (committed l.permit ≡ committed l.fn.permit ++ take l._call (stashed l.fn.permit))
     × (stashed l.permit ≡ drop l._call (stashed l.fn.permit))
-    × (l.permit.split.desk.left ≡ l.fn.permit.split.desk.left)
-    × (l.permit.split.desk.tries ≤ l.fn.permit.split.desk.tries + l._call)
+    × (l.permit.split.context.left ≡ l.fn.permit.split.context.left)
+    × (l.permit.split.context.tries ≤ l.fn.permit.split.context.tries + l._call)

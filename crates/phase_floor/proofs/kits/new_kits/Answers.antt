@@ -1,6 +1,6 @@
 use Rattle.std.proofs.Common.{◌∙◌, [], get_or, ap, arith}
 use Rattle.shard_boxes.proofs.Each.{each_push}
-use Rattle.phase_desks.specs.Slicing.{slices_of}
+use Rattle.phase_contexts.specs.Slicing.{slices_of}
 use Rattle.phase_floor.specs.declared.kits.Kit.{Kit}
 use Rattle.phase_floor.specs.Begins.{IsKit}
 use Rattle.phase_floor.proofs.kits.new_kits.Goals as goal

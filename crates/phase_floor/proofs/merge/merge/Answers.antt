@@ -19,7 +19,7 @@ returns-in-Item-Item c =
     let seen : state_of old ≡ state_at (map state_of items) place = ap state_of c.index_mut-shard.ensures.value ∙ sym (get_or-map state_of items place old no_shard low) in
     let e = c.merge_item.ensures in let new = c.merge_item.new.self in
     let merged : state_of new ≡ with_slice (state_of old) (c.args.object, c.args.slice) = subst (λ pair. state_of new ≡ with_slice (state_of old) pair) (λ i. (sym c.in-Item-Item.is-0 i, sym c.in-Item-Item.is-1 i))
-    (λ i. record { number = e.same.number i; shards = e.same.shards i; opening = e.same.opening i; clock = e.clock i; shelf = e.shelf i }) in
+    (λ i. record { number = e.same.number i; shards = e.same.shards i; opening = e.same.opening i; clock = e.clock i; contents = e.contents i }) in
     merged_at items c.args.object c.args.slice old new place is seen merged
 
 pub returns-in-User-User : goal.returns-in-User-User
@@ -32,7 +32,7 @@ returns-in-User-User c =
     let seen : state_of old ≡ state_at (map state_of items) place = ap state_of c.index_mut-shard.ensures.value ∙ sym (get_or-map state_of items place old no_shard low) in
     let e = c.merge_user.ensures in let new = c.merge_user.new.self in
     let merged : state_of new ≡ with_slice (state_of old) (c.args.object, c.args.slice) = subst (λ pair. state_of new ≡ with_slice (state_of old) pair) (λ i. (sym c.in-User-User.is-0 i, sym c.in-User-User.is-1 i))
-    (λ i. record { number = e.same.number i; shards = e.same.shards i; opening = e.same.opening i; clock = e.clock i; shelf = e.shelf i }) in
+    (λ i. record { number = e.same.number i; shards = e.same.shards i; opening = e.same.opening i; clock = e.clock i; contents = e.contents i }) in
     merged_at items c.args.object c.args.slice old new place is seen merged
 
 pub returns-in-Category-Category : goal.returns-in-Category-Category
@@ -45,7 +45,7 @@ returns-in-Category-Category c =
     let seen : state_of old ≡ state_at (map state_of items) place = ap state_of c.index_mut-shard.ensures.value ∙ sym (get_or-map state_of items place old no_shard low) in
     let e = c.merge_category.ensures in let new = c.merge_category.new.self in
     let merged : state_of new ≡ with_slice (state_of old) (c.args.object, c.args.slice) = subst (λ pair. state_of new ≡ with_slice (state_of old) pair) (λ i. (sym c.in-Category-Category.is-0 i, sym c.in-Category-Category.is-1 i))
-    (λ i. record { number = e.same.number i; shards = e.same.shards i; opening = e.same.opening i; clock = e.clock i; shelf = e.shelf i }) in
+    (λ i. record { number = e.same.number i; shards = e.same.shards i; opening = e.same.opening i; clock = e.clock i; contents = e.contents i }) in
     merged_at items c.args.object c.args.slice old new place is seen merged
 
 pub merge_category-requires-clause-here : goal.merge_category-requires-clause-here

@@ -12,7 +12,7 @@ loop-s-preserved c =
     let same : length (map state_of all) ≡ length all = simp length-map in
     let low : s < length items = omega (arith, was.0, c.loop-s.shards.ok.0, c.len-s-end.ensures, c.args.shards.now.ok.0) in
     let below : s < length (map state_of all) = omega (arith, same, c.len-s-end.ensures, c.args.shards.now.ok.0) in
-    let started : state_of new ≡ at_start (state_of old) = (λ i. record { number = r.same.number i; shards = r.same.shards i; opening = r.same.opening i; clock = r.clock i; shelf = r.shelf i }) in
+    let started : state_of new ≡ at_start (state_of old) = (λ i. record { number = r.same.number i; shards = r.same.shards i; opening = r.same.opening i; clock = r.clock i; contents = r.contents i }) in
     let seen = ap state_of c.index_mut.ensures.value ∙ sym (get_or-map state_of items s old (state_of old) low) in (
       was.0,
       map-set state_of items s new ∙ ap (λ t. set (map state_of items) s t) started

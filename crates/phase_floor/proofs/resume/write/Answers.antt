@@ -1,6 +1,6 @@
 use Rattle.std.proofs.Common.{◌≡◌, ◌<◌, ◌∷◌, [], map, length, set, sym, ap, subst, refl, ◌∙◌, arith}
 use Rattle.std.proofs.lemmas.List.{get_or-set_same, length-set, length-map}
-use Rattle.item_shards.specs.ShardShelf.{rooms}
+use Rattle.item_shards.specs.ShardContents.{rooms}
 use Rattle.item_shards.proofs.SerialLemmas.{has_own_room}
 use Rattle.auction_rows.specs.declared.ids.Object.TheVariants.{Item, User, Category}
 use Rattle.auction_rows.specs.declared.rows.Row.TheVariants as row
@@ -29,7 +29,7 @@ returns-in-Bid c =
     let lies : shard_of (Item r.item) (length shards) ≡ place = ap (shard_of (Item r.item)) c.requires.count ∙ sym found.shard in
     let did = c.act-in-Bid.ensures in
     subst (λ one. HaveDone (map state_of shards) (map state_of (set shards place c.act-in-Bid.new.self)) (writes_of one)) (sym c.in-Bid.is)
-    (act_done shards c.requires.numbered place low (Item r.item) (Bid r.item (bid_entry r)) refl lies c.index_mut-in-Bid.result.now c.act-in-Bid.new.self c.index_mut-in-Bid.ensures.value did.same did.clock did.shelf)
+    (act_done shards c.requires.numbered place low (Item r.item) (Bid r.item (bid_entry r)) refl lies c.index_mut-in-Bid.result.now c.act-in-Bid.new.self c.index_mut-in-Bid.ensures.value did.same did.clock did.contents)
 
 pub act-requires-in-Comment : goal.act-requires-in-Comment
 act-requires-in-Comment c =
@@ -46,7 +46,7 @@ returns-in-Comment c =
     let lies : shard_of (User r.about) (length shards) ≡ place = ap (shard_of (User r.about)) c.requires.count ∙ sym found.shard in
     let did = c.act-in-Comment.ensures in
     subst (λ one. HaveDone (map state_of shards) (map state_of (set shards place c.act-in-Comment.new.self)) (writes_of one)) (sym c.in-Comment.is)
-    (act_done shards c.requires.numbered place low (User r.about) (Comment r.about r.stars) refl lies c.index_mut-in-Comment.result.now c.act-in-Comment.new.self c.index_mut-in-Comment.ensures.value did.same did.clock did.shelf)
+    (act_done shards c.requires.numbered place low (User r.about) (Comment r.about r.stars) refl lies c.index_mut-in-Comment.result.now c.act-in-Comment.new.self c.index_mut-in-Comment.ensures.value did.same did.clock did.contents)
 
 pub act-requires-in-Buy : goal.act-requires-in-Buy
 act-requires-in-Buy c =
@@ -63,7 +63,7 @@ returns-in-Buy c =
     let lies : shard_of (Item r.item) (length shards) ≡ place = ap (shard_of (Item r.item)) c.requires.count ∙ sym found.shard in
     let did = c.act-in-Buy.ensures in
     subst (λ one. HaveDone (map state_of shards) (map state_of (set shards place c.act-in-Buy.new.self)) (writes_of one)) (sym c.in-Buy.is)
-    (act_done shards c.requires.numbered place low (Item r.item) (Buy r.item r.quantity) refl lies c.index_mut-in-Buy.result.now c.act-in-Buy.new.self c.index_mut-in-Buy.ensures.value did.same did.clock did.shelf)
+    (act_done shards c.requires.numbered place low (Item r.item) (Buy r.item r.quantity) refl lies c.index_mut-in-Buy.result.now c.act-in-Buy.new.self c.index_mut-in-Buy.ensures.value did.same did.clock did.contents)
 
 pub prepare_item-requires : goal.prepare_item-requires
 prepare_item-requires c =
@@ -78,7 +78,7 @@ act-requires c =
     let low : place < length shards = omega (arith, found.within, c.requires.count) in
     let lies : shard_of (Item r.id) (length shards) ≡ place = ap (shard_of (Item r.id)) c.requires.count ∙ sym found.shard in
     let prepared = c.prepare_item.new.self in let p = c.prepare_item.ensures in
-    let same = shown_still shards place low c.index_mut.result.now prepared c.index_mut.ensures.value p.same p.clock p.shelf in
+    let same = shown_still shards place low c.index_mut.result.now prepared c.index_mut.ensures.value p.same p.clock p.contents in
     let mid = set shards place prepared in let many = length-set shards place prepared in
     let numbered = subst AreNumbered (sym same) c.requires.numbered in
     let low_mid : place < length mid = omega (arith, low, many) in
@@ -94,14 +94,14 @@ act-requires-in-Item c =
     let low : place < length shards = omega (arith, found.within, c.requires.count) in
     let lies : shard_of (Item r.id) (length shards) ≡ place = ap (shard_of (Item r.id)) c.requires.count ∙ sym found.shard in
     let prepared = c.prepare_item.new.self in let p = c.prepare_item.ensures in
-    let same = shown_still shards place low c.index_mut.result.now prepared c.index_mut.ensures.value p.same p.clock p.shelf in
+    let same = shown_still shards place low c.index_mut.result.now prepared c.index_mut.ensures.value p.same p.clock p.contents in
     let mid = set shards place prepared in let many = length-set shards place prepared in
     let numbered = subst AreNumbered (sym same) c.requires.numbered in
     let low_mid : place < length mid = omega (arith, low, many) in
     let lies_mid : shard_of (Item r.id) (length mid) ≡ place = ap (shard_of (Item r.id)) many ∙ lies in
     let old = c.index_mut-in-Item.result.now in let is = c.index_mut-in-Item.ensures.value in
     let did = c.act.ensures in let last = set mid place c.act.new.self in
-    let added = act_done mid numbered place low_mid (Item r.id) (AddItem r.id r.facts) refl lies_mid old c.act.new.self is did.same did.clock did.shelf in
+    let added = act_done mid numbered place low_mid (Item r.id) (AddItem r.id r.facts) refl lies_mid old c.act.new.self is did.same did.clock did.contents in
     let numbered_last = numbered_next (map state_of mid) (map state_of last) (AddItem r.id r.facts ∷ []) numbered added in
     let listed = c.shard_of-listed.result in let category = Category r.facts.category in
     let many_last = length-set mid place c.act.new.self in
@@ -124,14 +124,14 @@ returns-in_ok-prepare_item-in-Item c =
     let low : place < length shards = omega (arith, found.within, c.requires.count) in
     let lies : shard_of (Item r.id) (length shards) ≡ place = ap (shard_of (Item r.id)) c.requires.count ∙ sym found.shard in
     let prepared = c.prepare_item.new.self in let p = c.prepare_item.ensures in
-    let same = shown_still shards place low c.index_mut.result.now prepared c.index_mut.ensures.value p.same p.clock p.shelf in
+    let same = shown_still shards place low c.index_mut.result.now prepared c.index_mut.ensures.value p.same p.clock p.contents in
     let mid = set shards place prepared in let many = length-set shards place prepared in
     let numbered = subst AreNumbered (sym same) c.requires.numbered in
     let low_mid : place < length mid = omega (arith, low, many) in
     let lies_mid : shard_of (Item r.id) (length mid) ≡ place = ap (shard_of (Item r.id)) many ∙ lies in
     let old = c.index_mut-in-Item.result.now in let is = c.index_mut-in-Item.ensures.value in
     let did = c.act.ensures in let last = set mid place c.act.new.self in
-    let added = act_done mid numbered place low_mid (Item r.id) (AddItem r.id r.facts) refl lies_mid old c.act.new.self is did.same did.clock did.shelf in
+    let added = act_done mid numbered place low_mid (Item r.id) (AddItem r.id r.facts) refl lies_mid old c.act.new.self is did.same did.clock did.contents in
     let numbered_last = numbered_next (map state_of mid) (map state_of last) (AddItem r.id r.facts ∷ []) numbered added in
     let listed = c.shard_of-listed.result in let category = Category r.facts.category in
     let many_last = length-set mid place c.act.new.self in
@@ -141,7 +141,7 @@ returns-in_ok-prepare_item-in-Item c =
     let lies_last : shard_of category (length last) ≡ listed = ap (shard_of category) (many_last ∙ many) ∙ lies_listed in
     let shard = c.index_mut-in-Item-2.result.now in let shard_is = c.index_mut-in-Item-2.ensures.value in
     let ends = c.act-in-Item.ensures in let end = c.act-in-Item.new.self in
-    let list = act_done last numbered_last listed low_last category (ListItem r.facts.category (item_entry r)) refl lies_last shard end shard_is ends.same ends.clock ends.shelf in
+    let list = act_done last numbered_last listed low_last category (ListItem r.facts.category (item_entry r)) refl lies_last shard end shard_is ends.same ends.clock ends.contents in
     subst (λ one. HaveDone (map state_of shards) (map state_of (set last listed end)) (writes_of one)) (sym c.in-Item.is)
     (subst (λ states. HaveDone states (map state_of (set last listed end)) (writes_of (row.Item r))) same
     (two_done (map state_of mid) (map state_of last) (map state_of (set last listed end)) (AddItem r.id r.facts) (ListItem r.facts.category (item_entry r)) added list))

@@ -4,9 +4,9 @@ use Rattle.std.specs.Vec.Iter.{into_iter_items}
 use Rattle.shard_boxes.specs.Keys.{KeyState, no_key, IsNewKey}
 use Rattle.shard_boxes.proofs.Each.{each_push, drop_next, at_head}
 use Rattle.worker_journals.specs.Journals.{JournalView}
-use Rattle.phase_desks.specs.declared.counters.Counters.{Counters}
-use Rattle.phase_desks.specs.Slicing.{slices_of}
-use Rattle.phase_desks.specs.Stashes.{StashState}
+use Rattle.phase_contexts.specs.declared.counters.Counters.{Counters}
+use Rattle.phase_contexts.specs.Slicing.{slices_of}
+use Rattle.phase_contexts.specs.Stashes.{StashState}
 use Rattle.phase_transactions.specs.Permits.{no_counters}
 use Rattle.phase_floor.specs.Floors.{FloorState, no_stash, stash_at, IsBegun}
 use Rattle.phase_closing.specs.Standing.{counters_at}

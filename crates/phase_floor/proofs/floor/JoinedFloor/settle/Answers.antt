@@ -21,25 +21,25 @@ pub add_phase-requires-clause-by_worker : goal.add_phase-requires-clause-by_work
 add_phase-requires-clause-by_worker g c =
     let opening = g.N.PhaseName.opening in let workers = g.N.PhaseName.workers in let e = c.in_ok-journals.ensures in
     let is_open = subst (IsOpen opening workers) c.self.view_is c.self.invariant in
-    subst AreByWorker (sym e.journals) (in_order opening workers c.args.self is_open c.args.receipts.items c.requires e.worth)
+    subst AreByWorker (sym e.journals) (in_order opening workers c.args.self is_open c.args.receipts.items c.requires e.explained)
 
 pub close-shards-requires : goal.close-shards-requires
 close-shards-requires g c =
     let opening = g.N.PhaseName.opening in let workers = g.N.PhaseName.workers in let e = c.in_ok-journals.ensures in
     let is_open = subst (IsOpen opening workers) c.self.view_is c.self.invariant in
-    let spent = are_spent opening workers c.args.self is_open c.args.receipts.items c.requires e.worth in
+    let spent = are_spent opening workers c.args.self is_open c.args.receipts.items c.requires e.explained in
     subst (λ (boxes : List BoxId). AreSpent boxes workers c.in_ok-journals.field-0.keys.items) (sym (ap (λ (f : FloorState). f.boxes) c.self.view_is))
     (subst (λ (keys : List KeyState). AreSpent c.args.self.boxes workers keys) (sym e.keys) spent)
 
 pub returns-clause-closed : goal.returns-clause-closed
 returns-clause-closed g c =
     let opening = g.N.PhaseName.opening in let workers = g.N.PhaseName.workers in let e = c.in_ok-journals.ensures in let h = c.in_ok-add_phase.ensures in
-    let up = subst AreByWorker (sym e.journals) (in_order opening workers c.args.self (subst (IsOpen opening workers) c.self.view_is c.self.invariant) c.args.receipts.items c.requires e.worth) in
+    let up = subst AreByWorker (sym e.journals) (in_order opening workers c.args.self (subst (IsOpen opening workers) c.self.view_is c.self.invariant) c.args.receipts.items c.requires e.explained) in
     let is_open = subst (IsOpen opening workers) c.self.view_is c.self.invariant in
     let given = map state_of c.close-shards.result.items in
     let boxes = subst (λ (keys : List KeyState). AreClosed opening workers keys given) e.keys c.close-shards.ensures in record {
       given = given;
-      closed = has_closed opening workers c.args.self is_open c.args.receipts.items c.requires e.worth given (added c.args.history.now.entries c.add_phase.new.self.entries) boxes (added_ascends c.args.history.now c.add_phase.new.self c.in_ok-journals.field-0.journals.items h.added up h.lawful)
+      closed = has_closed opening workers c.args.self is_open c.args.receipts.items c.requires e.explained given (added c.args.history.now.entries c.add_phase.new.self.entries) boxes (added_ascends c.args.history.now c.add_phase.new.self c.in_ok-journals.field-0.journals.items h.added up h.lawful)
           (λ w. added_parts c.args.history.now c.add_phase.new.self c.in_ok-journals.field-0.journals.items h.added up h.lawful w ∙ ap (entries_of w) e.journals);
       states_are = c.reset_clocks.ensures;
     }

@@ -3,7 +3,7 @@ use Rattle.auction_rows.specs.declared.numbers.Opening.{Opening}
 use Rattle.auction_rows.specs.History.{book_after}
 use Rattle.shard_boxes.specs.States.{state_of}
 use Rattle.worker_journals.specs.Merged.{added}
-use Rattle.phase_desks.specs.declared.counters.Counters.{Counters}
+use Rattle.phase_contexts.specs.declared.counters.Counters.{Counters}
 use Rattle.phase_closing.specs.Standing.{StandFor, counters_at}
 use Rattle.phase_closing.proofs.CommitLemmas.{commits_grow}
 use Rattle.phase_closing.proofs.ReplayLemmas.{entries_replay}

@@ -6,10 +6,10 @@ use Rattle.auction_rows.specs.Footprint.{is_hot}
 use Rattle.shard_boxes.specs.Keys.{KeyState, no_key, IsNewKey}
 use Rattle.shard_boxes.proofs.Each.{each_push, drop_next, at_head}
 use Rattle.worker_journals.specs.Journals.{JournalView, empty_journal}
-use Rattle.phase_desks.specs.declared.counters.Counters.{Counters}
-use Rattle.phase_desks.specs.Slicing.{objects_of, slices_of, stocks_of}
-use Rattle.phase_desks.specs.Stashes.{StashState}
-use Rattle.phase_desks.proofs.Places.{stocks_of_rows}
+use Rattle.phase_contexts.specs.declared.counters.Counters.{Counters}
+use Rattle.phase_contexts.specs.Slicing.{objects_of, slices_of, stocks_of}
+use Rattle.phase_contexts.specs.Stashes.{StashState}
+use Rattle.phase_contexts.proofs.Places.{stocks_of_rows}
 use Rattle.phase_transactions.specs.Permits.{no_counters}
 use Rattle.phase_closing.specs.Standing.{counters_at}
 use Rattle.phase_floor.specs.declared.kits.Kit.{Kit}

@@ -8,7 +8,7 @@ use Rattle.shard_boxes.specs.States.{state_of}
 use Rattle.worker_journals.specs.Merged.{AreByWorker, entries_of, added}
 use Rattle.worker_journals.proofs.AddedLemmas.{added_front, last_merged, added_ascends, added_parts, added_stars}
 use Rattle.phase_closing.specs.Phases.{journal_of}
-use Rattle.phase_desks.specs.declared.slices.Hot.{Hot}
+use Rattle.phase_contexts.specs.declared.slices.Hot.{Hot}
 use Rattle.auction_rows.specs.declared.ids.Object.{Object}
 use Rattle.phase_closing.specs.Merging.{CanMerge, after_merge}
 use Rattle.phase_floor.specs.Closings.{AreKnown, at_start, from_the_last}
@@ -28,35 +28,35 @@ pub add_phase-requires-clause-by_worker : goal.add_phase-requires-clause-by_work
 add_phase-requires-clause-by_worker g c =
     let opening = g.N.PhaseName.opening in let workers = g.N.PhaseName.workers in let e = c.in_ok-journals.ensures in
     let is_open = subst (IsOpen opening workers) c.self.view_is c.self.invariant in
-    subst AreByWorker (sym e.journals) (in_order opening workers c.args.self is_open c.args.receipts.items c.requires e.worth)
+    subst AreByWorker (sym e.journals) (in_order opening workers c.args.self is_open c.args.receipts.items c.requires e.explained)
 
 pub close-shards-requires : goal.close-shards-requires
 close-shards-requires g c =
     let opening = g.N.PhaseName.opening in let workers = g.N.PhaseName.workers in let e = c.in_ok-journals.ensures in
     let is_open = subst (IsOpen opening workers) c.self.view_is c.self.invariant in
-    let spent = are_spent opening workers c.args.self is_open c.args.receipts.items c.requires e.worth in
+    let spent = are_spent opening workers c.args.self is_open c.args.receipts.items c.requires e.explained in
     subst (λ (boxes : List BoxId). AreSpent boxes workers c.in_ok-journals.field-0.keys.items) (sym (ap (λ (f : FloorState). f.boxes) c.self.view_is))
     (subst (λ (keys : List KeyState). AreSpent c.args.self.boxes workers keys) (sym e.keys) spent)
 
 pub merge_all-requires-clause-shards : goal.merge_all-requires-clause-shards
 merge_all-requires-clause-shards g c =
     let opening = g.N.PhaseName.opening in let workers = g.N.PhaseName.workers in let e = c.in_ok-journals.ensures in let h = c.in_ok-add_phase.ensures in
-    let up = subst AreByWorker (sym e.journals) (in_order opening workers c.args.self (subst (IsOpen opening workers) c.self.view_is c.self.invariant) c.args.receipts.items c.requires e.worth) in
+    let up = subst AreByWorker (sym e.journals) (in_order opening workers c.args.self (subst (IsOpen opening workers) c.self.view_is c.self.invariant) c.args.receipts.items c.requires e.explained) in
     let is_open = subst (IsOpen opening workers) c.self.view_is c.self.invariant in
     let given = map state_of c.close-shards.result.items in let floor = c.args.self in let receipts = c.args.receipts.items in let entries = added c.args.history.now.entries c.add_phase.new.self.entries in
     let boxes = subst (λ (keys : List KeyState). AreClosed opening workers keys given) e.keys c.close-shards.ensures in
-    let closed = has_closed opening workers floor is_open receipts c.requires e.worth given entries boxes (added_ascends c.args.history.now c.add_phase.new.self c.in_ok-journals.field-0.journals.items h.added up h.lawful)
+    let closed = has_closed opening workers floor is_open receipts c.requires e.explained given entries boxes (added_ascends c.args.history.now c.add_phase.new.self c.in_ok-journals.field-0.journals.items h.added up h.lawful)
     (λ w. added_parts c.args.history.now c.add_phase.new.self c.in_ok-journals.field-0.journals.items h.added up h.lawful w ∙ ap (entries_of w) e.journals) in
     given_one opening workers floor is_open receipts c.requires given entries closed
 
 pub merge_all-requires-clause-known : goal.merge_all-requires-clause-known
 merge_all-requires-clause-known g c =
     let opening = g.N.PhaseName.opening in let workers = g.N.PhaseName.workers in let e = c.in_ok-journals.ensures in let h = c.in_ok-add_phase.ensures in
-    let up = subst AreByWorker (sym e.journals) (in_order opening workers c.args.self (subst (IsOpen opening workers) c.self.view_is c.self.invariant) c.args.receipts.items c.requires e.worth) in
+    let up = subst AreByWorker (sym e.journals) (in_order opening workers c.args.self (subst (IsOpen opening workers) c.self.view_is c.self.invariant) c.args.receipts.items c.requires e.explained) in
     let is_open = subst (IsOpen opening workers) c.self.view_is c.self.invariant in
     let given = map state_of c.close-shards.result.items in let floor = c.args.self in let receipts = c.args.receipts.items in let entries = added c.args.history.now.entries c.add_phase.new.self.entries in
     let boxes = subst (λ (keys : List KeyState). AreClosed opening workers keys given) e.keys c.close-shards.ensures in
-    let closed = has_closed opening workers floor is_open receipts c.requires e.worth given entries boxes (added_ascends c.args.history.now c.add_phase.new.self c.in_ok-journals.field-0.journals.items h.added up h.lawful)
+    let closed = has_closed opening workers floor is_open receipts c.requires e.explained given entries boxes (added_ascends c.args.history.now c.add_phase.new.self c.in_ok-journals.field-0.journals.items h.added up h.lawful)
     (λ w. added_parts c.args.history.now c.add_phase.new.self c.in_ok-journals.field-0.journals.items h.added up h.lawful w ∙ ap (entries_of w) e.journals) in
     subst (λ (slices : List (List (Object × Hot))). AreKnown given (flat_map from_the_last slices)) (sym e.slices)
     (given_known opening workers floor is_open receipts c.requires given entries closed)
@@ -64,11 +64,11 @@ merge_all-requires-clause-known g c =
 pub merge_all-requires-clause-can : goal.merge_all-requires-clause-can
 merge_all-requires-clause-can g c =
     let opening = g.N.PhaseName.opening in let workers = g.N.PhaseName.workers in let e = c.in_ok-journals.ensures in let h = c.in_ok-add_phase.ensures in
-    let up = subst AreByWorker (sym e.journals) (in_order opening workers c.args.self (subst (IsOpen opening workers) c.self.view_is c.self.invariant) c.args.receipts.items c.requires e.worth) in
+    let up = subst AreByWorker (sym e.journals) (in_order opening workers c.args.self (subst (IsOpen opening workers) c.self.view_is c.self.invariant) c.args.receipts.items c.requires e.explained) in
     let is_open = subst (IsOpen opening workers) c.self.view_is c.self.invariant in
     let given = map state_of c.close-shards.result.items in let floor = c.args.self in let receipts = c.args.receipts.items in let entries = added c.args.history.now.entries c.add_phase.new.self.entries in
     let boxes = subst (λ (keys : List KeyState). AreClosed opening workers keys given) e.keys c.close-shards.ensures in
-    let closed = has_closed opening workers floor is_open receipts c.requires e.worth given entries boxes (added_ascends c.args.history.now c.add_phase.new.self c.in_ok-journals.field-0.journals.items h.added up h.lawful)
+    let closed = has_closed opening workers floor is_open receipts c.requires e.explained given entries boxes (added_ascends c.args.history.now c.add_phase.new.self c.in_ok-journals.field-0.journals.items h.added up h.lawful)
     (λ w. added_parts c.args.history.now c.add_phase.new.self c.in_ok-journals.field-0.journals.items h.added up h.lawful w ∙ ap (entries_of w) e.journals) in
     subst (λ (slices : List (List (Object × Hot))). SawInTurn CanMerge after_merge given (flat_map from_the_last slices)) (sym e.slices)
     (given_can opening workers floor is_open receipts c.requires given entries closed e.few)
@@ -76,11 +76,11 @@ merge_all-requires-clause-can g c =
 pub returns-clause-closed : goal.returns-clause-closed
 returns-clause-closed g c =
     let opening = g.N.PhaseName.opening in let workers = g.N.PhaseName.workers in let e = c.in_ok-journals.ensures in let h = c.in_ok-add_phase.ensures in
-    let up = subst AreByWorker (sym e.journals) (in_order opening workers c.args.self (subst (IsOpen opening workers) c.self.view_is c.self.invariant) c.args.receipts.items c.requires e.worth) in
+    let up = subst AreByWorker (sym e.journals) (in_order opening workers c.args.self (subst (IsOpen opening workers) c.self.view_is c.self.invariant) c.args.receipts.items c.requires e.explained) in
     let is_open = subst (IsOpen opening workers) c.self.view_is c.self.invariant in
     let given = map state_of c.close-shards.result.items in let floor = c.args.self in let receipts = c.args.receipts.items in let entries = added c.args.history.now.entries c.add_phase.new.self.entries in
     let boxes = subst (λ (keys : List KeyState). AreClosed opening workers keys given) e.keys c.close-shards.ensures in
-    let closed = has_closed opening workers floor is_open receipts c.requires e.worth given entries boxes (added_ascends c.args.history.now c.add_phase.new.self c.in_ok-journals.field-0.journals.items h.added up h.lawful)
+    let closed = has_closed opening workers floor is_open receipts c.requires e.explained given entries boxes (added_ascends c.args.history.now c.add_phase.new.self c.in_ok-journals.field-0.journals.items h.added up h.lawful)
     (λ w. added_parts c.args.history.now c.add_phase.new.self c.in_ok-journals.field-0.journals.items h.added up h.lawful w ∙ ap (entries_of w) e.journals) in
     record {
       given = given;

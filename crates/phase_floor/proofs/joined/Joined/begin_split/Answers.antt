@@ -4,8 +4,8 @@ use Rattle.std.specs.Prelude.{IsTrue}
 use Rattle.std.specs.List.{AllByRecursion, IsDistinct}
 use Rattle.auction_rows.specs.Requests.{same_object}
 use Rattle.shard_boxes.specs.States.{state_of}
-use Rattle.phase_desks.specs.Slicing.{objects_of}
-use Rattle.phase_desks.proofs.Places.{distinct_objects}
+use Rattle.phase_contexts.specs.Slicing.{objects_of}
+use Rattle.phase_contexts.proofs.Places.{distinct_objects}
 use Rattle.phase_closing.specs.Phases.{IsReadFrom}
 use Rattle.phase_floor.specs.Begins.{IsTooLong, asked_in_all}
 use Rattle.phase_floor.specs.States.{JoinedState, DoAllExist, states_of, IsKept}

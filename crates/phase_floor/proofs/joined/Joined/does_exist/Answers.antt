@@ -7,4 +7,4 @@ use Rattle.phase_floor.proofs.joined.Joined.does_exist.Goals as goal
 pub returns-in-Item : goal.returns-in-Item
 returns-in-Item c =
     let state = c.args.self.now in
-    item_exists state.opening (states_of state) c.args.object c.in-Item.item c.is_some.result c.stock.result c.in-Item.is c.is_some.ensures (c.stock.ensures.shelf ∙ ap stock c.shard.ensures.value)
+    item_exists state.opening (states_of state) c.args.object c.in-Item.item c.is_some.result c.stock.result c.in-Item.is c.is_some.ensures (c.stock.ensures.contents ∙ ap stock c.shard.ensures.value)

@@ -1,6 +1,6 @@
 use Rattle.std.proofs.Common.{◌≡◌, ℕ, ◌+◌, ◌++◌, ◌<◌, ◌≤◌, [], drop, length, map, vec_len, vec_capacity}
 use Rattle.std.specs.Vec.Iter.{into_iter_items, into_iter_len}
-use Rattle.phase_transactions.specs.Permits.{IsWorth}
+use Rattle.phase_transactions.specs.Permits.{IsExplained}
 use Rattle.phase_closing.specs.Phases.{receipt_at, key_of, journal_of, counters_of}
 use Rattle.phase_floor.specs.Closings.{stash_of}
 use Rattle.phase_floor.proofs.parts.Parts.of_joined.Given as goal
@@ -17,6 +17,6 @@ invariant-loop-receipt g l = let all = l.fn.receipts.items in let left = into_it
   keys : l.parts.keys.items ++ map key_of left ≡ map key_of all;
   counters : l.parts.counters.items ++ map counters_of left ≡ map counters_of all;
   slices : l.parts.slices.items ≡ [];
-  worth : (w : ℕ) → w < n → IsWorth (length g.N.PhaseName.opening) (receipt_at all w).split (receipt_at all w).key;
+  explained : (w : ℕ) → w < n → IsExplained (length g.N.PhaseName.opening) (receipt_at all w).split (receipt_at all w).key;
   limit : (w : ℕ) → w < n → (counters_of (receipt_at all w)).commits ≤ 1000000;
 }

@@ -1,8 +1,8 @@
 use Rattle.std.proofs.Common.{◌≡◌, ◌≤◌, get_or, map, length, sym, ◌∙◌, subst, arith, below_more, vec_len}
 use Rattle.std.specs.Vec.Iter.{into_iter_items}
 use Rattle.shard_boxes.proofs.Each.{drop_next, at_head}
-use Rattle.phase_desks.specs.Slicing.{AreFew}
-use Rattle.phase_transactions.specs.Permits.{PermitState, IsWorth}
+use Rattle.phase_contexts.specs.Slicing.{AreFew}
+use Rattle.phase_transactions.specs.Permits.{PermitState, IsExplained}
 use Rattle.phase_closing.specs.Phases.{no_receipt, receipt_at, key_of, journal_of, counters_of}
 use Rattle.phase_floor.specs.Closings.{stash_of, sliced_of}
 use Rattle.phase_floor.proofs.Moved.{moved, all_moved, none_left}
@@ -24,8 +24,8 @@ loop-receipt-preserved g c =
       keys = moved key_of parts.keys.items c.push_reserved-in-loop-receipt-2.new.self.items _ left next receipt (map key_of all) k.items step.0 o.key was.keys;
       counters = moved counters_of parts.counters.items c.push_reserved-in-loop-receipt-3.new.self.items _ left next receipt (map counters_of all) u.items step.0 o.counters was.counters;
       slices = moved sliced_of parts.slices.items c.push_reserved-in-loop-receipt-4.new.self.items _ left next receipt (map sliced_of all) v.items step.0 o.slices was.slices;
-      worth = λ w low. below_more (λ v. IsWorth (length g.N.PhaseName.opening) (receipt_at all v).split (receipt_at all v).key) n was.worth
-          (subst (λ (r : PermitState). IsWorth (length g.N.PhaseName.opening) r.split r.key) (sym at) o.worth) w (omega (arith, low, k.len));
+      explained = λ w low. below_more (λ v. IsExplained (length g.N.PhaseName.opening) (receipt_at all v).split (receipt_at all v).key) n was.explained
+          (subst (λ (r : PermitState). IsExplained (length g.N.PhaseName.opening) r.split r.key) (sym at) o.explained) w (omega (arith, low, k.len));
       limit = λ w low. below_more (λ v. (counters_of (receipt_at all v)).commits ≤ 1000000) n was.limit
           (subst (λ (r : PermitState). (counters_of r).commits ≤ 1000000) (sym at) o.limit) w (omega (arith, low, k.len));
       few = λ w low. below_more (λ v. AreFew 1000000 (receipt_at all v).split.slices) n was.few
