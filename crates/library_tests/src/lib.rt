@@ -4,7 +4,7 @@
 #[cfg(test)]
 mod boxes;
 #[cfg(test)]
-mod desks;
+mod contexts;
 #[cfg(test)]
 mod journals;
 #[cfg(test)]

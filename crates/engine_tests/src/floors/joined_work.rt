@@ -3,9 +3,9 @@ ghost use Rattle.std.specs.Prelude.{◌≡◌, ◌+◌, ◌<◌, ◌≤◌, ◌^
 ghost use Rattle.phase_floor.specs.Closings.{IsReceipt, AreReceiptsOf};
 ghost use Rattle.phase_floor.specs.States.{states_of};
 
-use auction_rows::Request;
+use auction_rows::{MOST_TRIES, Request};
 use phase_floor::{Joined, JoinedFloor};
-use phase_permits::{JoinedPermit, JoinedReceipt, Stash};
+use phase_transactions::{JoinedPermit, JoinedReceipt, Stash};
 use shard_boxes::PhaseName;
 use std::alloc::{AllocError, Global};
 use std::marker::Brand;
@@ -70,7 +70,7 @@ fn attempt_first<N: PhaseName, R: Wait>(
     requires { IsReceipt floor.now permit.old.key.worker permit.old }
     ensures { IsReceipt floor.now permit.old.key.worker permit.new }
 {
-    if permit.tries() >= 1_000_000_000 {
+    if permit.tries() >= MOST_TRIES {
         return false;
     }
     match permit.perform_stashed(rt, floor.boxes()) {
@@ -107,7 +107,7 @@ fn attempt<N: PhaseName, R: Wait>(
     requires { IsReceipt floor.now permit.old.key.worker permit.old }
     ensures { IsReceipt floor.now permit.old.key.worker permit.new }
 {
-    if permit.left() == 0 || permit.tries() >= 1_000_000_000 {
+    if permit.left() == 0 || permit.tries() >= MOST_TRIES {
         return false;
     }
     match permit.perform(rt, floor.boxes(), request, index) {

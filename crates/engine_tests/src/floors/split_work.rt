@@ -4,10 +4,10 @@ ghost use Rattle.phase_floor.specs.Closings.{IsReceipt, AreReceiptsOf};
 ghost use Rattle.phase_floor.specs.States.{states_of};
 
 use crate::floors::joined_work::{Between, QUOTA};
-use auction_rows::{Object, Request};
+use auction_rows::{MOST_TRIES, Object, Request};
 use indexmap::IndexSet;
 use phase_floor::SplitFloor;
-use phase_permits::{SplitPermit, SplitReceipt};
+use phase_transactions::{SplitPermit, SplitReceipt};
 use shard_boxes::PhaseName;
 use std::alloc::Global;
 use std::marker::Brand;
@@ -27,7 +27,7 @@ fn attempt<N: PhaseName, R: Wait>(
     requires { IsReceipt floor.now permit.old.key.worker permit.old }
     ensures { IsReceipt floor.now permit.old.key.worker permit.new }
 {
-    if permit.left() == 0 || permit.tries() >= 1_000_000_000 {
+    if permit.left() == 0 || permit.tries() >= MOST_TRIES {
         return false;
     }
     match permit.perform(rt, floor.boxes(), request, index) {

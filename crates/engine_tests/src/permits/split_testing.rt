@@ -2,16 +2,16 @@
 //! worker stored before, user 3 and category 0 are hot.
 ghost use Rattle.std.specs.Prelude.{◌≡◌, ◌<◌, ℕ, [], length, map, vec_len, IfOk};
 ghost use Rattle.shard_boxes.specs.States.{state_of, state_at, AreOpened, IsOpened};
-ghost use Rattle.phase_desks.specs.declared.counters.Counters.{Counters};
-ghost use Rattle.phase_desks.specs.Slicing.{slices_of, stocks_of};
-ghost use Rattle.phase_desks.specs.Splits.{AreStored};
+ghost use Rattle.phase_contexts.specs.declared.counters.Counters.{Counters};
+ghost use Rattle.phase_contexts.specs.Slicing.{slices_of, stocks_of};
+ghost use Rattle.phase_contexts.specs.Splits.{AreStored};
 ghost use Rattle.phase_transactions.specs.Single.{HaveOpening};
 
 use crate::permits::testing::four;
-use auction_rows::{Facts, Object, Reply, Request, Stars};
+use auction_rows::{Facts, MOST_TRIES, Object, Reply, Request, Stars};
 use item_shards::Shard;
 use library_tests::testing::{FIRST, OPENING, vases};
-use phase_permits::{Counters, Done, PermitFault, Slices, SplitPermit, Stash};
+use phase_transactions::{Counters, Done, PermitFault, Slices, SplitPermit, Stash};
 use shard_boxes::{Boxes, PhaseName};
 use std::alloc::{AllocError, Global};
 use std::marker::Brand;
@@ -75,12 +75,12 @@ fn perform_call<N: PhaseName, R: Wait>(
     index: u32,
 ) -> Option<Answer>
     requires of { permit.old.key.boxes ≡ boxes.now }
-    requires opening { HaveOpening N.opening permit.old.split.desk.opening }
+    requires opening { HaveOpening N.opening permit.old.split.context.opening }
     ensures of { permit.new.key.boxes ≡ boxes.now }
-    ensures opening { permit.new.split.desk.opening ≡ permit.old.split.desk.opening }
+    ensures opening { permit.new.split.context.opening ≡ permit.old.split.context.opening }
 {
     let hot = permit.is_hot(Object::Item(FIRST)) && permit.is_hot(Object::User(3));
-    if !hot || permit.left() == 0 || permit.tries() >= 1_000_000_000 {
+    if !hot || permit.left() == 0 || permit.tries() >= MOST_TRIES {
         return None;
     }
     Some(match *call {
@@ -105,7 +105,7 @@ fn perform_calls<N: PhaseName, R: Wait>(
     answers: &mut Vec<Answer>,
 )
     requires of { permit.old.key.boxes ≡ boxes.now }
-    requires opening { HaveOpening N.opening permit.old.split.desk.opening }
+    requires opening { HaveOpening N.opening permit.old.split.context.opening }
     requires few { length calls.now < 10 }
 {
     for index in 0..calls.len() {

@@ -4,7 +4,7 @@ use crate::testing::assert_same;
 use auction_rows::{CommentId, ItemId, Object, Reply, Request, Stars};
 use item_shards::Slice;
 use library_tests::testing::FIRST;
-use phase_permits::{Done, PermitFault, Slices};
+use phase_transactions::{Done, PermitFault, Slices};
 use std::test::Fail;
 
 const FIRST_COMMENT: CommentId = CommentId {

@@ -3,10 +3,10 @@ ghost use Rattle.std.specs.Prelude.{◌≡◌, ◌<◌, ◌≤◌, ℕ, length, 
 ghost use Rattle.shard_boxes.specs.States.{state_of, state_at, AreOpened, IsOpened};
 ghost use Rattle.phase_transactions.specs.Single.{HaveOpening};
 
-use auction_rows::{Reply, Request};
+use auction_rows::{MOST_TRIES, Reply, Request};
 use item_shards::Shard;
 use library_tests::testing::OPENING;
-use phase_permits::{Counters, JoinedPermit, PermitFault, Stash};
+use phase_transactions::{Counters, JoinedPermit, PermitFault, Stash};
 use shard_boxes::{Boxes, PhaseName};
 use std::alloc::{AllocError, Global};
 use std::marker::Brand;
@@ -71,12 +71,12 @@ fn attempt<N: PhaseName, R: Wait>(
     index: u32,
 ) -> Option<Result<Reply, PermitFault>>
     requires of { permit.old.key.boxes ≡ boxes.now }
-    requires opening { HaveOpening N.opening permit.old.split.desk.opening }
+    requires opening { HaveOpening N.opening permit.old.split.context.opening }
     ensures of { permit.new.key.boxes ≡ boxes.now }
     ensures worker { permit.new.key.worker ≡ permit.old.key.worker }
-    ensures opening { permit.new.split.desk.opening ≡ permit.old.split.desk.opening }
+    ensures opening { permit.new.split.context.opening ≡ permit.old.split.context.opening }
 {
-    if permit.left() == 0 || permit.tries() >= 1_000_000_000 {
+    if permit.left() == 0 || permit.tries() >= MOST_TRIES {
         return None;
     }
     Some(permit.perform(rt, boxes, request, index))
@@ -89,11 +89,11 @@ fn attempt_stashed<N: PhaseName, R: Wait>(
     permit: &mut JoinedPermit<N>,
 ) -> Option<Result<Option<Reply>, PermitFault>>
     requires of { permit.old.key.boxes ≡ boxes.now }
-    requires opening { HaveOpening N.opening permit.old.split.desk.opening }
+    requires opening { HaveOpening N.opening permit.old.split.context.opening }
     ensures of { permit.new.key.boxes ≡ boxes.now }
-    ensures opening { permit.new.split.desk.opening ≡ permit.old.split.desk.opening }
+    ensures opening { permit.new.split.context.opening ≡ permit.old.split.context.opening }
 {
-    if permit.tries() >= 1_000_000_000 {
+    if permit.tries() >= MOST_TRIES {
         return None;
     }
     Some(permit.perform_stashed(rt, boxes))
@@ -108,7 +108,7 @@ fn perform_all<N: PhaseName, R: Wait>(
     replies: &mut Vec<Result<Reply, PermitFault>>,
 )
     requires of { permit.old.key.boxes ≡ boxes.now }
-    requires opening { HaveOpening N.opening permit.old.split.desk.opening }
+    requires opening { HaveOpening N.opening permit.old.split.context.opening }
     requires few { length requests.now < 10 }
 {
     for index in 0..requests.len() {

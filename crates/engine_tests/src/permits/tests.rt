@@ -3,7 +3,7 @@ use crate::permits::testing::{run, three_commits};
 use crate::testing::assert_same;
 use auction_rows::{BidId, Reply, Request};
 use library_tests::testing::{FIRST, bid, item_seen, put_up, vases};
-use phase_permits::PermitFault;
+use phase_transactions::PermitFault;
 use std::test::Fail;
 
 const FIRST_BID: BidId = BidId {

@@ -5,7 +5,7 @@ ghost use Rattle.auction_rows.specs.declared.ids.Object.TheVariants.{Item};
 ghost use Rattle.item_shards.specs.declared.acts.Act.TheVariants.{Look, Comment};
 ghost use Rattle.item_shards.specs.declared.acts.Shown.TheVariants.{Left};
 ghost use Rattle.item_shards.specs.Values.{stock};
-ghost use Rattle.item_shards.specs.ShardShelf.{clock, opening, shard_number, shard_count, shelf, LiesIn};
+ghost use Rattle.item_shards.specs.ShardContents.{clock, opening, shard_number, shard_count, contents, LiesIn};
 ghost use Rattle.shard_boxes.specs.States.{state_of, state_at, IsWithin, IsOpened};
 ghost use Rattle.shard_boxes.specs.Keys.{holds_at, AreNewKeys};
 ghost use Rattle.shard_boxes.specs.Helds.{MayPut};
@@ -39,7 +39,7 @@ pub(crate) fn three(alloc: Global) -> Result<Vec<Shard>, AllocError>
 // A look at an item and a comment on a user.
 fn acts_of(shard: &Shard, item: ItemId, user: u32, stars: Stars) -> [Act; 2]
     requires { LiesIn shard.now (Item item) }
-    ensures { result ≡ Look (Left item (stock (shelf shard.now (Item item)))) ∷ Comment user stars ∷ [] }
+    ensures { result ≡ Look (Left item (stock (contents shard.now (Item item)))) ∷ Comment user stars ∷ [] }
 {
     [
         Act::Look(Shown::Left(item, Ghost::of(&shard.stock(item)))),

@@ -1,8 +1,7 @@
 //! Lists of the greatest entries.
 ghost use Rattle.std.specs.Prelude.{ℕ};
 
-use split_records::{Splittable, merged_slices, value_of_any_history};
-use top_records::TopRec;
+use split_records::{Splittable, TopRec, merged_slices, value_of_any_history};
 
 fn record_of<R: Splittable<Op = u64>>(entries: &[u64]) -> R
     requires { (held : R) (entry : ℕ) → R.can_apply held entry }

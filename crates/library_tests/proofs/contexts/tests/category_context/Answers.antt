@@ -1,5 +1,5 @@
 use Rattle.std.specs.List.{IsDistinct}
-use Rattle.library_tests.proofs.desks.tests.category_desk.Goals as goal
+use Rattle.library_tests.proofs.contexts.tests.category_context.Goals as goal
 
 pub new-requires-clause-distinct : goal.new-requires-clause-distinct
 unfolding IsDistinct

@@ -1,6 +1,6 @@
 use Rattle.std.proofs.Common.{refl}
 use Rattle.std.specs.List.{IsDistinct}
-use Rattle.library_tests.proofs.desks.tests.new_desk.Goals as goal
+use Rattle.library_tests.proofs.contexts.tests.new_context.Goals as goal
 
 pub new-requires-clause-distinct : goal.new-requires-clause-distinct
 unfolding IsDistinct

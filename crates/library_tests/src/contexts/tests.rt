@@ -1,11 +1,11 @@
 //! An item of which one is left, a user and a category that are hot. What is answered stands in tests/worked.
 ghost use Rattle.std.specs.Prelude.{◌<◌, ◌≤◌, length, IfOk};
-ghost use Rattle.phase_desks.specs.Desks.{AreCounted};
+ghost use Rattle.phase_contexts.specs.Contexts.{AreCounted};
 
 use crate::testing::{FIRST, OPENING, vases};
 use auction_rows::{BidEntry, BidId, Facts, ItemEntry, Object, Reply, Request, Stars};
 use item_shards::{CategorySlice, ItemSlice, Slice, UserSlice};
-use phase_desks::{Counters, Desk, Found, NewItem, Slices, SplitDesk, Stash};
+use phase_contexts::{Context, Counters, NewItem, ReadSet, Slices, SplitContext, Stash};
 use std::alloc::{AllocError, Global};
 use std::fmt::Debug;
 use std::process::Abort;
@@ -81,18 +81,18 @@ fn stashed_in_order(rt: HostRuntime) -> Result<(), Fail> {
     Ok(())
 }
 
-/// A desk with two stashed views, of which the first was called into the quota.
-fn called(alloc: Global) -> Result<Desk, Fail>
-    ensures called { IfOk result (λ desk. 0 < length desk.stash.done) }
-    ensures left { IfOk result (λ desk. 0 < desk.left) }
+/// A context with two stashed views, of which the first was called into the quota.
+fn called(alloc: Global) -> Result<Context, Fail>
+    ensures called { IfOk result (λ context. 0 < length context.stash.done) }
+    ensures left { IfOk result (λ context. 0 < context.left) }
 {
     let mut stash = Stash::with_room(alloc, 2)?;
     stash.push(4, VIEW_USER);
     stash.push(6, VIEW_VASE);
     let journal = Journal::with_room(alloc, 1, 0, 2)?;
-    let mut desk = Desk::new(OPENING, Counters::default(), journal, stash, 0, 0);
-    desk.call_first().ok_or("a request")?;
-    Ok(desk)
+    let mut context = Context::new(OPENING, Counters::default(), journal, stash, 0, 0);
+    context.call_first().ok_or("a request")?;
+    Ok(context)
 }
 
 #[test]
@@ -101,25 +101,25 @@ fn rest_of_a_stash(rt: HostRuntime) -> Result<(), Fail> {
     same(&rt, stash.len(), 1);
     same(&rt, stash.get(0), Some((6, VIEW_VASE)));
     same(&rt, stash.get(1), None);
-    let mut desk = called(rt.alloc())?;
-    desk.call_off();
-    same(&rt, desk.stashed(), 2);
-    same(&rt, desk.first_stashed(), Some((4, VIEW_USER)));
+    let mut context = called(rt.alloc())?;
+    context.call_off();
+    same(&rt, context.stashed(), 2);
+    same(&rt, context.first_stashed(), Some((4, VIEW_USER)));
     Ok(())
 }
 
 #[test]
 fn bid_in_a_slice(rt: HostRuntime) -> Result<(), Fail> {
-    let mut desk = new_desk(&rt, rt.alloc(), 2, BIDDER, 0)?;
-    bid(&rt, &mut desk, 50, 7, 0);
-    same(&rt, desk.left(), 3);
-    let (desk, mut slices) = desk.open();
+    let mut context = new_context(&rt, rt.alloc(), 2, BIDDER, 0)?;
+    bid(&rt, &mut context, 50, 7, 0);
+    same(&rt, context.left(), 3);
+    let (context, mut slices) = context.open();
     let slice = vase_slice(&rt, &mut slices);
     same(&rt, slice.highest.value(), Some(50));
     same(&rt, slice.bidder.value(), Some(BID));
     same(&rt, slice.bids.value(), 1);
     same(&rt, slice.top.entries().len(), 1);
-    let (journal, stash, counters) = desk.open();
+    let (journal, stash, counters) = context.open();
     same(&rt, (journal.len(), stash.len()), (1, 0));
     same(&rt, (counters.bids, counters.commits), (5, 6));
     Ok(())
@@ -127,9 +127,9 @@ fn bid_in_a_slice(rt: HostRuntime) -> Result<(), Fail> {
 
 #[test]
 fn comment_in_a_slice(rt: HostRuntime) -> Result<(), Fail> {
-    let mut desk = new_desk(&rt, rt.alloc(), 0, SELLER, 0)?;
-    comment(&rt, &mut desk, 9, -5, 0);
-    let (_, mut slices) = desk.open();
+    let mut context = new_context(&rt, rt.alloc(), 0, SELLER, 0)?;
+    comment(&rt, &mut context, 9, -5, 0);
+    let (_, mut slices) = context.open();
     let slice = user_slice(&rt, &mut slices);
     same(&rt, slice.rating.value(), -5);
     same(&rt, slice.comments.value(), 1);
@@ -138,9 +138,9 @@ fn comment_in_a_slice(rt: HostRuntime) -> Result<(), Fail> {
 
 #[test]
 fn item_in_a_slice(rt: HostRuntime) -> Result<(), Fail> {
-    let mut desk = category_desk(rt.alloc())?;
-    store(&rt, &mut desk, &new_vase(&rt), 0);
-    let (_, mut slices) = desk.open();
+    let mut context = category_context(rt.alloc())?;
+    store(&rt, &mut context, &new_vase(&rt), 0);
+    let (_, mut slices) = context.open();
     let slice = category_slice(&rt, &mut slices);
     same(&rt, slice.top.entries().len(), 1);
     same(&rt, slice.top.entries().first().copied(), Some(LISTED));
@@ -165,14 +165,14 @@ const BIDDER: Counters = Counters {
     commits: 5,
 };
 
-/// A desk of a worker with these counters, with the vase, user 3 and category 0 hot, for four requests.
-fn new_desk(
+/// A context of a worker with these counters, with the vase, user 3 and category 0 hot, for four requests.
+fn new_context(
     rt: &impl Abort,
     alloc: Global,
     worker: u32,
     counters: Counters,
     clock: u64,
-) -> Result<SplitDesk, AllocError>
+) -> Result<SplitContext, AllocError>
     requires counted { AreCounted counters }
     requires limit { counters.commits ≤ 10 }
     requires stored { 0 < counters.items }
@@ -185,37 +185,43 @@ fn new_desk(
     let slices = Slices::new(alloc, &hot)?;
     let journal = Journal::with_room(alloc, 1, worker, 4)?;
     let stash = Stash::with_room(alloc, 4)?;
-    Ok(SplitDesk::new(OPENING, counters, journal, stash, slices, 4, clock))
+    Ok(SplitContext::new(OPENING, counters, journal, stash, slices, 4, clock))
 }
 
-/// A desk of worker 0, who has stored nothing, with category 0 hot, for one request.
-fn category_desk(alloc: Global) -> Result<SplitDesk, AllocError> {
+/// A context of worker 0, who has stored nothing, with category 0 hot, for one request.
+fn category_context(alloc: Global) -> Result<SplitContext, AllocError> {
     let slices = Slices::new(alloc, &[(Object::Category(0), None)])?;
     let journal = Journal::with_room(alloc, 1, 0, 1)?;
     let stash = Stash::with_room(alloc, 1)?;
-    Ok(SplitDesk::new(OPENING, Counters::default(), journal, stash, slices, 1, 0))
+    Ok(SplitContext::new(OPENING, Counters::default(), journal, stash, slices, 1, 0))
 }
 
 /// A bid of user 1 on the vase.
-fn bid(rt: &impl Abort, desk: &mut SplitDesk, amount: u64, time: u64, index: u32) -> Option<Reply> {
-    assert!(rt; desk.left() > 0);
-    assert!(rt; desk.is_hot(Object::Item(FIRST)));
-    desk.bid_hot(1, FIRST, amount, time, index)
+fn bid(
+    rt: &impl Abort,
+    context: &mut SplitContext,
+    amount: u64,
+    time: u64,
+    index: u32,
+) -> Option<Reply> {
+    assert!(rt; context.left() > 0);
+    assert!(rt; context.is_hot(Object::Item(FIRST)));
+    context.bid_hot(1, FIRST, amount, time, index)
 }
 
 /// A comment of a user about user 3.
 fn comment(
     rt: &impl Abort,
-    desk: &mut SplitDesk,
+    context: &mut SplitContext,
     author: u32,
     stars: i64,
     index: u32,
 ) -> Option<Reply> {
     let stars = Stars::new(stars).expect(rt, "stars");
-    assert!(rt; desk.left() > 0);
-    assert!(rt; desk.is_hot(Object::Item(FIRST)));
-    assert!(rt; desk.is_hot(Object::User(3)));
-    desk.comment_hot(author, 3, FIRST, stars, index)
+    assert!(rt; context.left() > 0);
+    assert!(rt; context.is_hot(Object::Item(FIRST)));
+    assert!(rt; context.is_hot(Object::User(3)));
+    context.comment_hot(author, 3, FIRST, stars, index)
 }
 
 /// The vase, put up at time 1.
@@ -227,19 +233,20 @@ fn new_vase(rt: &impl Abort) -> NewItem {
 }
 
 /// A new item in a hot category, where no shard was taken.
-fn store(rt: &impl Abort, desk: &mut SplitDesk, item: &NewItem, index: u32) -> Reply {
-    assert!(rt; desk.left() > 0);
-    assert!(rt; desk.is_hot(Object::Category(item.facts.category)));
-    let number = desk.clock().checked_add(1).expect(rt, "a number");
-    desk.store_item(number, index, item, &Found::nothing())
+fn store(rt: &impl Abort, context: &mut SplitContext, item: &NewItem, index: u32) -> Reply {
+    assert!(rt; context.left() > 0);
+    assert!(rt; context.is_hot(Object::Category(item.facts.category)));
+    let number = context.clock().checked_add(1).expect(rt, "a number");
+    context
+        .store_item(number, index, item, &ReadSet::nothing())
         .to_reply()
 }
 
 #[test]
 fn end_of_numbers(rt: HostRuntime) -> Result<(), Fail> {
-    let mut desk = new_desk(&rt, rt.alloc(), 0, SELLER, u64::MAX)?;
-    same(&rt, bid(&rt, &mut desk, 10, 99, 0), None);
-    same(&rt, comment(&rt, &mut desk, 9, 5, 1), None);
-    same(&rt, desk.left(), 4);
+    let mut context = new_context(&rt, rt.alloc(), 0, SELLER, u64::MAX)?;
+    same(&rt, bid(&rt, &mut context, 10, 99, 0), None);
+    same(&rt, comment(&rt, &mut context, 9, 5, 1), None);
+    same(&rt, context.left(), 4);
     Ok(())
 }
