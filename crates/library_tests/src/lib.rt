@@ -2,7 +2,7 @@
 #![tactic(auto)]
 
 #[cfg(test)]
-mod boxes;
+mod comparing;
 #[cfg(test)]
 mod contexts;
 #[cfg(test)]

@@ -2,20 +2,15 @@
 ghost use Rattle.std.specs.Prelude.{◌<◌, ◌≤◌, length, IfOk};
 ghost use Rattle.phase_contexts.specs.Contexts.{AreCounted};
 
+use crate::comparing::assert_same;
 use crate::testing::{FIRST, OPENING, vases};
 use auction_rows::{BidEntry, BidId, Facts, ItemEntry, Object, Reply, Request, Stars};
 use item_shards::{CategorySlice, ItemSlice, Slice, UserSlice};
 use phase_contexts::{Context, Counters, NewItem, ReadSet, Slices, SplitContext, Stash};
 use std::alloc::{AllocError, Global};
-use std::fmt::Debug;
 use std::process::Abort;
 use std::test::Fail;
 use worker_journals::Journal;
-
-/// Ends the test where a value is not the one that is wanted.
-fn same<T: Copy + PartialEq + Debug>(rt: &impl Abort, got: T, want: T) {
-    assert_eq!(rt; got, want);
-}
 
 /// A vase, put up by user 0 in category 0 until time 100.
 fn vase(rt: &impl Abort) -> Facts {
@@ -71,13 +66,13 @@ const VIEW_VASE: Request = Request::ViewItem { item: FIRST };
 #[test]
 fn stashed_in_order(rt: HostRuntime) -> Result<(), Fail> {
     let mut stash = Stash::with_room(rt.alloc(), 2)?;
-    same(&rt, stash.is_empty(), true);
+    assert_same(&rt, &stash.is_empty(), &true);
     stash.push(4, VIEW_USER);
     stash.push(6, VIEW_VASE);
-    same(&rt, stash.len(), 2);
-    same(&rt, stash.get(0), Some((4, VIEW_USER)));
-    same(&rt, stash.get(1), Some((6, VIEW_VASE)));
-    same(&rt, stash.get(2), None);
+    assert_same(&rt, &stash.len(), &2);
+    assert_same(&rt, &stash.get(0), &Some((4, VIEW_USER)));
+    assert_same(&rt, &stash.get(1), &Some((6, VIEW_VASE)));
+    assert_same(&rt, &stash.get(2), &None);
     Ok(())
 }
 
@@ -98,13 +93,13 @@ fn called(alloc: Global) -> Result<Context, Fail>
 #[test]
 fn rest_of_a_stash(rt: HostRuntime) -> Result<(), Fail> {
     let (_, stash, _) = called(rt.alloc())?.open();
-    same(&rt, stash.len(), 1);
-    same(&rt, stash.get(0), Some((6, VIEW_VASE)));
-    same(&rt, stash.get(1), None);
+    assert_same(&rt, &stash.len(), &1);
+    assert_same(&rt, &stash.get(0), &Some((6, VIEW_VASE)));
+    assert_same(&rt, &stash.get(1), &None);
     let mut context = called(rt.alloc())?;
     context.call_off();
-    same(&rt, context.stashed(), 2);
-    same(&rt, context.first_stashed(), Some((4, VIEW_USER)));
+    assert_same(&rt, &context.stashed(), &2);
+    assert_same(&rt, &context.first_stashed(), &Some((4, VIEW_USER)));
     Ok(())
 }
 
@@ -112,16 +107,16 @@ fn rest_of_a_stash(rt: HostRuntime) -> Result<(), Fail> {
 fn bid_in_a_slice(rt: HostRuntime) -> Result<(), Fail> {
     let mut context = new_context(&rt, rt.alloc(), 2, BIDDER, 0)?;
     bid(&rt, &mut context, 50, 7, 0);
-    same(&rt, context.left(), 3);
+    assert_same(&rt, &context.left(), &3);
     let (context, mut slices) = context.open();
     let slice = vase_slice(&rt, &mut slices);
-    same(&rt, slice.highest.value(), Some(50));
-    same(&rt, slice.bidder.value(), Some(BID));
-    same(&rt, slice.bids.value(), 1);
-    same(&rt, slice.top.entries().len(), 1);
+    assert_same(&rt, &slice.highest.value(), &Some(50));
+    assert_same(&rt, &slice.bidder.value(), &Some(BID));
+    assert_same(&rt, &slice.bids.value(), &1);
+    assert_same(&rt, &slice.top.entries().len(), &1);
     let (journal, stash, counters) = context.open();
-    same(&rt, (journal.len(), stash.len()), (1, 0));
-    same(&rt, (counters.bids, counters.commits), (5, 6));
+    assert_same(&rt, &(journal.len(), stash.len()), &(1, 0));
+    assert_same(&rt, &(counters.bids, counters.commits), &(5, 6));
     Ok(())
 }
 
@@ -131,8 +126,8 @@ fn comment_in_a_slice(rt: HostRuntime) -> Result<(), Fail> {
     comment(&rt, &mut context, 9, -5, 0);
     let (_, mut slices) = context.open();
     let slice = user_slice(&rt, &mut slices);
-    same(&rt, slice.rating.value(), -5);
-    same(&rt, slice.comments.value(), 1);
+    assert_same(&rt, &slice.rating.value(), &-5);
+    assert_same(&rt, &slice.comments.value(), &1);
     Ok(())
 }
 
@@ -142,8 +137,8 @@ fn item_in_a_slice(rt: HostRuntime) -> Result<(), Fail> {
     store(&rt, &mut context, &new_vase(&rt), 0);
     let (_, mut slices) = context.open();
     let slice = category_slice(&rt, &mut slices);
-    same(&rt, slice.top.entries().len(), 1);
-    same(&rt, slice.top.entries().first().copied(), Some(LISTED));
+    assert_same(&rt, &slice.top.entries().len(), &1);
+    assert_same(&rt, &slice.top.entries().first().copied(), &Some(LISTED));
     Ok(())
 }
 
@@ -245,8 +240,8 @@ fn store(rt: &impl Abort, context: &mut SplitContext, item: &NewItem, index: u32
 #[test]
 fn end_of_numbers(rt: HostRuntime) -> Result<(), Fail> {
     let mut context = new_context(&rt, rt.alloc(), 0, SELLER, u64::MAX)?;
-    same(&rt, bid(&rt, &mut context, 10, 99, 0), None);
-    same(&rt, comment(&rt, &mut context, 9, 5, 1), None);
-    same(&rt, context.left(), 4);
+    assert_same(&rt, &bid(&rt, &mut context, 10, 99, 0), &None);
+    assert_same(&rt, &comment(&rt, &mut context, 9, 5, 1), &None);
+    assert_same(&rt, &context.left(), &4);
     Ok(())
 }

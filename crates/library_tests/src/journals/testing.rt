@@ -2,6 +2,7 @@
 ghost use Rattle.std.specs.Prelude.{◌≡◌, ◌≤◌, vec_len, IfOk};
 ghost use Rattle.worker_journals.specs.Merged.{AreByWorker};
 
+use crate::comparing::assert_same;
 use auction_rows::{Entry, Reply, Request};
 use std::alloc::Global;
 use std::process::Abort;
@@ -110,13 +111,13 @@ pub(crate) fn assert_journal(rt: &impl Abort, journal: &Journal, expected: &[Ent
     assert!(rt; journal.len() == expected.len());
     for (place, wanted) in expected.iter().enumerate() {
         assert!(rt; place < journal.len());
-        assert_eq!(rt; journal.entry(place).to_entry(), *wanted);
+        assert_same(rt, &journal.entry(place).to_entry(), wanted);
     }
 }
 
 /// Ends the test where entries are not those that are wanted.
 pub(crate) fn assert_entries(rt: &impl Abort, entries: &[Entry], expected: &[Entry]) {
-    assert_eq!(rt; entries, expected);
+    assert_same(rt, &entries, &expected);
 }
 
 /// Ends the test where entries are not the commits at these numbers, each with its worker.

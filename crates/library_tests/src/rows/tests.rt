@@ -1,4 +1,5 @@
 //! What the plain program answers. Each kind of reply stands in tests/worked.
+use crate::comparing::assert_same;
 use crate::rows::testing::{replies_to, stored_bid};
 use crate::testing::{FIRST, bid, item_seen, put_up, vases};
 use auction_rows::{BidId, Reply, Request};
@@ -31,6 +32,6 @@ fn greater_bids_lead(rt: HostRuntime) -> Result<(), Fail> {
         stored_bid(2),
         item_seen(&facts, Some((30, 1)), 4, 2),
     ];
-    assert_eq!(rt; got.as_slice(), want.as_slice());
+    assert_same(&rt, &got.as_slice(), &want.as_slice());
     Ok(())
 }

@@ -1,6 +1,7 @@
 //! An auction of one thread that holds a generated book answers as the plain program over its rows.
 ghost use Rattle.std.specs.Prelude.{◌<◌};
 
+use crate::comparing::assert_same;
 use crate::shards::testing::{bid, comment, item, purchase};
 use crate::testing::OPENING;
 use auction_rows::{ItemId, Request, Row, reply_to, row_to_add};
@@ -74,7 +75,7 @@ fn compare(
     }
     let wanted = reply_to(rows, OPENING, 1, *request);
     let answered = auction.reply_to(1, *request);
-    assert_eq!(rt; answered, wanted);
+    assert_same(&rt, &answered, &wanted);
     Ok(())
 }
 
@@ -109,7 +110,7 @@ fn replies_after_a_generated_book(rt: HostRuntime) -> Result<(), Fail> {
     let (asked, rows) = generated(rt.alloc())?;
     assert!(rt; rows.len() > 300);
     let book = OpeningBook::new(rt.alloc(), OPENING, asked)?;
-    assert_eq!(rt; book.rows(), rows.as_slice());
+    assert_same(&rt, &book.rows(), &rows.as_slice());
     let auction = SerialAuction::resume(rt.alloc(), &book)?;
     compare_items(&rt, &auction, &rows)?;
     compare_others(&rt, &auction, &rows)

@@ -1,4 +1,5 @@
 //! Rows that an auction can't be opened with, and that no text has. Others stand in tests/worked and tests/limits.py.
+use crate::comparing::assert_same;
 use crate::shards::testing::item;
 use crate::testing::{FIRST, OPENING};
 use auction_rows::Request;
@@ -18,16 +19,16 @@ fn views_are_no_rows(rt: HostRuntime) -> Result<(), Fail> {
         request: Request::ViewItem { item: FIRST },
     };
     let fault = fault_of(rt.alloc(), &[item(0, 0, 2, 1)?, view])?;
-    assert_eq!(rt; fault, Some(ResumeFault::BadRow(2)));
+    assert_same(&rt, &fault, &Some(ResumeFault::BadRow(2)));
     Ok(())
 }
 
 #[test]
 fn rows_are_of_sixteen_workers(rt: HostRuntime) -> Result<(), Fail> {
     let (last, unknown) = (item(15, 0, 2, 1)?, item(16, 0, 2, 1)?);
-    assert_eq!(rt; fault_of(rt.alloc(), &[last])?, None);
+    assert_same(&rt, &fault_of(rt.alloc(), &[last])?, &None);
     let fault = fault_of(rt.alloc(), &[last, unknown])?;
-    assert_eq!(rt; fault, Some(ResumeFault::BadRow(2)));
+    assert_same(&rt, &fault, &Some(ResumeFault::BadRow(2)));
     Ok(())
 }
 
@@ -46,6 +47,6 @@ fn too_many_rows_of_an_unknown_worker(rt: HostRuntime) -> Result<(), Fail> {
 #[test]
 fn an_empty_book_has_no_rows(rt: HostRuntime) {
     let book = OpeningBook::empty(OPENING);
-    assert_eq!(rt; book.opening(), OPENING);
+    assert_same(&rt, &book.opening(), &OPENING);
     assert!(rt; book.rows().is_empty());
 }

@@ -1,23 +1,24 @@
 //! Numbers of commits, and clocks of shards. What shards show stands in tests/worked.
+use crate::comparing::assert_same;
 use crate::testing::OPENING;
 use item_shards::{LAST_NUMBER, Shard, next_number};
 use std::test::Fail;
 
 #[test]
 fn numbers_end(rt: HostRuntime) {
-    assert_eq!(rt; next_number(LAST_NUMBER, 0), None);
-    assert_eq!(rt; next_number(0, u64::MAX), None);
-    assert_eq!(rt; next_number(LAST_NUMBER - 1, 3), Some(LAST_NUMBER));
-    assert_eq!(rt; next_number(0, 0), Some(1));
+    assert_same(&rt, &next_number(LAST_NUMBER, 0), &None);
+    assert_same(&rt, &next_number(0, u64::MAX), &None);
+    assert_same(&rt, &next_number(LAST_NUMBER - 1, 3), &Some(LAST_NUMBER));
+    assert_same(&rt, &next_number(0, 0), &Some(1));
 }
 
 #[test]
 fn clock_goes_forward_and_back_to_0(rt: HostRuntime) -> Result<(), Fail> {
     let mut shard = Shard::new(rt.alloc(), 0, 4, OPENING)?;
-    assert_eq!(rt; shard.clock(), 0);
+    assert_same(&rt, &shard.clock(), &0);
     shard.set_clock(3);
-    assert_eq!(rt; shard.clock(), 3);
+    assert_same(&rt, &shard.clock(), &3);
     shard.reset_clock();
-    assert_eq!(rt; shard.clock(), 0);
+    assert_same(&rt, &shard.clock(), &0);
     Ok(())
 }

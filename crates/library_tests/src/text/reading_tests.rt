@@ -1,4 +1,5 @@
 //! What is read of an input. Odd records and the faults of each stand in tests/limits.py.
+use crate::comparing::assert_same;
 use auction_rows::{Facts, ItemId, Name, Quantity, Request, Stars};
 use auction_text::{Cause, Input, ReadFault, read_scripts};
 use item_shards::Opened;
@@ -28,7 +29,7 @@ fn scripts_by_worker(rt: HostRuntime) -> Result<(), Fail> {
     let text = b"2,viewitem,0.0\n0,viewitem,0.1\n2,viewitem,0.2\n";
     let input = read_scripts(rt.alloc(), text.as_slice(), 4)?;
     assert!(rt; input.rows.is_empty());
-    assert_eq!(rt; input.scripts.len(), 4);
+    assert_same(&rt, &input.scripts.len(), &4);
     assert!(rt; has_script(&input, 0, &[view(1)]));
     assert!(rt; has_script(&input, 1, &[]));
     assert!(rt; has_script(&input, 2, &[view(0), view(2)]));
@@ -85,7 +86,7 @@ fn rows_stand_before_requests(rt: HostRuntime) -> Result<(), Fail> {
     let rows = row_of_each_kind().ok_or("rows")?;
     let input = read_scripts(rt.alloc(), text.as_slice(), 2)?;
     assert!(rt; input.rows.as_slice() == rows.as_slice());
-    assert_eq!(rt; input.scripts.len(), 2);
+    assert_same(&rt, &input.scripts.len(), &2);
     assert!(rt; has_script(&input, 0, &[Request::ViewItem { item: ITEM }]));
     assert!(rt; has_script(&input, 1, &[Request::ViewUser { user: 7 }]));
     Ok(())
@@ -95,5 +96,5 @@ fn rows_stand_before_requests(rt: HostRuntime) -> Result<(), Fail> {
 fn the_first_fault_is_told(rt: HostRuntime) {
     let text = b"0,viewitem,0.0\n0,viewitem,0.00\n0,viewitem\n";
     let fault = read_scripts(rt.alloc(), text.as_slice(), 1).err();
-    assert_eq!(rt; fault, Some(ReadFault::Line(2, Cause::Item)));
+    assert_same(&rt, &fault, &Some(ReadFault::Line(2, Cause::Item)));
 }

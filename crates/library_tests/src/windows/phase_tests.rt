@@ -2,6 +2,7 @@
 ghost use Rattle.std.specs.Prelude.{◌≡◌, [], false};
 ghost use Rattle.item_shards.specs.OpeningBooks.{opening_of, rows_of as opening_rows};
 
+use crate::comparing::assert_same;
 use crate::testing::{OPENING, item_seen, vases};
 use crate::windows::testing::{VIEW, answers_none, item, opened_bid, shows};
 use auction_rows::{Refusal, Reply, Request};
@@ -90,7 +91,7 @@ fn windows_show_whole_phases(rt: HostRuntime) -> Result<(), Fail> {
     let empty = OpeningBook::empty(OPENING);
     let all = OpeningBook::new(alloc, OPENING, Vec::from_slice(alloc, &asked)?)?;
     let looked = two_phases::<Brand, _>(&rt, alloc, PhaseLog::new(), &empty, &all)?;
-    assert_eq!(rt; looked, ([true; 4], 2, true));
+    assert_same(&rt, &looked, &([true; 4], 2, true));
     Ok(())
 }
 
