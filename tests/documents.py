@@ -1,6 +1,7 @@
 #!/usr/bin/env python3
-"""Shows that the documents speak of what there is: a name in backticks stands in the code, a path and a link lead to a file, and each block of code of
-docs/TUTORIAL.md stands in the file named above it.
+"""Shows that the documents speak of what there is: a name in backticks stands in the code, a path and a link lead to a file, each block of code of
+docs/TUTORIAL.md stands in the file named above it, each definition that docs/DEFINITIONS.md quotes is, but for layout, that of the file named above it, each
+definition that it names with a file stands there, and each crate and each law has its place.
 
     tests/documents.py
 """
@@ -15,6 +16,11 @@ from program import DOCUMENTS, TESTS, Tally
 ROOT = TESTS.parent
 CODE = {".rt", ".rs", ".antt", ".py", ".c", ".sh", ".sql", ".txt", ".edit"}
 TUTORIAL = DOCUMENTS / "TUTORIAL.md"
+DEFINITIONS = DOCUMENTS / "DEFINITIONS.md"
+# A block before which no file is named is the reader's own.
+THE_READERS = ""
+# Where each crate has its place.
+MAPS = (ROOT / "README.md", DOCUMENTS / "ARCHITECTURE.md", DOCUMENTS / "PROVED.md")
 
 NAME = re.compile(r"[A-Za-z_]\w*(::[A-Za-z_]\w*)*(\(\))?|--[a-z]+")
 # What is written in place of a name, a word of SQL, and the folder that builds make.
@@ -66,6 +72,14 @@ def names_and_paths(tally: Tally) -> None:
                 tally.check(is_there(text), f"{document.name}: `{text}` is there")
 
 
+def files_of_specs(tally: Tally) -> None:
+    """files of specs/ that are named with no folder"""
+    for document in documents():
+        for names in re.findall(r"`specs/`,? ((?:[A-Z]\w+(?:, | and )?)+)", prose(document)):
+            for name in re.findall(r"[A-Z]\w+", names):
+                tally.check(is_there(f"specs/{name}.antt"), f"{document.name}: specs/{name}.antt is there")
+
+
 def links(tally: Tally) -> None:
     """links, and the headings that they lead to"""
     for document in documents():
@@ -81,19 +95,86 @@ def headings(document: Path) -> set[str]:
     return {re.sub(r"[^\w -]", "", title).lower().replace(" ", "-") for title in titles}
 
 
+def crates(tally: Tally) -> None:
+    """crates, each in the maps of the documents"""
+    names = re.findall(r"(?m)^(\w+)[^:#\n]*:", (ROOT / "crates.txt").read_text())
+    for document in MAPS:
+        named = set(in_backticks(document))
+        for name in names:
+            tally.check(name in named, f"{document.name} speaks of {name}")
+
+
+def laws(tally: Tally) -> None:
+    """laws, each in docs/PROVED.md"""
+    named = set(in_backticks(DOCUMENTS / "PROVED.md"))
+    for path in ROOT.glob("crates/*/src/**/*.rt"):
+        for name in re.findall(r"(?m)^pub fn (\w+)(?:<[^(]*>)?\(\)\n(?:    .*\n)*\{\}", path.read_text()):
+            tally.check(name in named, f"PROVED.md speaks of the law {name}")
+
+
 def blocks_of_code(tally: Tally) -> None:
     """blocks of code of the tutorial"""
-    code = None
-    for path, block in re.findall(r"(?ms)From `([^`\n]+)`|^```\w+\n(.*?)^```$", TUTORIAL.read_text()):
-        if path:
-            code = (ROOT / path).read_text()
+    for path, block in blocks(TUTORIAL):
+        if path != THE_READERS:
+            tally.check(block in (ROOT / path).read_text(), f"in {path} stands {block!r}")
+
+
+def blocks(document: Path) -> Iterator[tuple[str, str]]:
+    """Each block of code, with the file that was named last before it."""
+    path = THE_READERS
+    for named, block in re.findall(r"(?ms)From `([^`\n]+)`|^```\w+\n(.*?)^```$", document.read_text()):
+        if named:
+            path = named
         else:
-            tally.check(code is not None and block in code, f"in the file named above it stands {block!r}")
+            yield path, block
+
+
+def quoted_definitions(tally: Tally) -> None:
+    """definitions that docs/DEFINITIONS.md quotes"""
+    for path, block in blocks(DEFINITIONS):
+        there = parts(without_comments((ROOT / path).read_text()))
+        for part in parts(without_comments(block)):
+            tally.check(part in there, f"in {path} stands {part!r}")
+
+
+def without_comments(code: str) -> str:
+    return re.sub(r"(?m)^\s*--.*\n", "", code)
+
+
+def parts(code: str) -> list[str]:
+    """The definitions of a file, and what else stands there at a line's beginning, each on one line."""
+    paragraphs = re.split(r"\n\s*\n|\n(?=\S)", code)
+    return [" ".join(paragraph.split()) for paragraph in paragraphs if paragraph.strip()]
+
+
+def named_definitions(tally: Tally) -> None:
+    """definitions that docs/DEFINITIONS.md names with their file"""
+    for section in re.split(r"(?m)^## ", prose(DEFINITIONS)):
+        folders = re.findall(r"`(crates/\w+/specs)", section.split("\n", 1)[0])
+        for name, file in names_with_files(section):
+            places = [ROOT / folder / f"{file}.antt" for folder in folders]
+            tally.check(any(defines(place, name) for place in places), f"{name} is defined in {file} of {folders}")
+
+
+def names_with_files(section: str) -> Iterator[tuple[str, str]]:
+    """Each name of parentheses that end in a comma and the name of a file; there a semicolon parts names of one file or of two."""
+    for inner in re.findall(r"\(([^()]*`[^()]*)\)", section):
+        file = ""
+        for piece in reversed(inner.split(";")):
+            named = re.search(r"`, ([A-Z]\w+)$", piece)
+            file = named[1] if named else file
+            if file:
+                yield from ((name, file) for name in re.findall(r"`(\w+)`", piece))
+
+
+def defines(place: Path, name: str) -> bool:
+    pattern = rf"(?m)^((abbrev|unfoldable|pub|record|data) )*{name}\b"
+    return place.exists() and re.search(pattern, place.read_text()) is not None
 
 
 def main() -> None:
     tally = Tally()
-    for check in (names_and_paths, links, blocks_of_code):
+    for check in (names_and_paths, links, crates, laws, files_of_specs, blocks_of_code, quoted_definitions, named_definitions):
         passed = tally.passed
         check(tally)
         print(f"{tally.passed - passed:6} passed: {check.__doc__}")
