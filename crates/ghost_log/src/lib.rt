@@ -1,4 +1,4 @@
-//! A history that only proofs read.
+//! What stands in proofs alone and has no bytes: a list of pairs, and a value of any type.
 #![tactic(auto)]
 
 ghost use Rattle.std.specs.Prelude.{◌≡◌, List, [], ◌∷◌, ◌++◌};

@@ -1,4 +1,4 @@
--- When a look is true of a contents.
+-- When a look is true of contents.
 use Rattle.std.specs.Prelude.{◌≡◌, ⊤}
 use Rattle.auction_rows.specs.declared.ids.Object.{Object}
 use Rattle.auction_rows.specs.declared.ids.Object.TheVariants.{Item, User, Category}

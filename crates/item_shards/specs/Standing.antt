@@ -1,4 +1,4 @@
--- What a contents stands for.
+-- What contents stand for.
 use Rattle.std.specs.Prelude.{ℕ, ◌≡◌, false, List}
 use Rattle.auction_rows.specs.declared.ids.Object.{Object}
 use Rattle.auction_rows.specs.Book.{Book}

@@ -1,8 +1,10 @@
-//! The shards of an auction: the shared copies of the records of its objects.
+//! The shards of an auction: the shared copies of the records of its objects, what transactions do there, and what views
+//! show. Also the auction of one thread, which is one shard that has every object, and the books that an auction is opened with.
 #![tactic(auto)]
 
 mod acting;
 mod acts;
+mod answering;
 mod book_laws;
 mod clock;
 mod counting;
@@ -21,6 +23,7 @@ mod views;
 mod writing;
 
 pub use acts::{Act, Shown};
+pub use answering::{Answered, refusal_with};
 pub use book_laws::{
     counts_of_books, limits_of_books, opening_books, values_of_books, views_are_replies,
 };

@@ -54,8 +54,8 @@ impl Shard {
     ghost use Rattle.auction_rows.specs.Book.{same_item};
     ghost use Rattle.item_shards.specs.ShardContents.{HasRoom, IsPlaceOf};
 
-    // The place of an item, and its record, where there is room for it.
-    fn find(&self, item: ItemId) -> Option<(usize, &ItemRecord)>
+    /// The place of an item, and its record, where there is room for it.
+    pub(crate) fn find(&self, item: ItemId) -> Option<(usize, &ItemRecord)>
         ensures record { option_map (λ found. found.1.now) result ≡ get same_item self.now.parts.value.items item }
         ensures place { IfSome result (λ found. IsPlaceOf self.now.parts.value.items item found.0) }
     {

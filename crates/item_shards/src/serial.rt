@@ -3,11 +3,12 @@ ghost use Rattle.std.specs.Prelude.{◌≡◌, ◌+◌, ◌<◌, ◌++◌, ◌�
 ghost use Rattle.auction_rows.specs.declared.ids.Object.{Object as Thing};
 ghost use Rattle.item_shards.specs.ShardContents.{LiesIn};
 
+use crate::answering::refusal_with;
 use crate::counting::{StoreCounts, row_has_stars, worker_of};
 use crate::shard::Shard;
 use auction_rows::{
     BidId, BuyId, CommentId, ItemId, MOST_WORKERS, Opening, Refusal, Reply, Request, Row, item_of,
-    item_refusal, number_refusal, row_of,
+    number_refusal, row_of,
 };
 use std::alloc::{AllocError, Global};
 
@@ -133,10 +134,7 @@ impl SerialAuction {
             return Some(reason);
         }
         let item = item_of(*request)?;
-        match self.shard.stock(item) {
-            Some((facts, left)) => item_refusal(*request, Some(facts), left),
-            None => item_refusal(*request, None, 0),
-        }
+        refusal_with(&self.shard.stock(item), request)
     }
 
     // Stores a row. Without memory the auction holds what it held.

@@ -26,8 +26,8 @@ use Rattle.item_shards.specs.Values.{stock_in}
 use Rattle.phase_contexts.specs.declared.slices.Hot.{Hot}
 use Rattle.phase_contexts.specs.Slicing.{objects_of, stocks_of, stock_of, after_acts, IsStocked}
 use Rattle.phase_contexts.specs.Txns.{refusal_by, stock_seen, is_put_off, Answers, IsAnswered}
-use Rattle.phase_contexts.specs.declared.split.Bid.{Bid}
-use Rattle.phase_contexts.specs.declared.split.Comment.{Comment}
+use Rattle.phase_contexts.specs.declared.bids.Bid.{Bid}
+use Rattle.phase_contexts.specs.declared.bids.Comment.{Comment}
 use Rattle.phase_contexts.specs.Bids.{bid_request, comment_request, IsBidReply, IsCommentReply}
 use Rattle.phase_contexts.specs.Splits.{SplitState, IsHot, setting_of, hot_txn, CountsOf, HasStocks}
 

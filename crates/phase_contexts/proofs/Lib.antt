@@ -7,3 +7,4 @@ pub mod AnswerLemmas
 pub mod StashLemmas
 pub mod StoredLemmas
 pub mod ItemLemmas
+pub mod NeedLemmas

@@ -19,7 +19,7 @@ use Rattle.item_shards.proofs.RowLemmas.{value_next}
 use Rattle.phase_contexts.specs.declared.slices.Hot.{Hot}
 use Rattle.phase_contexts.specs.Slicing.{slice_of, slices_of, bid_on, comment_about, item_listed, changed, after_acts, HasAtMost, AreFew}
 
--- the slices that have the values of a contents
+-- the slices that have the values of contents
 abbrev slices_on : List (Object × Option (Facts × ℕ)) → Contents → List (Object × Hot)
 slices_on stocks contents = Rattle.std.specs.Prelude.map (λ stock. (stock.0, record { stock = stock.1; slice = slice_of stock.0 (contents stock.0) })) stocks
 

@@ -9,8 +9,8 @@ use Rattle.auction_rows.specs.declared.requests.Facts.{Facts}
 use Rattle.auction_rows.specs.declared.requests.Request.{Request}
 use Rattle.auction_rows.specs.declared.requests.Request.TheVariants.{StoreBid, StoreComment}
 use Rattle.auction_rows.specs.Refusals.{number_refusal}
-use Rattle.phase_contexts.specs.declared.split.Bid.{Bid}
-use Rattle.phase_contexts.specs.declared.split.Comment.{Comment}
+use Rattle.phase_contexts.specs.declared.bids.Bid.{Bid}
+use Rattle.phase_contexts.specs.declared.bids.Comment.{Comment}
 use Rattle.phase_contexts.specs.Txns.{refusal_by}
 use Rattle.phase_contexts.specs.Contexts.{ContextState}
 

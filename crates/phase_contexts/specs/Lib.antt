@@ -6,3 +6,4 @@ pub mod Contexts
 pub mod Splits
 pub mod Bids
 pub mod Items
+pub mod Needing

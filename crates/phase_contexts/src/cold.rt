@@ -1,9 +1,11 @@
 //! What a split permit commits with shards taken.
-ghost use Rattle.std.specs.Prelude.{◌≡◌, ◌<◌, ◌+◌};
+ghost use Rattle.std.specs.Prelude.{◌≡◌, ◌<◌, ◌+◌, false};
 
+use crate::bids::Comment;
 use crate::context::Context;
+use crate::needs::Needs;
 use crate::read_set::ReadSet;
-use crate::split::{Comment, SplitContext};
+use crate::split::SplitContext;
 use auction_rows::{Facts, ItemId, MOST_TRIES, Object, Refusal, Request};
 use worker_journals::Answer;
 
@@ -12,9 +14,10 @@ impl SplitContext {
     ghost use Rattle.auction_rows.specs.Replies.{row_of};
     ghost use Rattle.item_shards.specs.Writing.{writes_if};
     ghost use Rattle.phase_contexts.specs.Bids.{comment_request, IsCommentReplyBy};
-    ghost use Rattle.phase_contexts.specs.Txns.{refusal_by};
+    ghost use Rattle.phase_contexts.specs.Needing.{AreNeeded};
+    ghost use Rattle.phase_contexts.specs.Txns.{is_put_off, refusal_by};
     ghost use Rattle.phase_contexts.specs.Contexts.{after_commit, with_one_less};
-    ghost use Rattle.phase_contexts.specs.Slicing.{stocks_of, stock_of, after_acts};
+    ghost use Rattle.phase_contexts.specs.Slicing.{objects_of, stocks_of, stock_of, after_acts};
     ghost use Rattle.phase_contexts.specs.Splits.{IsHot};
 
     /// The context without its slices.
@@ -22,6 +25,18 @@ impl SplitContext {
         ensures { result.now ≡ self.now.context }
     {
         &self.context
+    }
+
+    /// Counts a try of a request that is not put off, and tells what it needs.
+    pub fn begin(&mut self, request: &Request) -> Needs
+        requires few { self.old.context.tries < MOST_TRIES }
+        requires not_put_off { is_put_off (objects_of self.old.slices) request.now ≡ false }
+        ensures context { self.new.context ≡ record self.old.context { tries = self.old.context.tries + 1 } }
+        ensures slices { self.new.slices ≡ self.old.slices }
+        ensures needs { AreNeeded self.new.context self.new.slices request.now result }
+    {
+        self.context.count_try();
+        self.context.needs(&self.slices, request)
     }
 
     /// Counts a try.

@@ -7,10 +7,10 @@ use crate::read_set::ReadSet;
 use crate::stash::Stash;
 use auction_rows::{
     BidId, BuyId, CommentId, Entry, Facts, MOST_OF_A_WORKER, MOST_TRIES, Opening, Refusal, Reply,
-    Request, StoreReply, item_refusal, number_refusal,
+    Request, StoreReply, number_refusal,
 };
 use ghost_log::Log;
-use item_shards::next_number;
+use item_shards::{next_number, refusal_with};
 use std::marker::Model;
 use worker_journals::{Answer, Journal};
 
@@ -232,10 +232,7 @@ impl Context {
     {
         match number_refusal(self.opening, *request) {
             Some(reason) => Some(reason),
-            None => match seen {
-                Some((facts, left)) => item_refusal(*request, Some(facts), left),
-                None => item_refusal(*request, None, 0),
-            },
+            None => refusal_with(&seen, request),
         }
     }
 

@@ -2,14 +2,15 @@
 ghost use Rattle.std.specs.Prelude.{◌≡◌, ◌≤◌, ◌<◌, ◌+◌, ◌↔◌, [], length, is_some, slice_get, true, Some, IsNone, IfNone, IfSome};
 ghost use Rattle.item_shards.specs.CommitNumbers.{last_number};
 
+use crate::bids::{Bid, Comment};
 use crate::context::Context;
 use crate::counters::Counters;
 use crate::read_set::ReadSet;
 use crate::slices::Slices;
 use crate::stash::Stash;
 use auction_rows::{
-    BidEntry, BidId, ItemId, MOST_OF_A_WORKER, Object, Opening, Refusal, Reply, Request, Stars,
-    StoreReply, is_splittable, number_refusal, touches,
+    ItemId, MOST_OF_A_WORKER, Object, Opening, Refusal, Reply, Request, Stars, StoreReply,
+    is_splittable, number_refusal, touches,
 };
 use std::marker::Model;
 use worker_journals::{Answer, Journal};
@@ -205,37 +206,15 @@ impl SplitContext {
         ensures stored { IfSome result (λ reply.
             HasStored self.old self.new (StoreBid bidder item amount time) index reply) }
     {
-        let place = self.slices.place_of(Object::Item(item))?;
-        let reply = self.bid_at(place, bidder, item, amount, time, index)?;
-        Some(reply.to_reply())
-    }
-
-    /// A bid on a hot item whose place is known: None exactly where the worker's clock is at the end of numbers, and
-    /// then nothing has changed. It takes no shard and no memory.
-    pub fn bid_at(
-        &mut self,
-        place: usize,
-        bidder: u32,
-        item: ItemId,
-        amount: u64,
-        time: u64,
-        index: u32,
-    ) -> Option<Answer<'static>>
-        requires at { IsAt self.old.slices place (Item item) }
-        requires hot { IsHot self.old (Item item) }
-        requires left { 0 < self.old.context.left }
-        ensures none { IsNone result ↔ (last_number ≤ self.old.context.clock) }
-        ensures unchanged { IfNone result (self.new ≡ self.old) }
-        ensures stored { IfSome result (λ reply.
-            HasStored self.old self.new (StoreBid bidder item amount time) index reply) }
-    {
         let bid = Bid {
             bidder,
             item,
             amount,
             time,
         };
-        self.store_bid(place, &bid, index)
+        let place = self.slices.place_of(Object::Item(item))?;
+        let reply = self.bid_at(place, &bid, index)?;
+        Some(reply.to_reply())
     }
 
     /// A comment about a hot user on the occasion of a hot item: None exactly where the worker's clock is at the end
@@ -316,8 +295,9 @@ impl SplitContext {
         Some(reply)
     }
 
-    // A bid on the item at a place.
-    fn store_bid(&mut self, place: usize, bid: &Bid, index: u32) -> Option<Answer<'static>>
+    /// A bid on a hot item whose place is known: None exactly where the worker's clock is at the end of numbers, and
+    /// then nothing has changed. It takes no shard and no memory.
+    pub fn bid_at(&mut self, place: usize, bid: &Bid, index: u32) -> Option<Answer<'static>>
         requires at { IsAt self.old.slices place (Item bid.now.item) }
         requires hot { IsHot self.old (Item bid.now.item) }
         requires left { 0 < self.old.context.left }
@@ -415,65 +395,6 @@ impl Context {
                 slices.comment(place, comment.stars);
                 Answer::store(StoreReply::CommentStored(self.next_comment()))
             }
-        }
-    }
-}
-
-/// A bid that is asked for.
-#[derive(Clone, Copy)]
-struct Bid {
-    bidder: u32,
-    item: ItemId,
-    amount: u64,
-    time: u64,
-}
-
-impl Bid {
-    ghost use Rattle.phase_contexts.specs.Bids.{bid_request, entry_with};
-
-    fn request(&self) -> Request
-        ensures { result ≡ bid_request self.now }
-    {
-        Request::StoreBid {
-            bidder: self.bidder,
-            item: self.item,
-            amount: self.amount,
-            time: self.time,
-        }
-    }
-
-    fn entry(&self, id: BidId) -> BidEntry
-        ensures { result ≡ entry_with self.now id }
-    {
-        BidEntry {
-            amount: self.amount,
-            time: self.time,
-            id,
-            bidder: self.bidder,
-        }
-    }
-}
-
-/// A comment that is asked for.
-#[derive(Clone, Copy)]
-pub struct Comment {
-    pub author: u32,
-    pub about: u32,
-    pub item: ItemId,
-    pub stars: Stars,
-}
-
-impl Comment {
-    ghost use Rattle.phase_contexts.specs.Bids.{comment_request};
-
-    pub fn request(&self) -> Request
-        ensures { result ≡ comment_request self.now }
-    {
-        Request::StoreComment {
-            author: self.author,
-            about: self.about,
-            item: self.item,
-            stars: self.stars,
         }
     }
 }

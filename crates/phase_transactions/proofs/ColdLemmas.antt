@@ -18,7 +18,7 @@ use Rattle.item_shards.specs.Writing.{looks_of, writes_if}
 use Rattle.shard_boxes.specs.Keys.{KeyState}
 use Rattle.shard_boxes.specs.States.{ShardState}
 use Rattle.phase_contexts.specs.declared.slices.Hot.{Hot}
-use Rattle.phase_contexts.specs.declared.split.Comment.{Comment}
+use Rattle.phase_contexts.specs.declared.bids.Comment.{Comment}
 use Rattle.phase_contexts.specs.Bids.{comment_request}
 use Rattle.phase_contexts.specs.Contexts.{ContextState}
 use Rattle.phase_contexts.specs.Slicing.{objects_of, bid_on, comment_about, item_listed, after_act, after_acts}

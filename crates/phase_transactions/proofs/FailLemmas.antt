@@ -13,7 +13,7 @@ use Rattle.item_shards.specs.CommitNumbers.{last_number}
 use Rattle.phase_laws.specs.Numbers.{greatest_by}
 use Rattle.shard_boxes.specs.Keys.{KeyState, seat_at}
 use Rattle.shard_boxes.specs.States.{ShardState}
-use Rattle.phase_contexts.specs.declared.split.Comment.{Comment}
+use Rattle.phase_contexts.specs.declared.bids.Comment.{Comment}
 use Rattle.phase_contexts.specs.Bids.{comment_request}
 use Rattle.phase_contexts.specs.Txns.{hot_in, is_put_off}
 use Rattle.phase_contexts.specs.Slicing.{objects_of}

@@ -24,7 +24,7 @@ use Rattle.shard_boxes.specs.Keys.{KeyState}
 use Rattle.shard_boxes.specs.States.{ShardState}
 use Rattle.phase_contexts.specs.declared.read_set.ReadSet.{ReadSet}
 use Rattle.phase_contexts.specs.declared.slices.Hot.{Hot}
-use Rattle.phase_contexts.specs.declared.split.Comment.{Comment}
+use Rattle.phase_contexts.specs.declared.bids.Comment.{Comment}
 use Rattle.phase_contexts.specs.Bids.{comment_request, IsCommentReplyBy}
 use Rattle.phase_contexts.specs.Txns.{Setting, Txn, hot_in, refusal_by, IsAnswered}
 use Rattle.phase_contexts.specs.Contexts.{ContextState, after_commit, with_one_less}

@@ -4,8 +4,8 @@ pub mod KeyLemmas
 pub mod TakeLemmas
 pub mod CommitLemmas
 pub mod FailLemmas
-pub mod SeeLemmas
 pub mod SingleLemmas
+pub mod StoreLemmas
 pub mod PairLemmas
 pub mod ColdLemmas
 pub mod LookLemmas

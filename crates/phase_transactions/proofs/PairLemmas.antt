@@ -21,7 +21,7 @@ use Rattle.item_shards.specs.Writing.{writes_if, is_done_on, done_on, padded}
 use Rattle.shard_boxes.specs.Keys.{KeyState}
 use Rattle.shard_boxes.specs.States.{ShardState}
 use Rattle.phase_contexts.specs.declared.read_set.ReadSet.{ReadSet}
-use Rattle.phase_contexts.specs.declared.split.Comment.{Comment}
+use Rattle.phase_contexts.specs.declared.bids.Comment.{Comment}
 use Rattle.phase_contexts.specs.Bids.{comment_request}
 use Rattle.item_shards.specs.declared.slices.Slice.{Slice}
 use Rattle.auction_rows.specs.declared.ids.Object.{Object}

@@ -3,7 +3,7 @@ use Rattle.std.proofs.Common.{◌≡◌, ℕ, ◌<◌, ◌==◌, ◌||◌, ◌&&
 use Rattle.std.specs.Prelude.{is_some}
 use Rattle.std.specs.List.{AllByRecursion}
 use Rattle.std.specs.Option.{option_map_or}
-use Rattle.std.proofs.lemmas.Bool.{eq-eqb, true≢false}
+use Rattle.std.proofs.lemmas.Bool.{eq-eqb}
 use Rattle.auction_rows.specs.declared.ids.ItemId.{ItemId}
 use Rattle.auction_rows.specs.declared.ids.Object.{Object}
 use Rattle.auction_rows.specs.declared.ids.Object.TheVariants.{Item, User, Category}
@@ -18,9 +18,8 @@ use Rattle.auction_rows.specs.declared.rows.Row.TheVariants as row
 use Rattle.auction_rows.specs.Footprint.{objects_of as objects_needed, is_hot, objects_taken, footprint}
 use Rattle.auction_rows.specs.Refusals.{number_refusal}
 use Rattle.auction_rows.specs.Replies.{row_of, row_if}
-use Rattle.auction_rows.specs.Requests.{shard_of, item_of, is_view, is_splittable}
+use Rattle.auction_rows.specs.Requests.{shard_of, item_of, is_view}
 use Rattle.item_shards.specs.declared.acts.Act.{Act}
-use Rattle.item_shards.specs.declared.shard.Shard.{Shard}
 use Rattle.item_shards.specs.Contents.{target}
 use Rattle.item_shards.specs.Writing.{padded, looks_of, writes_of, writes_if, is_cold_in, is_done_on, acts_owed}
 use Rattle.shard_boxes.specs.Keys.{KeyState}
@@ -32,9 +31,8 @@ use Rattle.phase_contexts.specs.Txns.{hot_in, refusal_by, is_put_off, Answers}
 use Rattle.phase_contexts.specs.Splits.{SplitState, setting_of}
 use Rattle.phase_transactions.specs.declared.commit.Commit.{Commit}
 use Rattle.phase_transactions.specs.Permits.{IsIdle, permit, done_at, txn_of, HasCommitted}
-use Rattle.phase_transactions.specs.declared.seen.Seen.{Seen}
 use Rattle.phase_transactions.specs.Putting.{IsOverOne, found_on}
-use Rattle.phase_transactions.specs.Single.{only_object, acts_done, acts_of, reason_by, IsAnswerBy, HasSeen, HasDone}
+use Rattle.phase_transactions.specs.Single.{only_object, acts_done, reason_by, IsAnswerBy, HasDone}
 use Rattle.phase_transactions.proofs.CommitLemmas.{over_its_shard}
 use Rattle.phase_transactions.proofs.TakeLemmas.{over_one_as}
 
@@ -129,21 +127,6 @@ not_put_off hot (ViewBids item) object is cold = ap (λ o. is_hot hot (unwrap_or
 not_put_off hot (ViewCategory category) object is cold = ap (λ o. is_hot hot (unwrap_or o (Category category)) || (false || false)) is ∙ ap (λ b. b || (false || false)) cold
 not_put_off hot (ViewUser user) object is cold = ap (λ o. is_hot hot (unwrap_or o (User user)) || (false || false)) is ∙ ap (λ b. b || (false || false)) cold
 
--- and the object of one that can't be split and is not put off is cold
-no_other : (b : Bool) → (b || (false || false)) ≡ false → b ≡ false
-no_other true is = is
-no_other false is = refl
-
-pub cold_where_performed : (hot : List Object) (request : Request) (object : Object) → only_object request ≡ Some object → is_splittable request ≡ false → is_put_off hot request ≡ false → is_hot hot object ≡ false
-cold_where_performed hot (StoreItem facts time) object is apart goes = absurd (cc)
-cold_where_performed hot (StoreBid bidder item amount time) object is apart goes = absurd (true≢false apart)
-cold_where_performed hot (StoreComment author about item stars) object is apart goes = absurd (cc)
-cold_where_performed hot (BuyNow buyer item quantity time) object is apart goes = subst (λ o. is_hot hot (unwrap_or o object) ≡ false) is (no_other (is_hot hot (Item item)) goes)
-cold_where_performed hot (ViewItem item) object is apart goes = subst (λ o. is_hot hot (unwrap_or o object) ≡ false) is (no_other (is_hot hot (Item item)) goes)
-cold_where_performed hot (ViewBids item) object is apart goes = subst (λ o. is_hot hot (unwrap_or o object) ≡ false) is (no_other (is_hot hot (Item item)) goes)
-cold_where_performed hot (ViewCategory category) object is apart goes = subst (λ o. is_hot hot (unwrap_or o object) ≡ false) is (no_other (is_hot hot (Category category)) goes)
-cold_where_performed hot (ViewUser user) object is apart goes = subst (λ o. is_hot hot (unwrap_or o object) ≡ false) is (no_other (is_hot hot (User user)) goes)
-
 module _ (opening : List ShardState) (split new : SplitState) (key back : KeyState) (request : Request) (object : Object) (index : ℕ) (done : Commit Reply) where
   pub done_commits : only_object request ≡ Some object → number_refusal split.context.opening request ≡ None → is_hot (objects_of (stocks_of split.slices)) object ≡ false
       → shard_of object (length opening) < length key.seats → IsIdle key → HasDone opening split.context key back request object index done
@@ -175,14 +158,15 @@ module _ (opening : List ShardState) (split new : SplitState) (key back : KeySta
       })
       shard (acts_done worker request stock done.reply) is.over owes known idle prints
 
--- what was seen on the shard and done there
-pub has_done : (opening : List ShardState) (context : ContextState) (key back : KeyState) (request : Request) (object : Object) (index : ℕ) (saw : Shard) (seen : Seen Reply) (shard before number : ℕ) (found : ReadSet)
-    → HasSeen context saw request seen → shard ≡ shard_of object (length opening) → found ≡ found_on shard before seen.stock → IsOverOne opening context.clock key back shard number index found (acts_of seen)
-    → HasDone opening context key back request object index (record { number = number; reply = seen.reply; found = found })
-has_done opening context key back request object index saw seen shard before number found has shard_is found_is over =
-    let stock : seen.stock ≡ found.stock = sym (ap (λ (f : ReadSet). f.stock) found_is) in
+-- what was found on the shard and done there
+pub has_done : (opening : List ShardState) (context : ContextState) (key back : KeyState) (request : Request) (object : Object) (index : ℕ) (stock : Option (Facts × ℕ)) (reply : Reply) (acts : List Act) (shard before number : ℕ) (found : ReadSet)
+    → acts ≡ acts_done context.journal.worker request stock reply → IsAnswerBy context request stock reply → shard ≡ shard_of object (length opening) → found ≡ found_on shard before stock
+    → IsOverOne opening context.clock key back shard number index found acts
+    → HasDone opening context key back request object index (record { number = number; reply = reply; found = found })
+has_done opening context key back request object index stock reply acts shard before number found acted answered shard_is found_is over =
+    let same : stock ≡ found.stock = sym (ap (λ (f : ReadSet). f.stock) found_is) in
     record {
-      over = over_one_as opening context.clock context.clock key back shard (shard_of object (length opening)) number index found (acts_of seen) (acts_done context.journal.worker request found.stock seen.reply)
-          refl shard_is (has.acts ∙ ap (λ s. acts_done context.journal.worker request s seen.reply) stock) over;
-      answered = subst (λ s. IsAnswerBy context request s seen.reply) stock has.answered;
+      over = over_one_as opening context.clock context.clock key back shard (shard_of object (length opening)) number index found acts (acts_done context.journal.worker request found.stock reply)
+          refl shard_is (acted ∙ ap (λ s. acts_done context.journal.worker request s reply) same) over;
+      answered = subst (λ s. IsAnswerBy context request s reply) same answered;
     }

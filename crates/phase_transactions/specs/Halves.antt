@@ -12,7 +12,7 @@ use Rattle.shard_boxes.specs.Helds.{HeldState}
 use Rattle.shard_boxes.specs.Keys.{KeyState}
 use Rattle.shard_boxes.specs.States.{ShardState}
 use Rattle.phase_contexts.specs.declared.read_set.ReadSet.{ReadSet}
-use Rattle.phase_contexts.specs.declared.split.Comment.{Comment}
+use Rattle.phase_contexts.specs.declared.bids.Comment.{Comment}
 use Rattle.phase_contexts.specs.Contexts.{ContextState}
 use Rattle.phase_contexts.specs.Splits.{SplitState}
 use Rattle.phase_transactions.specs.declared.commit.Commit.{Commit}

@@ -2,7 +2,6 @@ pub mod Permits
 pub mod Putting
 pub mod SeenOf
 pub mod Single
-pub mod Needing
 pub mod Pairs
 pub mod Taking
 pub mod Performing

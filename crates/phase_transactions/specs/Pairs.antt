@@ -13,7 +13,7 @@ use Rattle.shard_boxes.specs.Helds.{HeldState}
 use Rattle.shard_boxes.specs.Keys.{KeyState, seat_at, lines_at, holds_at, seen_at, added}
 use Rattle.shard_boxes.specs.Lines.{IsHistory}
 use Rattle.shard_boxes.specs.States.{ShardState, state_of}
-use Rattle.phase_contexts.specs.declared.split.Comment.{Comment}
+use Rattle.phase_contexts.specs.declared.bids.Comment.{Comment}
 use Rattle.phase_contexts.specs.Bids.{comment_request}
 use Rattle.phase_contexts.specs.Txns.{refusal_by}
 use Rattle.phase_contexts.specs.declared.read_set.ReadSet.{ReadSet}

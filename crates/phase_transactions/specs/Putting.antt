@@ -1,23 +1,17 @@
 -- A shard that is put back with a line, and what a key has seen of it.
 use Rattle.std.specs.Prelude.{◌≡◌, ℕ, suc, max, ◌≤◌, List, [], ◌∷◌, ◌++◌, Option, Some, None}
-use Rattle.phase_laws.specs.Replay.{SawInTurn}
 use Rattle.auction_rows.specs.declared.requests.Facts.{Facts}
 use Rattle.item_shards.specs.CommitNumbers.{last_number}
 use Rattle.item_shards.specs.declared.acts.Act.{Act}
 use Rattle.item_shards.specs.declared.shard.Shard.{Shard}
-use Rattle.item_shards.specs.Acting.{CanActOn}
-use Rattle.item_shards.specs.Contents.{after_act}
-use Rattle.item_shards.specs.ShardContents.{shard_number, shard_count, contents, opening, rooms, clock}
+pub use Rattle.item_shards.specs.Acting.{CanDo}
+use Rattle.item_shards.specs.ShardContents.{clock}
 use Rattle.shard_boxes.specs.declared.line.Line.{Line}
 use Rattle.shard_boxes.specs.Helds.{HeldState, taken_at}
 use Rattle.shard_boxes.specs.Keys.{KeyState, seen_at, taking, putting}
 use Rattle.shard_boxes.specs.Lines.{after, MayFollow, StartsWith}
 use Rattle.shard_boxes.specs.States.{ShardState, state_at}
 use Rattle.phase_contexts.specs.declared.read_set.ReadSet.{ReadSet}
-
--- the acts can be done on a shard, one after the other
-abbrev pub CanDo : Shard → List Act → Type 0
-CanDo shard acts = SawInTurn (CanActOn (opening shard) (shard_number shard) (shard_count shard) (rooms shard)) after_act (contents shard) acts
 
 -- the clock of a shard as the key has last seen it
 abbrev pub clock_seen : List ShardState → KeyState → ℕ → ℕ

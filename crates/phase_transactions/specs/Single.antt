@@ -1,14 +1,14 @@
 -- Requests over the one shard of an object.
 use Rattle.std.specs.Prelude.{◌≡◌, ℕ, ◌<◌, if◌then◌else◌, List, [], ◌∷◌, ◌++◌, Option, Some, None, MatchOption, option_and_then, length}
 use Rattle.auction_rows.specs.declared.ids.Object.{Object}
-use Rattle.auction_rows.specs.declared.ids.Object.TheVariants.{Item, User, Category}
 use Rattle.auction_rows.specs.declared.numbers.Opening.{Opening}
 use Rattle.auction_rows.specs.declared.replies.Refusal.{Refusal}
 use Rattle.auction_rows.specs.declared.replies.Reply.{Reply}
 use Rattle.auction_rows.specs.declared.replies.Reply.TheVariants.{Refused}
+use Rattle.auction_rows.specs.declared.replies.StoreReply.{StoreReply}
+use Rattle.auction_rows.specs.declared.replies.StoreReply.TheVariants as store
 use Rattle.auction_rows.specs.declared.requests.Facts.{Facts}
 use Rattle.auction_rows.specs.declared.requests.Request.{Request}
-use Rattle.auction_rows.specs.declared.requests.Request.TheVariants.{StoreItem, StoreBid, StoreComment, BuyNow, ViewItem, ViewBids, ViewCategory, ViewUser}
 use Rattle.auction_rows.specs.Refusals.{number_refusal}
 use Rattle.auction_rows.specs.Replies.{row_of}
 use Rattle.auction_rows.specs.Requests.{item_of, is_view, shard_of}
@@ -23,18 +23,8 @@ use Rattle.phase_transactions.specs.declared.commit.Commit.{Commit}
 use Rattle.phase_transactions.specs.declared.seen.Seen.{Seen}
 use Rattle.phase_contexts.specs.Txns.{Answers, refusal_by}
 use Rattle.phase_contexts.specs.Contexts.{ContextState}
+pub use Rattle.phase_contexts.specs.Needing.{only_object}
 use Rattle.phase_transactions.specs.Putting.{CanDo, IsOverOne}
-
--- the object whose shard a request takes, where it needs no other object
-abbrev pub only_object : Request → Option Object
-only_object (StoreItem facts time) = None
-only_object (StoreBid bidder item amount time) = Some (Item item)
-only_object (StoreComment author about item stars) = None
-only_object (BuyNow buyer item quantity time) = Some (Item item)
-only_object (ViewItem item) = Some (Item item)
-only_object (ViewBids item) = Some (Item item)
-only_object (ViewCategory category) = Some (Category category)
-only_object (ViewUser user) = Some (User user)
 
 -- two acts: what a worker's request looks at, and then what writes its row
 abbrev pub acts_done : ℕ → Request → Option (Facts × ℕ) → Reply → List Act
@@ -50,15 +40,17 @@ abbrev pub IsAnswerBy : ContextState → Request → Option (Facts × ℕ) → R
 IsAnswerBy context request stock reply =
     MatchOption (reason_by context.opening stock request) (Answers context.counters context.journal.worker request reply) (λ reason. reply ≡ Refused reason)
 
-abbrev pub acts_of : Seen Reply → List Act
-acts_of seen = seen.look ∷ seen.write ∷ []
+-- What a view sees on a shard: its acts can be done there, they look at what is there, and its reply is the answer.
+pub record HasSeen (context : ContextState) (shard : Shard) (request : Request) (seen : Seen) : Type 0 where
+  pub acts : seen.acts ≡ acts_done context.journal.worker request None seen.reply
+  pub can : CanDo shard seen.acts
+  pub looks : AreTrueOf (contents shard) seen.acts
+  pub answered : IsAnswerBy context request None seen.reply
 
--- What a context's request sees on a shard: its acts can be done there, they look at what is there, and its reply is the answer.
-pub record HasSeen (context : ContextState) (shard : Shard) (request : Request) (seen : Seen Reply) : Type 0 where
-  pub acts : acts_of seen ≡ acts_done context.journal.worker request seen.stock seen.reply
-  pub can : CanDo shard (acts_of seen)
-  pub looks : AreTrueOf (contents shard) (acts_of seen)
-  pub answered : IsAnswerBy context request seen.stock seen.reply
+-- the reply to a store that is refused for this reason, if any: else the one that it gets where it is accepted
+abbrev pub reply_unless : Option Refusal → StoreReply → StoreReply
+reply_unless None accepted = accepted
+reply_unless (Some reason) accepted = store.Refused reason
 
 -- the shards of a phase are those of an auction with as many users and categories
 abbrev pub HaveOpening : List ShardState → Opening → Type 0

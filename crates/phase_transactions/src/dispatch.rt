@@ -1,14 +1,15 @@
 //! What a request needs, found and done: nothing, one shard or two.
-ghost use Rattle.std.specs.Prelude.{◌≡◌, ◌<◌, ◌≤◌, length, false, Some, None, IfSome, IfNone, IfOk, IfErr};
+ghost use Rattle.std.specs.Prelude.{◌≡◌, ◌<◌, ◌≤◌, length, true, false, Some, None, IfSome, IfNone, IfOk, IfErr};
 ghost use Rattle.auction_rows.specs.declared.ids.Object.TheVariants.{Item, User};
 ghost use Rattle.auction_rows.specs.Footprint.{is_hot};
 ghost use Rattle.auction_rows.specs.Refusals.{number_refusal};
+ghost use Rattle.auction_rows.specs.Requests.{is_view};
 ghost use Rattle.phase_contexts.specs.Bids.{comment_request};
 ghost use Rattle.phase_contexts.specs.Txns.{is_put_off};
 ghost use Rattle.phase_contexts.specs.Items.{item_request};
+ghost use Rattle.phase_contexts.specs.Needing.{AreNeeded, IsStoreOf};
 ghost use Rattle.phase_contexts.specs.Slicing.{objects_of};
 ghost use Rattle.phase_transactions.specs.declared.fault.PermitFault.TheVariants.{NumberFull};
-ghost use Rattle.phase_transactions.specs.Needing.{bid_request};
 ghost use Rattle.phase_transactions.specs.Permits.{IsIdle, permit, HasCommitted};
 ghost use Rattle.phase_transactions.specs.Performing.{HasFailed};
 ghost use Rattle.phase_transactions.specs.Single.{only_object, HaveOpening};
@@ -17,20 +18,49 @@ ghost use Rattle.phase_transactions.specs.Halves.{IsUntouched};
 use crate::fault::PermitFault;
 use crate::halves::{comment_about_hot_user, comment_on_hot_item};
 use crate::items::{store_in_hot_category, store_over_shards};
-use crate::needs::{Bid, Needs};
 use crate::pairs::comment_over_shards;
 use crate::single::{store_on, view_on};
-use auction_rows::{Object, Reply, Request, is_view, number_refusal};
+use auction_rows::{Object, Reply, Request};
 use ghost_log::Ghost;
-use phase_contexts::{Comment, NewItem, SplitContext};
+use phase_contexts::{Comment, ItemStore, Needs, NewItem, SplitContext};
 use shard_boxes::{Boxes, Key, PhaseName};
 use std::sync::Wait;
 use worker_journals::Answer;
 
-/// A request that needs one object alone, which is not hot, and that the opening does not refuse: over the object's shard.
-/// None exactly where the greater of the worker's clock and the shard's is at the end of numbers, and then nothing has
-/// changed but what the key has seen. It takes no memory.
-fn perform_cold<N: PhaseName, R: Wait>(
+/// A bid or a purchase on an item that is not hot, which the opening does not refuse: over the item's shard. None exactly where
+/// the greater of the worker's clock and the shard's is at the end of numbers, and then nothing has changed but what the key
+/// has seen. It takes no memory.
+fn store_cold<N: PhaseName, R: Wait>(
+    rt: &R,
+    boxes: &Boxes<N>,
+    key: &mut Key<N>,
+    split: &mut SplitContext,
+    request: &Request,
+    store: ItemStore,
+    index: u32,
+) -> Option<Ghost<Reply>>
+    requires of { key.old.boxes ≡ boxes.now }
+    requires seats { length key.old.seats ≡ length N.opening }
+    requires idle { IsIdle key.old }
+    requires left { 0 < split.old.context.left }
+    requires allowed { number_refusal split.old.context.opening request.now ≡ None }
+    requires store { IsStoreOf split.old.context request.now store }
+    requires cold { is_hot (objects_of split.old.slices) (Item store.item) ≡ false }
+    ensures committed { IfSome result (λ reply. HasCommitted N.opening
+        (permit split.old key.old) (permit split.new key.new) request.now index reply) }
+    ensures full { IfNone result (HasFailed N.opening
+        (permit split.old key.old) (permit split.new key.new) request.now NumberFull) }
+    ensures untouched { IsUntouched (length N.opening) split.old request.now key.old key.new }
+{
+    let _shards = boxes.shards();
+    let context = split.context();
+    let done = store_on(rt, boxes, key, context, request, store, index)?;
+    split.commit_cold(done.number, index, request, &done.reply, &done.found);
+    Some(Ghost::of(&done.reply.to_reply()))
+}
+
+/// A view of an object that is not hot, which the opening does not refuse: over the object's shard, as `store_cold`.
+fn view_cold<N: PhaseName, R: Wait>(
     rt: &R,
     boxes: &Boxes<N>,
     key: &mut Key<N>,
@@ -46,6 +76,7 @@ fn perform_cold<N: PhaseName, R: Wait>(
     requires opening { HaveOpening N.opening split.old.context.opening }
     requires allowed { number_refusal split.old.context.opening request.now ≡ None }
     requires only { only_object request.now ≡ Some object }
+    requires view { is_view request.now ≡ true }
     requires cold { is_hot (objects_of split.old.slices) object ≡ false }
     ensures committed { IfSome result (λ reply. HasCommitted N.opening
         (permit split.old key.old) (permit split.new key.new) request.now index reply) }
@@ -55,15 +86,10 @@ fn perform_cold<N: PhaseName, R: Wait>(
 {
     let _shards = boxes.shards();
     let context = split.context();
-    if is_view(*request) {
-        let done = view_on(rt, boxes, key, context, request, object, index)?;
-        let reply = Answer::of(&done.reply);
-        split.commit_cold(done.number, index, request, &reply, &done.found);
-        return Some(Ghost::of(&done.reply));
-    }
-    let done = store_on(rt, boxes, key, context, request, object, index)?;
-    split.commit_cold(done.number, index, request, &done.reply, &done.found);
-    Some(Ghost::of(&done.reply.to_reply()))
+    let done = view_on(rt, boxes, key, context, request, object, index)?;
+    let reply = Answer::of(&done.reply);
+    split.commit_cold(done.number, index, request, &reply, &done.found);
+    Some(Ghost::of(&done.reply))
 }
 
 /// A comment of which neither the item nor the user is hot, and that the opening does not refuse: over their shards. None
@@ -134,39 +160,6 @@ fn comment_in_split<N: PhaseName, R: Wait>(
     }
 }
 
-/// A bid that the opening does not refuse: on the slice of a hot item, and over the shard of another. None exactly where the
-/// greatest of the worker's clock and the shard's, if it is taken, is at the end of numbers, and then nothing has changed but
-/// what the key has seen. It takes no memory.
-fn perform_bid<N: PhaseName, R: Wait>(
-    rt: &R,
-    boxes: &Boxes<N>,
-    key: &mut Key<N>,
-    split: &mut SplitContext,
-    request: &Request,
-    bid: &Bid,
-    index: u32,
-) -> Option<Ghost<Reply>>
-    requires of { key.old.boxes ≡ boxes.now }
-    requires seats { length key.old.seats ≡ length N.opening }
-    requires idle { IsIdle key.old }
-    requires left { 0 < split.old.context.left }
-    requires opening { HaveOpening N.opening split.old.context.opening }
-    requires allowed { number_refusal split.old.context.opening request.now ≡ None }
-    requires bid { request.now ≡ bid_request bid.now }
-    ensures committed { IfSome result (λ reply. HasCommitted N.opening
-        (permit split.old key.old) (permit split.new key.new) request.now index reply) }
-    ensures full { IfNone result (HasFailed N.opening
-        (permit split.old key.old) (permit split.new key.new) request.now NumberFull) }
-    ensures untouched { IsUntouched (length N.opening) split.old request.now key.old key.new }
-{
-    let object = Object::Item(bid.item);
-    let Some(place) = split.place_of(object) else {
-        return perform_cold(rt, boxes, key, split, request, object, index);
-    };
-    let reply = split.bid_at(place, bid.bidder, bid.item, bid.amount, bid.time, index)?;
-    Some(Ghost::of(&reply.to_reply()))
-}
-
 /// An item to be stored that the opening does not refuse: over its own shard and its category's, or on the slice of a hot
 /// category. After a fault nothing has changed but what the key has seen.
 fn store_in_split<N: PhaseName, R: Wait>(
@@ -200,14 +193,15 @@ fn store_in_split<N: PhaseName, R: Wait>(
     Ok(Ghost::of(&done.reply.to_reply()))
 }
 
-/// A request that is not put off: without a shard where the opening refuses it, and else over the shards of those of its
-/// objects that are not hot. After a fault nothing has changed but what the key has seen.
+/// A request that is not put off, by what it needs: without a shard where the opening refuses it, and else over the shards of
+/// those of its objects that are not hot. After a fault nothing has changed but what the key has seen.
 pub(crate) fn commit_in_split<N: PhaseName, R: Wait>(
     rt: &R,
     boxes: &Boxes<N>,
     key: &mut Key<N>,
     split: &mut SplitContext,
     request: &Request,
+    needs: Needs,
     index: u32,
 ) -> Result<Ghost<Reply>, PermitFault>
     requires of { key.old.boxes ≡ boxes.now }
@@ -216,28 +210,36 @@ pub(crate) fn commit_in_split<N: PhaseName, R: Wait>(
     requires left { 0 < split.old.context.left }
     requires opening { HaveOpening N.opening split.old.context.opening }
     requires not_put_off { is_put_off (objects_of split.old.slices) request.now ≡ false }
+    requires needs { AreNeeded split.old.context split.old.slices request.now needs }
     ensures committed { IfOk result (λ reply. HasCommitted N.opening
         (permit split.old key.old) (permit split.new key.new) request.now index reply) }
     ensures failed { IfErr result (HasFailed N.opening
         (permit split.old key.old) (permit split.new key.new) request.now) }
     ensures untouched { IsUntouched (length N.opening) split.old request.now key.old key.new }
 {
-    if let Some(reason) = number_refusal(split.context().opening(), *request) {
-        let Some(reply) = split.refuse(request, reason, index) else {
-            return Err(PermitFault::NumberFull);
-        };
-        return Ok(Ghost::of(&reply.to_reply()));
-    }
-    match Needs::needed_by(request) {
-        Needs::Bid(bid) => perform_bid(rt, boxes, key, split, request, &bid, index).ok_or(
-            PermitFault::NumberFull,
-        ),
-        Needs::One(object) => perform_cold(rt, boxes, key, split, request, object, index).ok_or(
-            PermitFault::NumberFull,
-        ),
+    let full = PermitFault::NumberFull;
+    match needs {
+        Needs::Nothing(reason) => {
+            let Some(reply) = split.refuse(request, reason, index) else {
+                return Err(full);
+            };
+            Ok(Ghost::of(&reply.to_reply()))
+        }
+        Needs::Slice(place, bid) => {
+            let Some(reply) = split.bid_at(place, &bid, index) else {
+                return Err(full);
+            };
+            Ok(Ghost::of(&reply.to_reply()))
+        }
+        Needs::Store(store) => {
+            store_cold(rt, boxes, key, split, request, store, index).ok_or(full)
+        }
+        Needs::View(object) => {
+            view_cold(rt, boxes, key, split, request, object, index).ok_or(full)
+        }
         Needs::Item(item) => store_in_split(rt, boxes, key, split, &item, index),
-        Needs::Comment(comment) => comment_in_split(rt, boxes, key, split, &comment, index).ok_or(
-            PermitFault::NumberFull,
-        ),
+        Needs::Comment(comment) => {
+            comment_in_split(rt, boxes, key, split, &comment, index).ok_or(full)
+        }
     }
 }

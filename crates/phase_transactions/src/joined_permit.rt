@@ -117,8 +117,10 @@ impl<N: PhaseName> JoinedPermit<N> {
             HasCommitted N.opening (with_try self.old) self.new request.now index reply) }
         ensures failed { IfErr result (HasFailed N.opening (with_try self.old) self.new request.now) }
     {
-        self.split.count_try();
-        self.commit_counted(rt, boxes, request, index)
+        let _worker = self.key.worker();
+        let needs = self.split.begin(request);
+        let key = &mut self.key;
+        commit_in_split(rt, boxes, key, &mut self.split, request, needs, index)
     }
 
     /// Performs the first stashed request, which uses none of the quota: None exactly where there is none. After a fault
@@ -158,37 +160,17 @@ impl<N: PhaseName> JoinedPermit<N> {
             (HasPerformedFirst N.opening (with_try self.old) self.new)) }
         ensures failed { IfErr result (HasFailedFirst N.opening (with_try self.old) self.new) }
     {
-        self.split.count_try();
         let Some((index, request)) = self.split.call_first() else {
+            self.split.count_try();
             return Ok(None);
         };
-        match self.commit_counted(rt, boxes, &request, index) {
+        match self.commit(rt, boxes, &request, index) {
             Ok(reply) => Ok(Some(reply)),
             Err(fault) => {
                 self.split.call_off();
                 Err(fault)
             }
         }
-    }
-
-    // A request of the quota whose try is counted. After a fault nothing has changed but what the key has seen.
-    fn commit_counted<R: Wait>(
-        &mut self,
-        rt: &R,
-        boxes: &Boxes<N>,
-        request: &Request,
-        index: u32,
-    ) -> Result<Ghost<Reply>, PermitFault>
-        requires of { self.old.key.boxes ≡ boxes.now }
-        requires opening { HaveOpening N.opening self.old.split.context.opening }
-        requires left { 0 < self.old.split.context.left }
-        ensures committed { IfOk result (λ reply.
-            HasCommitted N.opening self.old self.new request.now index reply) }
-        ensures failed { IfErr result (HasFailed N.opening self.old self.new request.now) }
-    {
-        let _worker = self.key.worker();
-        let key = &mut self.key;
-        commit_in_split(rt, boxes, key, &mut self.split, request, index)
     }
 
     // The reply of the last commit.

@@ -9,7 +9,6 @@ mod halves;
 mod items;
 mod joined_permit;
 mod laws;
-mod needs;
 mod pairs;
 mod putting;
 mod seen;

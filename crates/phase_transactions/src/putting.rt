@@ -31,12 +31,7 @@ pub(crate) fn put_with_line<N: PhaseName, R: Wait>(
     requires looks { AreTrueOf (contents held.shard) acts.now }
     ensures { IsPutWith N.opening key.old key.new held (line_of number index acts.now held.shard) }
 {
-    let [first, second] = acts;
-    let before = held.shard().clock();
-    let shard = held.shard_mut();
-    shard.act(first);
-    shard.act(second);
-    shard.set_clock(number);
+    let before = held.shard_mut().commit(number, acts);
     let line = Line {
         number,
         before,

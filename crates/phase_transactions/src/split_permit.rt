@@ -180,13 +180,14 @@ impl<N: PhaseName> SplitPermit<N> {
         ensures untouched { IsUntouched (length N.opening) self.old.split request.now self.old.key self.new.key }
     {
         let _worker = self.key.worker();
-        self.split.count_try();
         if self.split.is_put_off(request) {
+            self.split.count_try();
             self.split.put_off(index, request);
             return Ok(None);
         }
+        let needs = self.split.begin(request);
         let key = &mut self.key;
-        let reply = commit_in_split(rt, boxes, key, &mut self.split, request, index)?;
+        let reply = commit_in_split(rt, boxes, key, &mut self.split, request, needs, index)?;
         Ok(Some(reply))
     }
 

@@ -1,4 +1,5 @@
-//! The journals of workers: what each worker commits in one phase, and the history of the phases' journals.
+//! The journals of workers: what each worker commits in one phase, in few bytes an entry. And the history, which keeps the
+//! journals of all phases and merges them by number while it is read.
 #![tactic(auto)]
 
 mod answer;

@@ -6,7 +6,7 @@ use Rattle.phase_transactions.proofs.ColdLemmas.{cold_commits, cold_fails, touch
 use Rattle.phase_transactions.proofs.FailLemmas.{one_asked}
 use Rattle.phase_transactions.proofs.HalfLemmas.{as_told}
 use Rattle.phase_transactions.proofs.TakeLemmas.{if_none}
-use Rattle.phase_transactions.proofs.dispatch.perform_cold.Goals as goal
+use Rattle.phase_transactions.proofs.dispatch.view_cold.Goals as goal
 
 pub returns-in_err-done-clause-full : goal.returns-in_err-done-clause-full
 returns-in_err-done-clause-full g c =
@@ -20,38 +20,14 @@ pub returns-in_err-done-clause-untouched : goal.returns-in_err-done-clause-untou
 returns-in_err-done-clause-untouched g c =
     λ none. touched _ _ _ _ (one_asked (length g.N.PhaseName.opening) c.args.split.now c.args.request.now c.args.object c.requires.only c.requires.allowed c.requires.cold) none
 
-pub returns-then-is_view-clause-committed : goal.returns-then-is_view-clause-committed
-returns-then-is_view-clause-committed g c =
+pub returns-clause-committed : goal.returns-clause-committed
+returns-clause-committed g c =
     let opening = g.N.PhaseName.opening in
     let known : shard_of c.args.object (length opening) < length c.args.key.now.seats = subst (λ n. shard_of c.args.object (length opening) < n) (sym c.requires.seats) (mod_below (number_of c.args.object) (length opening) c.shards-shards.ensures.some) in
     as_told _ _ _ _ _ _ _ c.of.ensures
     (cold_commits opening c.args.split.now c.args.key.now c.view_on.new.key c.args.request.now c.args.object c.args.index c.context-context.result.now c.context-context.ensures
     c.requires.only c.requires.allowed c.requires.cold known c.requires.idle c.commit_cold.new.self c.in_ok-done.done c.in_ok-done.ensures.done
     (c.commit_cold.ensures.context ∙ (λ i. done_at c.args.split.now.context c.args.index c.args.request.now (record c.in_ok-done.done { reply = c.of-reply.ensures i }))) c.commit_cold.ensures.slices)
-
-pub returns-then-is_view-clause-untouched : goal.returns-then-is_view-clause-untouched
-returns-then-is_view-clause-untouched g c =
-    λ none. touched _ _ _ _ (one_asked (length g.N.PhaseName.opening) c.args.split.now c.args.request.now c.args.object c.requires.only c.requires.allowed c.requires.cold) none
-
-pub returns-in_err-done-2-clause-full : goal.returns-in_err-done-2-clause-full
-returns-in_err-done-2-clause-full g c =
-    let opening = g.N.PhaseName.opening in
-    let known : shard_of c.args.object (length opening) < length c.args.key.now.seats = subst (λ n. shard_of c.args.object (length opening) < n) (sym c.requires.seats) (mod_below (number_of c.args.object) (length opening) c.shards-shards.ensures.some) in
-    if_none c.from_residual-in_err-done-2.result _
-    (cold_fails opening c.args.split.now c.args.key.now c.store_on.new.key c.args.request.now c.args.object c.args.index c.context-context.result.now c.context-context.ensures
-    c.requires.only c.requires.allowed c.requires.cold known c.requires.idle c.in_err-done-2.ensures.stayed)
-
-pub returns-in_err-done-2-clause-untouched : goal.returns-in_err-done-2-clause-untouched
-returns-in_err-done-2-clause-untouched g c =
-    λ none. touched _ _ _ _ (one_asked (length g.N.PhaseName.opening) c.args.split.now c.args.request.now c.args.object c.requires.only c.requires.allowed c.requires.cold) none
-
-pub returns-clause-committed : goal.returns-clause-committed
-returns-clause-committed g c =
-    let opening = g.N.PhaseName.opening in
-    let known : shard_of c.args.object (length opening) < length c.args.key.now.seats = subst (λ n. shard_of c.args.object (length opening) < n) (sym c.requires.seats) (mod_below (number_of c.args.object) (length opening) c.shards-shards.ensures.some) in
-    as_told _ _ _ _ _ _ _ (c.of-2.ensures ∙ c.to_reply.ensures)
-    (cold_commits opening c.args.split.now c.args.key.now c.store_on.new.key c.args.request.now c.args.object c.args.index c.context-context.result.now c.context-context.ensures
-    c.requires.only c.requires.allowed c.requires.cold known c.requires.idle c.commit_cold-2.new.self c.in_ok-done-2.done c.in_ok-done-2.ensures.done c.commit_cold-2.ensures.context c.commit_cold-2.ensures.slices)
 
 pub returns-clause-untouched : goal.returns-clause-untouched
 returns-clause-untouched g c =

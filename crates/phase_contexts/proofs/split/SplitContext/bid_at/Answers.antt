@@ -7,7 +7,7 @@ use Rattle.phase_contexts.specs.Splits.{SplitState, HasStored, IsHot}
 use Rattle.phase_contexts.proofs.ContextLemmas.{next_of_own}
 use Rattle.phase_contexts.proofs.AnswerLemmas.{bid_answered, bid_right}
 use Rattle.phase_contexts.proofs.StoredLemmas.{commit_keeps_split}
-use Rattle.phase_contexts.proofs.split.SplitContext.store_bid.Goals as goal
+use Rattle.phase_contexts.proofs.split.SplitContext.bid_at.Goals as goal
 
 pub returns-clause-stored : goal.returns-clause-stored
 returns-clause-stored c =
