@@ -1,28 +1,91 @@
 -- What a phase begins with.
-use Rattle.std.proofs.Common.{◌≡◌, ℕ, ◌+◌, List, [], length, sym, ap, ◌∙◌, subst}
+use Rattle.std.proofs.Common.{◌≡◌, ◌+◌, ◌<◌, ◌≤◌, ℕ, zero, suc, List, [], ◌∷◌, map, length, get_or, drop, refl, sym, ap, ◌∙◌, subst, arith}
+use Rattle.std.specs.List.{AllByRecursion}
+use Rattle.std.proofs.lemmas.List.{get_or-map}
 use Rattle.auction_rows.specs.declared.numbers.Opening.{Opening}
-use Rattle.shard_boxes.specs.Keys.{BoxId, KeyState, SeatState, IsNewKey}
-use Rattle.worker_journals.specs.Journals.{JournalView, empty_journal}
+use Rattle.auction_rows.specs.declared.ids.Object.TheVariants.{Item}
+use Rattle.auction_rows.specs.Footprint.{is_hot}
+use Rattle.shard_boxes.specs.Keys.{KeyState, SeatState, no_key, IsNewKey, AreNewKeys}
+use Rattle.shard_boxes.specs.States.{ShardState}
+use Rattle.shard_boxes.proofs.Each.{at_head}
 use Rattle.phase_contexts.specs.declared.counters.Counters.{Counters}
-use Rattle.phase_contexts.specs.declared.slices.Hot.{Hot}
-use Rattle.phase_contexts.specs.Contexts.{new_context}
 use Rattle.phase_contexts.specs.Slicing.{slices_of}
 use Rattle.phase_contexts.specs.Stashes.{StashState}
-use Rattle.auction_rows.specs.declared.ids.Object.{Object}
-use Rattle.phase_transactions.specs.Permits.{PermitState, IsUnused}
-use Rattle.phase_floor.specs.Floors.{FloorState, IsBegun}
+use Rattle.phase_contexts.proofs.Places.{stocks_of_rows}
+use Rattle.phase_transactions.specs.Permits.{PermitState}
 use Rattle.phase_closing.specs.Standing.{counters_at}
+use Rattle.phase_floor.specs.declared.kits.Kit.{Kit}
+use Rattle.phase_floor.specs.Begins.{IsTooLong, asked_in_all, empty_stash, IsKit, AreKits, start_of, CanStart, HasNoSlices, HasOwnStash}
+use Rattle.phase_floor.specs.Floors.{FloorState, IsOpen, IsBegun, AreBegun, no_stash, stash_at}
+use Rattle.phase_floor.proofs.Every.{every}
+use Rattle.phase_floor.proofs.HotItems.{objects_of_slices, hot_is_stored}
+use Rattle.phase_floor.proofs.StoredItems.{stored_before}
 
--- a new key has taken and put nothing
-pub unused : (boxes : List BoxId) (w : ℕ) (key : KeyState) → IsNewKey boxes w key → IsUnused key
-unused boxes w key new = λ s. (ap (λ (seat : SeatState). seat.holds) (new.unused s), ap (λ (seat : SeatState). seat.lines) (new.unused s))
-
--- a permit that was made of a worker's parts is begun
-pub begun_of : (floor : FloorState) (w quota : ℕ) (stash own : StashState) (key : KeyState) (opening : Opening) (counters : Counters) (journal : JournalView) (slices : List (Object × Hot)) (permit : PermitState)
-    → opening ≡ floor.opening → counters ≡ counters_at floor.counters w → journal ≡ empty_journal floor.phase w (length stash.requests + quota) → own ≡ stash → slices ≡ slices_of floor.stocks []
-    → permit ≡ record { split = record { context = new_context opening counters journal own quota 0; slices = slices }; key = key } → IsNewKey floor.boxes w key → IsBegun floor w quota stash permit
-begun_of floor w quota stash own key opening counters journal slices permit openings counts journals stashes sliced is new =
-    let keys = ap (λ (p : PermitState). p.key) is in record {
-      new = is ∙ (λ i. record { split = record { context = new_context (openings i) (counts i) (journals i) (stashes i) quota 0; slices = sliced i }; key = sym keys i });
-      key = subst (IsNewKey floor.boxes w) (sym keys) new;
+-- what is made of the next key, kit and stash is begun
+pub begun_next : (floor : FloorState) (workers w : ℕ) (quotas : List ℕ) (keys keys_left : List KeyState) (kits kits_left : List Kit) (stashes stashes_left : List StashState)
+    → AreNewKeys floor.boxes workers keys → AreKits floor.phase floor.stocks stashes quotas workers kits → w < workers
+    → (key : KeyState) (kit : Kit) (stash : StashState) → key ∷ keys_left ≡ drop w keys → kit ∷ kits_left ≡ drop w kits → stash ∷ stashes_left ≡ drop w stashes
+    → (opening : Opening) (counters : Counters) → opening ≡ floor.opening → counters ≡ counters_at floor.counters w
+    → IsBegun floor w (get_or quotas w 0) (stash_at stashes w) (start_of key opening counters kit.journal stash kit.slices (get_or quotas w 0))
+begun_next floor workers w quotas keys keys_left kits kits_left stashes stashes_left new made below key kit stash next_key next_kit next_stash opening counters openings counts =
+    let quota = get_or quotas w 0 in
+    let kit_is = subst (IsKit floor.phase floor.stocks w (length (stash_at stashes w).requests + quota)) (at_head kits w kit kits_left kit next_kit) (made w kit below) in
+    let stash_is = sym (at_head stashes w stash stashes_left no_stash next_stash) in record {
+      new = λ i. start_of key (openings i) (counts i) (kit_is.journal i) (stash_is i) (kit_is.slices i) quota;
+      key = subst (IsNewKey floor.boxes w) (at_head keys w key keys_left no_key next_key) (new.1 w below);
     }
+
+not_over : (n : ℕ) → ¬ (1000000 < n) → n ≤ 1000000
+not_over n h = omega (arith, h)
+
+-- what each worker is asked for, where it is not too much
+pub within : (counters : List Counters) (stashes : List StashState) (quotas : List ℕ) → ¬ IsTooLong counters stashes quotas → (w : ℕ) → w < length counters
+    → asked_in_all counters stashes quotas w ≤ 1000000
+within counters stashes quotas short w low = not_over (asked_in_all counters stashes quotas w) (λ more. short (w, low, more))
+
+-- a worker can start with what is begun, where it asks for no more than 1,000,000
+pub can_start : (opening : List ShardState) (workers : ℕ) (floor : FloorState) → IsOpen opening workers floor → (w quota : ℕ) (stash : StashState) (start : PermitState) → w < workers
+    → (counters_at floor.counters w).commits + length stash.requests + quota ≤ 1000000 → IsBegun floor w quota stash start → CanStart start
+can_start opening workers floor is_open w quota stash start below fits begun =
+    let low : w < length floor.counters = omega (arith, below, is_open.workers_are) in
+    let limit = is_open.kept.limits w low in
+    subst CanStart (sym begun.new) (record {
+      key = λ s. (ap (λ (seat : SeatState). seat.holds) (begun.key.unused s), ap (λ (seat : SeatState). seat.lines) (begun.key.unused s));
+      worker = sym begun.key.worker_is;
+      empty = refl;
+      identities = sym (ap (λ s. slices_of s []) (stocks_of_rows floor.stocks []));
+      room = omega arith;
+      limit = fits;
+      counted = record { items = omega (arith, limit.stored); bids = omega (arith, limit.stored); comments = omega (arith, limit.stored); buys = omega (arith, limit.stored) };
+      stored = λ item hot own.
+          let some = hot_is_stored opening floor.stocks is_open.stocks_are.stocked is_open.stocks_are.read item
+          (sym (ap (λ os. is_hot os (Item item)) (objects_of_slices floor.stocks [])) ∙ hot) in
+          let before = stored_before floor.opening opening floor.counters is_open.kept item some (omega (arith, own, low)) in
+          omega (arith, before, ap (λ v. (counters_at floor.counters v).items) own);
+    })
+
+-- where nothing is hot no worker has slices
+pub no_slices : (floor : FloorState) (quotas : List ℕ) (stashes : List StashState) (starts : List PermitState) → floor.stocks ≡ [] → AreBegun floor quotas stashes starts
+    → AllByRecursion HasNoSlices starts
+no_slices floor quotas stashes starts cold are =
+    every HasNoSlices starts (λ w d low. ap (λ (p : PermitState). p.split.slices) (are.1 w d (omega (arith, low, are.0))).new ∙ ap (λ s. slices_of s []) cold)
+
+-- in empty stashes nothing waits
+nothing_waits : (quotas : List ℕ) (w : ℕ) → length (stash_at (map empty_stash quotas) w).requests ≡ 0
+nothing_waits [] w = refl
+nothing_waits (quota ∷ quotas) zero = refl
+nothing_waits (quota ∷ quotas) (suc w) = nothing_waits quotas w
+
+pub not_too_long : (counters : List Counters) (quotas : List ℕ) → ¬ IsTooLong counters [] quotas → ¬ IsTooLong counters (map empty_stash quotas) quotas
+not_too_long counters quotas short (w, low, more) =
+    let none : length (stash_at [] w).requests ≡ 0 = refl in
+    short (w, low, omega (arith, more, nothing_waits quotas w, none))
+
+-- with empty stashes each worker has one for its quota
+pub own_stashes : (floor : FloorState) (quotas : List ℕ) (starts : List PermitState) → length quotas ≡ length floor.counters → AreBegun floor quotas (map empty_stash quotas) starts
+    → AllByRecursion HasOwnStash starts
+own_stashes floor quotas starts many are =
+    every HasOwnStash starts (λ w d low.
+    let at : w < length floor.counters = omega (arith, low, are.0) in
+    let there = get_or-map empty_stash quotas w 0 no_stash (omega (arith, at, many)) in
+    subst HasOwnStash (sym (are.1 w d at).new) (ap (λ (s : StashState). s.requests) there, omega (arith, ap (λ (s : StashState). s.room) there)))

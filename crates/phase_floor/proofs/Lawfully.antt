@@ -1,19 +1,18 @@
 -- A phase of the floor closes lawfully, with the shards that it leaves.
-use Rattle.std.proofs.Common.{◌≡◌, List, [], map, fold, length, refl, sym, ap, subst, ◌∙◌}
+use Rattle.std.proofs.Common.{◌≡◌, List, map, fold, length, refl, sym, ap, subst, ◌∙◌}
 use Rattle.std.proofs.Math.ListN.{get_or-map}
 use Rattle.std.proofs.lemmas.List.{length-map}
 use Rattle.auction_rows.specs.declared.ids.Object.{Object}
 use Rattle.auction_rows.specs.declared.rows.Entry.{Entry}
 use Rattle.auction_rows.specs.Requests.{shard_of}
 use Rattle.shard_boxes.specs.States.{ShardState, state_at, no_shard}
-use Rattle.phase_contexts.specs.Slicing.{objects_of}
 use Rattle.phase_transactions.specs.Permits.{PermitState}
 use Rattle.phase_closing.specs.Lawful.{ClosesLawfully}
 use Rattle.phase_closing.specs.Merging.{after_merge}
 use Rattle.phase_closing.specs.Phases.{Phase, value_on}
-use Rattle.phase_closing.proofs.LawfulLemmas.{joined_lawful, split_lawful}
+use Rattle.phase_closing.proofs.LawfulLemmas.{split_lawful}
 use Rattle.phase_closing.proofs.MergeLemmas.{as_many}
-use Rattle.phase_floor.specs.Closings.{HasSettled, HasReconciled, HasClosedLawfully, phase_of, at_start}
+use Rattle.phase_floor.specs.Closings.{HasReconciled, HasClosedLawfully, phase_of, at_start}
 use Rattle.phase_floor.specs.Floors.{FloorState}
 
 -- clocks don't matter to what shards show of an object
@@ -40,13 +39,6 @@ left : (p : Phase) (states closing : List ShardState) → closing ≡ map at_sta
 left p states closing are lawful = subst (ClosesLawfully p) (sym are) (started p states lawful)
 
 module _ (opening : List ShardState) (floor : FloorState) (receipts : List PermitState) (states : List ShardState) (entries : List Entry) where
-  pub settled_lawful : HasSettled opening floor receipts states entries → floor.stocks ≡ [] → HasClosedLawfully opening floor receipts states entries
-  settled_lawful settled cold =
-      let p = phase_of opening floor receipts settled.given entries in record {
-        given = settled.given;
-        lawful = left p settled.given states settled.states_are (joined_lawful p settled.closed (ap objects_of cold));
-      }
-
   pub reconciled_lawful : HasReconciled opening floor receipts states entries → HasClosedLawfully opening floor receipts states entries
   reconciled_lawful reconciled =
       let p = phase_of opening floor receipts reconciled.given entries in

@@ -2,6 +2,7 @@ pub mod Blank
 pub mod Views
 pub mod Begins
 pub mod Every
+pub mod ReceiptParts
 pub mod StoredItems
 pub mod HotItems
 pub mod Moved
@@ -17,3 +18,5 @@ pub mod ResumeLemmas
 pub mod ResumeActs
 pub mod ResumeKept
 pub mod Lawfully
+pub mod Shown
+pub mod Cold

@@ -8,17 +8,17 @@ use phase_transactions::Counters;
 use shard_boxes::{Boxes, PhaseName};
 use std::marker::Model;
 
-/// A joined phase that is open. It ends by `close`.
+/// A phase that is open. In a joined one nothing is hot.
 #[derive(Drop)]
-pub struct JoinedFloor<N: PhaseName> {
+pub(crate) struct Floor<N: PhaseName> {
     pub(crate) opening: Opening,
     pub(crate) phase: u64,
     pub(crate) counters: Vec<Counters>,
+    pub(crate) stocks: Stocks,
     pub(crate) boxes: Boxes<N>,
 }
 
-impl<N: PhaseName> Model for JoinedFloor<N> {
-    ghost use Rattle.std.specs.Prelude.{[]};
+impl<N: PhaseName> Model for Floor<N> {
     ghost use Rattle.phase_floor.specs.Floors.{FloorState, IsOpen};
 
     ghost Value = { FloorState };
@@ -27,7 +27,7 @@ impl<N: PhaseName> Model for JoinedFloor<N> {
       opening = f.opening;
       phase = f.phase;
       counters = f.counters.items;
-      stocks = [];
+      stocks = f.stocks.items;
       boxes = f.boxes;
     } };
 
@@ -35,9 +35,36 @@ impl<N: PhaseName> Model for JoinedFloor<N> {
       opening = f.opening;
       phase = f.phase;
       counters = f.counters.items;
-      stocks = [];
+      stocks = f.stocks.items;
       boxes = f.boxes;
     }) };
+}
+
+impl<N: PhaseName> Floor<N> {
+    // The boxes to which the permits' keys are.
+    fn boxes(&self) -> &Boxes<N>
+        ensures boxes { result.now ≡ self.now.boxes }
+        ensures opening { HaveOpening N.opening self.now.opening }
+    {
+        &self.boxes
+    }
+}
+
+/// A joined phase that is open. It ends by `close`.
+#[derive(Drop)]
+pub struct JoinedFloor<N: PhaseName> {
+    pub(crate) floor: Floor<N>,
+}
+
+impl<N: PhaseName> Model for JoinedFloor<N> {
+    ghost use Rattle.std.specs.Prelude.{◌≡◌, []};
+    ghost use Rattle.phase_floor.specs.Floors.{FloorState};
+
+    ghost Value = { FloorState };
+
+    ghost view = { λ f. f.floor };
+
+    ghost invariant = { λ f. f.floor.stocks ≡ [] };
 }
 
 impl<N: PhaseName> JoinedFloor<N> {
@@ -46,40 +73,22 @@ impl<N: PhaseName> JoinedFloor<N> {
         ensures boxes { result.now ≡ self.now.boxes }
         ensures opening { HaveOpening N.opening self.now.opening }
     {
-        &self.boxes
+        self.floor.boxes()
     }
 }
 
 /// A split phase that is open. It ends by `close`.
 #[derive(Drop)]
 pub struct SplitFloor<N: PhaseName> {
-    pub(crate) opening: Opening,
-    pub(crate) phase: u64,
-    pub(crate) counters: Vec<Counters>,
-    pub(crate) stocks: Stocks,
-    pub(crate) boxes: Boxes<N>,
+    pub(crate) floor: Floor<N>,
 }
 
 impl<N: PhaseName> Model for SplitFloor<N> {
-    ghost use Rattle.phase_floor.specs.Floors.{FloorState, IsOpen};
+    ghost use Rattle.phase_floor.specs.Floors.{FloorState};
 
     ghost Value = { FloorState };
 
-    ghost view = { λ f. record {
-      opening = f.opening;
-      phase = f.phase;
-      counters = f.counters.items;
-      stocks = f.stocks.items;
-      boxes = f.boxes;
-    } };
-
-    ghost invariant = { λ f. IsOpen N.opening N.workers (record {
-      opening = f.opening;
-      phase = f.phase;
-      counters = f.counters.items;
-      stocks = f.stocks.items;
-      boxes = f.boxes;
-    }) };
+    ghost view = { λ f. f.floor };
 }
 
 impl<N: PhaseName> SplitFloor<N> {
@@ -88,6 +97,6 @@ impl<N: PhaseName> SplitFloor<N> {
         ensures boxes { result.now ≡ self.now.boxes }
         ensures opening { HaveOpening N.opening self.now.opening }
     {
-        &self.boxes
+        self.floor.boxes()
     }
 }

@@ -5,16 +5,18 @@ ghost use Rattle.item_shards.specs.Limits.{GivesStars};
 ghost use Rattle.shard_boxes.specs.States.{state_of};
 ghost use Rattle.worker_journals.specs.Merged.{added, merged};
 ghost use Rattle.phase_closing.specs.Phases.{receipt_at, counters_of};
-ghost use Rattle.phase_floor.specs.Closings.{AreReceiptsOf, stash_of, HasSettled};
+ghost use Rattle.phase_floor.specs.Closings.{AreReceiptsOf, stash_of, HasReconciled};
 ghost use Rattle.phase_floor.specs.Floors.{IsOpen};
 
 use crate::fault::FloorFault;
-use crate::floor::JoinedFloor;
+use crate::floor::Floor;
+use crate::merge::merge_all;
 use crate::parts::Parts;
+use crate::receipt::Receipt;
 use crate::reset::reset_clocks;
 use auction_rows::{MOST_OF_A_WORKER, Opening};
 use item_shards::Shard;
-use phase_transactions::{Counters, JoinedReceipt, Stash};
+use phase_transactions::{Counters, Stash};
 use shard_boxes::PhaseName;
 use std::alloc::Global;
 use std::sync::Wait;
@@ -30,36 +32,36 @@ pub(crate) struct Settled {
     pub(crate) stashes: Vec<Stash>,
 }
 
-impl<N: PhaseName> JoinedFloor<N> {
-    // Ends the phase, and adds it to the history. All memory is asked for first.
-    pub(crate) fn settle<R: Wait>(
+impl<N: PhaseName> Floor<N> {
+    // Ends the phase, adds it to the history, and merges all slices. All memory is asked for first.
+    pub(crate) fn settle<R: Wait, T: Receipt<N>>(
         self,
         rt: &R,
         alloc: Global,
         history: &mut History,
-        receipts: Vec<JoinedReceipt<N>>,
+        receipts: Vec<T>,
     ) -> Result<Settled, FloorFault>
-        requires { AreReceiptsOf self receipts.items }
+        requires { AreReceiptsOf self (map T.shows receipts.items) }
         ensures history { history.new.entries ≡ history.old.entries ++ added history.old.entries history.new.entries }
         ensures refused { OnErr result (history.new.entries ≡ history.old.entries) }
         ensures last { OnOk result (merged history.new.last ≡ added history.old.entries history.new.entries) }
         ensures opening { IfOk result (λ settled. settled.opening ≡ self.opening) }
         ensures phase { IfOk result (λ settled. settled.phase ≡ self.phase + 1) }
-        ensures counters { IfOk result (λ settled. settled.counters.items ≡ map counters_of receipts.items) }
-        ensures stashes { IfOk result (λ settled. settled.stashes.items ≡ map stash_of receipts.items) }
+        ensures counters { IfOk result (λ settled. settled.counters.items ≡ map counters_of (map T.shows receipts.items)) }
+        ensures stashes { IfOk result (λ settled. settled.stashes.items ≡ map stash_of (map T.shows receipts.items)) }
         ensures closed { IfOk result (λ settled.
-            HasSettled N.opening self receipts.items (map state_of settled.shards.items)
+            HasReconciled N.opening self (map T.shows receipts.items) (map state_of settled.shards.items)
             (added history.old.entries history.new.entries)) }
-        ensures cold { OnOk result (self.stocks ≡ []) }
         ensures open { OnOk result (IsOpen N.opening N.workers self) }
         ensures stars { OnOk result (AllByRecursion (λ entry. GivesStars entry.request) (added history.old.entries history.new.entries)) }
-        ensures limit { OnOk result ((w : ℕ) → w < length receipts.items →
-            (counters_of (receipt_at receipts.items w)).commits ≤ MOST_OF_A_WORKER) }
+        ensures limit { OnOk result (let shown = map T.shows receipts.items in (w : ℕ) → w < length shown →
+            (counters_of (receipt_at shown w)).commits ≤ MOST_OF_A_WORKER) }
     {
-        let JoinedFloor {
+        let Floor {
             opening,
             phase,
             counters: _,
+            stocks: _,
             boxes,
         } = self;
         let Parts {
@@ -67,10 +69,11 @@ impl<N: PhaseName> JoinedFloor<N> {
             stashes,
             keys,
             counters,
-            slices: _,
-        } = Parts::of_joined(alloc, receipts)?;
+            slices,
+        } = Parts::of(alloc, receipts)?;
         history.add_phase(journals)?;
         let mut shards = boxes.close(rt, keys);
+        merge_all(&mut shards, slices);
         reset_clocks(&mut shards);
         Ok(Settled {
             opening,

@@ -1,18 +1,19 @@
 //! How a split phase begins.
-ghost use Rattle.std.specs.Prelude.{◌≡◌, ◌+◌, ◌<◌, ◌≤◌, ◌^◌, ℕ, [], length, map, vec_len, vec_capacity, IfOk, IfErr, ◌↔◌, IsTrue, slice_index, slice_index_or};
-ghost use Rattle.shard_boxes.specs.Keys.{AreNewKeys};
+ghost use Rattle.std.specs.Prelude.{◌≡◌, ◌+◌, ◌<◌, ◌^◌, [], length, map, IfOk, IfErr, ◌↔◌, IsTrue};
 ghost use Rattle.phase_floor.specs.declared.fault.BeginFault.TheVariants.{UnknownHot, TooLong};
-ghost use Rattle.phase_floor.specs.Begins.{IsTooLong, asked_in_all, empty_stash, AreKits};
+ghost use Rattle.phase_floor.specs.Begins.{IsTooLong, empty_stash};
 ghost use Rattle.phase_floor.specs.Floors.{AreBegun};
 
 use crate::fault::BeginFault;
 use crate::floor::SplitFloor;
 use crate::joined::Joined;
-use crate::kits::{Kit, Stocks, is_over_quota, new_kits};
-use auction_rows::{Facts, MOST_OF_A_WORKER, Object};
+use crate::kits::{Stocks, new_stashes};
+use crate::quotas::is_too_long;
+use crate::start::split_permits;
+use auction_rows::{Facts, Object};
 use indexmap::IndexSet;
 use phase_transactions::SplitPermit;
-use shard_boxes::{Boxes, Key, PhaseName};
+use shard_boxes::PhaseName;
 use std::alloc::{AllocError, Global};
 use std::sync::Wait;
 
@@ -27,7 +28,7 @@ impl Joined {
     /// a hot object does not exist, then TooLong where some worker's commits and quota are more than 1,000,000 together, then
     /// Memory where none is left.
     pub fn begin_split<N: PhaseName, R: Wait>(
-        mut self,
+        self,
         rt: &R,
         alloc: Global,
         quotas: &[u32],
@@ -55,44 +56,25 @@ impl Joined {
         if !self.do_exist(objects) {
             return Err((self, BeginFault::UnknownHot));
         }
-        if is_over_quota(&self.counters, quotas) {
+        if is_too_long(&self.counters, &[], quotas) {
             return Err((self, BeginFault::TooLong));
         }
         let Ok(stocks) = self.stocks_of(alloc, objects) else {
             return Err((self, BeginFault::Memory));
         };
-        let Ok(kits) = new_kits(alloc, self.phase, &stocks, quotas) else {
+        let Ok(stashes) = new_stashes(alloc, quotas) else {
             return Err((self, BeginFault::Memory));
         };
         let Ok(permits) = Vec::with_capacity(alloc, quotas.len()) else {
             return Err((self, BeginFault::Memory));
         };
-        let Joined {
-            opening,
-            phase,
-            shards,
-            counters,
-        } = self;
-        match Boxes::new(rt, alloc, shards, quotas.len() as u32) {
-            Ok((boxes, keys)) => {
-                let floor = SplitFloor {
-                    opening,
-                    phase,
-                    counters,
-                    stocks,
-                    boxes,
-                };
-                let permits = floor.give(permits, keys, kits, quotas);
-                Ok((floor, permits))
+        match self.begin(rt, alloc, stocks, quotas, stashes) {
+            Ok((floor, starts)) => {
+                let permits = split_permits(permits, starts);
+                Ok((SplitFloor { floor }, permits))
             }
-            Err((shards, _)) => {
+            Err((state, _)) => {
                 permits.destroy_empty();
-                let state = Joined {
-                    opening,
-                    phase,
-                    shards,
-                    counters,
-                };
                 Err((state, BeginFault::Memory))
             }
         }
@@ -144,52 +126,5 @@ impl Joined {
             stocks.push((*object, self.stock_of(*object)))?;
         }
         Ok(stocks)
-    }
-}
-
-impl<N: PhaseName> SplitFloor<N> {
-    // A permit of each key.
-    fn give(
-        &self,
-        mut permits: Vec<SplitPermit<N>>,
-        keys: Vec<Key<N>>,
-        kits: Vec<Kit>,
-        quotas: &[u32],
-    ) -> Vec<SplitPermit<N>>
-        requires empty { vec_len permits ≡ 0 }
-        requires room { N.workers ≤ vec_capacity permits }
-        requires keys { AreNewKeys self.now.boxes N.workers keys.items }
-        requires lens { (vec_len kits ≡ N.workers) × (length quotas.now ≡ N.workers) }
-        requires kits { AreKits self.now.phase self.now.stocks quotas.now N.workers kits.items }
-        requires fits { (w : ℕ) → w < N.workers → asked_in_all self.now.counters [] quotas.now w ≤ MOST_OF_A_WORKER }
-        ensures { AreBegun self.now quotas.now (map empty_stash quotas.now) result.items }
-    {
-        let mut w = 0;
-        let mut kits = kits.into_iter();
-        for key in keys {
-            let Some(
-                Kit {
-                    journal,
-                    stash,
-                    slices,
-                },
-            ) = kits.next()
-            else {
-                break;
-            };
-            let counters = self.counters[w];
-            permits.push_reserved(SplitPermit::new(
-                key,
-                self.opening,
-                counters,
-                journal,
-                stash,
-                slices,
-                quotas[w],
-                0,
-            ));
-            w += 1;
-        }
-        permits
     }
 }

@@ -1,52 +1,32 @@
-use Rattle.std.proofs.Common.{List, [], map, sym, ap, ◌∙◌, subst}
-use Rattle.auction_rows.specs.declared.numbers.Opening.{Opening}
+use Rattle.std.proofs.Common.{◌≡◌, ◌+◌, ◌<◌, ℕ, [], map, length}
+use Rattle.std.specs.Prelude.{IfOk}
+use Rattle.auction_rows.specs.Book.{Book}
 use Rattle.auction_rows.specs.History.{book_after}
-use Rattle.shard_boxes.specs.States.{state_of}
 use Rattle.worker_journals.specs.Merged.{added}
-use Rattle.phase_contexts.specs.declared.counters.Counters.{Counters}
+use Rattle.phase_closing.specs.Phases.{receipt_at, journal_of, counters_of}
 use Rattle.phase_closing.specs.Standing.{StandFor, counters_at}
-use Rattle.phase_closing.proofs.CommitLemmas.{commits_grow}
-use Rattle.phase_closing.proofs.ReplayLemmas.{entries_replay}
-use Rattle.phase_floor.specs.Closings.{phase_of}
-use Rattle.phase_floor.specs.States.{IsKept}
-use Rattle.phase_floor.proofs.Kept.{kept_after, counted}
-use Rattle.phase_floor.proofs.Lawfully.{reconciled_lawful}
-use Rattle.phase_floor.proofs.Reconciled.{as_many, ready, stand_after}
+use Rattle.phase_floor.specs.Closings.{AreReceiptsOf, HasReconciled, HasClosedLawfully, stash_of}
+use Rattle.phase_floor.specs.States.{StandsFor, states_of}
+use Rattle.phase_floor.proofs.Shown.{outside, inside}
 use Rattle.phase_floor.proofs.floor.SplitFloor.close.Goals as goal
 
-pub invariant_of-state : goal.invariant_of-state
-invariant_of-state g c =
-    let opening = g.N.PhaseName.opening in let workers = g.N.PhaseName.workers in let floor = c.args.self in let receipts = c.args.receipts.items in
-    let e = c.in_ok-opening.ensures in let left = c.in_ok-opening.field-0 in let entries = added c.args.history.now.entries c.settle.new.history.entries in
-    let given = e.closed.given in let closed = e.closed.closed in let states = map state_of left.shards.items in
-    let stars = e.stars in
-    let kept = kept_after opening workers floor e.open receipts c.requires given entries closed e.limit stars left.shards.items
-    (as_many opening workers floor e.open receipts c.requires given entries closed e.closed.order e.closed.each states e.closed.states_are)
-    (ready opening workers floor e.open receipts c.requires given entries closed e.closed.order e.closed.each states e.closed.states_are)
-    (stand_after opening workers floor e.open receipts c.requires given entries closed e.closed.order e.closed.each states e.closed.states_are) in
-    subst (λ (o : Opening). IsKept o states left.counters.items) (sym e.opening) (subst (λ (cs : List Counters). IsKept floor.opening states cs) (sym e.counters) kept)
+pub close-requires : goal.close-requires
+close-requires g c = inside AreReceiptsOf c.self.inside.floor c.args.self c.args.receipts.items c.self.view_is c.requires
+
+pub returns-clause-counters : goal.returns-clause-counters
+returns-clause-counters g c = outside (λ _ receipts. IfOk c.close.result (λ closed. closed.0.counters ≡ map counters_of receipts)) c.self.inside.floor c.args.self c.args.receipts.items c.self.view_is c.close.ensures.counters
+
+pub returns-clause-stashes : goal.returns-clause-stashes
+returns-clause-stashes g c = outside (λ _ receipts. IfOk c.close.result (λ closed. closed.1.items ≡ map stash_of receipts)) c.self.inside.floor c.args.self c.args.receipts.items c.self.view_is c.close.ensures.stashes
+
+pub returns-clause-closed : goal.returns-clause-closed
+returns-clause-closed g c = outside (λ floor receipts. IfOk c.close.result (λ closed. HasReconciled g.N.PhaseName.opening floor receipts (states_of closed.0) (added c.args.history.now.entries c.close.new.history.entries))) c.self.inside.floor c.args.self c.args.receipts.items c.self.view_is c.close.ensures.closed
 
 pub returns-clause-lawful : goal.returns-clause-lawful
-returns-clause-lawful g c =
-    let e = c.in_ok-opening.ensures in let left = c.in_ok-opening.field-0 in let entries = added c.args.history.now.entries c.settle.new.history.entries in
-    reconciled_lawful g.N.PhaseName.opening c.args.self c.args.receipts.items (map state_of left.shards.items) entries e.closed
+returns-clause-lawful g c = outside (λ floor receipts. IfOk c.close.result (λ closed. HasClosedLawfully g.N.PhaseName.opening floor receipts (states_of closed.0) (added c.args.history.now.entries c.close.new.history.entries))) c.self.inside.floor c.args.self c.args.receipts.items c.self.view_is c.close.ensures.lawful
 
 pub returns-clause-commits : goal.returns-clause-commits
-returns-clause-commits g c = λ w below.
-    let e = c.in_ok-opening.ensures in let floor = c.args.self in let receipts = c.args.receipts.items in let left = c.in_ok-opening.field-0 in let entries = added c.args.history.now.entries c.settle.new.history.entries in
-    let stars = e.stars in
-    ap (λ (cs : List Counters). (counters_at cs w).commits) e.counters
-    ∙ sym (ap (λ (cs : Counters). cs.commits) (counted g.N.PhaseName.opening g.N.PhaseName.workers floor e.open receipts c.requires e.closed.given entries e.closed.closed e.limit stars w below))
-    ∙ commits_grow (phase_of g.N.PhaseName.opening floor receipts e.closed.given entries) e.closed.closed w below
-
-pub returns-clause-replays : goal.returns-clause-replays
-returns-clause-replays g c = λ book holds.
-    let e = c.in_ok-opening.ensures in let entries = added c.args.history.now.entries c.settle.new.history.entries in
-    entries_replay (phase_of g.N.PhaseName.opening c.args.self c.args.receipts.items e.closed.given entries) e.closed.closed book holds
+returns-clause-commits g c = outside (λ floor receipts. IfOk c.close.result (λ closed. (w : ℕ) → w < length receipts → (counters_at closed.0.counters w).commits ≡ (counters_at floor.counters w).commits + length (journal_of (receipt_at receipts w)).entries)) c.self.inside.floor c.args.self c.args.receipts.items c.self.view_is c.close.ensures.commits
 
 pub returns-clause-stands : goal.returns-clause-stands
-returns-clause-stands g c = λ book holds.
-    let e = c.in_ok-opening.ensures in let left = c.in_ok-opening.field-0 in let entries = added c.args.history.now.entries c.settle.new.history.entries in let floor = c.args.self in
-    subst (λ (cs : List Counters). StandFor (map state_of left.shards.items) cs (book_after floor.opening book entries) []) (sym e.counters)
-    (stand_after g.N.PhaseName.opening g.N.PhaseName.workers floor e.open c.args.receipts.items c.requires e.closed.given entries e.closed.closed e.closed.order e.closed.each
-    (map state_of left.shards.items) e.closed.states_are book holds)
+returns-clause-stands g c = outside (λ floor _. IfOk c.close.result (λ closed. (book : Book) → StandFor g.N.PhaseName.opening floor.counters book [] → StandsFor closed.0 (book_after floor.opening book (added c.args.history.now.entries c.close.new.history.entries)))) c.self.inside.floor c.args.self c.args.receipts.items c.self.view_is c.close.ensures.stands

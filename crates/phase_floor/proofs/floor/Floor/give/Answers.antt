@@ -1,0 +1,63 @@
+use Rattle.std.proofs.Common.{◌≡◌, ◌+◌, ◌<◌, get_or, length, refl, sym, ap, ◌∙◌, subst, arith}
+use Rattle.std.proofs.lemmas.List.{get_or_read}
+use Rattle.std.specs.Vec.Iter.{into_iter_items}
+use Rattle.shard_boxes.proofs.Each.{each_push, drop_next}
+use Rattle.phase_transactions.specs.Permits.{no_counters}
+use Rattle.phase_closing.specs.Standing.{counters_at}
+use Rattle.phase_floor.specs.Begins.{start_of}
+use Rattle.phase_floor.specs.Floors.{FloorState, IsOpen, IsBegun, stash_at}
+use Rattle.phase_floor.proofs.Begins.{begun_next, can_start}
+use Rattle.phase_floor.proofs.floor.Floor.give.Goals.{in-None, in-Some+in_default, in-Some+in-Some-next+in_default-next}
+use Rattle.phase_floor.proofs.floor.Floor.give.Goals as goal
+
+pub invariant_of-push_reserved : goal.invariant_of-push_reserved
+invariant_of-push_reserved g c =
+    let was = c.loop-key.invariant in let step = c.in-Some.ensures.steps in let w = c.loop-key.w in let floor = c.args.self.now in let workers = g.N.PhaseName.workers in
+    let below : w < workers = omega (arith, step.1, was.keys_left) in
+    let counts : c.index-counters.result.now ≡ counters_at floor.counters w =
+    get_or_read c.self.inside.counters.items _ _ (omega (arith, below, c.self.invariant.workers_are)) c.index-counters.ensures no_counters
+    ∙ ap (λ (f : FloorState). counters_at f.counters w) c.self.view_is in
+    can_start g.N.PhaseName.opening workers floor (subst (IsOpen g.N.PhaseName.opening workers) c.self.view_is c.self.invariant) w _ (stash_at c.args.stashes.items w) _ below (c.requires.fits w below)
+    (begun_next floor workers w c.args.quotas.now c.args.keys.items (into_iter_items c.next.new.self) c.args.kits.items (into_iter_items c.next-in-loop-key.new.self)
+    c.args.stashes.items (into_iter_items c.next-in-loop-key-2.new.self) c.requires.keys c.requires.kits below c.in-Some.key c.in-Some-next.field-0 c.in-Some-next-2.stash
+    (sym step.0 ∙ was.keys) (sym c.in-Some-next.ensures.cases.0 ∙ was.kits) (sym c.in-Some-next-2.ensures.cases.0 ∙ was.stashes)
+    c.self.inside.opening c.index-counters.result.now (ap (λ (f : FloorState). f.opening) c.self.view_is) counts)
+
+pub loop-key-preserved : goal.loop-key-preserved
+loop-key-preserved g c =
+    let was = c.loop-key.invariant in let step = c.in-Some.ensures.steps in let w = c.loop-key.w in let floor = c.args.self.now in let workers = g.N.PhaseName.workers in
+    let key = c.in-Some.key in let kit = c.in-Some-next.field-0 in let stash = c.in-Some-next-2.stash in let counters = c.index-counters.result.now in
+    let next = c.in-Some-next.ensures.cases in let after = c.in-Some-next-2.ensures.cases in let p = c.push_reserved.ensures in
+    let next_key = sym step.0 ∙ was.keys in let next_kit = sym next.0 ∙ was.kits in let next_stash = sym after.0 ∙ was.stashes in
+    let below : w < workers = omega (arith, step.1, was.keys_left) in
+    let counts : counters ≡ counters_at floor.counters w =
+    get_or_read c.self.inside.counters.items _ _ (omega (arith, below, c.self.invariant.workers_are)) c.index-counters.ensures no_counters
+    ∙ ap (λ (f : FloorState). counters_at f.counters w) c.self.view_is in
+    let begun = begun_next floor workers w c.args.quotas.now c.args.keys.items (into_iter_items c.next.new.self) c.args.kits.items (into_iter_items c.next-in-loop-key.new.self)
+    c.args.stashes.items (into_iter_items c.next-in-loop-key-2.new.self) c.requires.keys c.requires.kits below key kit stash next_key next_kit next_stash
+    c.self.inside.opening counters (ap (λ (f : FloorState). f.opening) c.self.view_is) counts in record {
+      len = omega (arith, p.len, was.len);
+      room = omega (arith, p.capacity, was.room);
+      keys_left = omega (arith, step.1, was.keys_left);
+      kits_left = omega (arith, next.1, was.kits_left);
+      stashes_left = omega (arith, after.1, was.stashes_left);
+      keys = drop_next c.args.keys.items w (w + 1) key (into_iter_items c.next.new.self) next_key refl;
+      kits = drop_next c.args.kits.items w (w + 1) kit (into_iter_items c.next-in-loop-key.new.self) next_kit refl;
+      stashes = drop_next c.args.stashes.items w (w + 1) stash (into_iter_items c.next-in-loop-key-2.new.self) next_stash refl;
+      each = λ v d low. each_push (λ k start. IsBegun floor k (get_or c.args.quotas.now k 0) (stash_at c.args.stashes.items k) start) c.loop-key.starts.items c.push_reserved.new.self.items
+          (start_of key c.self.inside.opening counters kit.journal stash kit.slices (get_or c.args.quotas.now w 0)) d w
+          (omega (arith, was.len, c.loop-key.starts.ok.0)) p.items (λ k lower. was.each k d lower) begun v low;
+    }
+
+pub returns : goal.returns
+returns g c =
+    let was = c.loop-key.invariant in
+    let all : c.loop-key.w ≡ g.N.PhaseName.workers = elim c.match-next.branch [
+      | in-None w ↦ omega (arith, was.keys_left, w.in-None.ensures.steps)
+      | in-Some+in_default w ↦ omega (arith, was.kits_left, w.in_default.ensures.cases)
+      | in-Some+in-Some-next+in_default-next w ↦ omega (arith, was.stashes_left, w.in_default-next.ensures.cases)
+    ] in
+    let many = ap (λ (f : FloorState). length f.counters) (sym c.self.view_is) ∙ c.self.invariant.workers_are in (
+      omega (arith, all, many, was.len, c.loop-key.starts.ok.0),
+      λ w d low. was.each w d (omega (arith, all, many, low)),
+    )
