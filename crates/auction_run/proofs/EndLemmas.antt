@@ -1,5 +1,5 @@
 -- Where commit numbers end: at a call of a script.
-use Rattle.std.proofs.Common.{◌≡◌, ℕ, zero, suc, ◌+◌, ◌<◌, List, [], ◌∷◌, ◌++◌, length, take, drop, slice_get, Some, inl, inr, ap, subst, arith}
+use Rattle.std.proofs.Common.{◌≡◌, ℕ, zero, suc, ◌+◌, ◌<◌, Bool, List, [], ◌∷◌, ◌++◌, length, take, drop, slice_get, Some, inl, inr, ap, subst, arith}
 use Rattle.std.specs.List.{AllByRecursion}
 use Rattle.auction_rows.specs.declared.requests.Request.{Request}
 use Rattle.phase_closing.specs.Phases.{receipt_at}
@@ -10,11 +10,11 @@ use Rattle.phase_transactions.specs.Permits.{PermitState}
 use Rattle.run_laws.specs.Turns.{numbered}
 use Rattle.run_serving.specs.Serving.{script_of}
 use Rattle.shard_boxes.specs.States.{ShardState}
-use Rattle.auction_run.specs.declared.fault.RunFault.{RunFault}
-use Rattle.auction_run.specs.declared.fault.RunFault.TheVariants as run
-use Rattle.auction_run.specs.Phases.{IsMet}
-use Rattle.auction_run.specs.Tasks.{Task, task, tasks, IsFirstFault, IsFaultBy}
-use Rattle.auction_run.specs.Working.{calls_from, IsCallOf, HasMetTheEnd}
+use Rattle.phase_workers.specs.declared.fault.ServingFault.{ServingFault}
+use Rattle.phase_workers.specs.declared.fault.ServingFault.TheVariants as serving
+use Rattle.phase_workers.specs.Tasks.{task, tasks, to_do, calls_for, IsFirstFault, IsFaultBy}
+use Rattle.phase_workers.specs.Working.{calls_from}
+use Rattle.auction_run.specs.Phases.{IsCallOf, HasMetTheEnd, IsMet, told}
 
 numbered_from : (script : List Request) (k : ℕ) (rs : List Request) → ((i : ℕ) → slice_get script (k + i) ≡ slice_get rs i) → AllByRecursion (IsCallOf script) (numbered k rs)
 numbered_from script k [] same = tt
@@ -57,24 +57,22 @@ met_end opening script calls before call left receipt its are full = record {
 }
 
 -- where the first task that is not done met the end, it was at a call of its script
-pub first_end : (IsDone : Task → PermitState → Type 0) (HasMet : Task → PermitState → PermitFault → Type 0) (calls : Task → List (ℕ × Request)) →
-    ((t : Task) (receipt : PermitState) → HasMet t receipt permit.NumberFull → AllByRecursion (IsCallOf t.script) (calls t) → HasMetTheEnd t.script) →
-    (permits : List PermitState) (scripts : List (List Request)) (first : ℕ) →
-    ((w : ℕ) → w < length permits → AllByRecursion (IsCallOf (script_of scripts w)) (calls (task (receipt_at permits w) (script_of scripts w) first))) →
-    IsFirstFault IsDone HasMet (tasks permits scripts first) permit.NumberFull → (worker : ℕ) × HasMetTheEnd (script_of scripts worker)
-first_end IsDone HasMet calls ends [] scripts first own met = absurd met
-first_end IsDone HasMet calls ends (p ∷ ps) [] first own met = absurd met
-first_end IsDone HasMet calls ends (p ∷ ps) (s ∷ ss) first own (inl met) = (0, ends (task p s first) met.0 met.1 (own 0 (omega arith)))
-first_end IsDone HasMet calls ends (p ∷ ps) (s ∷ ss) first own (inr later) =
-    let again = first_end IsDone HasMet calls ends ps ss first (λ w less. own (suc w) (omega (arith, less))) later.1 in
+pub first_end : (takes : Bool) (opening : List ShardState) (permits : List PermitState) (scripts : List (List Request)) (first : ℕ) →
+    ((w : ℕ) → w < length permits → let t = task (receipt_at permits w) (script_of scripts w) first in
+    AllByRecursion (IsCallOf (script_of scripts w)) (to_do takes t)) →
+    IsFirstFault takes opening (tasks permits scripts first) permit.NumberFull → (worker : ℕ) × HasMetTheEnd (script_of scripts worker)
+first_end takes opening [] scripts first own met = absurd met
+first_end takes opening (p ∷ ps) [] first own met = absurd met
+first_end takes opening (p ∷ ps) (s ∷ ss) first own (inl met) =
+    let stop = met.1 in
+    (0, met_end opening s (to_do takes (task p s first)) stop.before stop.call stop.left met.0 (own 0 (omega arith)) stop.calls_are stop.cause)
+first_end takes opening (p ∷ ps) (s ∷ ss) first own (inr later) =
+    let again = first_end takes opening ps ss first (λ w less. own (suc w) (omega (arith, less))) later.1 in
     (suc again.0, again.1)
 
-pub is_met : (scripts : List (List Request)) (P : PermitFault → Type 0) (fault : RunFault) →
-    (P permit.NumberFull → (worker : ℕ) × HasMetTheEnd (script_of scripts worker)) → IsFaultBy (length scripts) P fault → IsMet scripts fault
-is_met scripts P run.Spawn ends is = is
-is_met scripts P run.Memory ends is = tt
-is_met scripts P run.NumberFull ends is = ends is
-is_met scripts P run.Workers ends is = absurd is
-is_met scripts P run.Shards ends is = absurd is
-is_met scripts P run.Quota ends is = absurd is
-is_met scripts P run.TooLong ends is = absurd is
+pub is_met : (scripts : List (List Request)) (P : PermitFault → Type 0) (fault : ServingFault) →
+    (P permit.NumberFull → (worker : ℕ) × HasMetTheEnd (script_of scripts worker)) → IsFaultBy (length scripts) P fault → IsMet scripts (told fault)
+is_met scripts P serving.Spawn ends is = is
+is_met scripts P serving.Memory ends is = tt
+is_met scripts P (serving.Worker permit.Memory) ends is = tt
+is_met scripts P (serving.Worker permit.NumberFull) ends is = ends is

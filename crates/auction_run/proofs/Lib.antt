@@ -2,9 +2,7 @@ pub mod HeatLemmas
 pub mod RankLemmas
 pub mod ChoiceLemmas
 pub mod ChosenLemmas
-pub mod WorkLemmas
-pub mod ThreadLemmas
-pub mod TaskLemmas
+pub mod QuotaLemmas
 pub mod EndLemmas
 pub mod PhaseLemmas
 pub mod HotThere

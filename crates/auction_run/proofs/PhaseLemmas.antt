@@ -1,7 +1,7 @@
 -- From the floor, the permits and the receipts of a phase to what a run knows of it.
-use Rattle.std.proofs.Common.{◌≡◌, ℕ, zero, suc, ◌+◌, ◌-◌, ◌<◌, ◌≤◌, ◌==◌, ◌⊎◌, inl, inr, min, fold, Bool, true, false, cond, not, List, [], ◌∷◌, ◌++◌, map, length, take, drop, refl, sym, ap, subst, ◌∙◌, arith, eq-eqb}
+use Rattle.std.proofs.Common.{◌≡◌, ℕ, zero, suc, ◌+◌, ◌-◌, ◌<◌, ◌≤◌, ◌==◌, ◌⊎◌, inl, inr, min, fold, Bool, true, false, cond, List, [], ◌∷◌, ◌++◌, map, length, take, drop, refl, sym, ap, subst, ◌∙◌, arith, eq-eqb}
 use Rattle.std.specs.Prelude.{Option, slice_index}
-use Rattle.std.specs.List.{filter, AllByRecursion, AllZip}
+use Rattle.std.specs.List.{AllByRecursion, AllZip}
 use Rattle.std.proofs.Math.ListN.{get_or-map}
 use Rattle.std.proofs.lemmas.Bool.{cases_lt, false≢true}
 use Rattle.std.proofs.lemmas.List.{length-map, get_or_past}
@@ -11,7 +11,7 @@ use Rattle.auction_rows.specs.declared.requests.Request.{Request}
 use Rattle.auction_rows.specs.declared.rows.Entry.{Entry}
 use Rattle.auction_rows.specs.Book.{Book}
 use Rattle.auction_rows.specs.History.{ReplaysFrom, book_after}
-use Rattle.auction_rows.specs.Phases.{IsNumbered, is_put_off}
+use Rattle.auction_rows.specs.Phases.{IsNumbered}
 use Rattle.phase_laws.specs.Order.{part}
 use Rattle.run_laws.specs.Phases.{is_split, quota}
 use Rattle.run_laws.specs.Turns.{numbered}
@@ -41,10 +41,11 @@ use Rattle.phase_floor.specs.Floors.{FloorState, IsBegun, AreBegun, no_stash, st
 use Rattle.phase_floor.specs.States.{JoinedState, states_of, StandsFor}
 use Rattle.auction_run.specs.declared.phase.Closed.{Closed}
 use Rattle.auction_run.specs.Closed.{HasClosedPhase}
-use Rattle.auction_run.specs.Phases.{MayPerform, waiting_in, quota_of}
-use Rattle.auction_run.specs.Tasks.{Task, task, tasks, calls_for, CanBeDone, IsDoneJoined, IsDoneSplit, IsFirstFault}
-use Rattle.auction_run.specs.Working.{committed, stashed, hot_for, AreOfPhase, IsSamePermit, IsPermitOf, ArePermitsOf, IsCallOf, HasStopped, HasStoppedSplit, HasMetTheEnd}
-use Rattle.auction_run.proofs.EndLemmas.{calls_of_its, met_end, first_end}
+use Rattle.auction_run.specs.Phases.{IsCallOf, HasMetTheEnd, MayPerform, waiting_in, quota_of}
+use Rattle.phase_workers.specs.Tasks.{Task, task, tasks, to_do, calls_for, CanBeDone, IsDone, IsFirstFault}
+use Rattle.phase_workers.specs.Working.{committed, stashed, taken, kept, hot_for, put_off, not_put_off, AreOfPhase, IsSamePermit, IsPermitOf, ArePermitsOf}
+use Rattle.phase_workers.proofs.WorkLemmas.{cold_kept, cold_off}
+use Rattle.auction_run.proofs.EndLemmas.{calls_of_its, first_end}
 
 -- ---- tasks, by worker
 
@@ -90,21 +91,26 @@ only_memory TooLong known short = absurd (short refl)
 only_memory Memory known short = refl
 
 pub not_too_long : (policy : Policy) (scripts : List (List Request)) (state : JoinedState) (stashes handed : List StashState) (hot : List Object) (quotas : List ℕ) →
-    MayPerform policy scripts state stashes hot → ((w : ℕ) → length (stash_at handed w).requests ≤ length (waiting_in stashes w)) →
+    MayPerform policy scripts state stashes hot → ((w : ℕ) → (stash_at handed w).requests ≡ waiting_in stashes w) →
     ((w : ℕ) → w < length scripts → slice_index quotas w ≡ quota_of policy state.phase (script_of scripts w)) → IsTooLong state.counters handed quotas → ⊥
-not_too_long policy scripts state stashes handed hot quotas may less are long =
+not_too_long policy scripts state stashes handed hot quotas may handed_is are long =
     let room = may.room long.0 long.1 in
     let same = are long.0 (omega (arith, long.1, may.scripts_are)) in
-    let fewer = less long.0 in
+    let as_long = ap length (handed_is long.0) in
     let over = long.2 in
-    absurd (omega (arith, room, same, fewer, over))
+    absurd (omega (arith, room, same, as_long, over))
 
 -- ---- small facts
 
--- what a worker is given is its quota of the phase
-pub quota_is : (policy : Policy) (phase q len f first n : ℕ) → n ≡ min q (len - first) → cond (is_split phase) policy.split_quota policy.joined_quota ≡ q →
-    first ≡ f → n ≡ min (cond (is_split phase) policy.split_quota policy.joined_quota) (len - f)
-quota_is policy phase q len f first n is own at = is ∙ ap (λ k. min q (len - k)) at ∙ ap (λ k. min k (len - f)) (sym own)
+-- what each worker is given is its quota of the phase
+pub quotas_of : (policy : Policy) (scripts : List (List Request)) (phase count quota first : ℕ) (given quotas : List ℕ) →
+    length scripts ≡ count → given ≡ quotas → cond (is_split phase) policy.split_quota policy.joined_quota ≡ quota → first ≡ first_index policy phase →
+    ((w : ℕ) → w < count → slice_index quotas w ≡ min quota (length (script_of scripts w) - first)) →
+    (w : ℕ) → w < length scripts → slice_index given w ≡ quota_of policy phase (script_of scripts w)
+quotas_of policy scripts phase count quota first given quotas many same own at are w less =
+    ap (λ qs. slice_index qs w) same ∙ are w (omega (arith, less, many))
+    ∙ ap (λ k. min quota (length (script_of scripts w) - k)) at
+    ∙ ap (λ k. min k (length (script_of scripts w) - first_index policy phase)) (sym own)
 
 -- what holds of each worker's part holds of all
 of_parts : (P : Entry → Type 0) (entries : List Entry) → ((w : ℕ) → AllByRecursion P (part (λ e. e.worker) w entries)) → AllByRecursion P entries
@@ -152,6 +158,21 @@ given_none policy phase =
     ap (take (quota policy.joined_quota policy.split_quota phase 0)) (none_dropped (first_index policy phase))
     ∙ none_taken (quota policy.joined_quota policy.split_quota phase 0)
 
+-- ---- what a phase takes of a stash
+
+all_taken : (P : ℕ × Request → Type 0) (takes : Bool) (permit : PermitState) → AllByRecursion P (stashed permit) → AllByRecursion P (taken takes permit)
+all_taken P true permit all = all
+all_taken P false permit all = tt
+
+-- it is all that waits, where nothing waits that is not taken
+all_are_taken : (takes : Bool) (permit : PermitState) (waiting : List (ℕ × Request)) → stashed permit ≡ waiting → (takes ≡ false → waiting ≡ []) → taken takes permit ≡ waiting
+all_are_taken true permit waiting is none = is
+all_are_taken false permit waiting is none = sym (none refl)
+
+none_kept : (takes : Bool) (permit : PermitState) (waiting : List (ℕ × Request)) → stashed permit ≡ waiting → (takes ≡ false → waiting ≡ []) → kept takes permit ≡ []
+none_kept true permit waiting is none = refl
+none_kept false permit waiting is none = is ∙ none refl
+
 pub empty_at : (quotas : List ℕ) (w : ℕ) → (stash_at (map empty_stash quotas) w).requests ≡ []
 empty_at [] w = refl
 empty_at (q ∷ qs) zero = refl
@@ -171,7 +192,7 @@ module _ (policy : Policy) (scripts : List (List Request)) (state : JoinedState)
     (first_is : first ≡ first_index policy state.phase) (may : MayPerform policy scripts state stashes hot) (opening : List ShardState) (floor : FloorState) (quotas : List ℕ) (permits : List PermitState)
     (named : states_of state ≡ opening) (opening_is : floor.opening ≡ state.opening) (phase_is : floor.phase ≡ state.phase) (counters_are : floor.counters ≡ state.counters)
     (quotas_are : (w : ℕ) → w < length scripts → slice_index quotas w ≡ quota_of policy state.phase (script_of scripts w))
-    (begun : AreBegun floor quotas handed permits) where
+    (begun : AreBegun floor quotas handed permits) (handed_is : (w : ℕ) → (stash_at handed w).requests ≡ waiting_in stashes w) where
   workers_are : length floor.counters ≡ length scripts
   workers_are = ap length counters_are ∙ sym may.scripts_are
 
@@ -187,8 +208,8 @@ module _ (policy : Policy) (scripts : List (List Request)) (state : JoinedState)
   left_is : (w : ℕ) → w < length scripts → (receipt_at permits w).split.context.left ≡ quota_of policy state.phase (script_of scripts w)
   left_is w less = ap (λ (p : PermitState). p.split.context.left) (begins w less).new ∙ quotas_are w less
 
-  stash_is : (w : ℕ) → w < length scripts → stashed (receipt_at permits w) ≡ (stash_at handed w).requests
-  stash_is w less = ap (λ (p : PermitState). stashed p) (begins w less).new
+  stash_is : (w : ℕ) → w < length scripts → stashed (receipt_at permits w) ≡ waiting_in stashes w
+  stash_is w less = ap (λ (p : PermitState). stashed p) (begins w less).new ∙ handed_is w
 
   none_committed : (w : ℕ) → w < length scripts → committed (receipt_at permits w) ≡ []
   none_committed w less = ap (λ (p : PermitState). committed p) (begins w less).new
@@ -207,15 +228,13 @@ module _ (policy : Policy) (scripts : List (List Request)) (state : JoinedState)
       })
 
   -- each worker can do its task
-  pub can_all : (boxes : List BoxId) → boxes ≡ floor.boxes → HaveOpening opening floor.opening →
-      ((w : ℕ) → w < length scripts → length (stash_at handed w).requests + quota_of policy state.phase (script_of scripts w) ≤ 1000000) →
-      AllByRecursion (CanBeDone opening boxes) (tasks permits scripts first)
-  can_all boxes same have room = tasks_all (CanBeDone opening boxes) permits scripts first as_many (λ w below.
+  pub can_all : (boxes : List BoxId) → boxes ≡ floor.boxes → HaveOpening opening floor.opening → AllByRecursion (CanBeDone opening boxes) (tasks permits scripts first)
+  can_all boxes same have = tasks_all (CanBeDone opening boxes) permits scripts first as_many (λ w below.
       let less : w < length scripts = omega (arith, below, as_many) in
       let left = left_is w less in
-      let waits : length (stashed (receipt_at permits w)) ≡ length (stash_at handed w).requests = ap length (stash_is w less) in
+      let waits : length (stashed (receipt_at permits w)) ≡ length (waiting_in stashes w) = ap length (stash_is w less) in
       let tries : (receipt_at permits w).split.context.tries ≡ 0 = ap (λ (p : PermitState). p.split.context.tries) (begins w less).new in
-      let few = room w less in
+      let few = may.room w (omega (arith, less, may.scripts_are)) in
       let fits = within (cond (is_split state.phase) policy.split_quota policy.joined_quota) (length (script_of scripts w)) (first_index policy state.phase) first first_is in record {
         boxes_are = (begins w less).key.boxes_are ∙ sym same;
         opening_is = subst (HaveOpening opening) (sym (ap (λ (p : PermitState). p.split.context.opening) (begins w less).new)) have;
@@ -225,22 +244,12 @@ module _ (policy : Policy) (scripts : List (List Request)) (state : JoinedState)
       })
 
   -- where a worker met the end of numbers, it was at a call of its script
-  pub joined_end : ((w : ℕ) → AllByRecursion (IsCallOf (script_of scripts w)) (stash_at handed w).requests) →
-      IsFirstFault IsDoneJoined (λ t. HasStopped opening (stashed t.permit ++ calls_for t) t.permit) (tasks permits scripts first) NumberFull →
-      (worker : ℕ) × HasMetTheEnd (script_of scripts worker)
-  joined_end own = first_end IsDoneJoined (λ t. HasStopped opening (stashed t.permit ++ calls_for t) t.permit) (λ t. stashed t.permit ++ calls_for t)
-      (λ t receipt met its. met_end opening t.script (stashed t.permit ++ calls_for t) met.before met.call met.left receipt its met.calls_are met.cause)
-      permits scripts first (λ w below.
+  pub end_met : (takes : Bool) → IsFirstFault takes opening (tasks permits scripts first) NumberFull → (worker : ℕ) × HasMetTheEnd (script_of scripts worker)
+  end_met takes = first_end takes opening permits scripts first (λ w below.
       let less : w < length scripts = omega (arith, below, as_many) in
-      all-append (IsCallOf (script_of scripts w)) (stashed (receipt_at permits w)) (calls_for (task (receipt_at permits w) (script_of scripts w) first))
-      (subst (AllByRecursion (IsCallOf (script_of scripts w))) (sym (stash_is w less)) (own w))
+      all-append (IsCallOf (script_of scripts w)) (taken takes (receipt_at permits w)) (calls_for (task (receipt_at permits w) (script_of scripts w) first))
+      (all_taken (IsCallOf (script_of scripts w)) takes (receipt_at permits w) (subst (AllByRecursion (IsCallOf (script_of scripts w))) (sym (stash_is w less)) (may.own w)))
       (calls_of_its first (receipt_at permits w).split.context.left (script_of scripts w)))
-
-  pub split_end : IsFirstFault IsDoneSplit (λ t. HasStoppedSplit opening (calls_for t) t.permit) (tasks permits scripts first) NumberFull →
-      (worker : ℕ) × HasMetTheEnd (script_of scripts worker)
-  split_end = first_end IsDoneSplit (λ t. HasStoppedSplit opening (calls_for t) t.permit) (λ t. calls_for t)
-      (λ t receipt met its. met_end opening t.script (calls_for t) met.before met.call met.left receipt its met.calls_are met.cause)
-      permits scripts first (λ w below. calls_of_its first (receipt_at permits w).split.context.left (script_of scripts w))
 
   pub replays_on : (after : JoinedState) (entries : List Entry) →
       ((book : Book) → StandFor opening floor.counters book [] → ReplaysFrom floor.opening book entries) →
@@ -325,77 +334,57 @@ module _ (policy : Policy) (scripts : List (List Request)) (state : JoinedState)
       none_given : (w : ℕ) → length scripts ≤ w → calls_given policy state.phase (script_of scripts w) ≡ []
       none_given w beyond = ap (calls_given policy state.phase) (script_past scripts w beyond) ∙ given_none policy state.phase
 
-      module _ (joined : is_split state.phase ≡ false) (all_handed : handed ≡ stashes)
-          (done : (w : ℕ) → w < length scripts → IsDoneJoined (task (receipt_at permits w) (script_of scripts w) first) (receipt_at receipts w)) where
-        joined_calls : (w : ℕ) → calls_of w entries ≡ waiting_in stashes w ++ calls_given policy state.phase (script_of scripts w)
-        joined_calls w = at (cases_lt w (length scripts))
-          where
-            at : (w < length scripts) ⊎ (length scripts ≤ w) → calls_of w entries ≡ waiting_in stashes w ++ calls_given policy state.phase (script_of scripts w)
-            at (inl less) =
-                let t : Task = task (receipt_at permits w) (script_of scripts w) first in
-                calls_are w ∙ (done w less).calls
-                ∙ ap (λ cs. cs ++ (stashed (receipt_at permits w) ++ calls_for t)) (none_committed w less)
-                ∙ ap (λ ss. ss ++ calls_for t) (stash_is w less)
-                ∙ ap (λ ss. (stash_at ss w).requests ++ calls_for t) all_handed
-                ∙ ap (λ cs. waiting_in stashes w ++ cs) (calls_given_are w less)
-            at (inr beyond) =
-                let none : waiting_in stashes w ≡ [] = ap (λ (s : StashState). s.requests) (get_or_past stashes w no_stash (omega (arith, beyond, may.stashes_are, may.scripts_are))) in
-                none_past w beyond ∙ sym (ap (λ ss. ss ++ calls_given policy state.phase (script_of scripts w)) none ∙ none_given w beyond)
+      module _ (takes : Bool) (none : (w : ℕ) → takes ≡ false → waiting_in stashes w ≡ []) (hot_are : objects_of floor.stocks ≡ hot)
+          (done : (w : ℕ) → w < length scripts → IsDone takes (task (receipt_at permits w) (script_of scripts w) first) (receipt_at receipts w)) where
+        -- what waited and what is given
+        abbrev asked : ℕ → List (ℕ × Request)
+        asked w = waiting_in stashes w ++ calls_given policy state.phase (script_of scripts w)
 
-        joined_stash : (w : ℕ) → waiting_in (map stash_of receipts) w ≡ []
-        joined_stash w = at (cases_lt w (length scripts))
-          where
-            at : (w < length scripts) ⊎ (length scripts ≤ w) → waiting_in (map stash_of receipts) w ≡ []
-            at (inl less) = waits_after w ∙ (done w less).stash
-            at (inr beyond) = waits_after w ∙ ap (λ (p : PermitState). stashed p) (past w beyond)
-
-        pub joined_performed : HasPerformed policy scripts state.phase hot (waiting_in stashes) (waiting_in (map stash_of receipts)) entries
-        joined_performed = record {
-          phases = of_phase;
-          joined_calls = λ is. joined_calls;
-          joined_stash = λ is. joined_stash;
-          split_calls = λ is. absurd (false≢true (sym joined ∙ is));
-          split_stash = λ is. absurd (false≢true (sym joined ∙ is));
-        }
-
-      module _ (split : is_split state.phase ≡ true) (hot_are : objects_of floor.stocks ≡ hot) (none_handed : (w : ℕ) → (stash_at handed w).requests ≡ [])
-          (done : (w : ℕ) → w < length scripts → IsDoneSplit (task (receipt_at permits w) (script_of scripts w) first) (receipt_at receipts w)) where
         hot_is : (w : ℕ) → w < length scripts → hot_for (receipt_at permits w) ≡ hot
         hot_is w less = ap (λ (p : PermitState). hot_for p) (begins w less).new ∙ objects_back floor.stocks ∙ hot_are
 
-        split_calls : (w : ℕ) → calls_of w entries ≡ filter (λ call. not (is_put_off hot call.1)) (calls_given policy state.phase (script_of scripts w))
-        split_calls w = at (cases_lt w (length scripts))
+        asked_is : (w : ℕ) → w < length scripts → to_do takes (task (receipt_at permits w) (script_of scripts w) first) ≡ asked w
+        asked_is w less =
+            ap (λ ss. ss ++ calls_for (task (receipt_at permits w) (script_of scripts w) first)) (all_are_taken takes (receipt_at permits w) (waiting_in stashes w) (stash_is w less) (none w))
+            ∙ ap (λ cs. waiting_in stashes w ++ cs) (calls_given_are w less)
+
+        none_asked : (w : ℕ) → length scripts ≤ w → asked w ≡ []
+        none_asked w beyond =
+            let none : waiting_in stashes w ≡ [] = ap (λ (s : StashState). s.requests) (get_or_past stashes w no_stash (omega (arith, beyond, may.stashes_are, may.scripts_are))) in
+            ap (λ ss. ss ++ calls_given policy state.phase (script_of scripts w)) none ∙ none_given w beyond
+
+        calls_done : (w : ℕ) → calls_of w entries ≡ not_put_off hot (asked w)
+        calls_done w = at (cases_lt w (length scripts))
           where
-            at : (w < length scripts) ⊎ (length scripts ≤ w) → calls_of w entries ≡ filter (λ call. not (is_put_off hot call.1)) (calls_given policy state.phase (script_of scripts w))
+            at : (w < length scripts) ⊎ (length scripts ≤ w) → calls_of w entries ≡ not_put_off hot (asked w)
             at (inl less) =
-                let t : Task = task (receipt_at permits w) (script_of scripts w) first in
+                let permit : PermitState = receipt_at permits w in
+                let given : List (ℕ × Request) = to_do takes (task permit (script_of scripts w) first) in
                 calls_are w ∙ (done w less).calls
-                ∙ ap (λ cs. cs ++ filter (λ call. not (is_put_off (hot_for (receipt_at permits w)) call.1)) (calls_for t)) (none_committed w less)
-                ∙ ap (λ h. filter (λ call. not (is_put_off h call.1)) (calls_for t)) (hot_is w less)
-                ∙ ap (filter (λ (call : ℕ × Request). not (is_put_off hot call.1))) (calls_given_are w less)
-            at (inr beyond) = none_past w beyond ∙ sym (ap (filter (λ (call : ℕ × Request). not (is_put_off hot call.1))) (none_given w beyond))
+                ∙ ap (λ cs. cs ++ not_put_off (hot_for permit) given) (none_committed w less)
+                ∙ ap (λ h. not_put_off h given) (hot_is w less)
+                ∙ ap (not_put_off hot) (asked_is w less)
+            at (inr beyond) = none_past w beyond ∙ sym (ap (not_put_off hot) (none_asked w beyond))
 
-        split_stash : (w : ℕ) → waiting_in (map stash_of receipts) w ≡ filter (λ call. is_put_off hot call.1) (calls_given policy state.phase (script_of scripts w))
-        split_stash w = at (cases_lt w (length scripts))
+        stash_left : (w : ℕ) → waiting_in (map stash_of receipts) w ≡ put_off hot (asked w)
+        stash_left w = at (cases_lt w (length scripts))
           where
-            at : (w < length scripts) ⊎ (length scripts ≤ w) → waiting_in (map stash_of receipts) w ≡ filter (λ call. is_put_off hot call.1) (calls_given policy state.phase (script_of scripts w))
+            at : (w < length scripts) ⊎ (length scripts ≤ w) → waiting_in (map stash_of receipts) w ≡ put_off hot (asked w)
             at (inl less) =
-                let t : Task = task (receipt_at permits w) (script_of scripts w) first in
+                let permit : PermitState = receipt_at permits w in
                 waits_after w ∙ (done w less).stash
-                ∙ ap (λ cs. cs ++ filter (λ call. is_put_off (hot_for (receipt_at permits w)) call.1) (calls_for t)) (stash_is w less ∙ none_handed w)
-                ∙ ap (λ h. filter (λ call. is_put_off h call.1) (calls_for t)) (hot_is w less)
-                ∙ ap (filter (λ (call : ℕ × Request). is_put_off hot call.1)) (calls_given_are w less)
-            at (inr beyond) =
-                waits_after w ∙ ap (λ (p : PermitState). stashed p) (past w beyond)
-                ∙ sym (ap (filter (λ (call : ℕ × Request). is_put_off hot call.1)) (none_given w beyond))
+                ∙ ap (λ ss. ss ++ put_off (hot_for permit) (to_do takes (task permit (script_of scripts w) first))) (none_kept takes permit (waiting_in stashes w) (stash_is w less) (none w))
+                ∙ ap (λ h. put_off h (to_do takes (task permit (script_of scripts w) first))) (hot_is w less)
+                ∙ ap (put_off hot) (asked_is w less)
+            at (inr beyond) = waits_after w ∙ ap (λ (p : PermitState). stashed p) (past w beyond) ∙ sym (ap (put_off hot) (none_asked w beyond))
 
-        pub split_performed : HasPerformed policy scripts state.phase hot (waiting_in stashes) (waiting_in (map stash_of receipts)) entries
-        split_performed = record {
+        pub performed : HasPerformed policy scripts state.phase hot (waiting_in stashes) (waiting_in (map stash_of receipts)) entries
+        performed = record {
           phases = of_phase;
-          joined_calls = λ is. absurd (false≢true (sym is ∙ split));
-          joined_stash = λ is. absurd (false≢true (sym is ∙ split));
-          split_calls = λ is. split_calls;
-          split_stash = λ is. split_stash;
+          joined_calls = λ joined w. calls_done w ∙ ap (λ h. not_put_off h (asked w)) (may.joined joined) ∙ cold_kept (asked w);
+          joined_stash = λ joined w. stash_left w ∙ ap (λ h. put_off h (asked w)) (may.joined joined) ∙ cold_off (asked w);
+          split_calls = λ split w. calls_done w ∙ ap (λ ss. not_put_off hot (ss ++ calls_given policy state.phase (script_of scripts w))) (may.split split w);
+          split_stash = λ split w. stash_left w ∙ ap (λ ss. put_off hot (ss ++ calls_given policy state.phase (script_of scripts w))) (may.split split w);
         }
 
     -- all that a run knows of the phase, once it is closed
@@ -420,52 +409,35 @@ module _ (policy : Policy) (scripts : List (List Request)) (state : JoinedState)
       commits = commits_are given entries closed (λ w. (counters_at after.state.counters w).commits) commits;
     }
 
-  module _ (receipts : List PermitState) (all : AllZip IsDoneJoined (tasks permits scripts first) receipts) where
-    joined_count : length receipts ≡ length permits
-    joined_count = done_count IsDoneJoined permits receipts scripts first as_many all
+  module _ (takes : Bool) (receipts : List PermitState) (all : AllZip (IsDone takes) (tasks permits scripts first) receipts) where
+    count : length receipts ≡ length permits
+    count = done_count (IsDone takes) permits receipts scripts first as_many all
 
-    joined_at : (w : ℕ) → w < length scripts → IsDoneJoined (task (receipt_at permits w) (script_of scripts w) first) (receipt_at receipts w)
-    joined_at w less = done_at IsDoneJoined permits receipts scripts first as_many all w (omega (arith, less, as_many))
+    done : (w : ℕ) → w < length scripts → IsDone takes (task (receipt_at permits w) (script_of scripts w) first) (receipt_at receipts w)
+    done w less = done_at (IsDone takes) permits receipts scripts first as_many all w (omega (arith, less, as_many))
 
-    pub joined_receipts : AreReceiptsOf floor receipts
-    joined_receipts = are_receipts receipts joined_count (λ w less. (joined_at w less).same)
+    same : (w : ℕ) → w < length scripts → IsSamePermit (receipt_at permits w) (receipt_at receipts w)
+    same w less = (done w less).same
 
-    pub joined_closed : is_split state.phase ≡ false → handed ≡ stashes → objects_of floor.stocks ≡ hot → (after : Closed) (entries : List Entry) →
-        HasSettled opening floor receipts (states_of after.state) entries →
-        after.state.opening ≡ floor.opening → after.state.phase ≡ floor.phase + 1 → after.state.counters ≡ map counters_of receipts →
-        after.stashes.items ≡ map stash_of receipts →
-        ((w : ℕ) → w < length receipts → (counters_at after.state.counters w).commits ≡ (counters_at floor.counters w).commits + length (journal_of (receipt_at receipts w)).entries) →
-        ((book : Book) → StandFor opening floor.counters book [] → ReplaysFrom floor.opening book entries) →
-        ((book : Book) → StandFor opening floor.counters book [] → StandsFor after.state (book_after floor.opening book entries)) →
-        HasClosedPhase policy scripts state stashes hot entries after
-    joined_closed joined all_handed hot_are after entries settled opened counted counts waits commits replays stands =
-        let same = λ (w : ℕ) (less : w < length scripts). (joined_at w less).same in
-        closed_phase receipts joined_count same after entries settled.given settled.closed hot_are
-        (joined_performed receipts joined_count same settled.given entries settled.closed joined all_handed joined_at)
-        opened counted counts waits (ap length settled.states_are ∙ length-map settled.given at_start ∙ settled.closed.boxes.0) commits replays stands
+    pub receipts_are : AreReceiptsOf floor receipts
+    receipts_are = are_receipts receipts count same
 
-  module _ (receipts : List PermitState) (all : AllZip IsDoneSplit (tasks permits scripts first) receipts) where
-    split_count : length receipts ≡ length permits
-    split_count = done_count IsDoneSplit permits receipts scripts first as_many all
+    module _ (none : (w : ℕ) → takes ≡ false → waiting_in stashes w ≡ []) (hot_are : objects_of floor.stocks ≡ hot) (after : Closed) (entries : List Entry)
+        (opened : after.state.opening ≡ floor.opening) (counted : after.state.phase ≡ floor.phase + 1) (counts : after.state.counters ≡ map counters_of receipts)
+        (waits : after.stashes.items ≡ map stash_of receipts)
+        (commits : (w : ℕ) → w < length receipts → (counters_at after.state.counters w).commits ≡ (counters_at floor.counters w).commits + length (journal_of (receipt_at receipts w)).entries)
+        (replays : (book : Book) → StandFor opening floor.counters book [] → ReplaysFrom floor.opening book entries)
+        (stands : (book : Book) → StandFor opening floor.counters book [] → StandsFor after.state (book_after floor.opening book entries)) where
+      pub joined_closed : HasSettled opening floor receipts (states_of after.state) entries → HasClosedPhase policy scripts state stashes hot entries after
+      joined_closed settled =
+          closed_phase receipts count same after entries settled.given settled.closed hot_are
+          (performed receipts count same settled.given entries settled.closed takes none hot_are done)
+          opened counted counts waits (ap length settled.states_are ∙ length-map settled.given at_start ∙ settled.closed.boxes.0) commits replays stands
 
-    split_at : (w : ℕ) → w < length scripts → IsDoneSplit (task (receipt_at permits w) (script_of scripts w) first) (receipt_at receipts w)
-    split_at w less = done_at IsDoneSplit permits receipts scripts first as_many all w (omega (arith, less, as_many))
-
-    pub split_receipts : AreReceiptsOf floor receipts
-    split_receipts = are_receipts receipts split_count (λ w less. (split_at w less).same)
-
-    pub split_closed : is_split state.phase ≡ true → ((w : ℕ) → (stash_at handed w).requests ≡ []) → objects_of floor.stocks ≡ hot → (after : Closed) (entries : List Entry) →
-        HasReconciled opening floor receipts (states_of after.state) entries →
-        after.state.opening ≡ floor.opening → after.state.phase ≡ floor.phase + 1 → after.state.counters ≡ map counters_of receipts →
-        after.stashes.items ≡ map stash_of receipts →
-        ((w : ℕ) → w < length receipts → (counters_at after.state.counters w).commits ≡ (counters_at floor.counters w).commits + length (journal_of (receipt_at receipts w)).entries) →
-        ((book : Book) → StandFor opening floor.counters book [] → ReplaysFrom floor.opening book entries) →
-        ((book : Book) → StandFor opening floor.counters book [] → StandsFor after.state (book_after floor.opening book entries)) →
-        HasClosedPhase policy scripts state stashes hot entries after
-    split_closed split none_handed hot_are after entries settled opened counted counts waits commits replays stands =
-        let same = λ (w : ℕ) (less : w < length scripts). (split_at w less).same in
-        closed_phase receipts split_count same after entries settled.given settled.closed hot_are
-        (split_performed receipts split_count same settled.given entries settled.closed split hot_are none_handed split_at)
-        opened counted counts waits
-        (ap length settled.states_are ∙ length-map (fold after_merge settled.given settled.order) at_start ∙ merged_count settled.order settled.given ∙ settled.closed.boxes.0)
-        commits replays stands
+      pub split_closed : HasReconciled opening floor receipts (states_of after.state) entries → HasClosedPhase policy scripts state stashes hot entries after
+      split_closed settled =
+          closed_phase receipts count same after entries settled.given settled.closed hot_are
+          (performed receipts count same settled.given entries settled.closed takes none hot_are done)
+          opened counted counts waits
+          (ap length settled.states_are ∙ length-map (fold after_merge settled.given settled.order) at_start ∙ merged_count settled.order settled.given ∙ settled.closed.boxes.0)
+          commits replays stands

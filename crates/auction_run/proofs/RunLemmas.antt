@@ -35,7 +35,7 @@ use Rattle.auction_run.specs.Beginning.{AreShort}
 use Rattle.auction_run.specs.Outcomes.{IsOutcome}
 use Rattle.auction_run.specs.Phases.{hot_sets, waiting_in, quota_of, MayPerform}
 use Rattle.auction_run.specs.Running.{IsRunning, CanGoOn}
-use Rattle.auction_run.specs.Working.{IsCallOf}
+use Rattle.auction_run.specs.Phases.{IsCallOf}
 use Rattle.auction_run.proofs.EndLemmas.{own_calls}
 use Rattle.auction_run.proofs.HotThere.{chosen_exist}
 use Rattle.auction_run.proofs.ScriptLemmas.{past_end}

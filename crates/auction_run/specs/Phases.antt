@@ -1,6 +1,5 @@
 -- What a phase of a run begins with, and the faults that it meets.
-use Rattle.std.specs.declared.alloc.Global.{Global}
-use Rattle.std.specs.Prelude.{ℕ, ◌≡◌, ◌+◌, ◌<◌, ◌≤◌, ◌^◌, true, false, List, [], map, length, Vec, Result, IsErrOf, ⊤}
+use Rattle.std.specs.Prelude.{ℕ, ◌≡◌, ◌+◌, ◌<◌, ◌≤◌, ◌^◌, true, false, List, [], map, length, slice_get, Some, Result, IsErrOf, ⊤}
 use Rattle.std.specs.List.{AllByRecursion}
 use Rattle.std.specs.HashSet.{HashSet}
 use Rattle.auction_rows.specs.declared.limits.TheConstants.{MOST_OF_A_WORKER}
@@ -14,14 +13,20 @@ use Rattle.run_laws.specs.Phases.{is_split, quota}
 use Rattle.run_serving.specs.declared.policy.Policy.{Policy}
 use Rattle.run_serving.specs.Run.{first_index}
 use Rattle.run_serving.specs.Serving.{script_of}
-use Rattle.auction_run.specs.declared.round.Round.{Round}
-use Rattle.auction_run.specs.Working.{IsCallOf, HasMetTheEnd}
+use Rattle.phase_transactions.specs.declared.fault.PermitFault.TheVariants as worker_fault
+use Rattle.phase_transactions.specs.Performing.{IsCause}
+use Rattle.phase_transactions.specs.Permits.{PermitState}
+use Rattle.phase_workers.specs.declared.fault.ServingFault.{ServingFault}
+use Rattle.phase_workers.specs.declared.fault.ServingFault.TheVariants as serving
+use Rattle.shard_boxes.specs.States.{ShardState}
+use Rattle.auction_run.specs.declared.plan.Plan.{Plan}
+pub use Rattle.phase_workers.specs.Tasks.{lists}
 use Rattle.auction_run.specs.declared.fault.RunFault.{RunFault}
 use Rattle.auction_run.specs.declared.fault.RunFault.TheVariants.{Workers, Shards, Quota, TooLong, Spawn, Memory, NumberFull}
 
--- the lists in a list of vectors
-abbrev pub lists : {X : Type 0} → List (Vec X Global) → List (List X)
-lists vectors = map (λ v. v.items) vectors
+-- a call of a script: its request stands there, at its index
+abbrev pub IsCallOf : List Request → ℕ × Request → Type 0
+IsCallOf script call = slice_get script call.0 ≡ Some call.1
 
 -- the objects of each hot set, in its order
 abbrev pub hot_sets : {S : Type 0} → List (HashSet Object S) → List (List Object)
@@ -36,7 +41,7 @@ abbrev pub quota_of : Policy → ℕ → List Request → ℕ
 quota_of policy phase script = quota policy.joined_quota policy.split_quota phase (length script)
 
 -- the round is that of the phase, and goes on with each script at the first index that reaches it
-abbrev pub IsRoundOf : {G : Type 0} → Round G → ℕ → Type 0
+abbrev pub IsRoundOf : {G : Type 0} → Plan G → ℕ → Type 0
 IsRoundOf round phase = (round.phase ≡ phase) × (round.first ≡ first_index round.policy phase)
 
 -- A run may perform the next phase of a state.
@@ -59,6 +64,21 @@ pub record MayPerform (policy : Policy) (scripts : List (List Request)) (state :
   pub own : (worker : ℕ) → AllByRecursion (IsCallOf (script_of scripts worker)) (waiting_in stashes worker)
   -- nothing waits in a split phase
   pub split : is_split state.phase ≡ true → (worker : ℕ) → waiting_in stashes worker ≡ []
+
+-- A permit met the end of commit numbers at a call of a script.
+pub record HasMetTheEnd (script : List Request) : Type 0 where
+  pub call : ℕ × Request
+  pub is_its : IsCallOf script call
+  pub opening : List ShardState
+  pub permit : PermitState
+  pub full : IsCause opening permit.split permit.key call.1 worker_fault.NumberFull
+
+-- what a run answers where its workers are not done
+abbrev pub told : ServingFault → RunFault
+told serving.Spawn = Spawn
+told serving.Memory = Memory
+told (serving.Worker worker_fault.Memory) = Memory
+told (serving.Worker worker_fault.NumberFull) = NumberFull
 
 -- Why a phase of such scripts fails: a thread, of those of all workers but the first, could not be started; or no memory was left; or
 -- numbers ended at a call of a script. None of the faults that are found before a run begins is met.

@@ -3,6 +3,7 @@ ghost use Rattle.std.specs.Prelude.{◌≡◌};
 
 use phase_floor::FloorFault;
 use phase_transactions::PermitFault;
+use phase_workers::ServingFault;
 use std::alloc::{AllocError, AllocFailed};
 use thiserror::Error;
 
@@ -53,15 +54,16 @@ impl<T: Drop> From<AllocFailed<T>> for RunFault {
     }
 }
 
-impl From<PermitFault> for RunFault {
-    ghost use Rattle.auction_run.specs.Tasks.{met};
+impl From<ServingFault> for RunFault {
+    ghost use Rattle.auction_run.specs.Phases.{told};
 
-    ghost from_gives = { λ fault run. run ≡ met fault };
+    ghost from_gives = { λ fault run. run ≡ told fault };
 
-    fn from(fault: PermitFault) -> RunFault {
+    fn from(fault: ServingFault) -> RunFault {
         match fault {
-            PermitFault::Memory => RunFault::Memory,
-            PermitFault::NumberFull => RunFault::NumberFull,
+            ServingFault::Spawn => RunFault::Spawn,
+            ServingFault::Memory | ServingFault::Worker(PermitFault::Memory) => RunFault::Memory,
+            ServingFault::Worker(PermitFault::NumberFull) => RunFault::NumberFull,
         }
     }
 }

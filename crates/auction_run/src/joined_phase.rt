@@ -8,13 +8,12 @@ ghost use Rattle.auction_run.specs.Closed.{HasClosedPhase};
 ghost use Rattle.auction_run.specs.Phases.{lists, IsRoundOf, MayPerform, IsMet};
 
 use crate::fault::RunFault;
-use crate::gate::Gate;
 use crate::phase::{Closed, begin_fault};
+use crate::plan::Plan;
 use crate::quotas::quotas;
-use crate::round::Round;
-use crate::serving::serve_all;
 use phase_floor::Joined;
 use phase_transactions::Stash;
+use phase_workers::{Gate, Round, serve_all};
 use shard_boxes::PhaseName;
 use std::alloc::Global;
 use std::sync::Wait;
@@ -28,7 +27,7 @@ pub(crate) fn perform_joined_phase<N, R, G>(
     history: &mut History,
     state: Joined,
     stashes: Vec<Stash>,
-    round: Round<'_, G>,
+    round: Plan<'_, G>,
 ) -> Result<Closed, RunFault>
 where
     N: PhaseName + Send + Sync,
@@ -50,7 +49,13 @@ where
         Ok(begun) => begun,
         Err((_state, _stashes, fault)) => return Err(begin_fault(fault)),
     };
-    let receipts = serve_all(rt, alloc, floor.boxes(), permits, round)?;
+    let work = Round {
+        scripts: round.scripts,
+        first: round.first,
+        phase: round.phase,
+        gate: round.gate,
+    };
+    let receipts = serve_all(rt, alloc, floor.boxes(), permits, work)?;
     let (state, stashes) = floor.close(rt, alloc, history, receipts)?;
     Ok(Closed { state, stashes })
 }

@@ -7,14 +7,14 @@ ghost use Rattle.auction_run.specs.Closed.{HasClosedPhase};
 ghost use Rattle.auction_run.specs.Phases.{lists, IsRoundOf, MayPerform, IsMet};
 
 use crate::fault::RunFault;
-use crate::gate::Gate;
 use crate::joined_phase::perform_joined_phase;
-use crate::round::Round;
+use crate::plan::Plan;
 use crate::split_phase::perform_split_phase;
 use auction_rows::Object;
 use indexmap::IndexSet;
 use phase_floor::{BeginFault, Joined};
 use phase_transactions::Stash;
+use phase_workers::Gate;
 use std::alloc::Global;
 use std::marker::Brand;
 use std::sync::Wait;
@@ -36,7 +36,7 @@ pub(crate) fn perform_phase<R: Threads + Wait + Sync, G: Gate + Sync>(
     state: Joined,
     hot: &IndexSet<Object>,
     stashes: Vec<Stash>,
-    round: Round<'_, G>,
+    round: Plan<'_, G>,
 ) -> Result<Closed, RunFault>
     requires round { IsRoundOf round state.phase }
     requires may { MayPerform round.policy (lists round.scripts.now) state stashes.items hot.now.keys }

@@ -15,23 +15,22 @@ ghost use Rattle.auction_run.specs.declared.fault.RunFault.TheVariants.{Workers,
 ghost use Rattle.auction_run.specs.Boards.{CanShow};
 ghost use Rattle.auction_run.specs.Beginning.{HaveWorkers, HasShards, HasQuotas, AreShort, IsRefusedInOrder};
 ghost use Rattle.auction_run.specs.Outcomes.{HasShownAll, IsOutcome};
-ghost use Rattle.auction_run.specs.Phases.{lists, hot_sets, waiting_in, IsRoundOf, IsMet, HasCause};
+ghost use Rattle.auction_run.specs.Phases.{lists, hot_sets, waiting_in, HasMetTheEnd, IsRoundOf, IsMet, HasCause};
 ghost use Rattle.auction_run.specs.Running.{IsRunning, CanGoOn};
-ghost use Rattle.auction_run.specs.Working.{HasMetTheEnd};
 
 use crate::board::{Board, NoBoard};
 use crate::checking::check;
 use crate::choosing::choose_hot;
 use crate::fault::RunFault;
-use crate::gate::Gate;
 use crate::phase::{Closed, perform_phase};
-use crate::round::Round;
+use crate::plan::Plan;
 use auction_rows::{Object, Request};
 use auction_window::last_rows;
 use indexmap::IndexSet;
 use item_shards::OpeningBook;
 use phase_floor::Joined;
 use phase_transactions::Stash;
+use phase_workers::Gate;
 use run_serving::Policy;
 use std::alloc::{AllocError, Global};
 use std::sync::Wait;
@@ -144,7 +143,7 @@ fn run_checked<R: Threads + Wait + Sync, G: Gate + Sync, B: Board>(
 {
     let mut running = begin(alloc, book, scripts, policy)?;
     for _phase in 0..MOST_PHASES {
-        let round = Round::new(scripts, policy, gate, running.state.phase());
+        let round = Plan::new(scripts, policy, gate, running.state.phase());
         if !is_left(scripts, &running.stashes, round.first) {
             let Running {
                 state,
@@ -224,7 +223,7 @@ fn next_phase<R: Threads + Wait + Sync, G: Gate + Sync>(
     rt: &R,
     alloc: Global,
     running: Running,
-    round: Round<'_, G>,
+    round: Plan<'_, G>,
 ) -> Result<Running, RunFault>
     requires shards { HasShards round.policy }
     requires quotas { 0 < round.policy.joined_quota + round.policy.split_quota }

@@ -8,15 +8,14 @@ ghost use Rattle.auction_run.specs.Closed.{HasClosedPhase};
 ghost use Rattle.auction_run.specs.Phases.{lists, waiting_in, IsRoundOf, MayPerform, IsMet};
 
 use crate::fault::RunFault;
-use crate::gate::Gate;
 use crate::phase::{Closed, begin_fault};
+use crate::plan::Plan;
 use crate::quotas::quotas;
-use crate::round::Round;
-use crate::serving::serve_all;
 use auction_rows::Object;
 use indexmap::IndexSet;
 use phase_floor::Joined;
 use phase_transactions::Stash;
+use phase_workers::{Gate, Round, serve_all};
 use shard_boxes::PhaseName;
 use std::alloc::Global;
 use std::sync::Wait;
@@ -31,7 +30,7 @@ pub(crate) fn perform_split_phase<N, R, G>(
     state: Joined,
     hot: &IndexSet<Object>,
     stashes: Vec<Stash>,
-    round: Round<'_, G>,
+    round: Plan<'_, G>,
 ) -> Result<Closed, RunFault>
 where
     N: PhaseName + Send + Sync,
@@ -54,7 +53,13 @@ where
         Ok(begun) => begun,
         Err((_state, fault)) => return Err(begin_fault(fault)),
     };
-    let receipts = serve_all(rt, alloc, floor.boxes(), permits, round)?;
+    let work = Round {
+        scripts: round.scripts,
+        first: round.first,
+        phase: round.phase,
+        gate: round.gate,
+    };
+    let receipts = serve_all(rt, alloc, floor.boxes(), permits, work)?;
     let (state, stashes) = floor.close(rt, alloc, history, receipts)?;
     Ok(Closed { state, stashes })
 }

@@ -1,21 +1,18 @@
-use Rattle.std.proofs.Common.{◌≡◌, ℕ, ◌<◌, ◌++◌, List, [], map, length, refl, sym, ap, subst, ◌∙◌, arith}
-use Rattle.std.specs.Prelude.{slice_index}
+use Rattle.std.proofs.Common.{◌≡◌, true, List, [], map, length, refl, sym, ap, subst}
 use Rattle.std.specs.List.{AllByRecursion}
-use Rattle.std.proofs.lemmas.Bool.{cond-false}
+use Rattle.std.proofs.lemmas.Bool.{cond-false, false≢true}
 use Rattle.std.proofs.lemmas.List.{length-map}
 use Rattle.auction_rows.specs.declared.requests.Request.{Request}
 use Rattle.run_laws.specs.Phases.{is_split}
-use Rattle.run_serving.specs.Run.{first_index}
-use Rattle.run_serving.specs.Serving.{script_of}
 use Rattle.phase_contexts.specs.Slicing.{objects_of}
 use Rattle.phase_transactions.specs.declared.fault.PermitFault.TheVariants.{NumberFull}
 use Rattle.worker_journals.specs.Merged.{added}
-use Rattle.auction_run.specs.Phases.{lists, quota_of}
-use Rattle.auction_run.specs.Tasks.{tasks, calls_for, IsFirstFault, CanBeDone, IsDoneJoined}
-use Rattle.auction_run.specs.Working.{stashed, ArePermitsOf, HasStopped}
+use Rattle.phase_workers.specs.Tasks.{tasks, IsDone, IsFirstFault, CanBeDone}
+use Rattle.phase_workers.specs.Working.{ArePermitsOf}
+use Rattle.phase_workers.proofs.WorkLemmas.{err_as}
+use Rattle.auction_run.specs.Phases.{lists, told}
 use Rattle.auction_run.proofs.EndLemmas.{is_met}
-use Rattle.auction_run.proofs.WorkLemmas.{err_as}
-use Rattle.auction_run.proofs.PhaseLemmas.{permits_of, quota_is, same_list, plain, only_memory, not_too_long, can_all, joined_end, joined_receipts, joined_closed}
+use Rattle.auction_run.proofs.PhaseLemmas.{permits_of, quotas_of, same_list, plain, only_memory, not_too_long, can_all, end_met, receipts_are, joined_closed}
 use Rattle.auction_run.proofs.joined_phase.perform_joined_phase.Goals as goal
 
 pub begin_fault-requires : goal.begin_fault-requires
@@ -23,12 +20,10 @@ begin_fault-requires g c =
     let may = c.requires.may in
     let scripts : List (List Request) = lists c.args.round.scripts.now in
     let mapped : length (lists c.args.round.scripts.now) ≡ length c.args.round.scripts.now = simp length-map in
-    let quotas_are : (w : ℕ) → w < length (lists c.args.round.scripts.now) → slice_index c.deref.result.now w ≡ quota_of c.args.round.policy c.args.state.phase (script_of (lists c.args.round.scripts.now) w) =
-    λ w less. quota_is c.args.round.policy c.args.state.phase c.args.round.policy.joined_quota (length (script_of (lists c.args.round.scripts.now) w)) (first_index c.args.round.policy c.args.state.phase) c.args.round.first
-    (slice_index c.deref.result.now w) (ap (λ qs. slice_index qs w) c.deref.ensures.value ∙ c.in_ok-quotas.ensures.each w (omega (arith, less, mapped)))
-    (cond-false (is_split c.args.state.phase) c.args.round.policy.split_quota c.args.round.policy.joined_quota c.requires.joined) c.requires.round.1 in
+    let quotas_are = quotas_of c.args.round.policy scripts c.args.state.phase (length c.args.round.scripts.now) c.args.round.policy.joined_quota c.args.round.first
+    c.deref.result.now _ mapped c.deref.ensures.value (cond-false (is_split c.args.state.phase) c.args.round.policy.split_quota c.args.round.policy.joined_quota c.requires.joined) c.requires.round.1 c.in_ok-quotas.ensures.each in
     only_memory c.in-Err.fault c.in-Err.ensures.known
-    (λ is. not_too_long c.args.round.policy scripts c.args.state c.args.stashes.items c.args.stashes.items [] c.deref.result.now may (λ w. omega arith) quotas_are (c.in-Err.ensures.too_long.0 is))
+    (λ is. not_too_long c.args.round.policy scripts c.args.state c.args.stashes.items c.args.stashes.items [] c.deref.result.now may (λ w. refl) quotas_are (c.in-Err.ensures.too_long.0 is))
 
 pub serve_all-requires-clause-can : goal.serve_all-requires-clause-can
 serve_all-requires-clause-can g c κs within =
@@ -36,45 +31,11 @@ serve_all-requires-clause-can g c κs within =
     let may = c.requires.may in
     let scripts : List (List Request) = lists c.args.round.scripts.now in
     let mapped : length (lists c.args.round.scripts.now) ≡ length c.args.round.scripts.now = simp length-map in
-    let quotas_are : (w : ℕ) → w < length (lists c.args.round.scripts.now) → slice_index c.deref.result.now w ≡ quota_of c.args.round.policy c.args.state.phase (script_of (lists c.args.round.scripts.now) w) =
-    λ w less. quota_is c.args.round.policy c.args.state.phase c.args.round.policy.joined_quota (length (script_of (lists c.args.round.scripts.now) w)) (first_index c.args.round.policy c.args.state.phase) c.args.round.first
-    (slice_index c.deref.result.now w) (ap (λ qs. slice_index qs w) c.deref.ensures.value ∙ c.in_ok-quotas.ensures.each w (omega (arith, less, mapped)))
-    (cond-false (is_split c.args.state.phase) c.args.round.policy.split_quota c.args.round.policy.joined_quota c.requires.joined) c.requires.round.1 in
-    subst (λ ps. AllByRecursion (CanBeDone g.N.PhaseName.opening c.boxes.result.now) (tasks ps (lists c.args.round.scripts.now) c.args.round.first)) (sym (same_list c.in-Ok.begun.1.items))
-    (can_all c.args.round.policy scripts c.args.state c.args.stashes.items c.args.stashes.items [] c.args.round.first c.requires.round.1 may g.N.PhaseName.opening c.in-Ok.begun.0 c.deref.result.now c.in-Ok.begun.1.items
-    c.requires.shards begun.opening begun.phase begun.counters quotas_are begun.permits c.boxes.result.now c.boxes.ensures.boxes c.boxes.ensures.opening
-    (λ w less. let room = may.room w (omega (arith, less, may.scripts_are)) in omega (arith, room)))
-
-pub close-requires : goal.close-requires
-close-requires g c =
-    let begun = c.in-Ok.ensures in
-    let may = c.requires.may in
-    let scripts : List (List Request) = lists c.args.round.scripts.now in
-    let mapped : length (lists c.args.round.scripts.now) ≡ length c.args.round.scripts.now = simp length-map in
-    let quotas_are : (w : ℕ) → w < length (lists c.args.round.scripts.now) → slice_index c.deref.result.now w ≡ quota_of c.args.round.policy c.args.state.phase (script_of (lists c.args.round.scripts.now) w) =
-    λ w less. quota_is c.args.round.policy c.args.state.phase c.args.round.policy.joined_quota (length (script_of (lists c.args.round.scripts.now) w)) (first_index c.args.round.policy c.args.state.phase) c.args.round.first
-    (slice_index c.deref.result.now w) (ap (λ qs. slice_index qs w) c.deref.ensures.value ∙ c.in_ok-quotas.ensures.each w (omega (arith, less, mapped)))
-    (cond-false (is_split c.args.state.phase) c.args.round.policy.split_quota c.args.round.policy.joined_quota c.requires.joined) c.requires.round.1 in
-    joined_receipts c.args.round.policy scripts c.args.state c.args.stashes.items c.args.stashes.items [] c.args.round.first c.requires.round.1 may g.N.PhaseName.opening c.in-Ok.begun.0 c.deref.result.now c.in-Ok.begun.1.items
-    c.requires.shards begun.opening begun.phase begun.counters quotas_are begun.permits c.in_ok-receipts.receipts.items
-    (plain IsDoneJoined c.in-Ok.begun.1.items c.in_ok-receipts.receipts.items scripts c.args.round.first c.in_ok-receipts.ensures.done)
-
-pub returns-clause-closed : goal.returns-clause-closed
-returns-clause-closed g c =
-    let begun = c.in-Ok.ensures in
-    let closed = c.in_ok-state.ensures in
-    let may = c.requires.may in
-    let scripts : List (List Request) = lists c.args.round.scripts.now in
-    let mapped : length (lists c.args.round.scripts.now) ≡ length c.args.round.scripts.now = simp length-map in
-    let quotas_are : (w : ℕ) → w < length (lists c.args.round.scripts.now) → slice_index c.deref.result.now w ≡ quota_of c.args.round.policy c.args.state.phase (script_of (lists c.args.round.scripts.now) w) =
-    λ w less. quota_is c.args.round.policy c.args.state.phase c.args.round.policy.joined_quota (length (script_of (lists c.args.round.scripts.now) w)) (first_index c.args.round.policy c.args.state.phase) c.args.round.first
-    (slice_index c.deref.result.now w) (ap (λ qs. slice_index qs w) c.deref.ensures.value ∙ c.in_ok-quotas.ensures.each w (omega (arith, less, mapped)))
-    (cond-false (is_split c.args.state.phase) c.args.round.policy.split_quota c.args.round.policy.joined_quota c.requires.joined) c.requires.round.1 in
-    joined_closed c.args.round.policy scripts c.args.state c.args.stashes.items c.args.stashes.items [] c.args.round.first c.requires.round.1 may g.N.PhaseName.opening c.in-Ok.begun.0 c.deref.result.now c.in-Ok.begun.1.items
-    c.requires.shards begun.opening begun.phase begun.counters quotas_are begun.permits c.in_ok-receipts.receipts.items
-    (plain IsDoneJoined c.in-Ok.begun.1.items c.in_ok-receipts.receipts.items scripts c.args.round.first c.in_ok-receipts.ensures.done)
-    c.requires.joined refl (ap objects_of begun.cold) (record { state = c.in_ok-state.state; stashes = c.in_ok-state.stashes }) (added c.args.history.now.entries c.close.new.history.entries)
-    closed.closed closed.opening closed.phase closed.counters closed.stashes closed.commits closed.replays closed.stands
+    let quotas_are = quotas_of c.args.round.policy scripts c.args.state.phase (length c.args.round.scripts.now) c.args.round.policy.joined_quota c.args.round.first
+    c.deref.result.now _ mapped c.deref.ensures.value (cond-false (is_split c.args.state.phase) c.args.round.policy.split_quota c.args.round.policy.joined_quota c.requires.joined) c.requires.round.1 c.in_ok-quotas.ensures.each in
+    subst (λ ps. AllByRecursion (CanBeDone g.N.PhaseName.opening c.boxes.result.now) (tasks ps scripts c.args.round.first)) (sym (same_list c.in-Ok.begun.1.items))
+    (can_all c.args.round.policy scripts c.args.state c.args.stashes.items c.args.stashes.items [] c.args.round.first c.requires.round.1 may g.N.PhaseName.opening c.in-Ok.begun.0
+    c.deref.result.now c.in-Ok.begun.1.items c.requires.shards begun.opening begun.phase begun.counters quotas_are begun.permits (λ w. refl) c.boxes.result.now c.boxes.ensures.boxes c.boxes.ensures.opening)
 
 pub serve_all-requires-clause-of : goal.serve_all-requires-clause-of
 serve_all-requires-clause-of g c κs within =
@@ -82,14 +43,39 @@ serve_all-requires-clause-of g c κs within =
     let may = c.requires.may in
     let scripts : List (List Request) = lists c.args.round.scripts.now in
     let mapped : length (lists c.args.round.scripts.now) ≡ length c.args.round.scripts.now = simp length-map in
-    let quotas_are : (w : ℕ) → w < length (lists c.args.round.scripts.now) → slice_index c.deref.result.now w ≡ quota_of c.args.round.policy c.args.state.phase (script_of (lists c.args.round.scripts.now) w) =
-    λ w less. quota_is c.args.round.policy c.args.state.phase c.args.round.policy.joined_quota (length (script_of (lists c.args.round.scripts.now) w)) (first_index c.args.round.policy c.args.state.phase) c.args.round.first
-    (slice_index c.deref.result.now w) (ap (λ qs. slice_index qs w) c.deref.ensures.value ∙ c.in_ok-quotas.ensures.each w (omega (arith, less, mapped)))
-    (cond-false (is_split c.args.state.phase) c.args.round.policy.split_quota c.args.round.policy.joined_quota c.requires.joined) c.requires.round.1 in
+    let quotas_are = quotas_of c.args.round.policy scripts c.args.state.phase (length c.args.round.scripts.now) c.args.round.policy.joined_quota c.args.round.first
+    c.deref.result.now _ mapped c.deref.ensures.value (cond-false (is_split c.args.state.phase) c.args.round.policy.split_quota c.args.round.policy.joined_quota c.requires.joined) c.requires.round.1 c.in_ok-quotas.ensures.each in
     subst (λ ps. ArePermitsOf c.args.round.phase 0 ps) (sym (same_list c.in-Ok.begun.1.items))
     (subst (λ phase. ArePermitsOf phase 0 c.in-Ok.begun.1.items) (sym c.requires.round.0)
-    (permits_of c.args.round.policy scripts c.args.state c.args.stashes.items c.args.stashes.items [] c.args.round.first c.requires.round.1 may g.N.PhaseName.opening c.in-Ok.begun.0 c.deref.result.now c.in-Ok.begun.1.items
-    c.requires.shards begun.opening begun.phase begun.counters quotas_are begun.permits))
+    (permits_of c.args.round.policy scripts c.args.state c.args.stashes.items c.args.stashes.items [] c.args.round.first c.requires.round.1 may g.N.PhaseName.opening c.in-Ok.begun.0
+    c.deref.result.now c.in-Ok.begun.1.items c.requires.shards begun.opening begun.phase begun.counters quotas_are begun.permits (λ w. refl)))
+
+pub close-requires : goal.close-requires
+close-requires g c =
+    let begun = c.in-Ok.ensures in
+    let may = c.requires.may in
+    let scripts : List (List Request) = lists c.args.round.scripts.now in
+    let mapped : length (lists c.args.round.scripts.now) ≡ length c.args.round.scripts.now = simp length-map in
+    let quotas_are = quotas_of c.args.round.policy scripts c.args.state.phase (length c.args.round.scripts.now) c.args.round.policy.joined_quota c.args.round.first
+    c.deref.result.now _ mapped c.deref.ensures.value (cond-false (is_split c.args.state.phase) c.args.round.policy.split_quota c.args.round.policy.joined_quota c.requires.joined) c.requires.round.1 c.in_ok-quotas.ensures.each in
+    receipts_are c.args.round.policy scripts c.args.state c.args.stashes.items c.args.stashes.items [] c.args.round.first c.requires.round.1 may g.N.PhaseName.opening c.in-Ok.begun.0
+    c.deref.result.now c.in-Ok.begun.1.items c.requires.shards begun.opening begun.phase begun.counters quotas_are begun.permits (λ w. refl) true c.in_ok-receipts.receipts.items
+    (plain (IsDone true) c.in-Ok.begun.1.items c.in_ok-receipts.receipts.items scripts c.args.round.first c.in_ok-receipts.ensures.done)
+
+pub returns-clause-closed : goal.returns-clause-closed
+returns-clause-closed g c =
+    let begun = c.in-Ok.ensures in
+    let may = c.requires.may in
+    let scripts : List (List Request) = lists c.args.round.scripts.now in
+    let closed = c.in_ok-state.ensures in
+    let mapped : length (lists c.args.round.scripts.now) ≡ length c.args.round.scripts.now = simp length-map in
+    let quotas_are = quotas_of c.args.round.policy scripts c.args.state.phase (length c.args.round.scripts.now) c.args.round.policy.joined_quota c.args.round.first
+    c.deref.result.now _ mapped c.deref.ensures.value (cond-false (is_split c.args.state.phase) c.args.round.policy.split_quota c.args.round.policy.joined_quota c.requires.joined) c.requires.round.1 c.in_ok-quotas.ensures.each in
+    joined_closed c.args.round.policy scripts c.args.state c.args.stashes.items c.args.stashes.items [] c.args.round.first c.requires.round.1 may g.N.PhaseName.opening c.in-Ok.begun.0
+    c.deref.result.now c.in-Ok.begun.1.items c.requires.shards begun.opening begun.phase begun.counters quotas_are begun.permits (λ w. refl) true c.in_ok-receipts.receipts.items
+    (plain (IsDone true) c.in-Ok.begun.1.items c.in_ok-receipts.receipts.items scripts c.args.round.first c.in_ok-receipts.ensures.done)
+    (λ w no. absurd (false≢true (sym no))) (ap objects_of begun.cold) (record { state = c.in_ok-state.state; stashes = c.in_ok-state.stashes }) (added c.args.history.now.entries c.close.new.history.entries)
+    closed.opening closed.phase closed.counters closed.stashes closed.commits closed.replays closed.stands closed.closed
 
 pub returns-in_err-receipts-clause-fault : goal.returns-in_err-receipts-clause-fault
 returns-in_err-receipts-clause-fault g c =
@@ -97,14 +83,11 @@ returns-in_err-receipts-clause-fault g c =
     let may = c.requires.may in
     let scripts : List (List Request) = lists c.args.round.scripts.now in
     let mapped : length (lists c.args.round.scripts.now) ≡ length c.args.round.scripts.now = simp length-map in
-    let quotas_are : (w : ℕ) → w < length (lists c.args.round.scripts.now) → slice_index c.deref.result.now w ≡ quota_of c.args.round.policy c.args.state.phase (script_of (lists c.args.round.scripts.now) w) =
-    λ w less. quota_is c.args.round.policy c.args.state.phase c.args.round.policy.joined_quota (length (script_of (lists c.args.round.scripts.now) w)) (first_index c.args.round.policy c.args.state.phase) c.args.round.first
-    (slice_index c.deref.result.now w) (ap (λ qs. slice_index qs w) c.deref.ensures.value ∙ c.in_ok-quotas.ensures.each w (omega (arith, less, mapped)))
-    (cond-false (is_split c.args.state.phase) c.args.round.policy.split_quota c.args.round.policy.joined_quota c.requires.joined) c.requires.round.1 in
-    err_as c.from_residual-in_err-receipts.result c.in_err-receipts.field-0.0 _ c.from_residual-in_err-receipts.ensures.1
-    (is_met scripts (IsFirstFault IsDoneJoined (λ t. HasStopped g.N.PhaseName.opening (stashed t.permit ++ calls_for t) t.permit) (tasks (map (λ x. x) c.in-Ok.begun.1.items) scripts c.args.round.first))
-    c.in_err-receipts.field-0.0
-    (λ first. joined_end c.args.round.policy scripts c.args.state c.args.stashes.items c.args.stashes.items [] c.args.round.first c.requires.round.1 may g.N.PhaseName.opening c.in-Ok.begun.0 c.deref.result.now c.in-Ok.begun.1.items
-    c.requires.shards begun.opening begun.phase begun.counters quotas_are begun.permits may.own
-    (subst (λ ps. IsFirstFault IsDoneJoined (λ t. HasStopped g.N.PhaseName.opening (stashed t.permit ++ calls_for t) t.permit) (tasks ps scripts c.args.round.first) NumberFull) (same_list c.in-Ok.begun.1.items) first))
+    let quotas_are = quotas_of c.args.round.policy scripts c.args.state.phase (length c.args.round.scripts.now) c.args.round.policy.joined_quota c.args.round.first
+    c.deref.result.now _ mapped c.deref.ensures.value (cond-false (is_split c.args.state.phase) c.args.round.policy.split_quota c.args.round.policy.joined_quota c.requires.joined) c.requires.round.1 c.in_ok-quotas.ensures.each in
+    err_as c.from_residual-in_err-receipts.result (told c.in_err-receipts.field-0.0) _ c.from_residual-in_err-receipts.ensures.1
+    (is_met scripts (IsFirstFault true g.N.PhaseName.opening (tasks (map (λ x. x) c.in-Ok.begun.1.items) scripts c.args.round.first)) c.in_err-receipts.field-0.0
+    (λ first. end_met c.args.round.policy scripts c.args.state c.args.stashes.items c.args.stashes.items [] c.args.round.first c.requires.round.1 may g.N.PhaseName.opening c.in-Ok.begun.0
+    c.deref.result.now c.in-Ok.begun.1.items c.requires.shards begun.opening begun.phase begun.counters quotas_are begun.permits (λ w. refl) true
+    (subst (λ ps. IsFirstFault true g.N.PhaseName.opening (tasks ps scripts c.args.round.first) NumberFull) (same_list c.in-Ok.begun.1.items) first))
     c.in_err-receipts.ensures.fault)

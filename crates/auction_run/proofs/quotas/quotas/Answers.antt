@@ -3,7 +3,7 @@ use Rattle.std.specs.Prelude.{slice_index}
 use Rattle.std.proofs.lemmas.List.{length-map}
 use Rattle.auction_rows.specs.declared.requests.Request.{Request}
 use Rattle.auction_run.specs.Phases.{lists}
-use Rattle.auction_run.proofs.TaskLemmas.{quotas_more, quota_at}
+use Rattle.auction_run.proofs.QuotaLemmas.{quotas_more, quota_at}
 use Rattle.auction_run.proofs.quotas.quotas.Goals as goal
 
 pub loop-script-preserved : goal.loop-script-preserved

@@ -7,7 +7,7 @@ use Rattle.auction_run.specs.Boards.{HasShown, phase_rows}
 use Rattle.auction_run.specs.Phases.{lists, waiting_in, IsMet}
 use Rattle.auction_run.specs.Running.{IsRunning}
 use Rattle.auction_run.proofs.BoardLemmas.{begins_shown, can_show, has_shown, next_runs}
-use Rattle.auction_run.proofs.WorkLemmas.{err_as}
+use Rattle.phase_workers.proofs.WorkLemmas.{err_as}
 use Rattle.auction_run.proofs.RunLemmas.{left_over, few_phases_so_far, ended, phases_counted}
 use Rattle.auction_run.proofs.running.run_checked.Goals as goal
 

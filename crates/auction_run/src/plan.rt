@@ -1,0 +1,56 @@
+//! How a run goes on with its scripts in a phase.
+ghost use Rattle.std.specs.Prelude.{◌≡◌, ◌<◌, ◌^◌};
+ghost use Rattle.run_serving.specs.Run.{first_index};
+
+use auction_rows::Request;
+use run_serving::Policy;
+
+/// A phase of a run: the scripts, how they are divided, and where the phase goes on with each.
+#[derive(Clone, Copy)]
+pub(crate) struct Plan<'a, G> {
+    pub(crate) scripts: &'a [Vec<Request>],
+    pub(crate) policy: Policy,
+    pub(crate) gate: &'a G,
+    pub(crate) phase: u64,
+    // The first index that reaches the phase.
+    pub(crate) first: u64,
+}
+
+impl<'a, G> Plan<'a, G> {
+    ghost use Rattle.auction_run.specs.Phases.{IsRoundOf};
+
+    /// The round of a phase.
+    pub(crate) fn new(
+        scripts: &'a [Vec<Request>],
+        policy: Policy,
+        gate: &'a G,
+        phase: u64,
+    ) -> Plan<'a, G>
+        requires { phase < 2 ^ 31 }
+        ensures scripts { result.scripts.now ≡ scripts.now }
+        ensures policy { result.policy ≡ policy }
+        ensures round { IsRoundOf result phase }
+    {
+        Plan {
+            scripts,
+            policy,
+            gate,
+            phase,
+            first: first_index(policy, phase),
+        }
+    }
+}
+
+// The first index that reaches a phase: each two phases before it took both quotas.
+fn first_index(policy: Policy, phase: u64) -> u64
+    requires { phase < 2 ^ 31 }
+    ensures { result ≡ first_index policy phase }
+{
+    let joined = u64::from(policy.joined_quota);
+    let split = u64::from(policy.split_quota);
+    let before = phase / 2 * (joined + split);
+    if phase % 2 == 0 {
+        return before;
+    }
+    before + joined
+}

@@ -1,0 +1,126 @@
+-- The tasks of workers, one after the other.
+use Rattle.std.specs.declared.alloc.Global.{Global}
+use Rattle.std.proofs.Common.{Vec, inl, inr, ◌≡◌, ℕ, zero, suc, ◌+◌, ◌<◌, ◌≤◌, Bool, List, [], ◌∷◌, ◌++◌, map, length, drop, get_or, refl, sym, ap, subst, ◌∙◌, append_assoc, arith}
+use Rattle.std.specs.Prelude.{OnOk, IfErr, Result, unwrap_or, None, Some, Ok, Err}
+use Rattle.std.specs.List.{AllByRecursion, AllZip}
+use Rattle.std.proofs.lemmas.List.{map-append, length-map}
+use Rattle.auction_rows.specs.declared.requests.Request.{Request}
+use Rattle.phase_transactions.specs.declared.fault.PermitFault.{PermitFault}
+use Rattle.phase_transactions.specs.Permits.{PermitState}
+use Rattle.shard_boxes.specs.States.{ShardState}
+use Rattle.phase_workers.specs.declared.fault.ServingFault.{ServingFault}
+use Rattle.phase_workers.specs.declared.fault.ServingFault.TheVariants.{Worker, Spawn, Memory}
+use Rattle.phase_workers.specs.declared.serving.WorkerAnswer.{WorkerAnswer}
+use Rattle.phase_workers.specs.Tasks.{lists, Task, task, tasks, IsDone, HasMetFault, without_fault, fault_or, first_fault, IsFirstFault, IsFaultBy}
+use Rattle.phase_workers.specs.Threads.{IsUnstarted}
+
+-- the next of the scripts that are left
+pub next_script : (scripts : List (Vec Request Global)) (n m : ℕ) (script : Vec Request Global) → n < length scripts → script ≡ get_or scripts n script → m ≡ n + 1 →
+    drop n (lists scripts) ≡ script.items ∷ drop m (lists scripts)
+next_script [] n m script less is one = absurd (omega (arith, less))
+next_script (x ∷ xs) zero m script less is one =
+    let e : 1 ≡ m = omega (arith, one) in
+    ap (λ (v : Vec Request Global). v.items ∷ lists xs) (sym is) ∙ ap (λ k. script.items ∷ drop k (lists (x ∷ xs))) e
+next_script (x ∷ xs) (suc n) m script less is one =
+    let e : suc (n + 1) ≡ m = omega (arith, one) in
+    next_script xs n (n + 1) script (omega (arith, less)) is refl ∙ ap (λ k. script.items ∷ drop k (lists (x ∷ xs))) e
+
+pub next_task : {P : Type 0} (shows : P → PermitState) (first : ℕ) (left next : List P) (permit : P) (rest after : List (List Request)) (script : List Request) →
+    left ≡ permit ∷ next → rest ≡ script ∷ after → tasks (map shows left) rest first ≡ task (shows permit) script first ∷ tasks (map shows next) after first
+next_task shows first left next permit rest after script is are =
+    ap (λ ps. tasks (map shows ps) rest first) is ∙ ap (λ ss. tasks (map shows (permit ∷ next)) ss first) are
+
+all_more : {D : Type 0} (P : D → Type 0) (ds : List D) (d : D) → AllByRecursion P ds → P d → AllByRecursion P (ds ++ d ∷ [])
+all_more P [] d all more = (more, tt)
+all_more P (x ∷ ds) d all more = (all.0, all_more P ds d all.1 more)
+
+-- one worker's task more is made
+pub own_more : {D : Type 0} (Can : Task → Type 0) (CanDo : D → Type 0) (of : D → Task) (owns now : List D) (own : D) (rest next all : List Task) (t : Task) →
+    now ≡ owns ++ own ∷ [] → of own ≡ t → rest ≡ t ∷ next → (Can t → CanDo own) →
+    AllByRecursion Can rest → AllByRecursion CanDo owns → map of owns ++ rest ≡ all →
+    AllByRecursion Can next × AllByRecursion CanDo now × (map of now ++ next ≡ all)
+own_more Can CanDo of owns now own rest next all t push is more can left made whole =
+    let split : AllByRecursion Can (t ∷ next) = subst (AllByRecursion Can) more left in (
+      split.1,
+      subst (AllByRecursion CanDo) (sym push) (all_more CanDo owns own made (can split.0)),
+      ap (λ ds. map of ds ++ next) push
+          ∙ ap (λ ts. ts ++ next) (map-append of owns (own ∷ []))
+          ∙ append_assoc (map of owns) (of own ∷ []) next
+          ∙ ap (λ u. map of owns ++ u ∷ next) is
+          ∙ ap (λ ts. map of owns ++ ts) (sym more)
+          ∙ whole,
+    )
+
+-- what each worker's answer keeps of its task
+module _ {D T : Type 0} (of : D → Task) (left : T → PermitState) (takes : Bool) (opening : List ShardState) where
+  abbrev Keeps : D → WorkerAnswer T → Type 0
+  Keeps own answer = OnOk answer.done (IsDone takes (of own) (left answer.receipt)) × IfErr answer.done (HasMetFault takes opening (of own) (left answer.receipt))
+
+  done_by : (owns : List D) (receipts : List T) → AllZip Keeps owns (map without_fault receipts) → AllZip (IsDone takes) (map of owns) (map left receipts)
+  done_by [] [] kept = tt
+  done_by [] (r ∷ rs) kept = absurd kept
+  done_by (d ∷ ds) [] kept = absurd kept
+  done_by (d ∷ ds) (r ∷ rs) kept = (kept.0.0, done_by ds rs kept.1)
+
+  -- where no worker met a fault, all tasks are done
+  pub all_done : (owns : List D) (answers : List (WorkerAnswer T)) (receipts : List T) (ts : List Task) →
+      AllZip Keeps owns answers → answers ≡ map without_fault receipts → map of owns ≡ ts → AllZip (IsDone takes) ts (map left receipts)
+  all_done owns answers receipts ts kept none are =
+      subst (λ us. AllZip (IsDone takes) us (map left receipts)) are (done_by owns receipts (subst (AllZip Keeps owns) none kept))
+
+  -- the fault of the least worker that met one is that of the first task that was not done
+  first_met : (owns : List D) (answers : List (WorkerAnswer T)) (fault : PermitFault) → AllZip Keeps owns answers → first_fault answers ≡ Some fault →
+      IsFirstFault takes opening (map of owns) fault
+  first_met [] [] fault kept is = absurd (let none : None ≡ Some fault = is in cc)
+  first_met [] (a ∷ more) fault kept is = absurd kept
+  first_met (d ∷ ds) [] fault kept is = absurd kept
+  first_met (d ∷ ds) (a ∷ more) fault kept is = at a.done kept.0.0 kept.0.1 is (λ later. first_met ds more fault kept.1 later)
+    where
+      at : {U : Type 0} (done : Result U PermitFault) → OnOk done (IsDone takes (of d) (left a.receipt)) → IfErr done (HasMetFault takes opening (of d) (left a.receipt)) →
+          fault_or done (first_fault more) ≡ Some fault → (first_fault more ≡ Some fault → IsFirstFault takes opening (map of ds) fault) →
+          IsFirstFault takes opening (map of (d ∷ ds)) fault
+      at (Ok u) ok err first again = inr ((left a.receipt, ok), again first)
+      at (Err f) ok err first again = inl (left a.receipt, subst (HasMetFault takes opening (of d) (left a.receipt)) (ap (λ o. unwrap_or o fault) first) err)
+
+  pub fault_met : (owns : List D) (answers : List (WorkerAnswer T)) (ts : List Task) (fault : PermitFault) → AllZip Keeps owns answers →
+      first_fault answers ≡ Some fault → map of owns ≡ ts → IsFirstFault takes opening ts fault
+  fault_met owns answers ts fault kept is are = subst (λ us. IsFirstFault takes opening us fault) are (first_met owns answers fault kept is)
+
+pub unstarted_by : (jobs workers : ℕ) (P : PermitFault → Type 0) (fault : ServingFault) → jobs ≤ workers → IsUnstarted jobs fault → IsFaultBy workers P fault
+unstarted_by jobs workers P Spawn few is = omega (arith, few, is)
+unstarted_by jobs workers P Memory few is = tt
+unstarted_by jobs workers P (Worker met) few is = absurd is
+
+pub zip_length : {A B : Type 0} (R : A → B → Type 0) (xs : List A) (ys : List B) → AllZip R xs ys → length ys ≡ length xs
+zip_length R [] [] all = refl
+zip_length R [] (y ∷ ys) all = absurd all
+zip_length R (x ∷ xs) [] all = absurd all
+zip_length R (x ∷ xs) (y ∷ ys) all = ap suc (zip_length R xs ys all.1)
+
+tasks_few : (permits : List PermitState) (scripts : List (List Request)) (first : ℕ) → length (tasks permits scripts first) ≤ length scripts
+tasks_few [] scripts first = omega arith
+tasks_few (p ∷ ps) [] first = omega arith
+tasks_few (p ∷ ps) (s ∷ ss) first = let again = tasks_few ps ss first in omega (arith, again)
+
+-- there are no more tasks than scripts
+pub tasks_of_few : {D : Type 0} (of : D → Task) (owns : List D) (permits : List PermitState) (scripts : List (Vec Request Global)) (first : ℕ) →
+    map of owns ≡ tasks permits (lists scripts) first → length owns ≤ length scripts
+tasks_of_few of owns permits scripts first are =
+    let mapped : length (map of owns) ≡ length owns = simp length-map in
+    let of_lists : length (lists scripts) ≡ length scripts = simp length-map in
+    let few = tasks_few permits (lists scripts) first in
+    let same : length (map of owns) ≡ length (tasks permits (lists scripts) first) = ap length are in
+    omega (arith, mapped, of_lists, few, same)
+
+-- ---- faults
+
+fault_at : {T : Type 0} (receipts : List T) (each : WorkerAnswer T) (next : List (WorkerAnswer T)) (fault : PermitFault) → each.done ≡ Err fault →
+    first_fault (map without_fault receipts ++ each ∷ next) ≡ Some fault
+fault_at [] each next fault is = ap (λ done. fault_or done (first_fault next)) is
+fault_at (r ∷ rs) each next fault is = fault_at rs each next fault is
+
+-- where the workers before met no fault, this one's is the first
+pub fault_first : {T : Type 0} (receipts : List T) (each : WorkerAnswer T) (left next all : List (WorkerAnswer T)) (fault : PermitFault) →
+    each.done ≡ Err fault → left ≡ each ∷ next → map without_fault receipts ++ left ≡ all → first_fault all ≡ Some fault
+fault_first receipts each left next all fault is here whole =
+    ap first_fault (sym whole) ∙ ap (λ es. first_fault (map without_fault receipts ++ es)) here ∙ fault_at receipts each next fault is

@@ -1,0 +1,381 @@
+-- What a permit's calls are after one more request.
+use Rattle.std.proofs.Common.{◌≡◌, ℕ, zero, suc, ◌+◌, ◌-◌, ◌<◌, ◌≤◌, Bool, true, false, cond, List, [], ◌∷◌, ◌++◌, length, map, take, drop, Some, None, refl, sym, ap, subst, ◌∙◌, append_assoc, arith}
+use Rattle.std.specs.Prelude.{Option, IfSome, IfNone, Result, Ok, Err, OnOk, IfErr, IsErrAnd, slice_get, not, unwrap_or}
+use Rattle.std.specs.List.{filter, AllByRecursion}
+use Rattle.std.proofs.lemmas.Bool.{false≢true}
+use Rattle.std.proofs.lemmas.List.{append-nil, map-append, length-append, take-append-drop, drop-drop, drop_all}
+use Rattle.std.proofs.lemmas.List.Elements.{filter-append}
+use Rattle.auction_rows.specs.declared.ids.Object.{Object}
+use Rattle.auction_rows.specs.declared.replies.Reply.{Reply}
+use Rattle.auction_rows.specs.declared.requests.Request.{Request}
+use Rattle.auction_rows.specs.declared.rows.Entry.{Entry}
+use Rattle.auction_rows.specs.Phases.{is_put_off}
+use Rattle.auction_rows.specs.Replies.{row_of}
+use Rattle.item_shards.specs.Writing.{writes_if}
+use Rattle.phase_contexts.specs.Contexts.{ContextState}
+use Rattle.phase_contexts.specs.Slicing.{objects_of, stocks_of}
+use Rattle.phase_contexts.proofs.AnswerLemmas.{same_objects_of}
+use Rattle.phase_contexts.proofs.StoredLemmas.{objects-acts}
+use Rattle.phase_transactions.proofs.Hots.{stocks-acts}
+use Rattle.phase_transactions.proofs.PermitLemmas.{none_put_off}
+use Rattle.phase_transactions.specs.declared.fault.Done.{Done}
+use Rattle.phase_transactions.specs.declared.fault.Done.TheVariants.{Committed, Stashed}
+use Rattle.phase_transactions.specs.declared.fault.PermitFault.{PermitFault}
+use Rattle.phase_transactions.specs.Performing.{HasDealtWith, HasFailed, IsCause, with_try}
+use Rattle.phase_transactions.specs.Permits.{PermitState, HasCommitted}
+use Rattle.phase_transactions.specs.Stashed.{with_first_called, HasPerformedFirst, HasFailedFirst}
+use Rattle.run_serving.specs.Serving.{call_of}
+use Rattle.shard_boxes.specs.States.{ShardState}
+use Rattle.worker_journals.specs.Journals.{JournalView, commit_in}
+use Rattle.phase_workers.specs.Tasks.{task, IsDone}
+use Rattle.phase_workers.specs.Working.{calls_from, committed, stashed, taken, kept, hot_for, put_off, not_put_off, IsSamePermit, HasDealtWithNext, HasPerformedWaiting, HasStopped}
+
+pub same : (permit : PermitState) → IsSamePermit permit permit
+same permit = record { boxes = refl; worker = refl; opening = refl; begun = refl; phase = refl; writer = refl; hot = refl; stocks = refl; own = λ are. are }
+
+pub same_after : (old mid new : PermitState) → IsSamePermit old mid → IsSamePermit mid new → IsSamePermit old new
+same_after old mid new a b = record {
+  boxes = b.boxes ∙ a.boxes;
+  worker = b.worker ∙ a.worker;
+  opening = b.opening ∙ a.opening;
+  begun = b.begun ∙ a.begun;
+  phase = b.phase ∙ a.phase;
+  writer = b.writer ∙ a.writer;
+  hot = b.hot ∙ a.hot;
+  stocks = b.stocks ∙ a.stocks;
+  own = λ are. b.own (a.own are);
+}
+
+tried : (permit : PermitState) → IsSamePermit permit (with_try permit)
+tried permit = record { boxes = refl; worker = refl; opening = refl; begun = refl; phase = refl; writer = refl; hot = refl; stocks = refl; own = λ are. are }
+
+called : (permit : PermitState) → IsSamePermit permit (with_first_called permit)
+called permit = record { boxes = refl; worker = refl; opening = refl; begun = refl; phase = refl; writer = refl; hot = refl; stocks = refl; own = λ are. are }
+
+-- the entries of a journal are of its phase
+abbrev AreOfPhaseIn : JournalView → Type 0
+AreOfPhaseIn journal = AllByRecursion (λ e. e.phase ≡ journal.phase) journal.entries
+
+all_of_more : (P : Entry → Type 0) (entries : List Entry) (entry : Entry) → AllByRecursion P entries → P entry → AllByRecursion P (entries ++ entry ∷ [])
+all_of_more P [] entry all more = (more, tt)
+all_of_more P (e ∷ entries) entry all more = (all.0, all_of_more P entries entry all.1 more)
+
+module _ (opening : List ShardState) (old new : PermitState) (request : Request) (index : ℕ) where
+  pub commit_same : (answer : Reply) → HasCommitted opening old new request index answer → IsSamePermit old new
+  commit_same answer h = record {
+    boxes = h.boxes;
+    worker = h.worker;
+    opening = ap (λ d. d.opening) h.context;
+    begun = ap (λ d. d.begun) h.context;
+    phase = ap (λ d. d.journal.phase) h.context;
+    writer = ap (λ d. d.journal.worker) h.context;
+    hot = ap objects_of h.slices ∙ objects-acts old.split.slices (writes_if (row_of old.split.context.journal.worker request answer));
+    stocks = ap stocks_of h.slices ∙ stocks-acts old.split.slices (writes_if (row_of old.split.context.journal.worker request answer));
+    own = λ are. subst (λ (d : ContextState). AreOfPhaseIn d.journal) (sym h.context)
+        (all_of_more (λ (e : Entry). e.phase ≡ old.split.context.journal.phase) old.split.context.journal.entries (commit_in old.split.context.journal h.number index request answer) are refl);
+  }
+
+  pub commit_calls : (answer : Reply) → HasCommitted opening old new request index answer → committed new ≡ committed old ++ (index, request) ∷ []
+  commit_calls answer h = ap (λ d. map call_of d.journal.entries) h.context ∙ map-append call_of old.split.context.journal.entries _
+
+pub next_same : (opening : List ShardState) (old new : PermitState) (request : Request) (index : ℕ) (answer : Reply) →
+    HasCommitted opening (with_try old) new request index answer → IsSamePermit old new
+next_same opening old new request index answer h = same_after old (with_try old) new (tried old) (commit_same opening (with_try old) new request index answer h)
+
+pub first_same : (opening : List ShardState) (old new : PermitState) (answer : Option Reply) → IfNone answer (new ≡ with_try old) →
+    IfSome answer (HasPerformedFirst opening (with_try old) new) → IsSamePermit old new
+first_same opening old new None unchanged done = subst (IsSamePermit old) (sym unchanged) (tried old)
+first_same opening old new (Some answer) unchanged done =
+    let mid : PermitState = with_first_called (with_try old) in
+    same_after old (with_try old) new (tried old)
+    (same_after (with_try old) mid new (called (with_try old)) (commit_same opening mid new done.request done.index answer done.committed))
+
+pub dealt_same : (opening : List ShardState) (old new : PermitState) (request : Request) (index : ℕ) (done : Done) →
+    HasDealtWith opening (with_try old) new request index done → IsSamePermit old new
+dealt_same opening old new request index (Committed answer) h = next_same opening old new request index answer h
+dealt_same opening old new request index Stashed h = record {
+  boxes = ap (λ k. k.boxes) h.key;
+  worker = ap (λ k. k.worker) h.key;
+  opening = ap (λ d. d.opening) h.context;
+  begun = ap (λ d. d.begun) h.context;
+  phase = ap (λ d. d.journal.phase) h.context;
+  writer = ap (λ d. d.journal.worker) h.context;
+  hot = ap objects_of h.slices;
+  stocks = ap stocks_of h.slices;
+  own = λ are. subst (λ (d : ContextState). AreOfPhaseIn d.journal) (sym h.context) are;
+}
+
+-- ---- what is put off
+
+-- a call that is not put off is kept
+one_kept : (hot : List Object) (call : ℕ × Request) → is_put_off hot call.1 ≡ false → not_put_off hot (call ∷ []) ≡ call ∷ []
+one_kept hot call goes = ap (λ b. cond (not b) (call ∷ []) []) goes
+
+none_off : (hot : List Object) (call : ℕ × Request) → is_put_off hot call.1 ≡ false → put_off hot (call ∷ []) ≡ []
+none_off hot call goes = ap (λ b. cond b (call ∷ []) []) goes
+
+one_off : (hot : List Object) (call : ℕ × Request) → is_put_off hot call.1 ≡ true → put_off hot (call ∷ []) ≡ call ∷ []
+one_off hot call waits = ap (λ b. cond b (call ∷ []) []) waits
+
+none_kept : (hot : List Object) (call : ℕ × Request) → is_put_off hot call.1 ≡ true → not_put_off hot (call ∷ []) ≡ []
+none_kept hot call waits = ap (λ b. cond (not b) (call ∷ []) []) waits
+
+-- where nothing is hot nothing is put off
+pub cold_kept : (calls : List (ℕ × Request)) → not_put_off [] calls ≡ calls
+cold_kept [] = refl
+cold_kept (call ∷ calls) =
+    ap (λ b. cond (not b) (call ∷ not_put_off [] calls) (not_put_off [] calls)) (none_put_off call.1) ∙ ap (λ cs. call ∷ cs) (cold_kept calls)
+
+pub cold_off : (calls : List (ℕ × Request)) → put_off [] calls ≡ []
+cold_off [] = refl
+cold_off (call ∷ calls) = ap (λ b. cond b (call ∷ put_off [] calls) (put_off [] calls)) (none_put_off call.1) ∙ cold_off calls
+
+-- where none of them is put off, all are kept
+all_kept : (hot : List Object) (calls : List (ℕ × Request)) → put_off hot calls ≡ [] → not_put_off hot calls ≡ calls
+all_kept hot [] none = refl
+all_kept hot (call ∷ calls) none = at (is_put_off hot call.1) none (λ fewer. all_kept hot calls fewer)
+  where
+    at : (b : Bool) → cond b (call ∷ put_off hot calls) (put_off hot calls) ≡ [] → (put_off hot calls ≡ [] → not_put_off hot calls ≡ calls) →
+        cond (not b) (call ∷ not_put_off hot calls) (not_put_off hot calls) ≡ call ∷ calls
+    at true none others = absurd (let more : length (call ∷ put_off hot calls) ≡ 0 = ap length none in omega (arith, more))
+    at false none others = ap (λ cs. call ∷ cs) (others none)
+
+-- ---- one request more
+
+-- what a permit did with the next request of its quota
+pub dealt_next : (opening : List ShardState) (old new : PermitState) (request : Request) (index : ℕ) (done : Done) →
+    HasDealtWith opening (with_try old) new request index done → HasDealtWithNext (index, request) old new
+dealt_next opening old new request index (Committed answer) h =
+    let goes : is_put_off (hot_for old) request ≡ false = ap (λ hot. is_put_off hot request) (sym (same_objects_of old.split.slices)) ∙ h.answered.not_put_off in record {
+      same = dealt_same opening old new request index (Committed answer) h;
+      calls = commit_calls opening (with_try old) new request index answer h ∙ ap (λ cs. committed old ++ cs) (sym (one_kept (hot_for old) (index, request) goes));
+      stash = ap (λ d. d.stash.requests) h.context ∙ sym (append-nil (stashed old)) ∙ ap (λ cs. stashed old ++ cs) (sym (none_off (hot_for old) (index, request) goes));
+      left = ap (λ d. d.left) h.context;
+      tries = ap (λ d. d.tries) h.context;
+    }
+dealt_next opening old new request index Stashed h = record {
+  same = dealt_same opening old new request index Stashed h;
+  calls = ap (λ d. map call_of d.journal.entries) h.context ∙ sym (append-nil (committed old)) ∙ ap (λ cs. committed old ++ cs) (sym (none_kept (hot_for old) (index, request) h.put_off));
+  stash = ap (λ d. d.stash.requests) h.context ∙ ap (λ cs. stashed old ++ cs) (sym (one_off (hot_for old) (index, request) h.put_off));
+  left = ap (λ d. d.left) h.context;
+  tries = ap (λ d. d.tries) h.context;
+}
+
+-- one call more of those from an index on, where some of each are kept
+pub kept_more : (p : ℕ × Request → Bool) (done so_far now front : List (ℕ × Request)) (next : List (ℕ × Request)) (call : ℕ × Request) →
+    now ≡ done ++ filter p (call ∷ []) → done ≡ front ++ filter p so_far → next ≡ so_far ++ call ∷ [] → now ≡ front ++ filter p next
+kept_more p done so_far now front next call is was more =
+    is ∙ ap (λ xs. xs ++ filter p (call ∷ [])) was ∙ append_assoc front (filter p so_far) (filter p (call ∷ []))
+    ∙ ap (λ xs. front ++ xs) (sym (ap (filter p) more ∙ filter-append p so_far (call ∷ [])))
+
+-- ---- the stash, from its front
+
+first_one : (xs : List (ℕ × Request)) (x : ℕ × Request) → slice_get xs 0 ≡ Some x → take 1 xs ≡ x ∷ []
+first_one [] x is = absurd (let none : None ≡ Some x = is in cc)
+first_one (y ∷ xs) x is = ap (λ (o : Option (ℕ × Request)). unwrap_or o y ∷ []) is
+
+none_there : (xs : List (ℕ × Request)) → slice_get xs 0 ≡ None → xs ≡ []
+none_there [] is = refl
+none_there (y ∷ xs) is = absurd (let some : Some y ≡ None = is in cc)
+
+front_more : (k : ℕ) (xs : List (ℕ × Request)) → take k xs ++ take 1 (drop k xs) ≡ take (k + 1) xs
+front_more zero xs = refl
+front_more (suc k) [] = let e : suc (k + 1) ≡ suc k + 1 = omega arith in ap (λ (m : ℕ). take {A = ℕ × Request} m []) e
+front_more (suc k) (x ∷ xs) =
+    let e : suc (k + 1) ≡ suc k + 1 = omega arith in
+    ap (λ ys. x ∷ ys) (front_more k xs) ∙ ap (λ (m : ℕ). take m (x ∷ xs)) e
+
+here_is : (k : ℕ) (xs : List (ℕ × Request)) (x : ℕ × Request) → slice_get (drop k xs) 0 ≡ Some x → xs ≡ take k xs ++ x ∷ drop (k + 1) xs
+here_is k xs x is =
+    sym (take-append-drop (k + 1) xs) ∙ ap (λ ys. ys ++ drop (k + 1) xs) (sym (front_more k xs) ∙ ap (λ ys. take k xs ++ ys) (first_one (drop k xs) x is))
+    ∙ append_assoc (take k xs) (x ∷ []) (drop (k + 1) xs)
+
+-- those before the one that is reached are so many
+reached : (k : ℕ) (xs : List (ℕ × Request)) (x : ℕ × Request) → slice_get (drop k xs) 0 ≡ Some x → length (take k xs) ≡ k
+reached zero xs x is = refl
+reached (suc k) [] x is = absurd (let none : None ≡ Some x = is in cc)
+reached (suc k) (y ∷ xs) x is = ap suc (reached k xs x is)
+
+next_is : (k : ℕ) (xs : List (ℕ × Request)) (x : ℕ × Request) → take (k + 1) xs ≡ take k xs ++ x ∷ [] → xs ≡ take k xs ++ x ∷ drop (k + 1) xs
+next_is k xs x is =
+    sym (take-append-drop (k + 1) xs) ∙ ap (λ ys. ys ++ drop (k + 1) xs) is ∙ append_assoc (take k xs) (x ∷ []) (drop (k + 1) xs)
+
+-- what a permit did with the request that waited longest
+pub first_performed : (opening : List ShardState) (old new : PermitState) (answer : Option Reply) →
+    IfNone answer (old.split.context.stash.requests ≡ []) → IfNone answer (new ≡ with_try old) → IfSome answer (HasPerformedFirst opening (with_try old) new) →
+    HasPerformedWaiting old new
+first_performed opening old new None none same done =
+    let tried_once : new.split.context.tries ≡ old.split.context.tries + 1 = ap (λ (p : PermitState). p.split.context.tries) same in record {
+      same = first_same opening old new None same done;
+      goes = ap (λ ss. put_off (hot_for old) (take 1 ss)) none;
+      calls = ap (λ (p : PermitState). committed p) same ∙ sym (ap (λ ss. committed old ++ take 1 ss) none ∙ append-nil (committed old));
+      stash = ap (λ (p : PermitState). stashed p) same ∙ none ∙ ap (drop 1) (sym none);
+      left = ap (λ (p : PermitState). p.split.context.left) same;
+      tries = omega (arith, tried_once);
+    }
+first_performed opening old new (Some answer) none same done =
+    let tried_once : new.split.context.tries ≡ old.split.context.tries + 1 = ap (λ (d : ContextState). d.tries) done.committed.context in
+    let one_more : new.split.context.left ≡ old.split.context.left + 1 - 1 = ap (λ (d : ContextState). d.left) done.committed.context in
+    let goes : is_put_off (hot_for old) done.request ≡ false = ap (λ hot. is_put_off hot done.request) (sym (same_objects_of old.split.slices)) ∙ done.committed.answered.not_put_off in record {
+      same = first_same opening old new (Some answer) same done;
+      goes = ap (put_off (hot_for old)) (first_one (stashed old) (done.index, done.request) done.first) ∙ none_off (hot_for old) (done.index, done.request) goes;
+      calls = commit_calls opening (with_first_called (with_try old)) new done.request done.index answer done.committed
+          ∙ ap (λ cs. committed old ++ cs) (sym (first_one (stashed old) (done.index, done.request) done.first));
+      stash = ap (λ (d : ContextState). d.stash.requests) done.committed.context;
+      left = omega (arith, one_more);
+      tries = omega (arith, tried_once);
+    }
+
+-- where none waits there is none to perform
+pub none_waits : (permit : PermitState) → slice_get (stashed permit) 0 ≡ None → HasPerformedWaiting permit permit
+none_waits permit none =
+    let empty : stashed permit ≡ [] = none_there (stashed permit) none in record {
+      same = same permit;
+      goes = ap (λ ss. put_off (hot_for permit) (take 1 ss)) empty;
+      calls = sym (ap (λ ss. committed permit ++ take 1 ss) empty ∙ append-nil (committed permit));
+      stash = empty ∙ ap (drop 1) (sym empty);
+      left = refl;
+      tries = omega arith;
+    }
+
+-- one more of the stash is not to be put off
+pub stash_goes : (hot now : List Object) (k : ℕ) (ss waits : List (ℕ × Request)) → now ≡ hot → waits ≡ drop k ss →
+    put_off hot (take k ss) ≡ [] → put_off now (take 1 waits) ≡ [] → put_off hot (take (k + 1) ss) ≡ []
+stash_goes hot now k ss waits same left was goes =
+    ap (put_off hot) (sym (front_more k ss)) ∙ filter-append (λ call. is_put_off hot call.1) (take k ss) (take 1 (drop k ss))
+    ∙ ap (λ cs. cs ++ put_off hot (take 1 (drop k ss))) was
+    ∙ ap (λ h. put_off h (take 1 (drop k ss))) (sym same) ∙ ap (λ cs. put_off now (take 1 cs)) (sym left) ∙ goes
+
+pub stash_more : (k : ℕ) (ss cs old now : List (ℕ × Request)) → now ≡ cs ++ take 1 (drop k ss) → cs ≡ old ++ take k ss → now ≡ old ++ take (k + 1) ss
+stash_more k ss cs old now more was =
+    more ∙ ap (λ xs. xs ++ take 1 (drop k ss)) was ∙ append_assoc old (take k ss) (take 1 (drop k ss)) ∙ ap (λ xs. old ++ xs) (front_more k ss)
+
+pub stash_less : (k : ℕ) (ss waits now : List (ℕ × Request)) → now ≡ drop 1 waits → waits ≡ drop k ss → now ≡ drop (k + 1) ss
+stash_less k ss waits now less was = less ∙ ap (drop 1) was ∙ drop-drop 1 k ss
+
+-- ---- what is taken of the stash
+
+pub apart : (takes : Bool) (permit : PermitState) → stashed permit ≡ kept takes permit ++ taken takes permit
+apart true permit = refl
+apart false permit = sym (append-nil (stashed permit))
+
+pub taken_few : (takes : Bool) (permit : PermitState) → length (taken takes permit) ≤ length (stashed permit)
+taken_few true permit = omega arith
+taken_few false permit = omega arith
+
+-- where something is taken the phase takes stashes
+pub takes_some : (takes : Bool) (permit : PermitState) (k : ℕ) → k < length (taken takes permit) → takes ≡ true
+takes_some true permit k less = refl
+takes_some false permit k less = absurd (omega (arith, less))
+
+-- ---- the whole task
+
+-- first the stash is done, and then the quota
+pub task_done : (takes : Bool) (script : List Request) (first : ℕ) (old mid new : PermitState) → IsSamePermit old mid → put_off (hot_for old) (taken takes old) ≡ [] →
+    committed mid ≡ committed old ++ taken takes old → stashed mid ≡ kept takes old → mid.split.context.left ≡ old.split.context.left →
+    IsSamePermit mid new → committed new ≡ committed mid ++ not_put_off (hot_for mid) (calls_from first mid.split.context.left script) →
+    stashed new ≡ stashed mid ++ put_off (hot_for mid) (calls_from first mid.split.context.left script) → IsDone takes (task old script first) new
+task_done takes script first old mid new same_stash go calls on left same_quota more waits =
+    let hot : List Object = hot_for old in
+    let own : List (ℕ × Request) = calls_from first old.split.context.left script in
+    let quota_kept : not_put_off (hot_for mid) (calls_from first mid.split.context.left script) ≡ not_put_off hot own =
+    ap (λ h. not_put_off h (calls_from first mid.split.context.left script)) same_stash.hot ∙ ap (λ n. not_put_off hot (calls_from first n script)) left in
+    let quota_off : put_off (hot_for mid) (calls_from first mid.split.context.left script) ≡ put_off hot own =
+    ap (λ h. put_off h (calls_from first mid.split.context.left script)) same_stash.hot ∙ ap (λ n. put_off hot (calls_from first n script)) left in record {
+      same = same_after old mid new same_stash same_quota;
+      calls = more ∙ ap (λ cs. cs ++ not_put_off (hot_for mid) (calls_from first mid.split.context.left script)) calls
+          ∙ append_assoc (committed old) (taken takes old) (not_put_off (hot_for mid) (calls_from first mid.split.context.left script))
+          ∙ ap (λ cs. committed old ++ (taken takes old ++ cs)) quota_kept
+          ∙ ap (λ cs. committed old ++ cs)
+          (sym (filter-append (λ call. not (is_put_off hot call.1)) (taken takes old) own ∙ ap (λ cs. cs ++ not_put_off hot own) (all_kept hot (taken takes old) go)));
+      stash = waits ∙ ap (λ ss. ss ++ put_off (hot_for mid) (calls_from first mid.split.context.left script)) on
+          ∙ ap (λ cs. kept takes old ++ cs)
+          (quota_off ∙ sym (filter-append (λ call. is_put_off hot call.1) (taken takes old) own ∙ ap (λ cs. cs ++ put_off hot own) go));
+    }
+
+pub on_ok3 : {A E B C D F : Type 0} (result : Result A E) → OnOk result B → OnOk result C → OnOk result D → (B → C → D → F) → OnOk result F
+on_ok3 (Ok a) b c d all = all b c d
+on_ok3 (Err e) b c d all = tt
+
+-- ---- faults
+
+pub err_as : {A E : Type 0} (result : Result A E) (fault : E) (Q : E → Type 0) → IsErrAnd result (λ e. e ≡ fault) → Q fault → IfErr result Q
+err_as (Ok a) fault Q is q = tt
+err_as (Err e) fault Q is q = subst Q (sym is) q
+
+none_left : (n : ℕ) → drop {A = ℕ × Request} n [] ≡ []
+none_left zero = refl
+none_left (suc n) = refl
+
+module _ (opening : List ShardState) (old mid new : PermitState) (fault : PermitFault) where
+  -- the request that waits longest met a fault
+  pub stopped_first : (takes : Bool) (k : ℕ) → takes ≡ true → committed mid ≡ committed old ++ take k (taken takes old) → stashed mid ≡ kept takes old ++ drop k (taken takes old) →
+      put_off (hot_for old) (take k (taken takes old)) ≡ [] → HasFailedFirst opening (with_try mid) new fault → HasStopped takes opening (taken takes old) old new fault
+  stopped_first false k is was waits go met = absurd (false≢true is)
+  stopped_first true k is was waits go met =
+      let before : List (ℕ × Request) = take k (stashed old) in
+      let first : slice_get (drop k (stashed old)) 0 ≡ Some (met.index, met.request) = ap (λ ss. slice_get ss 0) (sym waits) ∙ met.first in record {
+        before = before;
+        call = (met.index, met.request);
+        left = drop (k + 1) (stashed old);
+        calls_are = here_is k (stashed old) (met.index, met.request) first;
+        done = ap (λ sp. map call_of sp.context.journal.entries) met.failed.split ∙ was
+            ∙ ap (λ cs. committed old ++ cs) (sym (all_kept (hot_for old) before go));
+        waits = ap (λ sp. sp.context.stash.requests) met.failed.split ∙ waits ∙ ap (λ n. drop n (stashed old)) (sym (reached k (stashed old) (met.index, met.request) first))
+            ∙ sym (append-nil (drop (length before) (stashed old)))
+            ∙ ap (λ cs. drop (length before) (stashed old) ++ cs) (sym go);
+        cause = subst (λ sp. IsCause opening sp new.key met.request fault) (sym met.failed.split) met.failed.cause;
+      }
+
+  -- the next request of the quota met a fault
+  pub stopped_next : (k : ℕ) (calls : List (ℕ × Request)) (call : ℕ × Request) → take (k + 1) calls ≡ take k calls ++ call ∷ [] →
+      committed mid ≡ committed old ++ not_put_off (hot_for old) (take k calls) → stashed mid ≡ stashed old ++ put_off (hot_for old) (take k calls) →
+      HasFailed opening (with_try mid) new call.1 fault → HasStopped false opening calls old new fault
+  stopped_next k calls call next was waits failed = record {
+    before = take k calls;
+    call = call;
+    left = drop (k + 1) calls;
+    calls_are = next_is k calls call next;
+    done = ap (λ sp. map call_of sp.context.journal.entries) failed.split ∙ was;
+    waits = ap (λ sp. sp.context.stash.requests) failed.split ∙ waits
+        ∙ sym (ap (λ cs. stashed old ++ cs ++ put_off (hot_for old) (take k calls)) (none_left (length (take k calls)))
+        ∙ ap (λ cs. cs ++ put_off (hot_for old) (take k calls)) (append-nil (stashed old)));
+    cause = subst (λ sp. IsCause opening sp new.key call.1 fault) (sym failed.split) failed.cause;
+  }
+
+  -- it stopped in its stash, before the quota
+  pub stopped_early : (takes : Bool) (calls more : List (ℕ × Request)) → HasStopped takes opening calls old new fault → HasStopped takes opening (calls ++ more) old new fault
+  stopped_early takes calls more met = record {
+    before = met.before;
+    call = met.call;
+    left = met.left ++ more;
+    calls_are = ap (λ cs. cs ++ more) met.calls_are ∙ append_assoc met.before (met.call ∷ met.left) more;
+    done = met.done;
+    waits = met.waits;
+    cause = met.cause;
+  }
+
+  -- it stopped in its quota, once the stash was done
+  pub stopped_late : (takes : Bool) (calls own : List (ℕ × Request)) → put_off (hot_for old) (taken takes old) ≡ [] → committed mid ≡ committed old ++ taken takes old →
+      stashed mid ≡ kept takes old → hot_for mid ≡ hot_for old → calls ≡ own → HasStopped false opening calls mid new fault →
+      HasStopped takes opening (taken takes old ++ own) old new fault
+  stopped_late takes calls own go was on hot as_given met =
+      let stash : List (ℕ × Request) = taken takes old in
+      let rest : List (ℕ × Request) = kept takes old in
+      let kept : not_put_off (hot_for old) (stash ++ met.before) ≡ stash ++ not_put_off (hot_for old) met.before =
+      filter-append (λ call. not (is_put_off (hot_for old) call.1)) stash met.before ∙ ap (λ cs. cs ++ not_put_off (hot_for old) met.before) (all_kept (hot_for old) stash go) in
+      let off : put_off (hot_for old) (stash ++ met.before) ≡ put_off (hot_for old) met.before =
+      filter-append (λ call. is_put_off (hot_for old) call.1) stash met.before ∙ ap (λ cs. cs ++ put_off (hot_for old) met.before) go in
+      let longer : length (stash ++ met.before) ≡ length stash + length met.before = length-append stash met.before in record {
+        before = stash ++ met.before;
+        call = met.call;
+        left = met.left;
+        calls_are = ap (λ cs. stash ++ cs) (sym as_given ∙ met.calls_are) ∙ sym (append_assoc stash met.before (met.call ∷ met.left));
+        done = met.done ∙ ap (λ h. committed mid ++ not_put_off h met.before) hot ∙ ap (λ cs. cs ++ not_put_off (hot_for old) met.before) was
+            ∙ append_assoc (committed old) stash (not_put_off (hot_for old) met.before) ∙ ap (λ cs. committed old ++ cs) (sym kept);
+        waits = met.waits ∙ ap (λ cs. stashed mid ++ cs ++ put_off (hot_for mid) met.before) (none_left (length met.before))
+            ∙ ap (λ cs. cs ++ put_off (hot_for mid) met.before) (append-nil (stashed mid) ∙ on) ∙ ap (λ h. rest ++ put_off h met.before) hot
+            ∙ ap (λ cs. rest ++ cs) (sym off) ∙ ap (λ cs. cs ++ put_off (hot_for old) (stash ++ met.before)) (sym (append-nil rest))
+            ∙ ap (λ cs. rest ++ cs ++ put_off (hot_for old) (stash ++ met.before)) (sym (drop_all (length (stash ++ met.before)) stash (omega (arith, longer))));
+        cause = met.cause;
+      }

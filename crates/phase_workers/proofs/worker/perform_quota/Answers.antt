@@ -1,0 +1,47 @@
+use Rattle.std.proofs.Common.{◌≡◌, ◌+◌, ◌<◌, ◌++◌, ◌∷◌, [], ℕ, not, List, take, subst, arith}
+use Rattle.auction_rows.specs.declared.ids.Object.{Object}
+use Rattle.auction_rows.specs.declared.requests.Request.{Request}
+use Rattle.auction_rows.specs.Phases.{is_put_off}
+use Rattle.phase_transactions.specs.Permits.{PermitState}
+use Rattle.run_laws.proofs.QuotaLemmas.{next_call}
+use Rattle.phase_workers.specs.Working.{calls_from, committed, stashed, hot_for, put_off, not_put_off}
+use Rattle.phase_workers.proofs.WorkLemmas.{same_after, kept_more, err_as, stopped_next}
+use Rattle.phase_workers.proofs.worker.perform_quota.Goals as goal
+
+pub loop-place-preserved : goal.loop-place-preserved
+loop-place-preserved g c =
+    let was = c.loop-place.invariant in
+    let step = c.in_ok-perform_next.ensures.dealt in
+    let old : PermitState = g.P.Permit.shows c.args.permit.now in
+    let mid : PermitState = g.P.Permit.shows c.loop-place.permit in
+    let new : PermitState = g.P.Permit.shows c.perform_next.new.permit in
+    let first : ℕ = c.args.first in
+    let k : ℕ = c.loop-place.place in
+    let request : Request = c.index-script-index.result in
+    let calls : List (ℕ × Request) = calls_from c.args.first old.split.context.left c.args.script.now in
+    let less : c.loop-place.place < old.split.context.left = omega (arith, c.loop-place-test.true, c.quota_left-place-end.ensures) in
+    let next : take (k + 1) calls ≡ take k calls ++ (first + k, request) ∷ [] =
+    next_call first old.split.context.left k c.args.script.now request less c.requires.given c.index-script-index.is in (
+      same_after old mid new was.0 step.same,
+      kept_more (λ call. not (is_put_off (hot_for old) call.1)) (committed mid) (take k calls) (committed new) (committed old) (take (k + 1) calls) (first + k, request)
+          (subst (λ (hot : List Object). committed new ≡ committed mid ++ not_put_off hot ((first + k, request) ∷ [])) was.0.hot step.calls) was.1 next,
+      kept_more (λ call. is_put_off (hot_for old) call.1) (stashed mid) (take k calls) (stashed new) (stashed old) (take (k + 1) calls) (first + k, request)
+          (subst (λ (hot : List Object). stashed new ≡ stashed mid ++ put_off hot ((first + k, request) ∷ [])) was.0.hot step.stash) was.2 next,
+      omega (arith, step.left, was.3, less),
+      omega (arith, step.tries, was.4),
+    )
+
+pub returns-in_err-perform_next-clause-stopped : goal.returns-in_err-perform_next-clause-stopped
+returns-in_err-perform_next-clause-stopped g c =
+    let was = c.loop-place.invariant in
+    let old : PermitState = g.P.Permit.shows c.args.permit.now in
+    let first : ℕ = c.args.first in
+    let k : ℕ = c.loop-place.place in
+    let request : Request = c.index-script-index.result in
+    let calls : List (ℕ × Request) = calls_from c.args.first old.split.context.left c.args.script.now in
+    let less : c.loop-place.place < old.split.context.left = omega (arith, c.loop-place-test.true, c.quota_left-place-end.ensures) in
+    let next : take (k + 1) calls ≡ take k calls ++ (first + k, request) ∷ [] =
+    next_call first old.split.context.left k c.args.script.now request less c.requires.given c.index-script-index.is in
+    err_as c.from_residual.result c.in_err-perform_next.field-0.0 _ c.from_residual.ensures.1
+    (stopped_next g.N.PhaseName.opening old (g.P.Permit.shows c.loop-place.permit) (g.P.Permit.shows c.perform_next.new.permit) c.in_err-perform_next.field-0.0 k calls (first + k, request) next
+    was.1 was.2 c.in_err-perform_next.ensures.failed)

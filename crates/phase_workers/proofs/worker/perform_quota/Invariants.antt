@@ -1,0 +1,15 @@
+use Rattle.std.proofs.Common.{◌≡◌, ◌+◌, ◌++◌, take}
+use Rattle.phase_workers.specs.Working.{calls_from, committed, stashed, hot_for, put_off, not_put_off, IsSamePermit}
+use Rattle.phase_workers.proofs.worker.perform_quota.Given as goal
+
+-- of the calls of the quota so far those that are not put off are committed, and the others wait
+abbrev pub invariant-loop-place : goal.invariant-loop-place
+invariant-loop-place g l =
+    let old = g.P.Permit.shows l.fn.permit in
+    let mid = g.P.Permit.shows l.permit in
+    let calls = take l.place (calls_from l.first old.split.context.left l.script) in
+    IsSamePermit old mid
+    × (committed mid ≡ committed old ++ not_put_off (hot_for old) calls)
+    × (stashed mid ≡ stashed old ++ put_off (hot_for old) calls)
+    × (mid.split.context.left + l.place ≡ old.split.context.left)
+    × (mid.split.context.tries ≡ old.split.context.tries + l.place)

@@ -1,0 +1,60 @@
+use Rattle.std.proofs.Common.{◌≡◌, ℕ, ◌+◌, Bool, true, List, ◌++◌, ◌∙◌, sym, ap, take, drop, arith}
+use Rattle.std.proofs.lemmas.List.{append-nil, take_all, drop_all}
+use Rattle.auction_rows.specs.declared.requests.Request.{Request}
+use Rattle.phase_transactions.specs.Permits.{PermitState}
+use Rattle.phase_workers.specs.Working.{committed, stashed, taken, kept, hot_for, put_off}
+use Rattle.phase_workers.proofs.WorkLemmas.{same_after, takes_some, apart, stash_goes, stash_more, stash_less, err_as, stopped_first}
+use Rattle.phase_workers.proofs.worker.perform_stash.Goals as goal
+
+pub perform_first-requires-clause-takes : goal.perform_first-requires-clause-takes
+perform_first-requires-clause-takes g c =
+    takes_some g.P.Permit.takes_stash (g.P.Permit.shows c.args.permit.now) c.loop-call._call (omega (arith, c.loop-call-test.true, c.waiting-call-end.ensures))
+
+pub loop-call-preserved : goal.loop-call-preserved
+loop-call-preserved g c =
+    let was = c.loop-call.invariant in
+    let step = c.in_ok-perform_first.ensures.performed in
+    let takes : Bool = g.P.Permit.takes_stash in
+    let old : PermitState = g.P.Permit.shows c.args.permit.now in
+    let mid : PermitState = g.P.Permit.shows c.loop-call.permit in
+    let new : PermitState = g.P.Permit.shows c.perform_first.new.permit in
+    let k : ℕ = c.loop-call._call in
+    let own : List (ℕ × Request) = taken takes old in
+    let yes : takes ≡ true = takes_some takes old k (omega (arith, c.loop-call-test.true, c.waiting-call-end.ensures)) in
+    let waits : stashed mid ≡ drop k own = was.2 ∙ ap (λ t. kept t old ++ drop k own) yes in (
+      same_after old mid new was.0 step.same,
+      stash_more k own (committed mid) (committed old) (committed new) (step.calls ∙ ap (λ ss. committed mid ++ take 1 ss) waits) was.1,
+      stash_less k own (stashed mid) (stashed new) step.stash waits ∙ sym (ap (λ t. kept t old ++ drop (k + 1) own) yes),
+      step.left ∙ was.3,
+      omega (arith, step.tries, was.4),
+      stash_goes (hot_for old) (hot_for mid) k own (stashed mid) was.0.hot waits was.5 step.goes,
+    )
+
+pub returns-clause-go : goal.returns-clause-go
+returns-clause-go g c =
+    let old : PermitState = g.P.Permit.shows c.args.permit.now in
+    let own : List (ℕ × Request) = taken g.P.Permit.takes_stash old in
+    ap (put_off (hot_for old)) (sym (take_all c.loop-call._call own (omega (arith, c.loop-call-test.false, c.waiting-call-end.ensures)))) ∙ c.loop-call.invariant.5
+
+pub returns-clause-calls : goal.returns-clause-calls
+returns-clause-calls g c =
+    let old : PermitState = g.P.Permit.shows c.args.permit.now in
+    let own : List (ℕ × Request) = taken g.P.Permit.takes_stash old in
+    c.loop-call.invariant.1 ∙ ap (λ ss. committed old ++ ss) (take_all c.loop-call._call own (omega (arith, c.loop-call-test.false, c.waiting-call-end.ensures)))
+
+pub returns-clause-stash : goal.returns-clause-stash
+returns-clause-stash g c =
+    let old : PermitState = g.P.Permit.shows c.args.permit.now in
+    let own : List (ℕ × Request) = taken g.P.Permit.takes_stash old in
+    let rest : List (ℕ × Request) = kept g.P.Permit.takes_stash old in
+    c.loop-call.invariant.2 ∙ ap (λ ss. rest ++ ss) (drop_all c.loop-call._call own (omega (arith, c.loop-call-test.false, c.waiting-call-end.ensures))) ∙ append-nil rest
+
+pub returns-in_err-perform_first-clause-stopped : goal.returns-in_err-perform_first-clause-stopped
+returns-in_err-perform_first-clause-stopped g c =
+    let was = c.loop-call.invariant in
+    let takes : Bool = g.P.Permit.takes_stash in
+    let old : PermitState = g.P.Permit.shows c.args.permit.now in
+    err_as c.from_residual.result c.in_err-perform_first.field-0.0 _ c.from_residual.ensures.1
+    (stopped_first g.N.PhaseName.opening old (g.P.Permit.shows c.loop-call.permit) (g.P.Permit.shows c.perform_first.new.permit) c.in_err-perform_first.field-0.0 takes c.loop-call._call
+    (takes_some takes old c.loop-call._call (omega (arith, c.loop-call-test.true, c.waiting-call-end.ensures)))
+    was.1 was.2 was.5 c.in_err-perform_first.ensures.failed)

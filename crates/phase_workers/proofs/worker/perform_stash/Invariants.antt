@@ -1,0 +1,15 @@
+use Rattle.std.proofs.Common.{◌≡◌, ◌+◌, ◌++◌, ◌≤◌, [], take, drop}
+use Rattle.phase_workers.specs.Working.{committed, stashed, taken, kept, hot_for, put_off, IsSamePermit}
+use Rattle.phase_workers.proofs.worker.perform_stash.Given as goal
+
+-- the first so many that are taken of the stash are committed, since none is to be put off, and the others wait
+abbrev pub invariant-loop-call : goal.invariant-loop-call
+invariant-loop-call g l =
+    let old = g.P.Permit.shows l.fn.permit in
+    let mid = g.P.Permit.shows l.permit in
+    IsSamePermit old mid
+    × (committed mid ≡ committed old ++ take l._call (taken g.P.Permit.takes_stash old))
+    × (stashed mid ≡ kept g.P.Permit.takes_stash old ++ drop l._call (taken g.P.Permit.takes_stash old))
+    × (mid.split.context.left ≡ old.split.context.left)
+    × (mid.split.context.tries ≤ old.split.context.tries + l._call)
+    × (put_off (hot_for old) (take l._call (taken g.P.Permit.takes_stash old)) ≡ [])
