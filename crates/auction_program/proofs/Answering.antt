@@ -19,7 +19,7 @@ use Rattle.auction_text.specs.declared.faults.WriteFault.{WriteFault}
 use Rattle.auction_program.specs.Execution.{added_text, commits_text, Answers, IsAllowed, IsCausedBy, IsNotPerformed, IsNotRun, IsRefused, OfInput}
 use Rattle.auction_program.specs.Options.{opening_of, policy_of}
 use Rattle.auction_run.specs.Beginning.{HaveWorkers, HasShards, HasQuotas, AreShort}
-use Rattle.auction_run.specs.Working.{HasMetTheEnd}
+use Rattle.auction_run.specs.Phases.{HasMetTheEnd}
 use Rattle.auction_run.specs.declared.fault.RunFault.{RunFault}
 use Rattle.auction_run.specs.declared.fault.RunFault.TheVariants as run
 use Rattle.auction_program.specs.declared.faults.Fault.{Fault}

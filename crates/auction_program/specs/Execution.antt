@@ -24,7 +24,7 @@ use Rattle.auction_program.specs.Options.{opening_of, policy_of}
 use Rattle.auction_program.specs.Report.{report_of, AreViews}
 use Rattle.auction_run.specs.Beginning.{HaveWorkers, HasShards, HasQuotas, AreShort}
 use Rattle.auction_run.specs.Phases.{hot_sets}
-use Rattle.auction_run.specs.Working.{HasMetTheEnd}
+use Rattle.auction_run.specs.Phases.{HasMetTheEnd}
 use Rattle.auction_run.specs.declared.fault.RunFault.{RunFault}
 use Rattle.auction_run.specs.declared.fault.RunFault.TheVariants as run
 use Rattle.auction_run.specs.declared.running.Outcome.{Outcome}

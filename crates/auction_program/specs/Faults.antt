@@ -1,8 +1,8 @@
 -- The exit statuses of faults, and their words.
 use Rattle.std.specs.Prelude.{ℕ, List, Option, Some, None, string_bytes}
+use Rattle.program_options.specs.declared.faults.UsageFault.TheVariants.{Text, Memory}
 use Rattle.auction_program.specs.declared.faults.Fault.{Fault}
 use Rattle.auction_program.specs.declared.faults.Fault.TheVariants.{Usage, Read, Resume, Make, Run, Write}
-use Rattle.auction_program.specs.declared.faults.UsageFault.TheVariants.{Text, Memory}
 
 abbrev pub status : Fault → ℕ
 status (Usage fault) = 1

@@ -11,6 +11,6 @@ mod views;
 mod writing;
 
 pub use executing::execute;
-pub use faults::{Fault, UsageFault, status, write_fault};
+pub use faults::{Fault, status, write_fault};
 pub use one_worker::one_worker_has_one_answer;
-pub use options::{Options, read_options, words_fault};
+pub use options::{Options, read_options};

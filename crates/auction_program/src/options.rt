@@ -1,21 +1,20 @@
 //! The options of the program.
-ghost use Rattle.std.specs.Prelude.{◌≡◌, ◌≤◌, IfOk, IfErr, OnOk, false, map, string_bytes};
-ghost use Rattle.std.specs.IoError.{error_kind};
-ghost use Rattle.std.specs.declared.io.ErrorKind.{ErrorKind as IoErrorKind};
-ghost use Rattle.clap.specs.Words.{app_of, found_of, kind_of, one_text, rule_of};
-ghost use Rattle.clap.specs.declared.error.kind.ErrorKind.{ErrorKind};
+ghost use Rattle.std.specs.Prelude.{◌≡◌, IfOk, IfErr, OnOk, false, map, string_bytes};
+ghost use Rattle.clap.specs.Words.{app_of, found_of, one_text, rule_of};
+ghost use Rattle.program_options.specs.Options.{flag_rule};
+ghost use Rattle.program_options.specs.Words.{AreTaken, HaveNumbers};
+ghost use Rattle.program_options.specs.declared.faults.UsageFault.{UsageFault};
 ghost use Rattle.auction_program.specs.Options.{AreInRange};
-ghost use Rattle.auction_program.specs.Words.{AreTaken, HaveNumbers, IsNumberIn, bare_program, flag_rule, is_set, number_of, number_rule, options_in, options_of, program};
-ghost use Rattle.auction_program.specs.declared.faults.UsageFault.{UsageFault};
+ghost use Rattle.auction_program.specs.Words.{bare_program, named_rule, options_in, options_of, program};
 
-use crate::faults::UsageFault;
 use crate::help;
 use auction_rows::Opening;
 use auction_run::Policy;
-use clap::error::ErrorKind;
-use clap::{Arg, ArgAction, ArgMatches, Command, Error};
+use clap::{Arg, ArgMatches, Command};
+use program_options::{
+    NumberRange, UsageFault, flag, flag_of, number_of, number_option, parse_words,
+};
 use std::alloc::{AllocError, Global};
-use std::io;
 
 /// What the program is asked to do: how the auction is run, how many users and categories it has, and what is written.
 #[derive(Clone, Copy, Debug, PartialEq, Eq)]
@@ -71,66 +70,51 @@ impl Options {
     }
 }
 
-/// The least and the greatest number that an option takes.
-#[derive(Clone, Copy)]
-struct Range {
-    least: u32,
-    greatest: u32,
-}
-
-const WORKERS: Range = Range {
+const WORKERS: NumberRange = NumberRange {
     least: 1,
     greatest: 16,
 };
 
-const SHARDS: Range = Range {
+const SHARDS: NumberRange = NumberRange {
     least: 1,
     greatest: 64,
 };
 
-const QUOTAS: Range = Range {
+const QUOTAS: NumberRange = NumberRange {
     least: 1,
     greatest: 1_000_000,
 };
 
-const HOT: Range = Range {
+const HOT: NumberRange = NumberRange {
     least: 0,
     greatest: 64,
 };
 
-const NUMBERS: Range = Range {
+const NUMBERS: NumberRange = NumberRange {
     least: 0,
     greatest: 1_000_000,
 };
 
-fn number_option<'a>(
+fn described_number<'a>(
     alloc: Global,
     id: &'a str,
-    range: Range,
+    range: NumberRange,
     usual: &'a str,
     help: &'a str,
 ) -> Arg<'a>
-    ensures rule { rule_of result ≡ number_rule id.entry.now range.least range.greatest usual.entry.now }
+    ensures rule { rule_of result ≡ named_rule id.entry.now range.least range.greatest usual.entry.now }
     ensures local { result.global ≡ false }
 {
-    let parser = clap::value_parser!(u32);
-    Arg::new(alloc, id)
-        .long(id)
-        .action(ArgAction::Set)
-        .value_parser(parser.range(i64::from(range.least)..=i64::from(range.greatest)))
-        .default_value(usual)
+    number_option(alloc, id, range, usual)
         .value_name("N")
         .help(help)
 }
 
-fn flag<'a>(alloc: Global, id: &'a str, help: &'a str) -> Arg<'a>
+fn described_flag<'a>(alloc: Global, id: &'a str, help: &'a str) -> Arg<'a>
     ensures rule { rule_of result ≡ flag_rule id.entry.now }
     ensures local { result.global ≡ false }
 {
-    Arg::new(alloc, id)
-        .long(id)
-        .action(ArgAction::SetTrue)
-        .help(help)
+    flag(alloc, id).help(help)
 }
 
 // The program without its options.
@@ -148,75 +132,35 @@ fn command<'a>(alloc: Global) -> Result<Command<'a>, AllocError>
     ensures { IfOk result (λ command. app_of command ≡ program) }
 {
     bare_command(alloc)
-        .arg(number_option(alloc, "workers", WORKERS, "1", help::WORKERS))?
-        .arg(number_option(alloc, "shards", SHARDS, "4", help::SHARDS))?
-        .arg(number_option(alloc, "joined", QUOTAS, "64", help::JOINED))?
-        .arg(number_option(alloc, "split", QUOTAS, "64", help::SPLIT))?
-        .arg(number_option(alloc, "threshold", QUOTAS, "8", help::THRESHOLD))?
-        .arg(number_option(alloc, "hot", HOT, "8", help::HOT))?
-        .arg(number_option(alloc, "users", NUMBERS, "100", help::USERS))?
-        .arg(number_option(alloc, "categories", NUMBERS, "10", help::CATEGORIES))?
-        .arg(flag(alloc, "history", help::HISTORY))?
-        .arg(flag(alloc, "rows", help::ROWS))?
-        .arg(flag(alloc, "report", help::REPORT))
-}
-
-// The number of an option, which its parser has found to be one.
-fn number_of(matches: &ArgMatches<'_>, id: &str) -> u32
-    requires { IsNumberIn 0 1000000 (one_text (found_of matches.now) id.now) }
-    ensures { result ≡ number_of (one_text (found_of matches.now) id.now) }
-{
-    matches.get_one::<u32>(id).unwrap()
-}
-
-// Whether a flag is there.
-fn flag_of(matches: &ArgMatches<'_>, id: &str) -> bool
-    ensures { result ≡ is_set (one_text (found_of matches.now) id.now) }
-{
-    matches.get_one(id).unwrap_or(false)
+        .arg(described_number(alloc, "workers", WORKERS, "1", help::WORKERS))?
+        .arg(described_number(alloc, "shards", SHARDS, "4", help::SHARDS))?
+        .arg(described_number(alloc, "joined", QUOTAS, "64", help::JOINED))?
+        .arg(described_number(alloc, "split", QUOTAS, "64", help::SPLIT))?
+        .arg(described_number(alloc, "threshold", QUOTAS, "8", help::THRESHOLD))?
+        .arg(described_number(alloc, "hot", HOT, "8", help::HOT))?
+        .arg(described_number(alloc, "users", NUMBERS, "100", help::USERS))?
+        .arg(described_number(alloc, "categories", NUMBERS, "10", help::CATEGORIES))?
+        .arg(described_flag(alloc, "history", help::HISTORY))?
+        .arg(described_flag(alloc, "rows", help::ROWS))?
+        .arg(described_flag(alloc, "report", help::REPORT))
 }
 
 fn options_of(matches: &ArgMatches<'_>) -> Options
-    requires { HaveNumbers (one_text (found_of matches.now)) }
-    ensures { result ≡ options_of (one_text (found_of matches.now)) }
+    ensures given { HaveNumbers program (one_text (found_of matches.now)) → result ≡ options_of (one_text (found_of matches.now)) }
+    ensures range { AreInRange result }
 {
     Options {
-        workers: number_of(matches, "workers"),
-        shards: number_of(matches, "shards"),
-        joined: number_of(matches, "joined"),
-        split: number_of(matches, "split"),
-        threshold: number_of(matches, "threshold"),
-        hot: number_of(matches, "hot"),
-        users: number_of(matches, "users"),
-        categories: number_of(matches, "categories"),
+        workers: number_of(matches, "workers", WORKERS),
+        shards: number_of(matches, "shards", SHARDS),
+        joined: number_of(matches, "joined", QUOTAS),
+        split: number_of(matches, "split", QUOTAS),
+        threshold: number_of(matches, "threshold", QUOTAS),
+        hot: number_of(matches, "hot", HOT),
+        users: number_of(matches, "users", NUMBERS),
+        categories: number_of(matches, "categories", NUMBERS),
         history: flag_of(matches, "history"),
         rows: flag_of(matches, "rows"),
         report: flag_of(matches, "report"),
-    }
-}
-
-fn usage_fault(alloc: Global, error: &Error) -> UsageFault
-    ensures { kind_of error.now ≡ ErrorKind.OutOfMemory → result ≡ UsageFault.Memory }
-{
-    if error.kind() == ErrorKind::OutOfMemory {
-        return UsageFault::Memory;
-    }
-    match format!(in alloc; "{error}") {
-        Ok(text) => UsageFault::Text(text),
-        Err(_) => UsageFault::Memory,
-    }
-}
-
-/// Why the program's words could not be had: memory was refused, or a word is no text.
-pub fn words_fault(alloc: Global, error: &io::Error) -> UsageFault
-    ensures { error_kind error.now ≡ IoErrorKind.OutOfMemory → result ≡ UsageFault.Memory }
-{
-    if error.kind() == io::ErrorKind::OutOfMemory {
-        return UsageFault::Memory;
-    }
-    match format!(in alloc; "error: {error}\n") {
-        Ok(text) => UsageFault::Text(text),
-        Err(_) => UsageFault::Memory,
     }
 }
 
@@ -226,14 +170,12 @@ pub fn words_fault(alloc: Global, error: &io::Error) -> UsageFault
 pub fn read_options(alloc: Global, words: &[String]) -> Result<Options, UsageFault>
     ensures given { IfOk result (λ options. options ≡ options_in (map string_bytes words.now)) }
     ensures range { IfOk result AreInRange }
-    ensures taken { OnOk result (AreTaken (map string_bytes words.now)) }
-    ensures memory { IfErr result (λ fault. AreTaken (map string_bytes words.now) → fault ≡ UsageFault.Memory) }
+    ensures taken { OnOk result (AreTaken program (map string_bytes words.now)) }
+    ensures memory { IfErr result (λ fault. AreTaken program (map string_bytes words.now) → fault ≡ UsageFault.Memory) }
 {
-    let Ok(mut command) = command(alloc) else {
+    let Ok(command) = command(alloc) else {
         return Err(UsageFault::Memory);
     };
-    match command.try_get_matches_from_mut(words) {
-        Ok(matches) => Ok(options_of(&matches)),
-        Err(error) => Err(usage_fault(alloc, &error)),
-    }
+    let matches = parse_words(alloc, command, words)?;
+    Ok(options_of(&matches))
 }

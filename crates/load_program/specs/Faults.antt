@@ -1,19 +1,20 @@
 -- The exit statuses of faults, and their words.
 use Rattle.std.specs.Prelude.{ℕ, List, Option, Some, None, string_bytes}
+use Rattle.program_options.specs.declared.faults.UsageFault.TheVariants as usage
 use Rattle.load_program.specs.declared.faults.Fault.{Fault}
 use Rattle.load_program.specs.declared.faults.Fault.TheVariants as fault
-use Rattle.load_program.specs.declared.faults.UsageFault.TheVariants as usage
+use Rattle.load_program.specs.declared.faults.PlanFault.TheVariants as plan
 
 abbrev pub status : Fault → ℕ
-status (fault.Usage cause) = 1
+status (fault.Plan cause) = 1
 status fault.Memory = 3
 status (fault.Write cause) = 4
 
 -- the words of the parser of options, where it refused the program's
 abbrev pub parser_words : Fault → Option (List ℕ)
-parser_words (fault.Usage (usage.Text words)) = Some (string_bytes words)
-parser_words (fault.Usage usage.Shares) = None
-parser_words (fault.Usage usage.TooLong) = None
-parser_words (fault.Usage usage.Memory) = None
+parser_words (fault.Plan (plan.Usage (usage.Text words))) = Some (string_bytes words)
+parser_words (fault.Plan (plan.Usage usage.Memory)) = None
+parser_words (fault.Plan plan.Shares) = None
+parser_words (fault.Plan plan.TooLong) = None
 parser_words fault.Memory = None
 parser_words (fault.Write cause) = None

@@ -1,26 +1,17 @@
 -- What the program's words say of a plan, by the parser of words (`clap`).
-use Rattle.std.specs.Prelude.{◌≡◌, ◌≤◌, ◌<◌, ◌+◌, ℕ, List, [], ◌∷◌, Option, Some, None, fold, codes, pos, ⊤}
+use Rattle.std.specs.Prelude.{◌≤◌, ◌<◌, ◌+◌, ℕ, List, [], ◌∷◌, Option, Some, fold, codes, ⊤}
 use Rattle.std.specs.Int.{div_ceil}
-use Rattle.std.specs.Str.Parse.{IsNumeral, digits_value, without_leading_plus}
 use Rattle.clap.specs.declared.builder.action.ArgAction.TheVariants.{Set}
-use Rattle.clap.specs.declared.builder.value_parser.ValueParser.TheVariants.{Signed, Unsigned}
-use Rattle.clap.specs.Faults.{fault_of}
-use Rattle.clap.specs.Simple.{App, matches_of, new_app, new_rule, with_rule}
-use Rattle.clap.specs.Walk.{Rule, one_of}
-use Rattle.load_program.specs.declared.faults.UsageFault.{UsageFault}
-use Rattle.load_program.specs.declared.faults.UsageFault.TheVariants as fault
+use Rattle.clap.specs.declared.builder.value_parser.ValueParser.TheVariants.{Unsigned}
+use Rattle.clap.specs.Simple.{App, new_app, new_rule, with_rule}
+use Rattle.clap.specs.Walk.{Rule}
+use Rattle.program_options.specs.Options.{SaysNumber, number_rule}
+use Rattle.program_options.specs.declared.faults.UsageFault.TheVariants as usage
+use Rattle.load_program.specs.declared.faults.PlanFault.{PlanFault}
+use Rattle.load_program.specs.declared.faults.PlanFault.TheVariants as fault
 use Rattle.load_program.specs.declared.plan.Counts.{Counts}
 use Rattle.load_program.specs.declared.plan.Mix.{Mix}
 use Rattle.load_program.specs.declared.plan.Plan.{Plan}
-
--- `--id NUMBER`, with a number from the least to the greatest; the usual one where the words don't have it
-abbrev pub number_rule : List ℕ → ℕ → ℕ → List ℕ → Rule
-number_rule id least greatest usual = record (new_rule id) {
-  long = Some id;
-  action = Some Set;
-  defaults = usual ∷ [];
-  parser = Some (Signed (pos least) (pos greatest));
-}
 
 -- `--seed NUMBER`, with any number of 64 bits; 1 where the words don't have it
 abbrev pub seed_rule : Rule
@@ -49,21 +40,6 @@ option_rules =
 
 abbrev pub program : App
 program = fold with_rule (new_app (codes "rubis_load")) option_rules
-
--- The parser finds no fault in the words: after the program's name they are options of it, each once at most, with its number in its range.
-abbrev pub AreTaken : List (List ℕ) → Type 0
-AreTaken words = fault_of program words ≡ []
-
--- the text of an option: what the words give, or else its usual one
-abbrev pub text_in : List (List ℕ) → List ℕ → Option (List ℕ)
-text_in words id = one_of id (matches_of program words)
-
--- the text says this number, where it says one of the range
-abbrev pub SaysNumber : ℕ → ℕ → Option (List ℕ) → ℕ → Type 0
-SaysNumber least greatest None number = ⊤
-SaysNumber least greatest (Some text) number =
-    let said = digits_value 10 (without_leading_plus text) in
-    IsNumeral 10 (without_leading_plus text) → least ≤ said → said ≤ greatest → number ≡ said
 
 -- The texts of options say these counts.
 pub record SayCounts (text : List ℕ → Option (List ℕ)) (counts : Counts) : Type 0 where
@@ -110,8 +86,8 @@ pub record SayTooLong (text : List ℕ → Option (List ℕ)) : Type 0 where
   pub over : 1000000 < div_ceil counts.items counts.workers + div_ceil counts.requests counts.workers
 
 -- why words that the parser takes are refused
-abbrev pub IsCauseOf : (List ℕ → Option (List ℕ)) → UsageFault → Type 0
-IsCauseOf text (fault.Text words) = ⊥
+abbrev pub IsCauseOf : (List ℕ → Option (List ℕ)) → PlanFault → Type 0
+IsCauseOf text (fault.Usage (usage.Text words)) = ⊥
+IsCauseOf text (fault.Usage usage.Memory) = ⊤
 IsCauseOf text fault.Shares = SayTooMuch text
 IsCauseOf text fault.TooLong = SayTooLong text
-IsCauseOf text fault.Memory = ⊤

@@ -5,33 +5,31 @@ ghost use Rattle.auction_text.specs.declared.faults.WriteFault.{WriteFault};
 ghost use Rattle.load_program.specs.Faults.{status, parser_words};
 
 use auction_text::WriteFault;
+use program_options::UsageFault;
 use std::alloc::AllocError;
 use std::io::Write;
 use thiserror::Error;
 
-/// Why the program's words are refused.
+/// Why the program's words give no plan.
 #[derive(Debug, Drop, Error)]
-pub enum UsageFault {
-    /// What the parser of options says: a word is refused, or help is asked for.
+pub enum PlanFault {
+    /// The words are refused, or ask for help, or no memory was left while they were read.
     #[error("{0}")]
-    Text(String),
+    Usage(UsageFault),
     /// The shares of views, comments, purchases and new items are more than 100 percent together.
     #[error("shares of more than 100 percent")]
     Shares,
     /// A worker would have more rows and requests than the auction takes.
     #[error("more than 1000000 rows and requests for a worker")]
     TooLong,
-    /// No memory was left while the words were read.
-    #[error("no memory")]
-    Memory,
 }
 
 /// Why no load was written, or only a part of one.
 #[derive(Debug, Drop, Error)]
 pub enum Fault {
-    /// The words were refused. Nothing was written.
+    /// The words give no plan. Nothing was written.
     #[error("{0}")]
-    Usage(UsageFault),
+    Plan(PlanFault),
     /// No memory was left for the law of popularity. Nothing was written.
     #[error("no memory")]
     Memory,
@@ -40,13 +38,13 @@ pub enum Fault {
     Write(WriteFault),
 }
 
-impl From<UsageFault> for Fault {
-    ghost use Rattle.load_program.specs.declared.faults.Fault.TheVariants.{Usage};
+impl From<PlanFault> for Fault {
+    ghost use Rattle.load_program.specs.declared.faults.Fault.TheVariants.{Plan};
 
-    ghost from_gives = { λ cause fault. fault ≡ Usage cause };
+    ghost from_gives = { λ cause fault. fault ≡ Plan cause };
 
-    fn from(cause: UsageFault) -> Fault {
-        Fault::Usage(cause)
+    fn from(cause: PlanFault) -> Fault {
+        Fault::Plan(cause)
     }
 }
 
@@ -75,7 +73,7 @@ pub fn status(fault: &Fault) -> u8
     ensures { result ≡ status fault.now }
 {
     match fault {
-        Fault::Usage(_) => 1,
+        Fault::Plan(_) => 1,
         Fault::Memory => 3,
         Fault::Write(_) => 4,
     }
@@ -88,7 +86,7 @@ pub fn write_fault<W: Write>(writer: &mut W, fault: &Fault) -> Result<(), WriteF
     ensures fault { IfErr result (λ refused. refused ≡ WriteFault.Write) }
 {
     let written = match fault {
-        Fault::Usage(UsageFault::Text(text)) => writer.write_all(text.as_bytes()),
+        Fault::Plan(PlanFault::Usage(UsageFault::Text(text))) => writer.write_all(text.as_bytes()),
         _ => writeln!(writer, "rubis_load: {fault}"),
     };
     written.map_err(|_| WriteFault::Write)

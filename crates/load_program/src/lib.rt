@@ -10,7 +10,7 @@ mod plan;
 mod popularity;
 mod text;
 
-pub use faults::{Fault, UsageFault, status, write_fault};
+pub use faults::{Fault, PlanFault, status, write_fault};
 pub use generate::write_load;
-pub use options::{read_plan, words_fault};
+pub use options::read_plan;
 pub use plan::{Counts, Mix, Plan};

@@ -1,13 +1,14 @@
 //! An auction that is opened with the rows of its input, performs its scripts on threads and writes the replies.
 #![tactic(auto)]
 
-use auction_program::{Fault, execute, read_options, status, words_fault, write_fault};
+use auction_program::{Fault, execute, read_options, status, write_fault};
+use program_options::program_words;
 use std::alloc::Global;
+use std::io;
 use std::process::ExitCode;
 use std::rt::Env;
 use std::sync::Wait;
 use std::thread::Threads;
-use std::{env, io};
 
 fn main(rt: HostRuntime) -> ExitCode {
     match perform(&rt) {
@@ -26,14 +27,7 @@ where
     R: Env + Input + Print + Alloc<A = Global> + Threads + Wait + Sync,
 {
     let alloc = rt.alloc();
-    let words = match program_words(rt) {
-        Ok(words) => words,
-        Err(error) => return Err(Fault::Usage(words_fault(alloc, &error))),
-    };
+    let words = program_words(rt)?;
     let options = read_options(alloc, words.as_slice())?;
     execute(rt, alloc, rt.reader(), &mut io::writer(rt), &options)
-}
-
-fn program_words<R: Env + Alloc<A = Global>>(rt: &R) -> io::Result<Vec<String>> {
-    Ok(env::args(rt)?.collect(rt.alloc())?)
 }

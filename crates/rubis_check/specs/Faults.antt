@@ -6,9 +6,9 @@ use Rattle.history_check.specs.declared.lines.Verdict.{Verdict}
 use Rattle.history_check.specs.declared.lines.Verdict.TheVariants.{Replays, WrongAt, Lacks}
 use Rattle.history_check.specs.declared.lines.Wrong.{Wrong}
 use Rattle.history_check.specs.declared.lines.Wrong.TheVariants.{Unreadable, NoRequest, Again, Late, Due}
+use Rattle.program_options.specs.declared.faults.UsageFault.TheVariants.{Text, Memory}
 use Rattle.rubis_check.specs.declared.faults.Fault.{Fault}
 use Rattle.rubis_check.specs.declared.faults.Fault.TheVariants.{Usage, Read, Resume, Check, Write}
-use Rattle.rubis_check.specs.declared.faults.UsageFault.TheVariants.{Text, Memory}
 
 abbrev pub check_status : CheckFault → ℕ
 check_status checking.TooLong = 3

@@ -7,19 +7,9 @@ ghost use Rattle.rubis_check.specs.Faults.{status, parser_words};
 use auction_text::{ReadFault, WriteFault};
 use history_check::CheckFault;
 use item_shards::ResumeFault;
+use program_options::UsageFault;
 use std::io::Write;
 use thiserror::Error;
-
-/// Why the program's words are refused: in the words of the parser of options, or for want of memory.
-#[derive(Debug, Drop, Error)]
-pub enum UsageFault {
-    /// What the parser of options says.
-    #[error("{0}")]
-    Text(String),
-    /// No memory was left while the words were read.
-    #[error("no memory")]
-    Memory,
-}
 
 /// Why the program found nothing, by the part that failed.
 #[derive(Debug, Drop, Error)]

@@ -10,13 +10,14 @@ use executing::execute;
 use faults::{Fault, status, write_fault};
 use finding::verdict_status;
 use history_check::{CheckFault, Verdict};
-use options::{read_options, words_fault};
+use options::read_options;
+use program_options::program_words;
 use std::alloc::Global;
 use std::fs::File;
+use std::io;
 use std::io::BufReader;
 use std::process::ExitCode;
 use std::rt::{Env, Files};
-use std::{env, io};
 
 // How many bytes of the history are read at once.
 const HISTORY_ROOM: usize = 1 << 16;
@@ -38,10 +39,7 @@ where
     R: Env + Files + Input + Print + Alloc<A = Global>,
 {
     let alloc = rt.alloc();
-    let words = match program_words(rt) {
-        Ok(words) => words,
-        Err(error) => return Err(Fault::Usage(words_fault(alloc, &error))),
-    };
+    let words = program_words(rt)?;
     let options = read_options(alloc, words.as_slice())?;
     let Ok(file) = File::open(rt, options.history.as_str()) else {
         return Err(Fault::Check(CheckFault::Read));
@@ -56,8 +54,4 @@ where
         &mut io::writer(rt),
         &options,
     )
-}
-
-fn program_words<R: Env + Alloc<A = Global>>(rt: &R) -> io::Result<Vec<String>> {
-    Ok(env::args(rt)?.collect(rt.alloc())?)
 }

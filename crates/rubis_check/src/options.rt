@@ -1,18 +1,13 @@
 //! The options of the program.
 ghost use Rattle.std.specs.Prelude.{◌≡◌, ◌≤◌, IfOk};
-ghost use Rattle.std.specs.IoError.{error_kind};
-ghost use Rattle.std.specs.declared.io.ErrorKind.{ErrorKind as IoErrorKind};
-ghost use Rattle.clap.specs.Words.{kind_of};
-ghost use Rattle.clap.specs.declared.error.kind.ErrorKind.{ErrorKind};
-ghost use Rattle.rubis_check.specs.declared.faults.UsageFault.{UsageFault};
 
-use crate::faults::UsageFault;
 use auction_rows::Opening;
-use clap::error::ErrorKind;
-use clap::{Arg, ArgAction, ArgMatches, Command, Error};
+use clap::{Arg, ArgAction, ArgMatches, Command};
 use history_check::Order;
+use program_options::{
+    NumberRange, UsageFault, flag, flag_of, number_of, number_option, parse_words,
+};
 use std::alloc::{AllocError, Global};
-use std::io;
 
 /// What the program is asked to do: how many workers, users and categories the auction has, which history is checked, and in
 /// which order its entries are to stand.
@@ -44,26 +39,15 @@ impl Options {
     }
 }
 
-const MOST_WORKERS: u32 = 16;
+const WORKERS: NumberRange = NumberRange {
+    least: 1,
+    greatest: 16,
+};
 
-fn number_option<'a>(
-    alloc: Global,
-    id: &'a str,
-    least: u32,
-    greatest: u32,
-    usual: &'a str,
-) -> Arg<'a> {
-    let parser = clap::value_parser!(u32);
-    Arg::new(alloc, id)
-        .long(id)
-        .action(ArgAction::Set)
-        .value_parser(parser.range(i64::from(least)..=i64::from(greatest)))
-        .default_value(usual)
-}
-
-fn flag<'a>(alloc: Global, id: &'a str) -> Arg<'a> {
-    Arg::new(alloc, id).long(id).action(ArgAction::SetTrue)
-}
+const NUMBERS: NumberRange = NumberRange {
+    least: 0,
+    greatest: 1_000_000,
+};
 
 fn command<'a>(alloc: Global) -> Result<Command<'a>, AllocError> {
     let history = Arg::new(alloc, "history")
@@ -72,21 +56,11 @@ fn command<'a>(alloc: Global) -> Result<Command<'a>, AllocError> {
         .required(true);
     Command::new(alloc, "rubis_check")
         .arg(history)?
-        .arg(number_option(alloc, "workers", 1, MOST_WORKERS, "1"))?
-        .arg(number_option(alloc, "users", 0, 1_000_000, "100"))?
-        .arg(number_option(alloc, "categories", 0, 1_000_000, "10"))?
+        .arg(number_option(alloc, "workers", WORKERS, "1"))?
+        .arg(number_option(alloc, "users", NUMBERS, "100"))?
+        .arg(number_option(alloc, "categories", NUMBERS, "10"))?
         .arg(flag(alloc, "order"))?
         .arg(flag(alloc, "strict"))
-}
-
-// The number of an option.
-fn number_of(matches: &ArgMatches<'_>, id: &str) -> u32 {
-    matches.get_one(id).unwrap_or(0)
-}
-
-// Whether a flag is there.
-fn flag_of(matches: &ArgMatches<'_>, id: &str) -> bool {
-    matches.get_one(id).unwrap_or(false)
 }
 
 // The order that flags ask for.
@@ -108,37 +82,12 @@ fn options_of(alloc: Global, matches: &ArgMatches<'_>) -> Result<Options, UsageF
         return Err(UsageFault::Memory);
     };
     Ok(Options {
-        workers: number_of(matches, "workers").min(MOST_WORKERS),
-        users: number_of(matches, "users"),
-        categories: number_of(matches, "categories"),
+        workers: number_of(matches, "workers", WORKERS),
+        users: number_of(matches, "users", NUMBERS),
+        categories: number_of(matches, "categories", NUMBERS),
         order: order_of(flag_of(matches, "order"), flag_of(matches, "strict")),
         history,
     })
-}
-
-fn usage_fault(alloc: Global, error: &Error) -> UsageFault
-    ensures { kind_of error.now ≡ ErrorKind.OutOfMemory → result ≡ UsageFault.Memory }
-{
-    if error.kind() == ErrorKind::OutOfMemory {
-        return UsageFault::Memory;
-    }
-    match format!(in alloc; "{error}") {
-        Ok(text) => UsageFault::Text(text),
-        Err(_) => UsageFault::Memory,
-    }
-}
-
-/// Why the program's words could not be had: memory was refused, or a word is no text.
-pub fn words_fault(alloc: Global, error: &io::Error) -> UsageFault
-    ensures { error_kind error.now ≡ IoErrorKind.OutOfMemory → result ≡ UsageFault.Memory }
-{
-    if error.kind() == io::ErrorKind::OutOfMemory {
-        return UsageFault::Memory;
-    }
-    match format!(in alloc; "error: {error}\n") {
-        Ok(text) => UsageFault::Text(text),
-        Err(_) => UsageFault::Memory,
-    }
 }
 
 /// The options that the words give, the first of which is the program's name. Where they say nothing else: one worker, 100 users,
@@ -147,11 +96,9 @@ pub fn words_fault(alloc: Global, error: &io::Error) -> UsageFault
 pub fn read_options(alloc: Global, words: &[String]) -> Result<Options, UsageFault>
     ensures { IfOk result (λ options. options.workers ≤ 16) }
 {
-    let Ok(mut command) = command(alloc) else {
+    let Ok(command) = command(alloc) else {
         return Err(UsageFault::Memory);
     };
-    match command.try_get_matches_from_mut(words) {
-        Ok(matches) => options_of(alloc, &matches),
-        Err(error) => Err(usage_fault(alloc, &error)),
-    }
+    let matches = parse_words(alloc, command, words)?;
+    options_of(alloc, &matches)
 }

@@ -12,6 +12,7 @@ use auction_window::{PhaseLog, Publisher, Window, WindowName};
 use item_shards::OpeningBook;
 use std::alloc::{AllocError, Global};
 use std::marker::Brand;
+use std::num::nearest_u64_to_f64;
 use std::rt::Clock;
 use std::sync::Wait;
 use std::thread::{JoinHandle, Threads};
@@ -36,12 +37,15 @@ const POLICY: Policy = Policy {
 
 const WORKERS: u32 = 4;
 
+// A publisher has as many windows at most as a run has workers.
+const MOST_WINDOWS: u32 = MOST_WORKERS as u32;
+
 const BIDS: usize = 250_000;
 
-const LOOKS: u64 = 1_000_000;
+const VIEWS_EACH: u64 = 1_000_000;
 
-// More looks than a run leaves time for: windows stop once their publisher has ended.
-const MOST_LOOKS: u64 = 1_000_000_000_000;
+// More views than a run leaves time for: windows stop once their publisher has ended.
+const MOST_VIEWS: u64 = 1_000_000_000_000;
 
 /// Prints the figures.
 pub fn measure<R>(rt: &R, alloc: Global) -> Result<()>
@@ -49,28 +53,37 @@ where
     R: Threads + Wait + Sync + Clock + Print,
 {
     let book = OpeningBook::new(alloc, OPENING, read_scripts(alloc, ROWS, 1)?.rows)?;
-    println!(rt; "windows alone, {LOOKS} views each")?;
-    for windows in [1, 4, 16] {
-        let begun = Instant::now(rt)?;
-        let looks = looks_alone(rt, alloc, &book, windows)?;
-        print_looks(rt, windows, looks, begun.elapsed(rt)?)?;
-    }
+    measure_alone(rt, alloc, &book)?;
     println!(rt; "a run of {WORKERS} workers, {BIDS} bids each on one item")?;
     let all = scripts(alloc)?;
     let begun = Instant::now(rt)?;
     drop(run(rt, alloc, &book, all, POLICY, &FreeGate)?);
     println!(rt; "shown to nobody: {:?}", begun.elapsed(rt)?)?;
-    for (windows, most) in [(1, 0), (1, MOST_LOOKS), (4, MOST_LOOKS), (16, MOST_LOOKS)] {
+    for (windows, most) in [(1, 0), (1, MOST_VIEWS), (4, MOST_VIEWS), (16, MOST_VIEWS)] {
         show_run(rt, alloc, &book, windows, most)?;
     }
     Ok(())
 }
 
-fn print_looks<R: Print>(rt: &R, windows: u32, looks: u64, spent: Duration) -> io::Result<()> {
-    let looks = f64::from(u32::try_from(looks).unwrap_or(u32::MAX));
+// Prints how fast windows are where nothing happens.
+fn measure_alone<R>(rt: &R, alloc: Global, book: &OpeningBook) -> Result<()>
+where
+    R: Threads + Wait + Sync + Clock + Print,
+{
+    println!(rt; "windows alone, {VIEWS_EACH} views each")?;
+    for windows in [1, 4, 16] {
+        let begun = Instant::now(rt)?;
+        let views = views_alone(rt, alloc, book, windows)?;
+        print_views(rt, windows, views, begun.elapsed(rt)?)?;
+    }
+    Ok(())
+}
+
+fn print_views<R: Print>(rt: &R, windows: u32, views: u64, spent: Duration) -> io::Result<()> {
+    let views = nearest_u64_to_f64(views);
     let seconds = spent.as_secs_f64();
-    let millions = looks / seconds / 1e6;
-    let nanos = seconds * 1e9 * f64::from(windows) / looks;
+    let millions = views / seconds / 1e6;
+    let nanos = seconds * 1e9 * f64::from(windows) / views;
     println!(rt;
         "  windows={windows} nanoseconds_a_view={nanos:.0} million_views_a_second={millions:.2}"
     )
@@ -94,7 +107,7 @@ fn scripts(alloc: Global) -> Result<Vec<Vec<Request>>, AllocError> {
     Ok(scripts)
 }
 
-// A thread for each window, which looks so often, unless the publisher ends before.
+// A thread for each window, which views so often, unless the publisher ends before.
 fn start_all<J: WindowName + Send + Sync + 'static, R: Threads>(
     rt: &R,
     alloc: Global,
@@ -103,40 +116,46 @@ fn start_all<J: WindowName + Send + Sync + 'static, R: Threads>(
 ) -> Result<Vec<JoinHandle<u64>>, AllocError> {
     let mut watchers = Vec::with_capacity(alloc, windows.len())?;
     for window in windows {
-        watchers.push(thread::spawn(rt, move || look(window, most))?)?;
+        watchers.push(thread::spawn(rt, move || count_views(window, most))?)?;
     }
     Ok(watchers)
 }
 
-fn look<J: WindowName>(mut window: Window<J>, most: u64) -> u64 {
-    for looks in 0..most {
+fn count_views<J: WindowName>(mut window: Window<J>, most: u64) -> u64 {
+    for views in 0..most {
         if window.view(VIEW).is_err() {
-            return looks;
+            return views;
         }
     }
     most
 }
 
-// How often they looked, all together.
+// How many views there were, all together.
 fn join_all<R: Threads>(rt: &R, watchers: Vec<JoinHandle<u64>>) -> u64 {
-    let mut looks = 0u64;
+    let mut views = 0u64;
     for watcher in watchers {
-        looks = looks.saturating_add(watcher.join(rt));
+        views = views.saturating_add(watcher.join(rt));
     }
-    looks
+    views
 }
 
-fn looks_alone<R: Threads + Wait + Sync>(
+fn views_alone<R: Threads + Wait + Sync>(
     rt: &R,
     alloc: Global,
     book: &OpeningBook,
     windows: u32,
 ) -> Result<u64> {
-    look_alone::<Brand, R>(rt, alloc, PhaseLog::new(), book, windows.clamp(1, 16))
+    view_alone::<Brand, R>(
+        rt,
+        alloc,
+        PhaseLog::new(),
+        book,
+        windows.clamp(1, MOST_WINDOWS),
+    )
 }
 
 // So many windows on an auction in which nothing happens.
-fn look_alone<J: WindowName + Send + Sync + 'static, R: Threads + Wait + Sync>(
+fn view_alone<J: WindowName + Send + Sync + 'static, R: Threads + Wait + Sync>(
     rt: &R,
     alloc: Global,
     log: PhaseLog,
@@ -149,10 +168,10 @@ fn look_alone<J: WindowName + Send + Sync + 'static, R: Threads + Wait + Sync>(
     requires windows { (0 < windows) × (windows ≤ MOST_WORKERS) }
 {
     let (publisher, windows) = Publisher::<J>::new(rt, alloc, log, book, windows)?;
-    let started = start_all(rt, alloc, windows, LOOKS);
-    let looks = started.map(|watchers| join_all(rt, watchers));
+    let started = start_all(rt, alloc, windows, VIEWS_EACH);
+    let views = started.map(|watchers| join_all(rt, watchers));
     publisher.end(rt);
-    Ok(looks?)
+    Ok(views?)
 }
 
 fn show_run<R: Threads + Wait + Sync + Clock + Print>(
@@ -162,9 +181,9 @@ fn show_run<R: Threads + Wait + Sync + Clock + Print>(
     windows: u32,
     most: u64,
 ) -> Result<()> {
-    let windows = windows.clamp(1, 16);
+    let windows = windows.clamp(1, MOST_WINDOWS);
     let all = scripts(alloc)?;
-    let (looks, spent) = look_beside::<Brand, R>(
+    let (views, spent) = view_beside::<Brand, R>(
         rt,
         alloc,
         PhaseLog::new(),
@@ -173,14 +192,14 @@ fn show_run<R: Threads + Wait + Sync + Clock + Print>(
         windows,
         most,
     )?;
-    if looks > 0 {
-        print_looks(rt, windows, looks, spent)?;
+    if views > 0 {
+        print_views(rt, windows, views, spent)?;
     }
     Ok(())
 }
 
 // So many windows beside a run, and how long it takes.
-fn look_beside<J, R>(
+fn view_beside<J, R>(
     rt: &R,
     alloc: Global,
     log: PhaseLog,
@@ -206,11 +225,11 @@ where
     let (board, phases, publishing) = board.parts();
     let WindowBoard { publisher, told: _ } = board;
     publisher.end(rt);
-    let looks = join_all(rt, started?);
+    let views = join_all(rt, started?);
     performed?;
     let spent = done?.duration_since(begun?);
     println!(rt;
         "shown to {windows} windows: {spent:?}, {publishing:?} of it to publish {phases} phases"
     )?;
-    Ok((looks, spent))
+    Ok((views, spent))
 }

@@ -9,9 +9,12 @@ use crate::watching::watched_run;
 use anyhow::{Result, bail};
 use auction_rows::{ItemId, Refusal, Reply, Request};
 use auction_window::Seen;
+use std::alloc::Global;
+use std::sync::Wait;
+use std::thread::Threads;
 use std::{env, io};
 
-/// Looks at the vase.
+/// What is asked of the vase.
 pub(crate) const VIEW: Request = Request::ViewItem {
     item: ItemId {
         worker: 0,
@@ -27,23 +30,34 @@ fn main(rt: HostRuntime) -> Result<()> {
     if word.is_some_and(|word| word.as_str() == "bench") {
         return bench::measure(&rt, alloc);
     }
-    let looks = watched_run(&rt, alloc, true)?;
-    for look in &looks {
-        print_look(&rt, look)?;
-    }
-    for _run in 0..FREE_RUNS {
-        let some = watched_run(&rt, alloc, false)?;
-        if !go_through(&some, &looks) {
-            bail!("a watcher went back, or saw a part of a phase");
-        }
-    }
-    println!(rt; "{FREE_RUNS} runs with no gate: each look was one of these, and none went back")?;
+    let shown = watched_run(&rt, alloc, true)?;
+    print_all(&rt, &shown)?;
+    watch_free_runs(&rt, alloc, &shown)?;
+    println!(rt; "{FREE_RUNS} runs with no gate: each view was one of these, and none went back")?;
     Ok(())
 }
 
-fn print_look<R: Print>(rt: &R, look: &Seen) -> io::Result<()> {
-    let phases = look.phases;
-    match look.reply {
+// Runs that do not wait for the watcher, whose views are some of these.
+fn watch_free_runs<R: Threads + Wait + Sync>(rt: &R, alloc: Global, shown: &[Seen]) -> Result<()> {
+    for _run in 0..FREE_RUNS {
+        let some = watched_run(rt, alloc, false)?;
+        if !go_through(&some, shown) {
+            bail!("a watcher went back, or saw a part of a phase");
+        }
+    }
+    Ok(())
+}
+
+fn print_all<R: Print>(rt: &R, shown: &[Seen]) -> io::Result<()> {
+    for seen in shown {
+        print_view(rt, seen)?;
+    }
+    Ok(())
+}
+
+fn print_view<R: Print>(rt: &R, seen: &Seen) -> io::Result<()> {
+    let phases = seen.phases;
+    match seen.reply {
         Reply::ItemSeen {
             highest: Some(highest),
             bidder: Some(bidder),
@@ -55,12 +69,12 @@ fn print_look<R: Print>(rt: &R, look: &Seen) -> io::Result<()> {
     }
 }
 
-// Whether these are some of all looks, in their order, and the last one.
+// Whether these are some of all views, in their order, and the last one.
 fn go_through(some: &[Seen], all: &[Seen]) -> bool {
     let mut next = 0;
-    for look in some {
-        let place = look.phases as usize;
-        if place < next || all.get(place).copied() != Some(*look) {
+    for seen in some {
+        let place = seen.phases as usize;
+        if place < next || all.get(place).copied() != Some(*seen) {
             return false;
         }
         next = place.saturating_add(1);

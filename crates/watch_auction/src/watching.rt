@@ -1,4 +1,4 @@
-//! A run, and a thread that looks at it through a window.
+//! A run, and a thread that views it through a window.
 ghost use Rattle.std.specs.Prelude.{◌≡◌};
 ghost use Rattle.item_shards.specs.OpeningBooks.{opening_of, rows_of};
 
@@ -38,8 +38,8 @@ const POLICY: Policy = Policy {
 
 const MOST_TRIES: u64 = 1_000_000_000;
 
-/// The looks of a thread at a run of the scripts, each with more phases than the one before. In step with it, the run begins
-/// no phase before the thread has looked at what the phases so far have left.
+/// What a thread was shown of a run of the scripts, each time with more phases than before. In step with it, the run begins no
+/// phase before the thread has viewed what the phases so far have left.
 pub fn watched_run<R: Threads + Wait + Sync>(
     rt: &R,
     alloc: Global,
@@ -49,7 +49,7 @@ pub fn watched_run<R: Threads + Wait + Sync>(
     let book = OpeningBook::new(alloc, OPENING, input.rows)?;
     let gate = Steps {
         in_step,
-        looks: AtomicU64::new(0),
+        views: AtomicU64::new(0),
     };
     let gate = Arc::new(alloc, gate)?;
     let own = Arc::try_clone(&gate)?;
@@ -81,68 +81,68 @@ fn perform<J: WindowName + Send + Sync + 'static, R: Threads + Wait + Sync>(
     let WindowBoard { publisher, told: _ } = board;
     match performed {
         Ok(_) => {
-            let looks = watcher.join(rt);
+            let shown = watcher.join(rt);
             publisher.end(rt);
-            Ok(looks?)
+            Ok(shown?)
         }
         // A window answers no more once the publisher has ended: so the watcher stops.
         Err(fault) => {
             publisher.end(rt);
-            let _looks = watcher.join(rt);
+            let _shown = watcher.join(rt);
             Err(fault.into())
         }
     }
 }
 
-// Looks until all phases are published, or the publisher has ended, and keeps each look that differs from the one before.
+// Views until all phases are published, or the publisher has ended, and keeps each view that differs from the one before.
 fn watch<J: WindowName>(
     alloc: Global,
     mut window: Window<J>,
     gate: &Steps,
 ) -> Result<Vec<Seen>, AllocError> {
-    let mut looks: Vec<Seen> = Vec::new(alloc);
+    let mut shown: Vec<Seen> = Vec::new(alloc);
     let backoff = Backoff::new();
     for _try in 0..MOST_TRIES {
-        let Ok(Some(look)) = window.view(VIEW) else {
+        let Ok(Some(seen)) = window.view(VIEW) else {
             break;
         };
-        let phases = look.phases;
-        if differs(&looks, &look) {
-            if looks.push(look).is_err() {
-                // So that the run waits for no more looks.
-                gate.looks.store(u64::MAX, Ordering::SeqCst);
+        let phases = seen.phases;
+        if differs(&shown, &seen) {
+            if shown.push(seen).is_err() {
+                // So that the run waits for no more views.
+                gate.views.store(u64::MAX, Ordering::SeqCst);
                 return Err(AllocError);
             }
-            gate.looks.store(looks.len() as u64, Ordering::SeqCst);
+            gate.views.store(shown.len() as u64, Ordering::SeqCst);
         }
         if phases == PHASES {
             break;
         }
         backoff.snooze();
     }
-    Ok(looks)
+    Ok(shown)
 }
 
-// Whether a look is not the last of these.
-fn differs(looks: &[Seen], look: &Seen) -> bool {
-    match looks.last() {
-        Some(last) => last != look,
+// Whether a view is not the last of these.
+fn differs(shown: &[Seen], seen: &Seen) -> bool {
+    match shown.last() {
+        Some(last) => last != seen,
         None => true,
     }
 }
 
-// Holds a phase back until there are more looks than phases before it, where it is to keep in step.
+// Holds a phase back until there are more views than phases before it, where it is to keep in step.
 #[derive(Drop)]
 struct Steps {
     in_step: bool,
-    looks: AtomicU64,
+    views: AtomicU64,
 }
 
 impl Gate for Steps {
     fn arrive(&self, phase: u64, _worker: u32, _index: u32) {
         let backoff = Backoff::new();
         for _try in 0..MOST_TRIES {
-            if !self.in_step || self.looks.load(Ordering::SeqCst) > phase {
+            if !self.in_step || self.views.load(Ordering::SeqCst) > phase {
                 return;
             }
             backoff.snooze();

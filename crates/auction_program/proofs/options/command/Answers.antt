@@ -8,14 +8,14 @@ use Rattle.auction_program.proofs.options.command.Goals as goal
 pub returns : goal.returns
 returns c =
     let start = c.bare_command.ensures in
-    let added-1 = c.in_ok-arg.ensures.shape c.number_option.ensures.local ∙ ap₂ with_rule start c.number_option.ensures.rule in
-    let added-2 = c.in_ok-arg-2.ensures.shape c.number_option-2.ensures.local ∙ ap₂ with_rule added-1 c.number_option-2.ensures.rule in
-    let added-3 = c.in_ok-arg-3.ensures.shape c.number_option-3.ensures.local ∙ ap₂ with_rule added-2 c.number_option-3.ensures.rule in
-    let added-4 = c.in_ok-arg-4.ensures.shape c.number_option-4.ensures.local ∙ ap₂ with_rule added-3 c.number_option-4.ensures.rule in
-    let added-5 = c.in_ok-arg-5.ensures.shape c.number_option-5.ensures.local ∙ ap₂ with_rule added-4 c.number_option-5.ensures.rule in
-    let added-6 = c.in_ok-arg-6.ensures.shape c.number_option-6.ensures.local ∙ ap₂ with_rule added-5 c.number_option-6.ensures.rule in
-    let added-7 = c.in_ok-arg-7.ensures.shape c.number_option-7.ensures.local ∙ ap₂ with_rule added-6 c.number_option-7.ensures.rule in
-    let added-8 = c.in_ok-arg-8.ensures.shape c.number_option-8.ensures.local ∙ ap₂ with_rule added-7 c.number_option-8.ensures.rule in
-    let added-9 = c.in_ok-arg-9.ensures.shape c.flag.ensures.local ∙ ap₂ with_rule added-8 c.flag.ensures.rule in
-    let added-10 = c.in_ok-arg-10.ensures.shape c.flag-2.ensures.local ∙ ap₂ with_rule added-9 c.flag-2.ensures.rule in
-    IfOk-weaker c.arg-11.result _ (λ command. app_of command ≡ program) (λ command added. added.shape c.flag-3.ensures.local ∙ ap₂ with_rule added-10 c.flag-3.ensures.rule) c.arg-11.ensures
+    let added-1 = c.in_ok-arg.ensures.shape c.described_number.ensures.local ∙ ap₂ with_rule start c.described_number.ensures.rule in
+    let added-2 = c.in_ok-arg-2.ensures.shape c.described_number-2.ensures.local ∙ ap₂ with_rule added-1 c.described_number-2.ensures.rule in
+    let added-3 = c.in_ok-arg-3.ensures.shape c.described_number-3.ensures.local ∙ ap₂ with_rule added-2 c.described_number-3.ensures.rule in
+    let added-4 = c.in_ok-arg-4.ensures.shape c.described_number-4.ensures.local ∙ ap₂ with_rule added-3 c.described_number-4.ensures.rule in
+    let added-5 = c.in_ok-arg-5.ensures.shape c.described_number-5.ensures.local ∙ ap₂ with_rule added-4 c.described_number-5.ensures.rule in
+    let added-6 = c.in_ok-arg-6.ensures.shape c.described_number-6.ensures.local ∙ ap₂ with_rule added-5 c.described_number-6.ensures.rule in
+    let added-7 = c.in_ok-arg-7.ensures.shape c.described_number-7.ensures.local ∙ ap₂ with_rule added-6 c.described_number-7.ensures.rule in
+    let added-8 = c.in_ok-arg-8.ensures.shape c.described_number-8.ensures.local ∙ ap₂ with_rule added-7 c.described_number-8.ensures.rule in
+    let added-9 = c.in_ok-arg-9.ensures.shape c.described_flag.ensures.local ∙ ap₂ with_rule added-8 c.described_flag.ensures.rule in
+    let added-10 = c.in_ok-arg-10.ensures.shape c.described_flag-2.ensures.local ∙ ap₂ with_rule added-9 c.described_flag-2.ensures.rule in
+    IfOk-weaker c.arg-11.result _ (λ command. app_of command ≡ program) (λ command added. added.shape c.described_flag-3.ensures.local ∙ ap₂ with_rule added-10 c.described_flag-3.ensures.rule) c.arg-11.ensures

@@ -1,44 +1,29 @@
-use Rattle.std.proofs.Common.{◌∙◌, map, string_bytes, sym, ap, subst}
-use Rattle.clap.specs.Faults.{fault_of}
-use Rattle.clap.specs.Matches.{found_of, has_subcommand, one_text}
+use Rattle.std.proofs.Common.{◌≡◌, ◌∙◌, List, ℕ, map, string_bytes, sym, subst}
+use Rattle.clap.specs.Matches.{found_of, one_text}
 use Rattle.clap.specs.Simple.{app_of}
-use Rattle.auction_program.specs.Options.{AreInRange}
-use Rattle.auction_program.specs.Words.{options_of}
-use Rattle.auction_program.proofs.ProgramWords.{built_or_not, is_free, numbers_found, only_memory, options_in_range, texts_found}
+use Rattle.program_options.specs.Words.{AreTaken, HaveNumbers, text_in}
+use Rattle.program_options.specs.declared.faults.UsageFault.TheVariants.{Memory}
+use Rattle.auction_program.specs.Words.{options_of, program}
+use Rattle.auction_program.proofs.Answering.{error_is}
+use Rattle.auction_program.proofs.ProgramWords.{is_free}
 use Rattle.auction_program.proofs.options.read_options.Goals as goal
 
-pub options_of-requires : goal.options_of-requires
-options_of-requires c =
-    let parse = c.in-Ok-try_get_matches_from_mut in
-    let old = c.in-Ok.command in
-    let new = c.try_get_matches_from_mut.new.self in
-    numbers_found new (found_of parse.matches) (has_subcommand parse.matches) parse.ensures.ok.1
-    (built_or_not old new parse.ensures.fails parse.ensures.after c.in-Ok.ensures)
-
-pub returns-in-Ok-try_get_matches_from_mut-clause-given : goal.returns-in-Ok-try_get_matches_from_mut-clause-given
-returns-in-Ok-try_get_matches_from_mut-clause-given c =
-    let parse = c.in-Ok-try_get_matches_from_mut in
+pub returns-clause-given : goal.returns-clause-given
+returns-clause-given c =
+    let parse = c.in_ok-matches in
     let words = map string_bytes c.args.words.now in
-    c.options_of.ensures ∙ (λ i. options_of (λ id. texts_found (app_of c.in-Ok.command) words parse.matches c.in-Ok.ensures parse.ensures.ok.2 id i))
+    let free = is_free (app_of c.in-Ok.command) c.in-Ok.ensures in
+    let numbers = subst (λ a. HaveNumbers a (one_text (found_of parse.matches))) c.in-Ok.ensures (parse.ensures.numbers free) in
+    let texts = subst (λ a. (id : List ℕ) → one_text (found_of parse.matches) id ≡ text_in a words id) c.in-Ok.ensures (parse.ensures.texts free) in
+    c.options_of.ensures.given numbers ∙ (λ i. options_of (λ id. texts id i))
 
-pub returns-in-Ok-try_get_matches_from_mut-clause-range : goal.returns-in-Ok-try_get_matches_from_mut-clause-range
-returns-in-Ok-try_get_matches_from_mut-clause-range c =
-    let parse = c.in-Ok-try_get_matches_from_mut in
-    let old = c.in-Ok.command in
-    let new = c.try_get_matches_from_mut.new.self in
-    let found = one_text (found_of parse.matches) in
-    subst AreInRange (sym c.options_of.ensures) (options_in_range found
-    (numbers_found new (found_of parse.matches) (has_subcommand parse.matches) parse.ensures.ok.1
-    (built_or_not old new parse.ensures.fails parse.ensures.after c.in-Ok.ensures)))
-
-pub returns-in-Ok-try_get_matches_from_mut-clause-taken : goal.returns-in-Ok-try_get_matches_from_mut-clause-taken
-returns-in-Ok-try_get_matches_from_mut-clause-taken c =
+pub returns-clause-taken : goal.returns-clause-taken
+returns-clause-taken c =
     let words = map string_bytes c.args.words.now in
-    let app = app_of c.in-Ok.command in
-    ap (λ a. fault_of a words) (sym c.in-Ok.ensures) ∙ c.in-Ok-try_get_matches_from_mut.ensures.kinds (is_free app c.in-Ok.ensures)
+    subst (λ a. AreTaken a words) c.in-Ok.ensures (c.in_ok-matches.ensures.taken (is_free (app_of c.in-Ok.command) c.in-Ok.ensures))
 
-pub returns-clause-memory : goal.returns-clause-memory
-returns-clause-memory c = λ taken.
+pub returns-in_err-matches-clause-memory : goal.returns-in_err-matches-clause-memory
+returns-in_err-matches-clause-memory c =
     let words = map string_bytes c.args.words.now in
-    let app = app_of c.in-Ok.command in
-    c.usage_fault.ensures (only_memory app words c.in-Err.error c.in-Ok.ensures (c.in-Err.ensures.kinds (is_free app c.in-Ok.ensures)) taken)
+    error_is c.from_residual.result c.in_err-matches.field-0.0 (λ fault. AreTaken program words → fault ≡ Memory) c.from_residual.ensures
+    (λ taken. c.in_err-matches.ensures.memory (is_free (app_of c.in-Ok.command) c.in-Ok.ensures) (subst (λ a. AreTaken a words) (sym c.in-Ok.ensures) taken))

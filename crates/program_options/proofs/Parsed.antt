@@ -24,9 +24,9 @@ use Rattle.clap.specs.declared.parser.matches.MatchedArg.{MatchedArg}
 use Rattle.clap.proofs.CallerLemmas.{entry_by_id}
 use Rattle.clap.proofs.SimpleLemmas.{is_false, is_nil}
 use Rattle.clap.proofs.WalkLemmas.{both}
-use Rattle.auction_program.specs.Words.{IsNumberIn}
-use Rattle.auction_program.proofs.Numerals.{number_in_range}
-use Rattle.auction_program.proofs.OneRule.{only_one, there_is}
+use Rattle.program_options.specs.Options.{IsNumberIn}
+use Rattle.program_options.proofs.Numerals.{number_in_range}
+use Rattle.program_options.proofs.OneRule.{only_one, there_is}
 
 -- the text is one that passed the parser, as the parser reads it
 abbrev pub IsRead : ValueParser → Text → Type 0

@@ -1,5 +1,5 @@
 -- A text that passed a range of numbers.
-use Rattle.std.proofs.Common.{◌≡◌, ◌==◌, ℕ, Bool, true, false, cond, List, [], ◌∷◌, drop, Some, None, refl, sym, ap, subst, arith}
+use Rattle.std.proofs.Common.{◌≡◌, ◌==◌, ℕ, Bool, true, false, cond, List, [], ◌∷◌, drop, Option, Some, None, refl, sym, ap, subst, arith}
 use Rattle.std.specs.Prelude.{pos, unwrap_or}
 use Rattle.std.specs.Str.Parse.{IsNumeral, starts_with_minus, without_leading_plus}
 use Rattle.std.proofs.lemmas.Bool.{ne_eqb}
@@ -7,7 +7,7 @@ use Rattle.std.proofs.lemmas.Int.{ints}
 use Rattle.std.proofs.lemmas.Str.Parse.{digit_from_value}
 use Rattle.clap.specs.Lexer.{without_minus}
 use Rattle.clap.specs.Values.{IsSignedIn}
-use Rattle.auction_program.specs.Words.{IsNumberIn}
+use Rattle.program_options.specs.Options.{IsNumberIn, SaysNumber, number_of}
 
 minus_cut : (t : List ℕ) → without_minus t ≡ cond (starts_with_minus t) (drop 1 t) t
 minus_cut [] = refl
@@ -40,3 +40,8 @@ number_in_range least greatest t passed =
         let high_ok = rw minus at passed.3 in
         let numeral = rw minus at passed.0 in
         (numeral, (omega (arith, ints), omega (arith, ints)))
+
+-- a number of the range is the one that its text says
+pub number_said : (least greatest : ℕ) (text : Option (List ℕ)) (number : ℕ) → IsNumberIn least greatest text → SaysNumber least greatest text number → number ≡ number_of text
+number_said least greatest None number is said = absurd is
+number_said least greatest (Some text) number is said = said is.0 is.1.0 is.1.1

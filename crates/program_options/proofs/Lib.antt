@@ -1,0 +1,4 @@
+pub mod Numerals
+pub mod OneRule
+pub mod Parsed
+pub mod WordLemmas

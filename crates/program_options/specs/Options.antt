@@ -1,0 +1,45 @@
+-- Options of numbers and flags, as rules of the parser of words (`clap`), and what their texts say.
+use Rattle.std.specs.Prelude.{◌≡◌, ◌≤◌, ℕ, Bool, false, List, [], ◌∷◌, Option, Some, None, codes, pos, ⊤}
+use Rattle.std.specs.Str.{bytes_eq}
+use Rattle.std.specs.Str.Parse.{IsNumeral, digits_value, without_leading_plus}
+use Rattle.clap.specs.declared.builder.action.ArgAction.TheVariants.{Set, SetTrue}
+use Rattle.clap.specs.declared.builder.value_parser.ValueParser.TheVariants.{Signed}
+use Rattle.clap.specs.Simple.{new_rule}
+use Rattle.clap.specs.Walk.{Rule}
+
+-- `--id NUMBER`, with a number from the least to the greatest; the usual one where the words don't have it
+abbrev pub number_rule : List ℕ → ℕ → ℕ → List ℕ → Rule
+number_rule id least greatest usual = record (new_rule id) {
+  long = Some id;
+  action = Some Set;
+  defaults = usual ∷ [];
+  parser = Some (Signed (pos least) (pos greatest));
+}
+
+-- `--id`
+abbrev pub flag_rule : List ℕ → Rule
+flag_rule id = record (new_rule id) { long = Some id; action = Some SetTrue }
+
+-- the number that a text says
+abbrev pub number_of : Option (List ℕ) → ℕ
+number_of None = 0
+number_of (Some text) = digits_value 10 (without_leading_plus text)
+
+-- the text is that of a number in a range
+abbrev pub IsNumberIn : ℕ → ℕ → Option (List ℕ) → Type 0
+IsNumberIn least greatest None = ⊥
+IsNumberIn least greatest (Some text) =
+    let number = digits_value 10 (without_leading_plus text) in
+    IsNumeral 10 (without_leading_plus text) × ((least ≤ number) × (number ≤ greatest))
+
+-- the text says this number, where it says one of the range
+abbrev pub SaysNumber : ℕ → ℕ → Option (List ℕ) → ℕ → Type 0
+SaysNumber least greatest None number = ⊤
+SaysNumber least greatest (Some text) number =
+    let said = digits_value 10 (without_leading_plus text) in
+    IsNumeral 10 (without_leading_plus text) → least ≤ said → said ≤ greatest → number ≡ said
+
+-- whether a flag with this text is set
+abbrev pub is_set : Option (List ℕ) → Bool
+is_set None = false
+is_set (Some text) = bytes_eq text (codes "true")

@@ -1,0 +1,47 @@
+-- What a program's words say of its options, by the parser of words (`clap`).
+use Rattle.std.specs.Prelude.{◌≡◌, ◌<◌, ◌≤◌, ℕ, true, List, [], ◌∷◌, length, Option, Some, pos}
+use Rattle.std.specs.List.{filter}
+use Rattle.std.specs.Str.{bytes_eq}
+use Rattle.clap.specs.declared.builder.action.ArgAction.TheVariants.{Set}
+use Rattle.clap.specs.declared.builder.value_parser.ValueParser.TheVariants.{Signed}
+use Rattle.clap.specs.Facts.{unwrap_or_range}
+use Rattle.clap.specs.Faults.{fault_of}
+use Rattle.clap.specs.Simple.{App, built, matches_of}
+use Rattle.clap.specs.Walk.{Rule, one_of}
+use Rattle.program_options.specs.Options.{IsNumberIn}
+
+-- The parser finds no fault in the words: after the program's name they are options of it, each once at most, with its number in its range.
+abbrev pub AreTaken : App → List (List ℕ) → Type 0
+AreTaken program words = fault_of program words ≡ []
+
+-- the text of an option: what the words give, or else its usual one
+abbrev pub text_in : App → List (List ℕ) → List ℕ → Option (List ℕ)
+text_in program words id = one_of id (matches_of program words)
+
+-- The option takes one number of a range, and has a usual one.
+pub record IsNumberRule (id : List ℕ) (least greatest : ℕ) (rule : Rule) : Type 0 where
+  pub own : rule.id ≡ id
+  pub simple : rule.is_simple ≡ true
+  pub action : rule.action ≡ Some Set
+  pub parser : rule.parser ≡ Some (Signed (pos least) (pos greatest))
+  pub usual : 0 < length rule.defaults
+
+-- these rules are of one option alone, and it is such a one
+abbrev pub IsOneNumber : List ℕ → ℕ → ℕ → List Rule → Type 0
+IsOneNumber id least greatest [] = ⊥
+IsOneNumber id least greatest (rule ∷ []) = IsNumberRule id least greatest rule × (1 ≤ (unwrap_or_range rule.range).start_inclusive)
+IsOneNumber id least greatest (rule ∷ next ∷ rules) = ⊥
+
+-- the rules of an option
+abbrev pub rules_of : App → List ℕ → List Rule
+rules_of program id = filter (λ rule. bytes_eq rule.id id) program.top.rules
+
+-- A program has one option of an id, which takes a number of a range, as it is given and as the parser fills it in.
+pub record HasNumberOption (program : App) (id : List ℕ) (least greatest : ℕ) : Type 0 where
+  pub named : id ≡ [] → ⊥
+  pub given : IsOneNumber id least greatest (rules_of program id)
+  pub filled : IsOneNumber id least greatest (rules_of (built program) id)
+
+-- each such option has a number of its range
+abbrev pub HaveNumbers : App → (List ℕ → Option (List ℕ)) → Type 0
+HaveNumbers program text = (id : List ℕ) (least greatest : ℕ) → HasNumberOption program id least greatest → IsNumberIn least greatest (text id)

@@ -1,0 +1,11 @@
+//! What the programs' options have in common: numbers of a range and flags, what `clap` finds in a program's words, and why words
+//! are refused.
+#![tactic(auto)]
+
+mod faults;
+mod options;
+mod words;
+
+pub use faults::{UsageFault, words_fault};
+pub use options::{NumberRange, flag, flag_of, number_of, number_option};
+pub use words::{parse_words, program_words};

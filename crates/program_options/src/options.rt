@@ -1,0 +1,57 @@
+//! Options that take a number, and flags.
+ghost use Rattle.std.specs.Prelude.{◌≡◌, ◌≤◌, false};
+ghost use Rattle.clap.specs.Words.{found_of, one_text, rule_of};
+ghost use Rattle.program_options.specs.Options.{SaysNumber, flag_rule, is_set, number_rule};
+
+use clap::{Arg, ArgAction, ArgMatches};
+use std::alloc::Global;
+
+/// The least and the greatest number that an option takes.
+#[derive(Clone, Copy, Debug)]
+pub struct NumberRange {
+    /// The least one.
+    pub least: u32,
+    /// The greatest one.
+    pub greatest: u32,
+    ghost ordered: { least ≤ greatest },
+}
+
+/// `--id NUMBER`, with a number of a range; the usual one where the words don't have it.
+pub fn number_option<'a>(alloc: Global, id: &'a str, range: NumberRange, usual: &'a str) -> Arg<'a>
+    ensures rule { rule_of result ≡ number_rule id.entry.now range.least range.greatest usual.entry.now }
+    ensures local { result.global ≡ false }
+{
+    let parser = clap::value_parser!(u32);
+    Arg::new(alloc, id)
+        .long(id)
+        .action(ArgAction::Set)
+        .value_parser(parser.range(i64::from(range.least)..=i64::from(range.greatest)))
+        .default_value(usual)
+}
+
+/// `--id`, which is there or not.
+pub fn flag<'a>(alloc: Global, id: &'a str) -> Arg<'a>
+    ensures rule { rule_of result ≡ flag_rule id.entry.now }
+    ensures local { result.global ≡ false }
+{
+    Arg::new(alloc, id).long(id).action(ArgAction::SetTrue)
+}
+
+/// The number of an option. Where its parser found it to be in the range, it is the one that its text says.
+pub fn number_of(matches: &ArgMatches<'_>, id: &str, range: NumberRange) -> u32
+    ensures least { range.least ≤ result }
+    ensures greatest { result ≤ range.greatest }
+    ensures said { SaysNumber range.least range.greatest (one_text (found_of matches.now) id.now) result }
+{
+    matches
+        .get_one::<u32>(id)
+        .unwrap_or(range.least)
+        .clamp(range.least, range.greatest)
+}
+
+/// Whether a flag is there.
+pub fn flag_of(matches: &ArgMatches<'_>, id: &str) -> bool
+    ensures { result ≡ is_set (one_text (found_of matches.now) id.now) }
+{
+    matches.get_one(id).unwrap_or(false)
+}

@@ -1,0 +1,43 @@
+//! What a parse finds in a program's words.
+ghost use Rattle.std.specs.Prelude.{◌≡◌, ℕ, List, IfOk, IfErr, OnOk, true, map, string_bytes};
+ghost use Rattle.clap.specs.Faults.{is_simple_and_free};
+ghost use Rattle.clap.specs.Words.{app_of, found_of, one_text};
+ghost use Rattle.program_options.specs.Words.{AreTaken, HaveNumbers, text_in};
+ghost use Rattle.program_options.specs.declared.faults.UsageFault.{UsageFault};
+
+use crate::faults::{UsageFault, parse_fault, words_fault};
+use clap::{ArgMatches, Command};
+use std::alloc::Global;
+use std::env;
+use std::rt::Env;
+
+/// What a command finds in a program's words, the first of which is the program's name. Words that are refused, or that ask for
+/// help or the version, are answered in `clap`'s words.
+pub fn parse_words<'a>(
+    alloc: Global,
+    mut command: Command<'a>,
+    words: &'a [String],
+) -> Result<ArgMatches<'a>, UsageFault>
+    ensures texts { is_simple_and_free (app_of command.entry) ≡ true
+        → IfOk result (λ matches. (id : List ℕ) → one_text (found_of matches) id ≡ text_in (app_of command.entry) (map string_bytes words.now) id) }
+    ensures numbers { is_simple_and_free (app_of command.entry) ≡ true
+        → IfOk result (λ matches. HaveNumbers (app_of command.entry) (one_text (found_of matches))) }
+    ensures taken { is_simple_and_free (app_of command.entry) ≡ true
+        → OnOk result (AreTaken (app_of command.entry) (map string_bytes words.now)) }
+    ensures memory { is_simple_and_free (app_of command.entry) ≡ true
+        → IfErr result (λ fault. AreTaken (app_of command.entry) (map string_bytes words.now) → fault ≡ UsageFault.Memory) }
+{
+    match command.try_get_matches_from_mut(words) {
+        Ok(matches) => Ok(matches),
+        Err(error) => Err(parse_fault(alloc, &error)),
+    }
+}
+
+/// The words that a program was started with, the first of which is its name.
+pub fn program_words<R: Env + Alloc<A = Global>>(rt: &R) -> Result<Vec<String>, UsageFault> {
+    let alloc = rt.alloc();
+    match env::args(rt) {
+        Ok(words) => words.collect(alloc).map_err(|_| UsageFault::Memory),
+        Err(error) => Err(words_fault(alloc, &error)),
+    }
+}
