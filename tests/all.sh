@@ -2,9 +2,9 @@
 # All tests: `rt ci`, and then the scripts beside this one on the programs that it built. The last line counts them all.
 #
 #     tests/all.sh            all tests
-#     tests/all.sh --built    the scripts alone, on programs that are built
+#     tests/all.sh --built    the scripts alone, on programs and tests that are built
 #
-# The comparer runs beside the other scripts; what it said is printed after them.
+# The comparer and the tutorial run beside the other scripts; what they said is printed after them.
 set -euo pipefail
 cd "$(dirname "$0")/.."
 said=$(mktemp -d)
@@ -13,14 +13,19 @@ trap 'kill $(jobs -p) 2> /dev/null || true; rm -rf "$said"' EXIT
 if [ "${1:-}" != --built ]; then
     rt ci | tee "$said/rt_ci"
 fi
-python3 -B tests/second_opinion.py > "$said/second_opinion" 2>&1 &
+beside="second_opinion tutorial"
+for script in $beside; do
+    python3 -B "tests/$script.py" > "$said/$script" 2>&1 &
+done
 for script in documents worked ends limits refused_memory library_calls checking loads postgres; do
     echo "== tests/$script.py"
     python3 -B "tests/$script.py" 2>&1 | tee "$said/$script" || true
 done
-echo "== tests/second_opinion.py"
 wait
-cat "$said/second_opinion"
+for script in $beside; do
+    echo "== tests/$script.py"
+    cat "$said/$script"
+done
 
 # A script that does not end with its count has failed.
 awk '

@@ -19,7 +19,7 @@ from typing import Iterator
 from checks import tell_of
 from inputs import Text, random_options
 from model import Options, Outcome, open_auction
-from program import BUILT, EXAMPLES, TESTS, Tally, build_shim, built, run
+from program import BUILT, DOCUMENTS, EXAMPLES, TESTS, Tally, build_shim, built, run
 from records import Fault
 from refusing import Refusing
 from worked import examples_of
@@ -382,6 +382,15 @@ def small_engine(tester: Tester) -> None:
     tester.tally.check(found_stale > 0, "the stale engine answers as the right one does")
 
 
+def shown(tester: Tester) -> None:
+    """what docs/CHECKING.md shows: the example's history, and the small engine with its bug"""
+    page, path = (DOCUMENTS / "CHECKING.md").read_text(), EXAMPLES / "contended.csv"
+    stale = run([sys.executable, "-B", EXAMPLES / "small_engine.py", "--stale", path, "3"])
+    for order, history in (("--order", (EXAMPLES / "contended.history").read_bytes()), ("--strict", stale.stdout)):
+        got = run(tester.command(history, FEW, order), path.read_bytes())
+        tester.tally.check(f"\n    {got.stdout.decode()}" in page, f"docs/CHECKING.md shows {got}")
+
+
 CHECKS = (
     worked_examples,
     by_hand,
@@ -392,6 +401,7 @@ CHECKS = (
     refused_memory,
     changed_at_random,
     small_engine,
+    shown,
     loads,
 )
 

@@ -1,24 +1,36 @@
 #!/usr/bin/env python3
 """Shows that the documents speak of what there is: a name in backticks stands in the code, a path and a link lead to a file, each block of code of
 docs/TUTORIAL.md stands in the file named above it, each definition that docs/DEFINITIONS.md quotes is, but for layout, that of the file named above it, each
-definition that it names with a file stands there, and each crate and each law has its place.
+definition that it or the table of printed lines of docs/FORMATS.md names with a file stands there, each crate and each law has its place, and what bench/run
+wrote has the figures of figures.csv.
 
     tests/documents.py
 """
 
 import re
+import sys
 from functools import cache
 from pathlib import Path
+from textwrap import indent
 from typing import Iterator
 
-from program import DOCUMENTS, TESTS, Tally
+from program import DOCUMENTS, TESTS, Tally, described, run
 
 ROOT = TESTS.parent
 CODE = {".rt", ".rs", ".antt", ".py", ".c", ".sh", ".sql", ".txt", ".edit"}
 TUTORIAL = DOCUMENTS / "TUTORIAL.md"
 DEFINITIONS = DOCUMENTS / "DEFINITIONS.md"
+FORMATS = DOCUMENTS / "FORMATS.md"
+PRINTED = "## From a printed line to its definition\n"
+# What that table says in place of a folder.
+SPECS_OF = {"": "crates/auction_rows/specs", "Text": "crates/auction_text/specs"}
 # A block before which no file is named is the reader's own.
 THE_READERS = ""
+# What a page shows whole.
+SHOWN = {
+    ROOT / "README.md": ("examples/first_example.csv", "examples/first_example.replies"),
+    DOCUMENTS / "WINDOWS.md": ("crates/watch_auction/stdout",),
+}
 # Where each crate has its place.
 MAPS = (ROOT / "README.md", DOCUMENTS / "ARCHITECTURE.md", DOCUMENTS / "PROVED.md")
 
@@ -129,6 +141,13 @@ def blocks(document: Path) -> Iterator[tuple[str, str]]:
             yield path, block
 
 
+def shown_files(tally: Tally) -> None:
+    """inputs and outputs that pages show whole"""
+    for document, paths in SHOWN.items():
+        for path in paths:
+            tally.check(indent((ROOT / path).read_text(), "    ") in document.read_text(), f"{document.name} shows {path}")
+
+
 def quoted_definitions(tally: Tally) -> None:
     """definitions that docs/DEFINITIONS.md quotes"""
     for path, block in blocks(DEFINITIONS):
@@ -172,9 +191,42 @@ def defines(place: Path, name: str) -> bool:
     return place.exists() and re.search(pattern, place.read_text()) is not None
 
 
+def printed_lines(tally: Tally) -> None:
+    """definitions that docs/FORMATS.md names behind printed lines"""
+    section = FORMATS.read_text().partition(PRINTED)[2].partition("\n## ")[0]
+    for line in re.findall(r"(?m)^\| .* \|$", section)[1:]:
+        printed, _, names, files = line.strip("| ").split(" | ")
+        places = list(places_of(files))
+        for name in re.findall(r"`(\w+)`", names):
+            tally.check(any(stands_in(place, name) for place in places), f"FORMATS.md, {printed}: {name} stands in {files}")
+
+
+def places_of(files: str) -> Iterator[Path]:
+    """The files of a cell: paths, and names before the folder that they are of."""
+    for part in files.split(";"):
+        names, _, folder = part.partition(" of ")
+        folder = SPECS_OF.get(folder, folder.strip("`"))
+        paths = re.findall(r"`([^`]+)`", names)
+        yield from (ROOT / path for path in paths or [f"{folder}/{name.strip()}.antt" for name in names.split(",")])
+
+
+def stands_in(place: Path, name: str) -> bool:
+    """Whether a definition or its field, or a function, has this name there."""
+    pattern = rf"(?m)^ *((abbrev|unfoldable|pub|record|data|fn) )*{name}\b"
+    return place.exists() and re.search(pattern, place.read_text()) is not None
+
+
+def figures(tally: Tally) -> None:
+    """figures that bench/run wrote, those of docs/performance/figures.csv"""
+    got = run([sys.executable, "-B", ROOT / "bench" / "run", "--compare"])
+    tally.check(got.status == 0, f"bench/run --compare: {described(got)}")
+
+
 def main() -> None:
     tally = Tally()
-    for check in (names_and_paths, links, crates, laws, files_of_specs, blocks_of_code, quoted_definitions, named_definitions):
+    of_names = (names_and_paths, links, crates, laws, files_of_specs)
+    of_what_is_shown = (blocks_of_code, shown_files, quoted_definitions, named_definitions, printed_lines, figures)
+    for check in (*of_names, *of_what_is_shown):
         passed = tally.passed
         check(tally)
         print(f"{tally.passed - passed:6} passed: {check.__doc__}")

@@ -1,12 +1,13 @@
 #!/usr/bin/env python3
 """Shows what calls of the library answer where memory is refused: a fault that is named for it, or what they answer with ample memory.
 
-    tests/library_calls.py [PROGRAM]
+    tests/library_calls.py [TESTS]
 
-The program (crates/library_calls) makes the calls in three scenes and prints a line `CALL: ANSWER` for each. Each of its allocations is refused in
-turn, alone and with all that come after it. A begin and a store that were refused are asked once more, and go on with memory as if they had not
-been. A refused close leaves the history of the phases before. A refused publish is refused for good, and the window shows what it showed. Between two
-looks for memory a view of an unknown user is answered.
+The tests `calls` of the crate engine_tests make the calls and print a line `CALL: ANSWER` for each; tests/library_calls.txt has their lines with ample
+memory. Each of their allocations is refused in turn, alone and with all that come after it. A begin and a store that were refused are asked once more,
+and go on with memory as if they had not been. Any other call that is refused ends its test, which tells the fault. A refused close leaves the history
+of the phases before. A refused publish is refused for good, and the window shows what it showed. Between two looks for memory a view of an unknown
+user is answered.
 """
 
 import argparse
@@ -17,22 +18,29 @@ from pathlib import Path
 
 from histories import Difference, require
 from model import Outcome
-from program import CRATES, Tally, build_shim, built, described, run
+from program import TESTS, Tally, build_shim, built_tests, described, run
 from refusing import Refusal, Refusing
+
+PREFIX = "calls::tests::"
+PASSED, WITHOUT_FAULT = 0, "\ntest result: ok\n"
+FAILED, AFTER_THE_FAULT = 101, "\nthe test failed: its result gives status 1\n"
 
 NO_MEMORY = "no memory"
 ALLOCATION_FAILED = "memory allocation failed"
+# What the standard library answers, told as the error of a test.
+REFUSED = ("error: AllocError", "error: AllocFailed { .. }")
 BEGINS = ("joined begin", "split begin")
 STORES = ("joined request 2, 7 left", "split request 6, 6 left")
 CLOSES = ("joined close", "split close")
-LOOK, PUBLISH, VIEW = "memory", "publish", "view"
+LOOK, PUBLISH, VIEW, ENTRY = "memory", "publish", "view after ", "entry of phase "
 # What each call answers where it is refused memory; in some run it does.
 FAULTS = {
-    **dict.fromkeys((*BEGINS, *STORES, *CLOSES), (NO_MEMORY,)),
-    **dict.fromkeys(("joined receipts", "split receipts", "windows ready", "publisher", "rows"), (NO_MEMORY,)),
-    **dict.fromkeys(("phases ready", "run ready", PUBLISH), (ALLOCATION_FAILED,)),
+    **dict.fromkeys((*BEGINS, *STORES, *CLOSES, "publisher"), (NO_MEMORY,)),
+    **dict.fromkeys(("joined receipts", "split receipts", "phases ready", "rows"), REFUSED),
+    PUBLISH: (ALLOCATION_FAILED,),
+    "windows ready": (*REFUSED, "error: Memory"),
     LOOK: ("refused",),
-    "run": (NO_MEMORY, "thread not started"),
+    "run": (*REFUSED, NO_MEMORY, "thread not started"),
 }
 
 
@@ -51,72 +59,93 @@ class Line:
 
 
 REFUSED_FOR_GOOD = Line("publish once more", ALLOCATION_FAILED)
+# The call that ended a test prints no line; the fault is told at the end.
+ENDED = "ended"
 
 
-def scenes(text: str) -> list[list[Line]]:
-    """Each scene begins with a line that it is ready, or that it is not."""
-    told: list[list[Line]] = []
-    for line in map(Line.read, text.splitlines()):
-        if line.call.endswith(" ready"):
-            told.append([])
-        require(bool(told), f"a scene begins with {line}")
-        told[-1].append(line)
+def ample_lines() -> dict[str, str]:
+    """What each test prints with ample memory. It begins with a line that it is ready."""
+    told: dict[str, str] = {}
+    name = ""
+    for line in (TESTS / "library_calls.txt").read_text().splitlines(keepends=True):
+        if Line.read(line).call.endswith(" ready"):
+            name = line.split()[0]
+        told[name] = told.get(name, "") + line
     return told
 
 
+def lines_of(text: str) -> list[Line]:
+    return [Line.read(line) for line in text.splitlines()]
+
+
+def told_by(outcome: Outcome) -> list[Line]:
+    """The lines of a test, with the fault that ended it, if one did, before the commits that it then prints."""
+    text, fault = (end.decode("ascii", "backslashreplace") for end in (outcome.stdout, outcome.stderr))
+    if outcome.status == PASSED:
+        require(text.endswith(WITHOUT_FAULT) and not fault, "the test passed, and told a fault")
+        return lines_of(text.removesuffix(WITHOUT_FAULT))
+    require(outcome.status == FAILED and fault.endswith(AFTER_THE_FAULT), "the test ended in no way known")
+    lines = lines_of(text)
+    commits = [line for line in lines if line.call.startswith(ENTRY)]
+    before = lines[: len(lines) - len(commits)]
+    return [*before, Line(ENDED, fault.removesuffix(AFTER_THE_FAULT)), *commits]
+
+
 def refused_calls(told: list[Line], ample: list[Line]) -> list[str]:
-    """The calls of a scene that were refused memory. All other lines have to be those with ample memory."""
+    """The calls of a test that were refused memory. All other lines have to be those with ample memory."""
     refused: list[str] = []
     left = ample
     for place, line in enumerate(told):
         require(bool(left), f"this comes after the end: {line}")
         wanted, *left = left
+        has_ended = line.call == ENDED
+        line = Line(wanted.call, line.answer) if has_ended else line
         if line == wanted:
             continue
         require(line.call == wanted.call and line.is_fault(), f"wanted {wanted}: {line}")
-        left = left_after_refusal(wanted, left, told[:place], line.call in refused)
+        left = left_after_the_end(left, told[:place]) if has_ended else left_after_refusal(wanted, left, told[:place], line.call in refused)
         refused.append(line.call)
     require(not left, f"the lines end before {left[:1]}")
     return refused
 
 
+def left_after_the_end(left: list[Line], before: list[Line]) -> list[Line]:
+    """The commits of the phases that were closed."""
+    closed = sum(line.call in CLOSES for line in before)
+    return [line for line in left if line.call in (f"{ENTRY}{phase}" for phase in range(closed))]
+
+
 def left_after_refusal(wanted: Line, left: list[Line], before: list[Line], was_refused: bool) -> list[Line]:
-    """What is to come after a call was refused."""
+    """What is to come after a call was refused and the test goes on."""
     if wanted.call == LOOK:
         return left
     if wanted.call == PUBLISH:
-        return [REFUSED_FOR_GOOD, *[line for line in before if line.call == VIEW][-1:]]
-    if wanted.call in (*BEGINS, *STORES) and not was_refused:
+        return [*[line for line in before if line.call.startswith(VIEW)][-1:], REFUSED_FOR_GOOD]
+    require(wanted.call in (*BEGINS, *STORES), f"went on after a refused call: {wanted}")
+    if not was_refused:
         return [wanted, *left]
-    if wanted.call in STORES:
-        return left[[line.call.endswith(" receipts") for line in left].index(True) :]
-    closed = sum(line.call in CLOSES for line in before)
-    return [line for line in left if line.call in (f"entry of phase {phase}" for phase in range(closed))]
+    require(wanted.call in STORES, f"went on after a second refusal: {wanted}")
+    return left[[line.call.endswith(" receipts") for line in left].index(True) :]
 
 
 @dataclass
 class Sweep:
-    """All runs of the program, and which of its calls were refused in them."""
+    """All runs of the tests, and which of their calls were refused in them."""
 
-    ample: list[list[Line]]
     tally: Tally
     refused: Counter[str] = field(default_factory=Counter)
     answered_without_memory: int = 0
 
-    def check(self, refusal: Refusal) -> None:
+    def check(self, ample: list[Line], refusal: Refusal) -> None:
         try:
-            self.refused.update(self.calls_refused(refusal))
+            self.refused.update(self.calls_refused(ample, refusal))
         except Difference as difference:
             self.tally.check(False, f"{refusal}: {difference}; {described(refusal.outcome)}")
         else:
             self.tally.check(True, str(refusal))
 
-    def calls_refused(self, refusal: Refusal) -> list[str]:
-        outcome = refusal.outcome
-        require((outcome.status, outcome.stderr) == (0, b""), "the program failed")
-        told = scenes(outcome.stdout.decode("ascii", "backslashreplace"))
-        require(len(told) == len(self.ample), "a scene is missing")
-        refused = [call for lines, ample in zip(told, self.ample) for call in refused_calls(lines, ample)]
+    def calls_refused(self, ample: list[Line], refusal: Refusal) -> list[str]:
+        refused = refused_calls(told_by(refusal.outcome), ample)
         require(refusal.was_reached or not refused, "a call was refused memory that was there")
         require(refusal.and_all_after or len(refused) <= 1, f"one allocation was refused, and these were: {refused}")
         self.answered_without_memory += refused.count(LOOK) == 2
@@ -130,24 +159,32 @@ class Sweep:
         print(f"{self.answered_without_memory:5} times a view of an unknown user was answered between two looks for memory that were refused")
 
 
+def tests_of_calls(program: Path) -> set[str]:
+    listed = run([program, "--list"]).stdout.decode("ascii", "backslashreplace").splitlines()
+    return {line.removeprefix(PREFIX).removesuffix(": test") for line in listed if line.startswith(PREFIX)}
+
+
 def try_each(program: Path, tally: Tally) -> None:
+    ample = ample_lines()
+    tally.check(tests_of_calls(program) == set(ample), "each test of calls has its lines in library_calls.txt")
     with tempfile.TemporaryDirectory() as folder:
         shim = build_shim("refused_memory", Path(folder))
         if shim is None:
             return tally.skip("each allocation refused", "there is no C compiler")
-        ample = (CRATES / "library_calls/stdout").read_bytes()
-        tally.same("with ample memory", run([program]), Outcome(0, ample, b""))
-        sweep = Sweep(scenes(ample.decode("ascii")), tally)
-        for and_all_after in (False, True):
-            for refusal in Refusing(shim, [program]).each(and_all_after):
-                sweep.check(refusal)
+        sweep = Sweep(tally)
+        for name, text in ample.items():
+            command = [program, PREFIX + name]
+            tally.same(f"{name} with ample memory", run(command), Outcome(PASSED, (text + WITHOUT_FAULT).encode(), b""))
+            for and_all_after in (False, True):
+                for refusal in Refusing(shim, command).each(and_all_after):
+                    sweep.check(lines_of(text), refusal)
         sweep.finish()
 
 
 def main() -> None:
     words = argparse.ArgumentParser(description=__doc__, formatter_class=argparse.RawDescriptionHelpFormatter)
-    words.add_argument("program", nargs="?", type=Path, default=built("library_calls"))
-    program = words.parse_args().program.resolve()
+    words.add_argument("tests", nargs="?", type=Path, default=built_tests("engine_tests"))
+    program = words.parse_args().tests.resolve()
     tally = Tally()
     try_each(program, tally)
     tally.finish()

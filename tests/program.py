@@ -25,6 +25,11 @@ def built(name: str) -> Path:
     return CRATES / name / "out" / name
 
 
+def built_tests(name: str) -> Path:
+    """The tests of a crate, as `rt ci` and `rt test` build them: a program that runs the test of the name it is given."""
+    return CRATES / name / "out" / f"{name}_tests"
+
+
 BUILT = built("rubis_auction")
 
 

@@ -1,6 +1,3 @@
-//! Tests of `phase_floor`: which phases begin, and what an auction shows after whole phases on threads.
-mod closing_tests;
-mod joined_work;
-mod split_work;
+//! Tests of `phase_floor`: which phases begin.
 mod testing;
 mod tests;

@@ -1,6 +1,8 @@
-//! Tests of permits, phases, runs and the program's parts, a folder for each.
+//! Tests of permits, phases, their workers, runs and the program's parts, and calls for which memory is refused, a folder for each.
 #![tactic(auto)]
 
+#[cfg(test)]
+mod calls;
 #[cfg(test)]
 mod floors;
 #[cfg(test)]
@@ -11,3 +13,5 @@ mod program;
 mod runs;
 #[cfg(test)]
 mod testing;
+#[cfg(test)]
+mod workers;

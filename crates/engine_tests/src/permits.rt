@@ -1,5 +1,5 @@
-//! Tests of `phase_permits`: what permits of joined and of split phases answer, and leave, over real boxes.
+//! Tests of `phase_transactions`: what permits of joined and of split phases answer, and leave, over real boxes.
 mod split_testing;
 mod split_tests;
-mod testing;
+pub(crate) mod testing;
 mod tests;

@@ -3,4 +3,4 @@ mod board_tests;
 mod gate_tests;
 mod replay_tests;
 mod run_tests;
-mod testing;
+pub(crate) mod testing;

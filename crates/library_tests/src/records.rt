@@ -1,3 +1,3 @@
-//! Tests of `split_records` and `top_records`: operations in slices, and slices merged.
+//! Tests of `split_records`: operations in slices, and slices merged.
 mod split_tests;
 mod top_tests;

@@ -4,13 +4,13 @@ ghost use Rattle.item_shards.specs.Counting.{worker_of};
 ghost use Rattle.item_shards.specs.OpeningBooks.{rows_of};
 ghost use Rattle.phase_floor.specs.States.{states_of};
 
-use crate::floors::joined_work::{finish_all, stashes};
-use crate::floors::split_work;
+use crate::testing::only;
 use auction_rows::{Object, Request, Row, Stars};
 use indexmap::IndexSet;
 use item_shards::{Opened, OpeningBook};
 use library_tests::testing::{FIRST, OPENING, bid, put_up, vases};
 use phase_floor::{BeginFault, Joined};
+use phase_transactions::Stash;
 use shard_boxes::PhaseName;
 use std::alloc::Global;
 use std::marker::Brand;
@@ -87,11 +87,10 @@ fn begin_joined<N: PhaseName, R: Wait>(
     requires phase { state.phase + 1 < 2 ^ 64 }
 {
     let seen = state.view(&LOOK);
-    let stashes = stashes(alloc, 1)?;
-    let receipts = Vec::with_capacity(alloc, 1)?;
+    let stashes = vec![in alloc; Stash::with_room(alloc, 0)?]?;
     let (state, stashes, fault) = match state.begin_joined::<N, R>(rt, alloc, &[quota], stashes) {
         Ok((floor, permits)) => {
-            let receipts = finish_all(permits, receipts);
+            let receipts = vec![in alloc; only(permits).finish()]?;
             let (state, stashes) = floor.close(rt, alloc, &mut History::new(alloc), receipts)?;
             (state, stashes, None)
         }
@@ -124,10 +123,9 @@ fn begin_split<N: PhaseName, R: Wait>(
     if hot.insert(object).is_err() {
         return Err(Fail::from("no memory for the hot set"));
     }
-    let receipts = Vec::with_capacity(alloc, 1)?;
     match state.begin_split::<N, R>(rt, alloc, &[quota], &hot) {
         Ok((_floor, permits)) => {
-            let _receipts = split_work::finish_all(permits, receipts);
+            let _receipt = only(permits).finish();
             Ok(None)
         }
         Err((state, fault)) => {

@@ -1,5 +1,6 @@
 //! Phases that begin from a new or a resumed auction, or don't.
 use crate::floors::testing::{joined_fault, new_state, resumed_state, split_fault};
+use crate::testing::assert_same;
 use auction_rows::{ItemId, Object};
 use library_tests::testing::FIRST;
 use phase_floor::BeginFault;
@@ -20,7 +21,6 @@ fn longest_phases_of_a_resumed_auction(rt: HostRuntime) -> Result<(), Fail> {
     let alloc = rt.alloc();
     for (quota, want) in [(999_997, None), (999_998, TOO_LONG)] {
         let joined = joined_fault(&rt, alloc, resumed_state(alloc)?, quota)?;
-        assert_eq!(rt; joined, want, "joined, {quota}");
         let split = split_fault(
             &rt,
             alloc,
@@ -28,7 +28,7 @@ fn longest_phases_of_a_resumed_auction(rt: HostRuntime) -> Result<(), Fail> {
             quota,
             Object::Item(FIRST),
         )?;
-        assert_eq!(rt; split, want, "split, {quota}");
+        assert_same(&rt, &(quota, joined, split), &(quota, want, want));
     }
     Ok(())
 }
@@ -45,7 +45,7 @@ fn unknown_hot_objects(rt: HostRuntime) -> Result<(), Fail> {
         (Object::Category(2), 4, UNKNOWN_HOT),
     ] {
         let fault = split_fault(&rt, alloc, new_state(alloc)?, quota, object)?;
-        assert_eq!(rt; fault, want, "{object:?}");
+        assert_same(&rt, &(object, fault), &(object, want));
     }
     Ok(())
 }

@@ -1,13 +1,13 @@
 //! What the tests of split phases do: one worker over four shards, of which user s lies in shard s. A vase that the
 //! worker stored before, user 3 and category 0 are hot.
-ghost use Rattle.std.specs.Prelude.{◌≡◌, ◌<◌, ℕ, [], length, map, vec_len, IfOk};
-ghost use Rattle.shard_boxes.specs.States.{state_of, state_at, AreOpened, IsOpened};
+ghost use Rattle.std.specs.Prelude.{◌≡◌, ◌<◌, [], length, map, IfOk};
+ghost use Rattle.shard_boxes.specs.States.{state_of, AreOpened};
 ghost use Rattle.phase_contexts.specs.declared.counters.Counters.{Counters};
 ghost use Rattle.phase_contexts.specs.Slicing.{slices_of, stocks_of};
 ghost use Rattle.phase_contexts.specs.Splits.{AreStored};
 ghost use Rattle.phase_transactions.specs.Single.{HaveOpening};
 
-use crate::permits::testing::four;
+use crate::permits::testing::{boxes_of_one, four};
 use auction_rows::{Facts, MOST_TRIES, Object, Reply, Request, Stars};
 use item_shards::Shard;
 use library_tests::testing::{FIRST, OPENING, vases};
@@ -136,11 +136,7 @@ fn phase<N: PhaseName, R: Wait>(
     requires stored { (counters : Counters) → counters.items ≡ 1 → AreStored 0 counters slices }
     requires few { length calls.now < 10 }
 {
-    let Ok((boxes, keys)) = Boxes::<N>::new(rt, alloc, shards, 1) else {
-        return Err(Fail::from("no memory for the boxes"));
-    };
-    let mut keys = keys;
-    let key = keys.pop().ok_or("a key")?;
+    let (boxes, key) = boxes_of_one::<N, R>(rt, alloc, shards)?;
     let journal = Journal::with_room(alloc, 1, 0, 4)?;
     let stash = Stash::with_room(alloc, 4)?;
     let mut answers = Vec::new(alloc);

@@ -1,13 +1,14 @@
 //! What the tests with boxes do: joined phases over four shards, of which user s lies in shard s.
-ghost use Rattle.std.specs.Prelude.{◌≡◌, ◌<◌, ◌≤◌, ℕ, length, map, vec_len, IfOk};
-ghost use Rattle.shard_boxes.specs.States.{state_of, state_at, AreOpened, IsOpened};
+ghost use Rattle.std.specs.Prelude.{◌≡◌, ◌<◌, ◌≤◌, length, map, IfOk};
+ghost use Rattle.shard_boxes.specs.States.{state_of, AreOpened};
+ghost use Rattle.phase_transactions.specs.Permits.{IsUnused};
 ghost use Rattle.phase_transactions.specs.Single.{HaveOpening};
 
 use auction_rows::{MOST_TRIES, Reply, Request};
 use item_shards::Shard;
 use library_tests::testing::OPENING;
 use phase_transactions::{Counters, JoinedPermit, PermitFault, Stash};
-use shard_boxes::{Boxes, PhaseName};
+use shard_boxes::{Boxes, Key, PhaseName};
 use std::alloc::{AllocError, Global};
 use std::marker::Brand;
 use std::sync::Wait;
@@ -39,16 +40,36 @@ pub(crate) struct Answers {
 
 /// Four new shards.
 pub(crate) fn four(alloc: Global) -> Result<Vec<Shard>, AllocError>
-    ensures len { IfOk result (λ v. vec_len v ≡ 4) }
-    ensures opened { IfOk result (λ v. (s : ℕ) → s < 4 → IsOpened 4 s (state_at (map state_of v.items) s)) }
-    ensures users { IfOk result (λ v. (s : ℕ) → s < 4 →
-        (state_at (map state_of v.items) s).opening ≡ record { users = 10; categories = 2 }) }
+    ensures four { IfOk result (λ shards. length (map state_of shards.items) ≡ 4) }
+    ensures opened { IfOk result (λ shards. AreOpened (map state_of shards.items)) }
+    ensures users { IfOk result (λ shards. HaveOpening (map state_of shards.items) (record { users = 10; categories = 2 })) }
 {
     let mut shards = Vec::new(alloc);
     for number in 0..4u32 {
         shards.push(Shard::new(alloc, number, 4, OPENING)?)?;
     }
     Ok(shards)
+}
+
+/// The boxes of these shards, and the key of their one worker.
+pub(crate) fn boxes_of_one<N: PhaseName, R: Wait>(
+    rt: &R,
+    alloc: Global,
+    shards: Vec<Shard>,
+) -> Result<(Boxes<N>, Key<N>), Fail>
+    requires opening { map state_of shards.items ≡ N.opening }
+    requires four { length N.opening ≡ 4 }
+    requires opened { AreOpened N.opening }
+    requires workers { 1 ≡ N.workers }
+    ensures boxes { IfOk result (λ made. made.1.boxes ≡ made.0) }
+    ensures worker { IfOk result (λ made. made.1.worker ≡ 0) }
+    ensures unused { IfOk result (λ made. IsUnused made.1) }
+{
+    let Ok((boxes, mut keys)) = Boxes::<N>::new(rt, alloc, shards, 1) else {
+        return Err(Fail::from("no memory for the boxes"));
+    };
+    let key = keys.pop().ok_or("a key")?;
+    Ok((boxes, key))
 }
 
 // A stash of the request, if any, with index 9.
@@ -138,11 +159,7 @@ fn phase<N: PhaseName, R: Wait>(
     requires stash { length stash.requests ≤ 1 }
     requires few { length requests.now < 10 }
 {
-    let Ok((boxes, keys)) = Boxes::<N>::new(rt, alloc, shards, 1) else {
-        return Err(Fail::from("no memory for the boxes"));
-    };
-    let mut keys = keys;
-    let key = keys.pop().ok_or("a key")?;
+    let (boxes, key) = boxes_of_one::<N, R>(rt, alloc, shards)?;
     let journal = Journal::with_room(alloc, 0, 0, 10)?;
     let mut replies = Vec::new(alloc);
     let counters = Counters::default();

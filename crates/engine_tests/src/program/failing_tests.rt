@@ -1,4 +1,5 @@
 //! Faults to which the built program can't be brought. The others stand in tests/limits.py, ends.py and refused_memory.py.
+use crate::testing::assert_same;
 use auction_program::{Fault, status, write_fault};
 use auction_run::RunFault;
 use auction_text::WriteFault;
@@ -39,8 +40,8 @@ fn faults_have_their_status_and_line(rt: HostRuntime) -> Result<(), Fail> {
         ),
     ];
     for (fault, text) in &table {
-        assert_eq!(rt; status(fault), 3);
-        assert_eq!(rt; line_of(rt.alloc(), fault)?.as_slice(), *text);
+        let line = line_of(rt.alloc(), fault)?;
+        assert_same(&rt, &(line.as_slice(), status(fault)), &(*text, 3));
     }
     Ok(())
 }
@@ -62,5 +63,5 @@ impl Write for Full {
 #[test]
 fn a_full_writer_refuses_the_line_of_a_fault(rt: HostRuntime) {
     let refused = write_fault(&mut Full, &Fault::Run(RunFault::Memory));
-    assert_eq!(rt; refused, Err(WriteFault::Write));
+    assert_same(&rt, &refused, &Err(WriteFault::Write));
 }

@@ -1,5 +1,7 @@
 //! Words that are read as options. Each option's limits, and words that are refused, stand in tests/limits.py.
-use auction_program::{Options, UsageFault, read_options, words_fault};
+use crate::testing::assert_same;
+use auction_program::{Options, read_options};
+use program_options::{UsageFault, words_fault};
 use std::alloc::{AllocError, Global};
 use std::io;
 use std::test::Fail;
@@ -61,9 +63,8 @@ fn options_of(alloc: Global, words: &[&str]) -> Result<Result<Options, UsageFaul
 #[test]
 fn reads_its_options(rt: HostRuntime) -> Result<(), Fail> {
     let usual = options_of(rt.alloc(), &[])?;
-    assert_eq!(rt; usual.ok(), Some(USUAL));
     let each = options_of(rt.alloc(), &EACH_WORDS)?;
-    assert_eq!(rt; each.ok(), Some(EACH));
+    assert_same(&rt, &(usual.ok(), each.ok()), &(Some(USUAL), Some(EACH)));
     Ok(())
 }
 
@@ -74,6 +75,6 @@ fn words_that_are_no_text_are_told_why(rt: HostRuntime) -> Result<(), Fail> {
         return Err(Fail::from("no text"));
     };
     let wanted = format!(in rt.alloc(); "error: {unread}\n")?;
-    assert_eq!(rt; said.as_str(), wanted.as_str());
+    assert_same(&rt, &said.as_str(), &wanted.as_str());
     Ok(())
 }

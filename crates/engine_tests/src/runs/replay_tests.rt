@@ -1,9 +1,9 @@
 //! Histories of whole runs on threads, beside the plain program. Worked examples of runs stand in tests/worked.
-use crate::runs::testing::{LOOK, buy_one, item, run_of};
+use crate::runs::testing::{LOOK, Threaded, buy_one, item, run_of};
 use crate::testing::assert_same;
-use auction_rows::{Request, Row, Stars, reply_to, row_of};
+use auction_rows::{BuyId, Reply, Request, Row, Stars, reply_to, row_of};
 use auction_run::{FreeGate, Gate};
-use library_tests::testing::{FIRST, OPENING, bid};
+use library_tests::testing::{FIRST, OPENING, bid, item_seen, purchase, put_up, vases};
 use std::alloc::Global;
 use std::sync::Wait;
 use std::test::Fail;
@@ -19,15 +19,6 @@ fn comment(author: u32, stars: i64) -> Result<Request, Fail> {
         item: FIRST,
         stars: Stars::new(stars).ok_or("no stars")?,
     })
-}
-
-// A gate that only asks for threads.
-struct Threaded;
-
-impl Gate for Threaded {
-    fn arrive(&self, _phase: u64, _worker: u32, _index: u32) {}
-
-    fn leave(&self, _phase: u64, _worker: u32, _index: u32) {}
 }
 
 // Whether each entry has the reply that the plain program gives from the rows of the entries before it.
@@ -90,5 +81,41 @@ fn histories_replay_on_the_plain_program(rt: HostRuntime) -> Result<(), Fail> {
         let in_turn = count_replayed(&rt, alloc, &scripts, quotas, &FreeGate)?;
         assert_same(&rt, &in_turn, &Some(18));
     }
+    Ok(())
+}
+
+// Two of three vases are bought in a joined phase. A bid makes them hot, and a purchase of the third is put off.
+#[test]
+fn what_was_put_off_is_performed_first(rt: HostRuntime) -> Result<(), Fail> {
+    let facts = vases(3)?;
+    let (two, third) = (purchase(1, 2, 6)?, purchase(1, 1, 6)?);
+    let first = [
+        put_up(facts),
+        two,
+        bid(2, 17, 7),
+        bid(2, 19, 7),
+        third,
+        VIEW,
+    ];
+    let second = [LOOK, LOOK, LOOK, bid(3, 18, 7)];
+    let outcome = run_of(&rt, rt.alloc(), &[&first, &second], 3, 2, &Threaded)?;
+    let mut last = outcome.history.last_entries();
+    let (Some(waited), Some(looked), None) = (last.next(), last.next(), last.next()) else {
+        return Err(Fail::from("two entries"));
+    };
+    let bought = Reply::Bought(BuyId {
+        worker: 0,
+        serial: 1,
+    });
+    let item = item_seen(&facts, Some((19, 2)), 3, 0);
+    assert_same(&rt, &(waited.index(), looked.index()), &(4, 5));
+    assert_same(&rt, &waited.to_entry().reply, &bought);
+    assert_same(&rt, &looked.to_entry().reply, &item);
+    assert_same(&rt, &outcome.state.view(&VIEW), &Some(item));
+    assert_same(
+        &rt,
+        &(outcome.state.phase(), outcome.history.len()),
+        &(3, 10),
+    );
     Ok(())
 }

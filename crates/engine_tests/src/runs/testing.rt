@@ -32,6 +32,15 @@ pub(crate) fn bid_stored(worker: u32, serial: u32) -> Reply {
     Reply::BidStored(BidId { worker, serial })
 }
 
+/// A gate that only asks for threads.
+pub(crate) struct Threaded;
+
+impl Gate for Threaded {
+    fn arrive(&self, _phase: u64, _worker: u32, _index: u32) {}
+
+    fn leave(&self, _phase: u64, _worker: u32, _index: u32) {}
+}
+
 // The run of such scripts over four shards, with up to eight hot objects and threshold 1.
 pub(crate) fn run_of<R: Threads + Wait + Sync, G: Gate + Sync>(
     rt: &R,
@@ -52,5 +61,9 @@ pub(crate) fn run_of<R: Threads + Wait + Sync, G: Gate + Sync>(
     for script in scripts {
         own.push(Vec::from_slice(alloc, script)?)?;
     }
-    Ok(run(rt, alloc, &OpeningBook::empty(OPENING), own, policy, gate)?)
+    let book = OpeningBook::empty(OPENING);
+    match run(rt, alloc, &book, own, policy, gate) {
+        Ok(outcome) => Ok(outcome),
+        Err(fault) => Err(Fail::new(fault)),
+    }
 }

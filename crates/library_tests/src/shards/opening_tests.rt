@@ -39,7 +39,7 @@ fn too_many_rows_of_an_unknown_worker(rt: HostRuntime) -> Result<(), Fail> {
         let request = Request::ViewUser { user: 0 };
         let rows = vec![in rt.alloc(); Opened { worker, request }; 1_000_001]?;
         let fault = OpeningBook::new(rt.alloc(), OPENING, rows).err();
-        assert_eq!(rt; fault, Some(wanted), "of worker {worker}");
+        assert_same(&rt, &(worker, fault), &(worker, Some(wanted)));
     }
     Ok(())
 }

@@ -1,7 +1,7 @@
 //! Numbers of commits, and clocks of shards. What shards show stands in tests/worked.
 use crate::comparing::assert_same;
 use crate::testing::OPENING;
-use item_shards::{LAST_NUMBER, Shard, next_number};
+use item_shards::{Act, LAST_NUMBER, Shard, Shown, next_number};
 use std::test::Fail;
 
 #[test]
@@ -16,7 +16,8 @@ fn numbers_end(rt: HostRuntime) {
 fn clock_goes_forward_and_back_to_0(rt: HostRuntime) -> Result<(), Fail> {
     let mut shard = Shard::new(rt.alloc(), 0, 4, OPENING)?;
     assert_same(&rt, &shard.clock(), &0);
-    shard.set_clock(3);
+    let acts = [Act::Look(Shown::Nothing), Act::Look(Shown::Nothing)];
+    assert_same(&rt, &shard.commit(3, &acts), &0);
     assert_same(&rt, &shard.clock(), &3);
     shard.reset_clock();
     assert_same(&rt, &shard.clock(), &0);

@@ -1,7 +1,0 @@
-use Rattle.phase_floor.proofs.Receipts.{committed}
-use Rattle.engine_tests.proofs.floors.joined_work.attempt.Goals as goal
-
-pub returns-in-Ok : goal.returns-in-Ok
-returns-in-Ok g c =
-    let old = c.args.permit.now in
-    committed g.N.PhaseName.opening c.args.floor.now old.key.worker old c.perform.new.self c.requires c.args.request.now c.args.index c.in-Ok._reply c.in-Ok.ensures.committed

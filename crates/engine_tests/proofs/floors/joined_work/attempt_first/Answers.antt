@@ -1,7 +1,0 @@
-use Rattle.phase_floor.proofs.Receipts.{performed_first}
-use Rattle.engine_tests.proofs.floors.joined_work.attempt_first.Goals as goal
-
-pub returns-in-Ok : goal.returns-in-Ok
-returns-in-Ok g c =
-    let old = c.args.permit.now in
-    performed_first g.N.PhaseName.opening c.args.floor.now old.key.worker old c.perform_stashed.new.self c.requires c.in-Ok.answer c.in-Ok.ensures.unchanged c.in-Ok.ensures.performed
