@@ -4,21 +4,30 @@ import subprocess
 import sys
 from typing import NamedTuple
 
-import measures
-from measures import BIDDING, LARGE, ONE_ITEM, UNIFORM, Load, Policy
+import instructions
+from measures import BIDDING, LARGE, ONE_ITEM, UNIFORM, Policy
 
 AUCTION, UNSPLIT = "the auction", "the auction, nothing split"
 PHASES, SHARDS, LOCK = "plain Rust, the same phases", "plain Rust, a lock a shard", "plain Rust, one lock"
+ALONE = "plain Rust, one thread, no lock"
 SQLITE, POSTGRES = "SQLite in memory", "PostgreSQL"
+REFEREE = "the referee"
 
-SYSTEMS = (AUCTION, UNSPLIT, PHASES, SHARDS, LOCK, SQLITE, POSTGRES)
+SYSTEMS = (AUCTION, UNSPLIT, PHASES, SHARDS, LOCK, ALONE, SQLITE, POSTGRES)
+
+# What a system that is not a database is called on a command line.
+MODES = {AUCTION: "program", UNSPLIT: "program", PHASES: "phases", SHARDS: "shards", LOCK: "lock", ALONE: "serial"}
 
 RATE, ANSWER, SECONDS, MEMORY = "requests answered a second", "seconds of answering", "seconds, whole command", "megabytes at most"
 RUN, PUBLISHING, VIEW = "seconds of a run", "seconds of publishing", "nanoseconds a view"
+SCRIPTS, SCRIPT_SIZE, HISTORY_SIZE = "seconds for the scripts alone", "megabytes of scripts", "megabytes of history"
 
 
-# The auction takes so many rows and requests of a worker.
-MOST_OF_A_WORKER = 1_000_000
+# What a request's instructions are for.
+INSTRUCTIONS = ("reading", "of it the kit's reader of records", "performing", "writing replies, and memory moved or cleared")
+
+# The auction takes so many workers, and so many rows and requests of each.
+MOST_WORKERS, MOST_OF_A_WORKER = 16, 1_000_000
 
 
 class Figure(NamedTuple):
@@ -37,6 +46,10 @@ class Figure(NamedTuple):
     value: float
 
 
+# The columns that are no whole numbers.
+KINDS = {"table": str, "load": str, "system": str, "measure": str, "value": float}
+
+
 def say(words):
     print(words, file=sys.stderr, flush=True)
 
@@ -47,7 +60,7 @@ def rate_of(systems, system, load, workers):
         return systems.lite_rate(load, workers)
     if system == POSTGRES:
         return systems.postgres_rate(load, workers)
-    mode = {AUCTION: "program", UNSPLIT: "program", PHASES: "phases", SHARDS: "shards", LOCK: "lock"}[system]
+    mode = MODES[system]
     if not systems.has(mode):
         return None
     return systems.rate(mode, load, workers, Policy(hot=0) if system == UNSPLIT else Policy())
@@ -70,7 +83,7 @@ def worker_counts(asked):
 def by_workers(systems, asked):
     for load in (ONE_ITEM, UNIFORM, BIDDING):
         for workers in worker_counts(asked):
-            say(f"{load.name}, {workers} workers")
+            say(f"{load.name}, workers: {workers}")
             yield from rates(systems, "workers", load, workers)
 
 
@@ -119,7 +132,8 @@ def by_threshold(systems, asked):
 
 def whole_commands(systems, asked):
     for load in (ONE_ITEM, UNIFORM, BIDDING):
-        for system, mode in ((AUCTION, "program"), (PHASES, "phases"), (LOCK, "lock")):
+        for system in (AUCTION, PHASES, LOCK, ALONE):
+            mode = MODES[system]
             if systems.has(mode):
                 say(f"{load.name}, whole commands, {system}")
                 seconds, megabytes = systems.whole(mode, load, asked.workers, asked.requests)
@@ -128,17 +142,46 @@ def whole_commands(systems, asked):
                     yield of_policy(systems, "whole", load, Policy(), measure, value)._replace(system=system)
 
 
+def request_counts(asked, load, workers, quarters):
+    """So many quarters of a load's requests, where the auction takes as many of these workers."""
+    counts = (asked.requests // 4 * quarter for quarter in quarters)
+    return [requests for requests in counts if (requests + load.items) / workers < MOST_OF_A_WORKER]
+
+
 def by_requests(systems, asked):
-    parts = (1, 4) if asked.fast else (1, 2, 3, 4, 6, 8)
     for load in (UNIFORM, BIDDING):
-        for requests in (asked.requests // 4 * part for part in parts):
-            if (requests + load.items) / asked.workers >= MOST_OF_A_WORKER:
-                continue
-            for system, mode in ((AUCTION, "program"), (PHASES, "phases")):
+        for requests in request_counts(asked, load, asked.workers, (1, 4) if asked.fast else (1, 2, 3, 4, 6, 8)):
+            for system in (AUCTION, PHASES):
+                mode = MODES[system]
                 if systems.has(mode):
                     say(f"{load.name}, {requests} requests, memory, {system}")
                     _, megabytes = systems.whole(mode, load, asked.workers, requests)
                     yield of_policy(systems, "memory", load, Policy(), MEMORY, megabytes)._replace(system=system, requests=requests)
+
+
+def checking(systems, asked):
+    """The referee over histories of the auction, of as many workers as it has at most."""
+    if "referee" not in systems.built:
+        return
+    for load in (UNIFORM, BIDDING):
+        for requests in request_counts(asked, load, MOST_WORKERS, (1, 4) if asked.fast else (1, 2, 4, 8, 16)):
+            say(f"{load.name}, {requests} requests, checking")
+            told = systems.check(load, MOST_WORKERS, requests)
+            for measure, value in zip((SCRIPT_SIZE, HISTORY_SIZE, SECONDS, SCRIPTS, MEMORY), told):
+                figure = of_policy(systems, "checking", load, Policy(), measure, value)
+                yield figure._replace(system=REFEREE, workers=MOST_WORKERS, requests=requests)
+
+
+def by_instructions(systems, asked):
+    if not instructions.is_there():
+        return
+    requests = 10_000 if asked.fast else 100_000
+    for load in (ONE_ITEM,) if asked.fast else (ONE_ITEM, UNIFORM, BIDDING):
+        for system, policy in ((AUCTION, Policy()), (UNSPLIT, Policy(hot=0))):
+            say(f"{load.name}, instructions, {system}")
+            for measure, value in zip(INSTRUCTIONS, systems.instructions(load, requests, policy)):
+                figure = of_policy(systems, "instructions", load, policy, measure, value)
+                yield figure._replace(system=system, workers=1, requests=requests)
 
 
 def windows(systems, asked):
@@ -168,6 +211,11 @@ def in_seconds(text):
     return float(number) * {"s": 1, "ms": 1e-3, "µs": 1e-6, "ns": 1e-9}[unit]
 
 
+# What measures the figures of each table.
+PARTS = {"workers": by_workers, "skew": by_skew, "quotas": by_quotas, "shards": by_shards, "threshold": by_threshold,
+         "whole": whole_commands, "memory": by_requests, "checking": checking, "instructions": by_instructions, "windows": windows}
+
+
 def all_figures(systems, asked):
-    parts = (by_workers, by_skew, by_quotas, by_shards, by_threshold, whole_commands, by_requests, windows)
-    return [figure for part in parts for figure in part(systems, asked)]
+    figures = (figure for name in asked.only or PARTS for figure in PARTS[name](systems, asked))
+    return [figure._replace(value=float(f"{figure.value:.6g}")) for figure in figures]

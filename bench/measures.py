@@ -4,6 +4,7 @@ import subprocess
 import sys
 from typing import NamedTuple
 
+import instructions
 import lite
 import loads
 import postgres
@@ -12,6 +13,9 @@ import programs
 USERS, CATEGORIES, ITEMS, SHARDS = 1000, 100, 10_000, 16
 
 LARGE = (64, 4096)
+
+# What `rubis_check` ends with where a request stands in no line.
+LACKING = 6
 
 
 class Load(NamedTuple):
@@ -43,8 +47,13 @@ class Policy(NamedTuple):
 
     def words(self, workers):
         joined, split = self.quotas
-        return [f"--users={USERS}", f"--categories={CATEGORIES}", f"--shards={self.shards}", f"--workers={workers}",
-                f"--joined={joined}", f"--split={split}", f"--threshold={self.threshold}", f"--hot={self.hot}"]
+        return [*auction_words(workers), f"--shards={self.shards}", f"--joined={joined}", f"--split={split}",
+                f"--threshold={self.threshold}", f"--hot={self.hot}"]
+
+
+def auction_words(workers):
+    """What auction and referee are both told of a load."""
+    return [f"--workers={workers}", f"--users={USERS}", f"--categories={CATEGORIES}"]
 
 
 def split_words(words):
@@ -63,6 +72,10 @@ class Systems:
             self.skip("rustc is not installed: plain Rust is left out.")
         if "watch" not in built:
             self.skip("Windows were left out (--skip).")
+        if not instructions.is_there():
+            self.skip("valgrind is not installed: instructions were left out.")
+        if "referee" not in built:
+            self.skip("Checking a history was left out (--skip).")
         if lite.sqlite3 is None and "sqlite" not in asked.skip:
             self.skip("Python has no sqlite3 here: SQLite is left out.")
             asked.skip.append("sqlite")
@@ -122,20 +135,44 @@ class Systems:
         requests = self.asked.requests
         return requests, requests / self.answer(mode, load, workers, policy)
 
+    def history(self, load, workers, requests):
+        """The file of the history that the auction writes of a load. The one before it is overwritten."""
+        path = f"{self.folder}/history"
+        programs.write_output([*self.command("program", Policy(), workers), "--history"], self.load(load, workers, requests), path)
+        return path
+
+    def referee_words(self, workers, history):
+        return [self.built["referee"], *auction_words(workers), "--order", f"--history={history}"]
+
+    def check(self, load, workers, requests):
+        """How many megabytes a load and the auction's history of it are, and of some tries of the referee over them: the least seconds,
+        the least for the scripts alone, which are read before an empty history is found to lack a request, and the most megabytes."""
+        path, history = self.load(load, workers, requests), self.history(load, workers, requests)
+        whole = [programs.whole_of(self.referee_words(workers, history), path) for _ in range(self.asked.tries)]
+        alone = [programs.whole_of(self.referee_words(workers, os.devnull), path, LACKING) for _ in range(self.asked.tries)]
+        return (os.path.getsize(path) / 1e6, os.path.getsize(history) / 1e6, min(seconds for seconds, _ in whole),
+                min(seconds for seconds, _ in alone), max(megabytes for _, megabytes in whole))
+
+    def instructions(self, load, requests, policy):
+        """The instructions of each part for a request, with one worker: those of a load less those of its rows alone."""
+        words, engine = self.command("program", policy, 1), instructions.crates_of_engine(programs.ROOT)
+        full, rows = (instructions.by_parts(words, self.load(load, 1, count), engine, self.folder) for count in (requests, 0))
+        return [(of_full - of_rows) / requests for of_full, of_rows in zip(full, rows)]
+
     def few(self):
         """How many requests of a load the databases are given."""
-        return min(self.asked.requests, 10_000 if self.asked.fast else 200_000)
+        return min(self.asked.requests, 10_000 if self.asked.fast else 100_000)
 
     def lite_rate(self, load, workers):
         if "sqlite" in self.asked.skip:
             return None
         rows, scripts = loads.read_load(self.load(load, workers, self.few()), workers)
-        _, spent = lite.perform(rows, scripts, USERS, CATEGORIES)
+        spent = min(lite.perform(rows, scripts, USERS, CATEGORIES)[1] for _ in range(self.asked.tries))
         return self.few(), self.few() / spent * 1e9
 
     def postgres_rate(self, load, workers):
         if self.server is None:
             return None
         rows, scripts = loads.read_load(self.load(load, workers, self.few()), workers)
-        self.server.open(rows, scripts, USERS, CATEGORIES)
-        return self.server.perform(scripts, self.asked.seconds)
+        tries = (self.server.perform_anew(rows, scripts, USERS, CATEGORIES, self.asked.seconds) for _ in range(self.asked.tries))
+        return max(tries, key=lambda done: done[1])

@@ -89,6 +89,10 @@ class Server:
             SELECT count(act(r)) FROM (SELECT * FROM input WHERE is_row ORDER BY place) AS r;
             ANALYZE users, categories, items, input;""")
 
+    def perform_anew(self, rows, scripts, users, categories, seconds):
+        self.open(rows, scripts, users, categories)
+        return self.perform(scripts, seconds)
+
     def perform(self, scripts, seconds):
         """Performs the scripts, each by a client of pgbench, or as much of them as it does in about so many seconds. Gives how
         many requests were done, and how many a second after the first ones, which fill the server's caches."""

@@ -5,15 +5,22 @@ import os
 import platform
 import re
 import shutil
-import subprocess
 import sys
 
 import figures
+import lite
 import measures
 import plots
-from figures import ANSWER, MEMORY, PUBLISHING, RUN, SECONDS, SYSTEMS, VIEW
+from figures import (ANSWER, AUCTION, HISTORY_SIZE, INSTRUCTIONS, MEMORY, PUBLISHING, RUN, SCRIPT_SIZE, SCRIPTS, SECONDS, SQLITE, SYSTEMS,
+                     UNSPLIT, VIEW, Figure)
+from measures import BIDDING, LARGE, ONE_ITEM, UNIFORM, Policy
+from programs import ROOT
+
+README, PERFORMANCE, FIGURES = "README.md", "docs/PERFORMANCE.md", "docs/performance/figures.csv"
 
 START, END = "<!-- bench/run: {} -->", "<!-- end: {} -->"
+
+LEFT_OUT = "Not measured this time."
 
 
 def machine():
@@ -28,7 +35,7 @@ def machine():
 def command(asked):
     words = ["bench/run", *(["--fast"] if asked.fast else []), f"--requests {asked.requests}", f"--tries {asked.tries}",
              f"--seconds {asked.seconds:g}", f"--workers {asked.workers}"]
-    return " ".join(words + ([f"--skip {','.join(asked.skip)}"] if asked.skip else []))
+    return " ".join(words + [f"--{word} {','.join(chosen)}" for word, chosen in (("skip", asked.skip), ("only", asked.only)) if chosen])
 
 
 def number(value):
@@ -43,6 +50,15 @@ def number(value):
 def table(heads, rows):
     lines = [heads, ["---"] * len(heads), *rows]
     return "\n".join("| " + " | ".join(line) + " |" for line in lines) + "\n"
+
+
+def in_words(value):
+    """Two digits that count, with the word for millions."""
+    if value is None:
+        return "-"
+    if value >= 995_000:
+        return f"{value / 1e6:.{int(value < 9.95e6)}f} million"
+    return f"{round(value, 1 - len(str(int(value))) + 1):,.0f}"
 
 
 def values(rows, **wanted):
@@ -115,6 +131,26 @@ def memory(rows):
     return table(["Megabytes at most, by requests", *(f"{count:,}" for count in counts)], lines)
 
 
+def checking(rows):
+    rows, lines = values(rows, table="checking"), []
+    for load, requests in dict.fromkeys((row.load, row.requests) for row in rows):
+        told = {row.measure: row.value for row in values(rows, load=load, requests=requests)}
+        rate = requests / (told[SECONDS] - told[SCRIPTS]) if told[SECONDS] > told[SCRIPTS] else None
+        cells = (told[SCRIPT_SIZE], told[HISTORY_SIZE], told[SECONDS], told[SCRIPTS], rate, told[MEMORY])
+        lines.append([load, f"{requests:,}", *map(number, cells)])
+    return table(["Load", "Requests", "Scripts, MB", "History, MB", "Whole command, s", "Of it the scripts, s", "Entries a second after that",
+                  "Memory at most, MB"], lines)
+
+
+def instructions(rows):
+    rows = values(rows, table="instructions")
+    loads = list(dict.fromkeys(row.load for row in rows))
+    heads = [f"{load}{', nothing split' * (system == UNSPLIT)}" for load in loads for system in (AUCTION, UNSPLIT)]
+    lines = [[measure, *(number(value(rows, load=load, system=system, measure=measure)) for load in loads for system in (AUCTION, UNSPLIT))]
+             for measure in INSTRUCTIONS]
+    return table(["Instructions a request, one worker", *heads], lines)
+
+
 def windows(rows):
     rows = values(rows, table="windows")
     alone, beside = (values(rows, load=f"windows {where}") for where in ("alone", "beside a run"))
@@ -134,53 +170,160 @@ def windows(rows):
 PLOTS = {"workers": "Requests answered a second by the number of workers", "skew": "Requests answered a second by skew", "memory": "Memory by requests"}
 
 TABLES = {"workers": by_workers, "skew": by_skew, "quotas": by_quotas, "shards": by_shards, "threshold": by_threshold, "whole": whole,
-          "memory": memory, "windows": windows}
+          "memory": memory, "checking": checking, "instructions": instructions, "windows": windows}
 
 
-def heading(asked, systems, when):
-    """Date, machine and command, and what was left out."""
-    lines = [f"Measured on {when}, on {machine()}, by", "", f"    {command(asked)}", "",
-             "The best of the tries stands here. The commands behind the figures, where LOAD is what `rubis_load` wrote:", ""]
-    for load in (measures.ONE_ITEM, measures.UNIFORM, measures.BIDDING):
+def tables(rows, is_drawn):
+    """Each table of docs/PERFORMANCE.md, with its plot."""
+    for name, made in TABLES.items():
+        plot = f"![{PLOTS[name]}](performance/{name}.svg)\n\n" if is_drawn and name in PLOTS else ""
+        yield name, plot + made(rows).lstrip("\n") if values(rows, table=name) else LEFT_OUT
+
+
+# What README.md leaves to docs/PERFORMANCE.md.
+ELSEWHERE = (figures.LOCK,)
+
+
+def rates(rows):
+    """The table of README.md: each system at each load, by one worker on one item and by the greatest number of workers."""
+    rows = [row for row in values(rows, table="workers") if row.system not in ELSEWHERE]
+    if not rows:
+        return LEFT_OUT
+    counts = sorted({row.workers for row in rows})
+    loads = list(dict.fromkeys(row.load for row in rows))
+    columns = [(load, count) for load in loads for count in (counts if load == ONE_ITEM.name else counts[-1:]) if count in (counts[0], counts[-1])]
+    heads = [f"{plots.load_title(load)}, {in_workers(count)}" for load, count in columns]
+    lines = [[system, *(in_words(value(rows, load=load, system=system, workers=count)) for load, count in columns)] for system in present(rows)]
+    return table(["Requests answered a second", *heads], lines)
+
+
+def in_workers(count):
+    return f"{count} worker{'s' * (count > 1)}"
+
+
+def speed(rows):
+    """In README.md: bids on one item."""
+    most = max((row.workers for row in values(rows, table="workers")), default=None)
+    of_most = values(rows, table="workers", load=ONE_ITEM.name, workers=most)
+    split, unsplit, of_sqlite = (value(of_most, system=system) for system in (AUCTION, UNSPLIT, SQLITE))
+    if not (split and unsplit):
+        return LEFT_OUT
+    beside = f"; SQLite in memory, one thread, {in_words(of_sqlite)}" if of_sqlite else ""
+    return (f"Bids of {in_workers(most)} on one item, with `--split {LARGE[1]}`: {in_words(split)} answered a second, "
+            f"{in_words(unsplit)} with nothing split{beside}")
+
+
+def usual(rows):
+    """In README.md: what the program's own quotas make of bids on one item."""
+    both = [values(rows, table="quotas", load=ONE_ITEM.name, joined=64, split=64, hot=hot, measure=ANSWER) for hot in (8, 0)]
+    if not all(both):
+        return LEFT_OUT
+    split, unsplit = (found[0].requests / found[0].value for found in both)
+    return (f"With the program's own quotas, 64 and 64, {in_workers(both[0][0].workers)} answer {in_words(split)} bids on one item a second, "
+            f"and {in_words(unsplit)} with nothing split")
+
+
+def growth(rows):
+    """In README.md: by how much memory grows with each request."""
+    told = []
+    for load in (UNIFORM, BIDDING):
+        found = values(rows, table="memory", load=load.name, system=AUCTION)
+        if len(found) < 2:
+            return LEFT_OUT
+        least, most = min(found, key=lambda row: row.requests), max(found, key=lambda row: row.requests)
+        told.append(round((most.value - least.value) * 1e6 / (most.requests - least.requests), -1))
+    return f"some {told[0]:.0f} bytes for each bid, for script, history and the text of its reply together; {told[1]:.0f} for a request of the bidding mix"
+
+
+# The parts of README.md.
+CLAIMS = {"rates": rates, "speed": speed, "usual": usual, "growth": growth}
+
+
+def heading(asked, systems, when, seconds):
+    """Date, machine, command and how long it took, and what was left out."""
+    lines = [f"Measured on {when}, on {machine()}, in {max(1, round(seconds / 60))} minutes, by", "", f"    {command(asked)}", "",
+             "The best of the tries stands here; windows and instructions are measured once. The commands behind the figures, where LOAD is what "
+             "`rubis_load` wrote and HISTORY what `rubis_auction` did with `--history`:", ""]
+    for load in (ONE_ITEM, UNIFORM, BIDDING):
         lines.append(f"    rubis_load --requests={asked.requests} --workers={asked.workers} {' '.join(load.words())}")
-    lines.append(f"    rubis_auction {' '.join(measures.Policy().words(asked.workers))} < LOAD")
+    lines.append(f"    rubis_auction {' '.join(Policy().words(asked.workers))} < LOAD")
+    if "referee" in systems.built:
+        lines.append(f"    rubis_check {' '.join(measures.auction_words(figures.MOST_WORKERS))} --order --history=HISTORY < LOAD")
+    if "watch" in systems.built:
+        lines.append("    watch_auction bench")
     lines.append("")
     if systems.server:
         lines.append(f"PostgreSQL is {systems.server_version}; it does the first {systems.few():,} requests of each load, or of these as many as it does in "
                      f"about {asked.seconds:g} s (`figures.csv` says how many).")
     if "sqlite" not in asked.skip:
-        lines.append(f"SQLite is {measures.lite.sqlite3.sqlite_version}; it does the first {systems.few():,}. A statement that asks it for nothing takes {systems.empty_statement / 1000:.2f} µs from Python and back.")
+        lines.append(f"SQLite is {lite.sqlite3.sqlite_version}; it does the first {systems.few():,}. A statement that asks it for nothing takes "
+                     f"{systems.empty_statement / 1000:.2f} µs from Python and back; a bid is five statements, a view one or four.")
     return "\n".join(lines + systems.said) + "\n"
 
 
 def put_between(text, name, new):
-    """The text with a new part between the markers of this name."""
+    """The text with a new part between the markers of this name, in lines of its own where they stand so."""
     start, end = START.format(name), END.format(name)
-    if start not in text or end not in text:
-        sys.exit(f"PERFORMANCE.md lacks the markers {start} and {end}")
-    return text[:text.index(start) + len(start)] + "\n\n" + new.strip("\n") + "\n\n" + text[text.index(end):]
+    if text.count(start) != 1 or end not in text:
+        sys.exit(f"the markers {start} and {end} are wanted once")
+    before, rest = text.split(start)
+    new = new.strip("\n")
+    return before + start + (f"\n\n{new}\n\n" if rest.startswith("\n") else new) + rest[rest.index(end):]
 
 
-def write_all(page_path, asked, systems, rows):
-    when = datetime.date.today().strftime("%d %B %Y").lstrip("0")
-    folder = f"{asked.out}/performance"
-    os.makedirs(folder, exist_ok=True)
-    with open(f"{folder}/figures.csv", "w", newline="") as text:
-        out = csv.writer(text, lineterminator="\n")
-        out.writerow(figures.Figure._fields)
-        out.writerows([*row[:-1], f"{row.value:.6g}"] for row in rows)
-    path = f"{asked.out}/PERFORMANCE.md"
-    with open(path if os.path.exists(path) else page_path) as text:
+def written(page, parts):
+    """A page of the repository with these parts."""
+    with open(f"{ROOT}/{page}") as text:
         page = text.read()
+    for name, part in parts:
+        page = put_between(page, name, part)
+    return page
+
+
+def pages(rows, is_drawn):
+    """The parts that each page has of these figures."""
+    return {README: [(name, made(rows)) for name, made in CLAIMS.items()], PERFORMANCE: list(tables(rows, is_drawn))}
+
+
+def write_figures(path, rows):
+    with open(path, "w", newline="") as text:
+        out = csv.writer(text, lineterminator="\n")
+        out.writerow(Figure._fields)
+        out.writerows([*row[:-1], f"{row.value:.6g}"] for row in rows)
+
+
+def read_figures(path):
+    with open(path, newline="") as text:
+        lines = csv.DictReader(text)
+        return [Figure(**{name: figures.KINDS.get(name, int)(word) for name, word in line.items()}) for line in lines]
+
+
+def stale_parts():
+    """The parts of the pages that are not what figures.csv makes of them, and how many parts there are. What was left out is none."""
+    stale, count = [], 0
+    with open(f"{ROOT}/{PERFORMANCE}") as text:
+        is_drawn = "](performance/" in text.read()
+    for page, parts in pages(read_figures(f"{ROOT}/{FIGURES}"), is_drawn).items():
+        for name, part in parts:
+            count += part != LEFT_OUT
+            if part != LEFT_OUT and written(page, [(name, part)]) != written(page, []):
+                stale.append(f"{page}: {name}")
+    return stale, count
+
+
+def write_all(asked, systems, rows, seconds):
+    """Writes figures, pages and plots below the folder that is asked for."""
+    when = datetime.date.today().strftime("%d %B %Y").lstrip("0")
+    folder = os.path.dirname(f"{asked.out}/{FIGURES}")
+    os.makedirs(folder, exist_ok=True)
+    write_figures(f"{asked.out}/{FIGURES}", rows)
     is_drawn = shutil.which("gnuplot") is not None
     if not is_drawn:
         systems.skip("gnuplot is not installed: no plots were drawn.")
-    page = put_between(page, "heading", heading(asked, systems, when))
-    for name, made in TABLES.items():
-        if values(rows, table=name):
-            plot = f"![{PLOTS[name]}](performance/{name}.svg)\n\n" if is_drawn and name in PLOTS else ""
-            page = put_between(page, name, plot + made(rows).lstrip("\n"))
-    with open(path, "w") as text:
-        text.write(page)
+    for page, parts in pages(rows, is_drawn).items():
+        own = [("heading", heading(asked, systems, when, seconds))] if page == PERFORMANCE else []
+        text = written(page, own + parts)
+        with open(f"{asked.out}/{page}", "w") as file:
+            file.write(text)
     if is_drawn:
         plots.draw_all(folder, rows, f"{when}, {machine()}", command(asked))
