@@ -2,7 +2,7 @@
 import subprocess
 
 from figures import ALONE, AUCTION, LOCK, PHASES, POSTGRES, SHARDS, SQLITE, SYSTEMS, UNSPLIT
-from measures import BIDDING
+from measures import BIDDING, LARGE
 
 STYLES = {
     AUCTION: "lc rgb '#c1121f' lw 3 pt 7", UNSPLIT: "lc rgb '#f4978e' lw 2 pt 6", PHASES: "lc rgb '#1d3557' lw 2 pt 5",
@@ -26,8 +26,9 @@ def call(script):
 
 
 def foot(place):
-    """The date, machine and command, small."""
-    return f"set label 99 \"{place[0]}\\n{place[1]}\" at screen 0.01, screen 0.05 left font ',9' tc rgb '#666666'\n"
+    """The date, machine, command and quotas, small."""
+    quotas = f"quotas {LARGE[0]} and {LARGE[1]:,}, four shards a worker, the best of the tries"
+    return f"set label 99 \"{place[0]}\\n{place[1]}: {quotas}\" at screen 0.01, screen 0.05 left font ',9' tc rgb '#666666'\n"
 
 
 def block(name, points):

@@ -208,9 +208,11 @@ def speed(rows):
     split, unsplit, of_sqlite = (value(of_most, system=system) for system in (AUCTION, UNSPLIT, SQLITE))
     if not (split and unsplit):
         return LEFT_OUT
+    of_one = value(values(rows, table="workers", load=ONE_ITEM.name, workers=1), system=UNSPLIT)
+    alone = f" (by one worker alone {in_words(of_one)})" if of_one else ""
     beside = f"; SQLite in memory, one thread, {in_words(of_sqlite)}" if of_sqlite else ""
     return (f"Bids of {in_workers(most)} on one item, with `--split {LARGE[1]}`: {in_words(split)} answered a second, "
-            f"{in_words(unsplit)} with nothing split{beside}")
+            f"{in_words(unsplit)} with nothing split{alone}{beside}")
 
 
 def usual(rows):
@@ -232,7 +234,8 @@ def growth(rows):
             return LEFT_OUT
         least, most = min(found, key=lambda row: row.requests), max(found, key=lambda row: row.requests)
         told.append(round((most.value - least.value) * 1e6 / (most.requests - least.requests), -1))
-    return f"some {told[0]:.0f} bytes for each bid, for script, history and the text of its reply together; {told[1]:.0f} for a request of the bidding mix"
+    return (f"at its most some {told[0]:.0f} bytes for each bid, with script and history (the text of replies is made once scripts are let go); "
+            f"{told[1]:.0f} for a request of the bidding mix")
 
 
 # The parts of README.md.
