@@ -203,7 +203,7 @@ next_is k xs x is =
 -- what a permit did with the request that waited longest
 pub first_performed : (opening : List ShardState) (old new : PermitState) (answer : Option Reply) →
     IfNone answer (old.split.context.stash.requests ≡ []) → IfNone answer (new ≡ with_try old) → IfSome answer (HasPerformedFirst opening (with_try old) new) →
-    HasPerformedWaiting old new
+    HasPerformedWaiting true old new
 first_performed opening old new None none same done =
     let tried_once : new.split.context.tries ≡ old.split.context.tries + 1 = ap (λ (p : PermitState). p.split.context.tries) same in record {
       same = first_same opening old new None same done;
@@ -226,14 +226,19 @@ first_performed opening old new (Some answer) none same done =
       tries = omega (arith, tried_once);
     }
 
+-- the stash is what is taken of it, where nothing is, and what is kept
+none_taken : (takes : Bool) (permit : PermitState) → taken takes permit ≡ [] → stashed permit ≡ kept takes permit
+none_taken true permit none = none
+none_taken false permit none = refl
+
 -- where none waits there is none to perform
-pub none_waits : (permit : PermitState) → slice_get (stashed permit) 0 ≡ None → HasPerformedWaiting permit permit
-none_waits permit none =
-    let empty : stashed permit ≡ [] = none_there (stashed permit) none in record {
+pub none_waits : (takes : Bool) (permit : PermitState) → slice_get (taken takes permit) 0 ≡ None → HasPerformedWaiting takes permit permit
+none_waits takes permit none =
+    let empty : taken takes permit ≡ [] = none_there (taken takes permit) none in record {
       same = same permit;
       goes = ap (λ ss. put_off (hot_for permit) (take 1 ss)) empty;
       calls = sym (ap (λ ss. committed permit ++ take 1 ss) empty ∙ append-nil (committed permit));
-      stash = empty ∙ ap (drop 1) (sym empty);
+      stash = none_taken takes permit empty ∙ sym (ap (λ ss. kept takes permit ++ drop 1 ss) empty ∙ append-nil (kept takes permit));
       left = refl;
       tries = omega arith;
     }

@@ -71,12 +71,12 @@ pub record IsSamePermit (old new : PermitState) : Type 0 where
   pub stocks : stocks_of new.split.slices ≡ stocks_of old.split.slices
   pub own : AreOfPhase old → AreOfPhase new
 
--- The call that waited longest, if any, is committed: it is not to be put off.
-pub record HasPerformedWaiting (old new : PermitState) : Type 0 where
+-- Of what is taken of the stash the call that waited longest, if any, is committed: it is not to be put off.
+pub record HasPerformedWaiting (takes : Bool) (old new : PermitState) : Type 0 where
   pub same : IsSamePermit old new
-  pub goes : put_off (hot_for old) (take 1 (stashed old)) ≡ []
-  pub calls : committed new ≡ committed old ++ take 1 (stashed old)
-  pub stash : stashed new ≡ drop 1 (stashed old)
+  pub goes : put_off (hot_for old) (take 1 (taken takes old)) ≡ []
+  pub calls : committed new ≡ committed old ++ take 1 (taken takes old)
+  pub stash : stashed new ≡ kept takes old ++ drop 1 (taken takes old)
   pub left : new.split.context.left ≡ old.split.context.left
   pub tries : new.split.context.tries ≤ old.split.context.tries + 1
 

@@ -1,10 +1,10 @@
 //! What the permits of joined and of split phases have in common.
-ghost use Rattle.std.specs.Prelude.{◌≡◌, ◌<◌, Bool, true, length, slice_get, OnOk, IfErr};
+ghost use Rattle.std.specs.Prelude.{◌≡◌, ◌<◌, Bool, length, slice_get, OnOk, IfErr};
 ghost use Rattle.phase_transactions.specs.Performing.{HasFailed, with_try};
 ghost use Rattle.phase_transactions.specs.Permits.{PermitState};
 ghost use Rattle.phase_transactions.specs.Single.{HaveOpening};
 ghost use Rattle.phase_transactions.specs.Stashed.{HasFailedFirst};
-ghost use Rattle.phase_workers.specs.Working.{stashed, taken, HasDealtWithNext, HasPerformedWaiting};
+ghost use Rattle.phase_workers.specs.Working.{taken, HasDealtWithNext, HasPerformedWaiting};
 
 use auction_rows::{MOST_TRIES, Request};
 use phase_transactions::PermitFault;
@@ -33,18 +33,16 @@ pub trait Permit<N: PhaseName> {
     fn waiting(&self) -> usize
         ensures { result ≡ length (taken takes_stash (shows self.now)) };
 
-    /// The request that waits longest, with its index.
+    /// Of those the one that waits longest, with its index.
     fn first_waiting(&self) -> Option<(u32, Request)>
-        requires takes { takes_stash ≡ true }
-        ensures { result ≡ slice_get (stashed (shows self.now)) 0 };
+        ensures { result ≡ slice_get (taken takes_stash (shows self.now)) 0 };
 
-    /// Performs the request that waits longest, if any. It is not put off again.
+    /// Performs that one, if any. It is not put off again.
     fn perform_waiting<R: Wait>(&mut self, rt: &R, boxes: &Boxes<N>) -> Result<(), PermitFault>
-        requires takes { takes_stash ≡ true }
         requires of { (shows self.old).key.boxes ≡ boxes.now }
         requires opening { HaveOpening N.opening (shows self.old).split.context.opening }
         requires tries { (shows self.old).split.context.tries < MOST_TRIES }
-        ensures performed { OnOk result (HasPerformedWaiting (shows self.old) (shows self.new)) }
+        ensures performed { OnOk result (HasPerformedWaiting takes_stash (shows self.old) (shows self.new)) }
         ensures failed { IfErr result (HasFailedFirst N.opening (with_try (shows self.old)) (shows self.new)) };
 
     /// Performs a request of the quota, or puts it off.

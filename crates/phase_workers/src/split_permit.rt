@@ -25,11 +25,11 @@ impl<N: PhaseName> Permit<N> for SplitPermit<N> {
     }
 
     fn first_waiting(&self) -> Option<(u32, Request)> {
-        unreachable!()
+        None
     }
 
     fn perform_waiting<R: Wait>(&mut self, _rt: &R, _boxes: &Boxes<N>) -> Result<(), PermitFault> {
-        unreachable!()
+        Ok(())
     }
 
     fn perform_next<R: Wait>(

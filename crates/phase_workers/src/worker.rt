@@ -75,18 +75,17 @@ fn perform_stash<N: PhaseName, P: Permit<N>, R: Wait, G: Gate>(
     Ok(())
 }
 
-// The request that waits longest, if any.
+// Of these the one that waits longest, if any.
 fn perform_first<N: PhaseName, P: Permit<N>, R: Wait, G: Gate>(
     rt: &R,
     boxes: &Boxes<N>,
     post: &Post<'_, G>,
     permit: &mut P,
 ) -> Result<(), PermitFault>
-    requires takes { P.takes_stash ≡ true }
     requires of { (P.shows permit.old).key.boxes ≡ boxes.now }
     requires opening { HaveOpening N.opening (P.shows permit.old).split.context.opening }
     requires tries { (P.shows permit.old).split.context.tries < MOST_TRIES }
-    ensures performed { OnOk result (HasPerformedWaiting (P.shows permit.old) (P.shows permit.new)) }
+    ensures performed { OnOk result (HasPerformedWaiting P.takes_stash (P.shows permit.old) (P.shows permit.new)) }
     ensures failed { IfErr result (HasFailedFirst N.opening (with_try (P.shows permit.old)) (P.shows permit.new)) }
 {
     let Some((index, _request)) = permit.first_waiting() else {

@@ -1,19 +1,14 @@
-use Rattle.std.proofs.Common.{◌≡◌, ℕ, ◌+◌, Bool, true, List, ◌++◌, ◌∙◌, sym, ap, take, drop, arith}
+use Rattle.std.proofs.Common.{◌≡◌, ℕ, ◌+◌, Bool, true, List, ◌++◌, ◌∙◌, sym, ap, subst, take, drop, arith}
 use Rattle.std.proofs.lemmas.List.{append-nil, take_all, drop_all}
 use Rattle.auction_rows.specs.declared.requests.Request.{Request}
 use Rattle.phase_transactions.specs.Permits.{PermitState}
-use Rattle.phase_workers.specs.Working.{committed, stashed, taken, kept, hot_for, put_off}
+use Rattle.phase_workers.specs.Working.{committed, stashed, taken, kept, hot_for, put_off, HasPerformedWaiting}
 use Rattle.phase_workers.proofs.WorkLemmas.{same_after, takes_some, apart, stash_goes, stash_more, stash_less, err_as, stopped_first}
 use Rattle.phase_workers.proofs.worker.perform_stash.Goals as goal
-
-pub perform_first-requires-clause-takes : goal.perform_first-requires-clause-takes
-perform_first-requires-clause-takes g c =
-    takes_some g.P.Permit.takes_stash (g.P.Permit.shows c.args.permit.now) c.loop-call._call (omega (arith, c.loop-call-test.true, c.waiting-call-end.ensures))
 
 pub loop-call-preserved : goal.loop-call-preserved
 loop-call-preserved g c =
     let was = c.loop-call.invariant in
-    let step = c.in_ok-perform_first.ensures.performed in
     let takes : Bool = g.P.Permit.takes_stash in
     let old : PermitState = g.P.Permit.shows c.args.permit.now in
     let mid : PermitState = g.P.Permit.shows c.loop-call.permit in
@@ -21,6 +16,7 @@ loop-call-preserved g c =
     let k : ℕ = c.loop-call._call in
     let own : List (ℕ × Request) = taken takes old in
     let yes : takes ≡ true = takes_some takes old k (omega (arith, c.loop-call-test.true, c.waiting-call-end.ensures)) in
+    let step : HasPerformedWaiting true mid new = subst (λ t. HasPerformedWaiting t mid new) yes c.in_ok-perform_first.ensures.performed in
     let waits : stashed mid ≡ drop k own = was.2 ∙ ap (λ t. kept t old ++ drop k own) yes in (
       same_after old mid new was.0 step.same,
       stash_more k own (committed mid) (committed old) (committed new) (step.calls ∙ ap (λ ss. committed mid ++ take 1 ss) waits) was.1,
