@@ -1,4 +1,3 @@
-pub mod KindLemmas
 pub mod ListedLemmas
 pub mod NameLemmas
 pub mod NumberLemmas

@@ -1,6 +1,7 @@
 -- What the functions that read scripts say of their readers and of what was asked so far.
-use Rattle.std.specs.Prelude.{ℕ, ◌≡◌, ◌++◌, [], ◌∷◌, true, replicate, slice_index_or, slice_set, if◌then◌else◌}
-use Rattle.csv.specs.Reading.{Ready, default_config, is_flexible, reader_config, reader_trim}
+use Rattle.std.specs.Prelude.{ℕ, ◌≡◌, ◌++◌, List, [], ◌∷◌, Option, Some, true, replicate, slice_index_or, slice_set, if◌then◌else◌}
+use Rattle.csv.specs.Reading.{Ready, default_config, is_flexible, reader_config, reader_state, reader_trim, source_of, strip_bom}
+use Rattle.csv.specs.declared.parser.State.TheVariants as st
 use Rattle.csv.specs.declared.reader.Reader.{Reader}
 use Rattle.csv.specs.declared.reader.Trim.TheVariants as trim
 use Rattle.auction_text.specs.Scripts.{Asked, as_row}
@@ -11,6 +12,11 @@ use Rattle.auction_text.specs.declared.faults.ReadFault.TheVariants as fault
 -- a reader of records with no header row, of any number of fields, that trims nothing
 abbrev pub IsPlain : {R : Type 0} → Reader R → Type 0
 IsPlain r = (reader_config r ≡ default_config) × (reader_trim r ≡ trim.None) × Ready r × (is_flexible r ≡ true)
+
+-- A reader has yet to read the first record of these bytes.
+pub record IsAtStart {R : Type 0} (rem : R → Option (List ℕ)) (bytes : List ℕ) (reader : Reader R) : Type 0 where
+  pub source : source_of rem reader ≡ Some (strip_bom bytes)
+  pub begins : reader_state reader ≡ st.StartRecord
 
 -- nothing is asked of so many workers
 abbrev pub nothing_asked : ℕ → Asked

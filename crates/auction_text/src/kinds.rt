@@ -56,20 +56,32 @@ impl Kind {
 pub fn kind_named(word: &[u8]) -> Option<Kind>
     ensures { result ≡ kind_of word.now }
 {
-    match word {
-        b"bid" => Some(Kind::request(RequestKind::Bid)),
-        b"item" => Some(Kind::request(RequestKind::Item)),
-        b"comment" => Some(Kind::request(RequestKind::Comment)),
-        b"buynow" => Some(Kind::request(RequestKind::BuyNow)),
-        b"viewitem" => Some(Kind::request(RequestKind::ViewItem)),
-        b"viewbids" => Some(Kind::request(RequestKind::ViewBids)),
-        b"viewcategory" => Some(Kind::request(RequestKind::ViewCategory)),
-        b"viewuser" => Some(Kind::request(RequestKind::ViewUser)),
-        b"+item" => Some(Kind::row(RequestKind::Item)),
-        b"+bid" => Some(Kind::row(RequestKind::Bid)),
-        b"+comment" => Some(Kind::row(RequestKind::Comment)),
-        b"+buynow" => Some(Kind::row(RequestKind::BuyNow)),
-        _ => None,
+    if word == b"item".as_slice() {
+        Some(Kind::request(RequestKind::Item))
+    } else if word == b"bid".as_slice() {
+        Some(Kind::request(RequestKind::Bid))
+    } else if word == b"comment".as_slice() {
+        Some(Kind::request(RequestKind::Comment))
+    } else if word == b"buynow".as_slice() {
+        Some(Kind::request(RequestKind::BuyNow))
+    } else if word == b"viewitem".as_slice() {
+        Some(Kind::request(RequestKind::ViewItem))
+    } else if word == b"viewbids".as_slice() {
+        Some(Kind::request(RequestKind::ViewBids))
+    } else if word == b"viewcategory".as_slice() {
+        Some(Kind::request(RequestKind::ViewCategory))
+    } else if word == b"viewuser".as_slice() {
+        Some(Kind::request(RequestKind::ViewUser))
+    } else if word == b"+item".as_slice() {
+        Some(Kind::row(RequestKind::Item))
+    } else if word == b"+bid".as_slice() {
+        Some(Kind::row(RequestKind::Bid))
+    } else if word == b"+comment".as_slice() {
+        Some(Kind::row(RequestKind::Comment))
+    } else if word == b"+buynow".as_slice() {
+        Some(Kind::row(RequestKind::BuyNow))
+    } else {
+        None
     }
 }
 

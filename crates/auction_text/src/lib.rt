@@ -22,6 +22,8 @@ pub use fields::read_u64;
 pub use reading_laws::rows_come_first;
 pub use replies::push_reply;
 pub use report::ReportLines;
+pub use row_lines::push_quoted;
 pub use scripts::{Input, MOST_RECORDS, read_scripts};
+pub use text::{push_labelled, push_labelled_id, push_number, push_text};
 pub use text_laws::{replies_in_order, rows_of_histories};
 pub use writing::{write_history, write_replies, write_report, write_rows};

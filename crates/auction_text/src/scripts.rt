@@ -1,8 +1,8 @@
 //! The scripts of an input.
-ghost use Rattle.std.specs.Prelude.{◌≡◌, ◌<◌, true, vec_len, IfOk, IfErr, OnOk, IfSome};
+ghost use Rattle.std.specs.Prelude.{ℕ, ◌≡◌, ◌<◌, true, vec_len, IfOk, IfErr, List, OnOk, IfSome};
 ghost use Rattle.csv.specs.Reading.{ReadRecord};
 ghost use Rattle.csv.specs.Records.{fields_of};
-ghost use Rattle.auction_text.specs.Reading.{IsInputFault, IsPlain, nothing_asked, with_record};
+ghost use Rattle.auction_text.specs.Reading.{IsAtStart, IsInputFault, IsPlain, nothing_asked, with_record};
 ghost use Rattle.auction_text.specs.Scripts.{asked_by, input_of};
 
 use crate::faults::ReadFault;
@@ -85,6 +85,37 @@ fn add_record(input: &mut Input, said: &Record) -> Result<(), ReadFault>
     Ok(())
 }
 
+// Reads the records that a reader has left, from its first one on, and adds each to what was asked, which is nothing yet.
+fn read_all<R: Read>(
+    records: &mut Reader<R>,
+    fields: &mut ByteRecord,
+    workers: u32,
+    input: &mut Input,
+) -> Result<(), ReadFault>
+    requires plain { IsPlain records.old }
+    requires empty { asked_by input.old ≡ nothing_asked workers }
+    requires count { vec_len input.old.scripts ≡ workers }
+    ensures input { OnOk result ((bytes : List ℕ) → IsAtStart R.remaining bytes records.old →
+        input_of workers bytes ≡ Ok (asked_by input.new)) }
+    ensures count { OnOk result (vec_len input.new.scripts ≡ workers) }
+    ensures fault { IfErr result (λ fault. IsInputFault fault →
+        (bytes : List ℕ) → IsAtStart R.remaining bytes records.old → input_of workers bytes ≡ Err fault) }
+{
+    let mut begun = false;
+    for count in 0..MOST_RECORDS {
+        if !read_next(records, fields)? {
+            return Ok(());
+        }
+        let said = read_record(fields, workers, count + 1, begun)?;
+        begun |= !said.is_row;
+        add_record(input, &said)?;
+    }
+    if read_next(records, fields)? {
+        return Err(ReadFault::Long);
+    }
+    Ok(())
+}
+
 /// Reads to its end what a reader gives: rows to open with, and after them the scripts of so many
 /// workers, whose requests may stand among one another.
 ///
@@ -109,17 +140,6 @@ pub fn read_scripts<R: Read + Drop>(
         .flexible(true)
         .from_reader(alloc, reader);
     let mut fields = ByteRecord::new(alloc);
-    let mut begun = false;
-    for count in 0..MOST_RECORDS {
-        if !read_next(&mut records, &mut fields)? {
-            return Ok(input);
-        }
-        let said = read_record(&fields, workers, count + 1, begun)?;
-        begun |= !said.is_row;
-        add_record(&mut input, &said)?;
-    }
-    if read_next(&mut records, &mut fields)? {
-        return Err(ReadFault::Long);
-    }
+    read_all(&mut records, &mut fields, workers, &mut input)?;
     Ok(input)
 }

@@ -1,8 +1,10 @@
 //! Options that take a number, and flags.
-ghost use Rattle.std.specs.Prelude.{◌≡◌, ◌≤◌, false};
+ghost use Rattle.std.specs.Prelude.{◌≡◌, ◌≤◌, false, pos};
 ghost use Rattle.clap.specs.Words.{found_of, one_text, rule_of};
+ghost use Rattle.clap.specs.declared.builder.value_parser.ValueParser.TheVariants as vp;
 ghost use Rattle.program_options.specs.Options.{SaysNumber, flag_rule, is_set, number_rule};
 
+use clap::builder::ValueParser;
 use clap::{Arg, ArgAction, ArgMatches};
 use std::alloc::Global;
 
@@ -21,12 +23,19 @@ pub fn number_option<'a>(alloc: Global, id: &'a str, range: NumberRange, usual: 
     ensures rule { rule_of result ≡ number_rule id.entry.now range.least range.greatest usual.entry.now }
     ensures local { result.global ≡ false }
 {
-    let parser = clap::value_parser!(u32);
     Arg::new(alloc, id)
         .long(id)
         .action(ArgAction::Set)
-        .value_parser(parser.range(i64::from(range.least)..=i64::from(range.greatest)))
+        .value_parser(number_parser(range))
         .default_value(usual)
+}
+
+/// Reads a number of a range.
+fn number_parser<'a>(range: NumberRange) -> ValueParser<'a>
+    ensures { result ≡ vp.Signed (pos range.least) (pos range.greatest) }
+{
+    let parser = clap::value_parser!(u32);
+    parser.range(i64::from(range.least)..=i64::from(range.greatest))
 }
 
 /// `--id`, which is there or not.

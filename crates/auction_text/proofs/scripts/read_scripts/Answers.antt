@@ -1,63 +1,15 @@
-use Rattle.std.proofs.Common.{rules, arith, sym, ◌∙◌, ◌≡◌, true, false, Err}
-use Rattle.csv.specs.Records.{fields_of}
-use Rattle.auction_text.specs.declared.scripts.TheConstants.{MOST_RECORDS}
-use Rattle.auction_text.specs.Scripts.{asked_by}
-use Rattle.auction_text.proofs.SoFar.{known_all, known_map, reading_end, reading_fault, reading_long, reading_more, reading_none}
+use Rattle.std.proofs.Common.{rules, ◌≡◌, Err}
+use Rattle.auction_text.proofs.SoFar.{known_all}
 use Rattle.auction_text.proofs.scripts.read_scripts.Goals as goal
 
-pub loop-count-init : goal.loop-count-init
-loop-count-init g c =
+pub returns-in_err-read_all-clause-fault : goal.returns-in_err-read_all-clause-fault
+returns-in_err-read_all-clause-fault g c =
     let fr = c.from_reader-records.ensures in
-    record {
-      plain = search rules;
-      counts = c.in_ok-input.ensures.count;
-      reads = known_all (g.R.Read.remaining c.args.reader) (λ bytes e.
-          rw c.in_ok-input.ensures.empty (reading_none g.R.Read.remaining c.args.workers bytes c.from_reader-records.result (rw e at fr.source) fr.state));
-    }
-
-pub returns-then-not-branch-clause-input : goal.returns-then-not-branch-clause-input
-returns-then-not-branch-clause-input g c =
-    let inv = c.loop-count.invariant in
-    let found : c.in_ok-read_next.field-0 ≡ false = search rules in
-    known_map (g.R.Read.remaining c.args.reader) inv.reads (λ bytes e h.
-    reading_end g.R.Read.remaining c.args.workers bytes c.loop-count.count c.loop-count.begun c.loop-count.records c.read_next.new.records _ (fields_of c.read_next.new.fields)
-    h inv.plain.0 (rw found at c.in_ok-read_next.ensures.reads))
-
-pub returns-in_err-said-clause-fault : goal.returns-in_err-said-clause-fault
-returns-in_err-said-clause-fault g c =
-    let inv = c.loop-count.invariant in
-    let found : c.in_ok-read_next.field-0 ≡ true = search rules in
-    let fault : c.from_residual-in_err-said.result ≡ Err c.in_err-said.field-0.0 = search rules in
-    rw fault (λ input. known_map (g.R.Read.remaining c.args.reader) inv.reads (λ bytes e h.
-    reading_fault g.R.Read.remaining c.args.workers bytes c.loop-count.count c.loop-count.begun c.loop-count.records c.read_next.new.records _ (fields_of c.read_next.new.fields) _
-    h inv.plain.0 (rw found at c.in_ok-read_next.ensures.reads) c.loop-count-test.true (sym c.in_err-said.ensures.value)))
-
-pub loop-count-preserved : goal.loop-count-preserved
-loop-count-preserved g c =
-    let inv = c.loop-count.invariant in
-    let found : c.in_ok-read_next.field-0 ≡ true = search rules in
-    record {
-      plain = c.in_ok-read_next.ensures.plain found;
-      counts = c.add_record.ensures.count ∙ inv.counts;
-      reads = known_map (g.R.Read.remaining c.args.reader) inv.reads (λ bytes e h.
-          rw c.in_ok-add_record.ensures.adds (reading_more g.R.Read.remaining c.args.workers bytes c.loop-count.count c.loop-count.begun c.loop-count.records c.read_next.new.records
-          (asked_by c.loop-count.input) (fields_of c.read_next.new.fields) c.in_ok-said.said
-          h inv.plain.0 (rw found at c.in_ok-read_next.ensures.reads) c.loop-count-test.true (sym c.in_ok-said.ensures.value) c.in_ok-said.ensures.worker));
-    }
-
-pub returns-then-branch-clause-fault : goal.returns-then-branch-clause-fault
-returns-then-branch-clause-fault g c = λ input.
-    let inv = c.loop-count.invariant in
-    let found : c.in_ok-read_next-2.field-0 ≡ true = search rules in
-    let all : c.loop-count.count ≡ MOST_RECORDS = omega arith in
-    known_map (g.R.Read.remaining c.args.reader) inv.reads (λ bytes e h.
-    reading_long g.R.Read.remaining c.args.workers bytes c.loop-count.begun c.loop-count.records c.read_next-2.new.records _ (fields_of c.read_next-2.new.fields)
-    (rw all at h) inv.plain.0 (rw found at c.in_ok-read_next-2.ensures.reads))
+    let fault : c.from_residual-in_err-read_all.result ≡ Err c.in_err-read_all.field-0.0 = search rules in
+    rw fault (λ input. known_all (g.R.Read.remaining c.args.reader) (λ bytes e.
+    c.in_err-read_all.ensures.fault input bytes (record { source = rw e at fr.source; begins = fr.state })))
 
 pub returns-clause-input : goal.returns-clause-input
 returns-clause-input g c =
-    let inv = c.loop-count.invariant in
-    let found : c.in_ok-read_next-2.field-0 ≡ false = search rules in
-    known_map (g.R.Read.remaining c.args.reader) inv.reads (λ bytes e h.
-    reading_end g.R.Read.remaining c.args.workers bytes c.loop-count.count c.loop-count.begun c.loop-count.records c.read_next-2.new.records _ (fields_of c.read_next-2.new.fields)
-    h inv.plain.0 (rw found at c.in_ok-read_next-2.ensures.reads))
+    let fr = c.from_reader-records.ensures in
+    known_all (g.R.Read.remaining c.args.reader) (λ bytes e. c.in_ok-read_all.ensures.input bytes (record { source = rw e at fr.source; begins = fr.state }))

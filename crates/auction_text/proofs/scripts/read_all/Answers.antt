@@ -1,0 +1,58 @@
+use Rattle.std.proofs.Common.{rules, arith, sym, ◌∙◌, ◌≡◌, true, false, Err}
+use Rattle.csv.specs.Records.{fields_of}
+use Rattle.auction_text.specs.declared.scripts.TheConstants.{MOST_RECORDS}
+use Rattle.auction_text.specs.Scripts.{asked_by}
+use Rattle.auction_text.proofs.SoFar.{reading_end, reading_fault, reading_long, reading_more, reading_none}
+use Rattle.auction_text.proofs.scripts.read_all.Goals as goal
+
+pub loop-count-init : goal.loop-count-init
+loop-count-init g c = record {
+  plain = c.requires.plain;
+  counts = c.requires.count;
+  reads = λ bytes at. rw c.requires.empty (reading_none g.R.Read.remaining c.args.workers bytes c.args.records.now at.source at.begins);
+}
+
+pub returns-then-not-branch-clause-input : goal.returns-then-not-branch-clause-input
+returns-then-not-branch-clause-input g c = λ bytes at.
+    let inv = c.loop-count.invariant in
+    let found : c.in_ok-read_next.field-0 ≡ false = search rules in
+    reading_end g.R.Read.remaining c.args.workers bytes c.loop-count.count c.loop-count.begun c.loop-count.records c.read_next.new.records _ (fields_of c.read_next.new.fields)
+    (inv.reads bytes at) inv.plain.0 (rw found at c.in_ok-read_next.ensures.reads)
+
+pub returns-in_err-said-clause-fault : goal.returns-in_err-said-clause-fault
+returns-in_err-said-clause-fault g c =
+    let inv = c.loop-count.invariant in
+    let found : c.in_ok-read_next.field-0 ≡ true = search rules in
+    let fault : c.from_residual-in_err-said.result ≡ Err c.in_err-said.field-0.0 = search rules in
+    rw fault (λ input bytes at.
+    reading_fault g.R.Read.remaining c.args.workers bytes c.loop-count.count c.loop-count.begun c.loop-count.records c.read_next.new.records _ (fields_of c.read_next.new.fields) _
+    (inv.reads bytes at) inv.plain.0 (rw found at c.in_ok-read_next.ensures.reads) c.loop-count-test.true (sym c.in_err-said.ensures.value))
+
+pub loop-count-preserved : goal.loop-count-preserved
+loop-count-preserved g c =
+    let inv = c.loop-count.invariant in
+    let found : c.in_ok-read_next.field-0 ≡ true = search rules in
+    record {
+      plain = c.in_ok-read_next.ensures.plain found;
+      counts = c.add_record.ensures.count ∙ inv.counts;
+      reads = λ bytes at.
+          rw c.in_ok-add_record.ensures.adds (reading_more g.R.Read.remaining c.args.workers bytes c.loop-count.count c.loop-count.begun c.loop-count.records c.read_next.new.records
+          (asked_by c.loop-count.input) (fields_of c.read_next.new.fields) c.in_ok-said.said
+          (inv.reads bytes at) inv.plain.0 (rw found at c.in_ok-read_next.ensures.reads) c.loop-count-test.true (sym c.in_ok-said.ensures.value) c.in_ok-said.ensures.worker);
+    }
+
+pub returns-then-branch-clause-fault : goal.returns-then-branch-clause-fault
+returns-then-branch-clause-fault g c = λ input bytes at.
+    let inv = c.loop-count.invariant in
+    let reads = inv.reads bytes at in
+    let found : c.in_ok-read_next-2.field-0 ≡ true = search rules in
+    let all : c.loop-count.count ≡ MOST_RECORDS = omega arith in
+    reading_long g.R.Read.remaining c.args.workers bytes c.loop-count.begun c.loop-count.records c.read_next-2.new.records _ (fields_of c.read_next-2.new.fields)
+    (rw all at reads) inv.plain.0 (rw found at c.in_ok-read_next-2.ensures.reads)
+
+pub returns-clause-input : goal.returns-clause-input
+returns-clause-input g c = λ bytes at.
+    let inv = c.loop-count.invariant in
+    let found : c.in_ok-read_next-2.field-0 ≡ false = search rules in
+    reading_end g.R.Read.remaining c.args.workers bytes c.loop-count.count c.loop-count.begun c.loop-count.records c.read_next-2.new.records _ (fields_of c.read_next-2.new.fields)
+    (inv.reads bytes at) inv.plain.0 (rw found at c.in_ok-read_next-2.ensures.reads)
