@@ -1,4 +1,4 @@
-//! Tests of `worker_journals`: journals that are filled, and histories of them.
+//! Tests of `worker_journals`: the room of a journal, and histories of several workers.
 mod history_tests;
 mod journal_tests;
 mod testing;

@@ -1,10 +1,8 @@
-//! Tests of the libraries below a phase's permits, a folder for each.
+//! Tests of the libraries below a phase's contexts, a folder for each that has any.
 #![tactic(auto)]
 
 #[cfg(test)]
 mod comparing;
-#[cfg(test)]
-mod contexts;
 #[cfg(test)]
 mod journals;
 #[cfg(test)]

@@ -1,4 +1,2 @@
-//! Tests of `auction_rows`: values and their limits, what requests touch and are refused for, and the plain program.
-mod testing;
-mod tests;
-mod value_tests;
+//! Tests of `auction_rows`: how its values are printed.
+mod printing_tests;

@@ -1,5 +1,3 @@
-//! Tests of `item_shards`: books to open with, the auction of one thread, and clocks.
-mod generated_tests;
+//! Tests of `item_shards`: rows that no book is opened with, and the end of commit numbers.
 mod opening_tests;
 mod shard_tests;
-mod testing;

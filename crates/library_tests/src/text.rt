@@ -1,6 +1,4 @@
-//! Tests of how `auction_text` reads scripts and writes replies, histories, rows and reports.
+//! Tests of how `auction_text` writes numbers at their ends, and of writers that fail.
 mod history_tests;
-mod reading_tests;
-mod report_tests;
 mod testing;
 mod writing_tests;

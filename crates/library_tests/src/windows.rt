@@ -1,3 +1,2 @@
 //! Tests of what windows of `auction_window` show.
 mod phase_tests;
-mod testing;

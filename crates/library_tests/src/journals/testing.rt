@@ -9,10 +9,10 @@ use std::process::Abort;
 use std::test::Fail;
 use worker_journals::{Answer, History, Journal};
 
-pub(crate) const PHASE: u64 = 7;
+const PHASE: u64 = 7;
 
 /// The commit of a worker at a number. No two of them are alike in anything but the phase.
-pub(crate) fn commit(number: u16, worker: u32) -> Entry
+fn commit(number: u16, worker: u32) -> Entry
     ensures { result.number ≡ number }
 {
     Entry {
@@ -54,17 +54,6 @@ pub(crate) fn journal_of(alloc: Global, worker: u32, numbers: &[u16]) -> Result<
     Ok(journal)
 }
 
-/// A journal of worker 3 with these requests and their replies, at numbers from 1 on.
-pub(crate) fn journal_with(alloc: Global, pairs: &[(Request, Reply)]) -> Result<Journal, Fail> {
-    let mut journal = Journal::with_room(alloc, PHASE, 3, pairs.len())?;
-    let mut number: u64 = 0;
-    for (request, reply) in pairs {
-        number = number.checked_add(1).ok_or("too many numbers")?;
-        journal.push(number, 0, request, &Answer::of(reply));
-    }
-    Ok(journal)
-}
-
 /// A journal for each worker from 0 on, with commits at these numbers.
 fn journals_of(alloc: Global, numbers: &[&[u16]]) -> Result<Vec<Journal>, Fail>
     ensures { IfOk result (λ journals. AreByWorker journals.items) }
@@ -79,7 +68,7 @@ fn journals_of(alloc: Global, numbers: &[&[u16]]) -> Result<Vec<Journal>, Fail>
 }
 
 /// The journals of a phase of workers from 0 on with commits at these numbers.
-pub(crate) fn phase_of(alloc: Global, numbers: &[&[u16]]) -> Result<Vec<Journal>, Fail>
+fn phase_of(alloc: Global, numbers: &[&[u16]]) -> Result<Vec<Journal>, Fail>
     ensures few { IfOk result (λ journals. vec_len journals ≤ 16) }
     ensures by_worker { IfOk result (λ journals. AreByWorker journals.items) }
 {
@@ -106,30 +95,10 @@ pub(crate) fn history_of(alloc: Global, numbers: &[&[u16]]) -> Result<History, F
     Ok(history)
 }
 
-/// Ends the test where the entries of a journal are not those that are wanted.
-pub(crate) fn assert_journal(rt: &impl Abort, journal: &Journal, expected: &[Entry]) {
-    assert!(rt; journal.len() == expected.len());
-    for (place, wanted) in expected.iter().enumerate() {
-        assert!(rt; place < journal.len());
-        assert_same(rt, &journal.entry(place).to_entry(), wanted);
-    }
-}
-
-/// Ends the test where entries are not those that are wanted.
-pub(crate) fn assert_entries(rt: &impl Abort, entries: &[Entry], expected: &[Entry]) {
-    assert_same(rt, &entries, &expected);
-}
-
-/// Ends the test where entries are not the commits at these numbers, each with its worker.
-pub(crate) fn assert_commits(
-    rt: &impl Abort,
-    alloc: Global,
-    entries: &[Entry],
-    pairs: &[(u16, u32)],
-) -> Result<(), Fail> {
-    let expected = commits(alloc, pairs)?;
-    assert_entries(rt, entries, expected.as_slice());
-    Ok(())
+// The entries of a history.
+fn entries_of(alloc: Global, history: &History) -> Result<Vec<Entry>, Fail> {
+    let entries = history.iter().map(|entry| entry.to_entry());
+    Ok(entries.collect(alloc)?)
 }
 
 /// Ends the test where the entries of a history are not the commits at these numbers, each with its worker.
@@ -139,18 +108,9 @@ pub(crate) fn assert_history(
     history: &History,
     pairs: &[(u16, u32)],
 ) -> Result<(), Fail> {
-    let entries: Vec<Entry> = history.iter().map(|entry| entry.to_entry()).collect(alloc)?;
-    assert!(rt; history.len() == pairs.len());
-    assert_commits(rt, alloc, entries.as_slice(), pairs)
-}
-
-/// Ends the test where the commits of workers from 0 on at the first numbers are not merged to these, each with its worker.
-pub(crate) fn assert_merged(
-    rt: &impl Abort,
-    alloc: Global,
-    numbers: &[&[u16]],
-    pairs: &[(u16, u32)],
-) -> Result<(), Fail> {
-    let history = history_of(alloc, numbers)?;
-    assert_history(rt, alloc, &history, pairs)
+    assert_same(rt, &history.len(), &pairs.len());
+    let entries = entries_of(alloc, history)?;
+    let expected = commits(alloc, pairs)?;
+    assert_same(rt, &entries.as_slice(), &expected.as_slice());
+    Ok(())
 }

@@ -1,25 +1,14 @@
-//! Numbers of commits, and clocks of shards. What shards show stands in tests/worked.
+//! Numbers of commits. What shards show stands in tests/worked.
 use crate::comparing::assert_same;
-use crate::testing::OPENING;
-use item_shards::{Act, LAST_NUMBER, Shard, Shown, next_number};
-use std::test::Fail;
+use item_shards::{LAST_NUMBER, next_number};
 
 #[test]
 fn numbers_end(rt: HostRuntime) {
-    assert_same(&rt, &next_number(LAST_NUMBER, 0), &None);
-    assert_same(&rt, &next_number(0, u64::MAX), &None);
-    assert_same(&rt, &next_number(LAST_NUMBER - 1, 3), &Some(LAST_NUMBER));
-    assert_same(&rt, &next_number(0, 0), &Some(1));
-}
-
-#[test]
-fn clock_goes_forward_and_back_to_0(rt: HostRuntime) -> Result<(), Fail> {
-    let mut shard = Shard::new(rt.alloc(), 0, 4, OPENING)?;
-    assert_same(&rt, &shard.clock(), &0);
-    let acts = [Act::Look(Shown::Nothing), Act::Look(Shown::Nothing)];
-    assert_same(&rt, &shard.commit(3, &acts), &0);
-    assert_same(&rt, &shard.clock(), &3);
-    shard.reset_clock();
-    assert_same(&rt, &shard.clock(), &0);
-    Ok(())
+    let numbers = [
+        next_number(LAST_NUMBER, 0),
+        next_number(0, u64::MAX),
+        next_number(LAST_NUMBER - 1, 3),
+        next_number(0, 0),
+    ];
+    assert_same(&rt, &numbers, &[None, None, Some(LAST_NUMBER), Some(1)]);
 }

@@ -1,4 +1,6 @@
 //! Replies that are written, whole and in part. Each kind of reply stands in tests/worked, and other writers in tests/ends.py.
+use crate::comparing::assert_same;
+use crate::testing::FIRST;
 use crate::text::testing::history_of;
 use auction_rows::{BidId, BidShown, Entry, ItemId, Name, Refusal, Reply, Request, Ten};
 use auction_text::{WriteFault, write_replies};
@@ -7,11 +9,6 @@ use std::io;
 use std::io::Write;
 use std::test::Fail;
 use worker_journals::History;
-
-const FIRST: ItemId = ItemId {
-    worker: 0,
-    serial: 0,
-};
 
 fn entry(worker: u32, index: u32, reply: Reply) -> Entry {
     Entry {
@@ -22,15 +19,6 @@ fn entry(worker: u32, index: u32, reply: Reply) -> Entry {
         request: Request::ViewItem { item: FIRST },
         reply,
     }
-}
-
-// Whether the replies of these entries are this text.
-fn are_replies(alloc: Global, entries: &[Entry], text: &[u8]) -> bool {
-    let Ok(history) = history_of(alloc, entries) else {
-        return false;
-    };
-    let mut written = Vec::new(alloc);
-    write_replies(alloc, &mut written, &history).is_ok() && written.as_slice() == text
 }
 
 fn highest_bid() -> Ten<BidShown> {
@@ -47,11 +35,11 @@ fn highest_bid() -> Ten<BidShown> {
     bids
 }
 
-fn unsold() -> Option<Reply> {
-    Some(Reply::ItemSeen {
+fn unsold() -> Result<Reply, Fail> {
+    Ok(Reply::ItemSeen {
         seller: 4_294_967_295,
         category: 1,
-        name: Name::new(b"Red, \"blue\" ~")?,
+        name: Name::new(b"Red, \"blue\" ~").ok_or("a name")?,
         start: 0,
         closes: 18_446_744_073_709_551_615,
         highest: None,
@@ -76,31 +64,15 @@ fn ends_of_numbers(rt: HostRuntime) -> Result<(), Fail> {
     };
     let entries = [
         entry(16, 3, Reply::ItemStored(far)),
-        entry(16, 4, unsold().ok_or("a view")?),
+        entry(16, 4, unsold()?),
         entry(16, 5, Reply::BidsSeen(highest_bid())),
         entry(16, 4_294_967_295, rated),
     ];
-    assert!(rt; are_replies(rt.alloc(), &entries, NUMBERS));
+    let history = history_of(rt.alloc(), &entries)?;
+    let mut written = Vec::new(rt.alloc());
+    write_replies(rt.alloc(), &mut written, &history)?;
+    assert_same(&rt, &written.as_slice(), &NUMBERS);
     Ok(())
-}
-
-fn refused(worker: u32, index: u32, why: Refusal) -> Entry {
-    entry(worker, index, Reply::Refused(why))
-}
-
-#[test]
-fn order_of_replies(rt: HostRuntime) {
-    let entries = [
-        refused(1, 0, Refusal::Closed),
-        refused(0, 10, Refusal::Closed),
-        refused(0, 9, Refusal::Closed),
-        refused(1, 0, Refusal::SoldOut),
-        refused(0, 9, Refusal::SoldOut),
-    ];
-    let want =
-        b"0,9,refused 5 Closed\n0,9,refused 6 SoldOut\n0,10,refused 5 Closed\n1,0,refused 5 Closed\n1,0,refused 6 SoldOut\n";
-    assert!(rt; are_replies(rt.alloc(), &entries, want));
-    assert!(rt; are_replies(rt.alloc(), &[], b""));
 }
 
 // Takes one byte a call, but fails at one call of `write`, and takes more after it. Its flush fails where `is_stuck` says so.
@@ -162,7 +134,7 @@ const OUTPUT: &[u8] = b"0,0,item 0.0\n0,1,refused 5 Closed\n";
 
 fn two_replies(alloc: Global) -> Result<History, Fail> {
     let entries = [
-        refused(0, 1, Refusal::Closed),
+        entry(0, 1, Reply::Refused(Refusal::Closed)),
         entry(0, 0, Reply::ItemStored(FIRST)),
     ];
     Ok(history_of(alloc, &entries)?)
@@ -175,10 +147,8 @@ fn first_failed_write_is_the_last_call(rt: HostRuntime) -> Result<(), Fail> {
     let cut = Err(WriteFault::Write);
     for call in 0..OUTPUT.len() {
         let writer = lapse_at(alloc, call, false);
-        assert!(rt;
-            replies_leave(alloc, &history, writer, cut, &OUTPUT[..call], (call + 1, 0)),
-            "at {call}"
-        );
+        let right = replies_leave(alloc, &history, writer, cut, &OUTPUT[..call], (call + 1, 0));
+        assert_same(&rt, &(call, right), &(call, true));
     }
     Ok(())
 }
@@ -190,7 +160,8 @@ fn a_text_is_flushed_once(rt: HostRuntime) -> Result<(), Fail> {
     let calls = (OUTPUT.len(), 1);
     for (is_stuck, answer) in [(false, Ok(())), (true, Err(WriteFault::Write))] {
         let writer = lapse_at(alloc, OUTPUT.len(), is_stuck);
-        assert!(rt; replies_leave(alloc, &history, writer, answer, OUTPUT, calls));
+        let right = replies_leave(alloc, &history, writer, answer, OUTPUT, calls);
+        assert_same(&rt, &(is_stuck, right), &(is_stuck, true));
     }
     Ok(())
 }

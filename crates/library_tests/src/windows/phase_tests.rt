@@ -1,30 +1,56 @@
-//! What windows show of an opening book and of two phases.
-ghost use Rattle.std.specs.Prelude.{◌≡◌, [], false};
-ghost use Rattle.item_shards.specs.OpeningBooks.{opening_of, rows_of as opening_rows};
+//! What windows show of two phases, and that they answer no more once their publisher has ended.
+ghost use Rattle.std.specs.Prelude.{◌≡◌, ◌<◌, ◌++◌, ◌∷◌, [], length, IfOk, false};
+ghost use Rattle.item_shards.specs.OpeningBooks.{opening_of};
+ghost use Rattle.item_shards.specs.Serial.{CanFollow};
+ghost use Rattle.auction_window.specs.Published.{book_of};
 
 use crate::comparing::assert_same;
-use crate::testing::{OPENING, item_seen, vases};
-use crate::windows::testing::{VIEW, answers_none, item, opened_bid, shows};
-use auction_rows::{Refusal, Reply, Request};
+use crate::testing::{FIRST, OPENING, bid, item_seen, put_up, vases};
+use auction_rows::{Refusal, Reply, Request, Row};
 use auction_window::{PhaseLog, Publisher, Window, WindowName};
-use item_shards::OpeningBook;
+use item_shards::{Opened, OpeningBook};
 use std::alloc::Global;
 use std::marker::Brand;
 use std::sync::Wait;
 use std::test::Fail;
 
-// Whether both windows show this of the item.
+const VIEW: Request = Request::ViewItem { item: FIRST };
+
+// Whether a window shows this of the item, of so many phases.
+fn shows<J: WindowName>(window: &mut Window<J>, phases: u64, reply: &Reply) -> bool {
+    match window.view(VIEW) {
+        Ok(Some(seen)) => seen.phases == phases && seen.reply == *reply,
+        _ => false,
+    }
+}
+
 fn both_show<J: WindowName>(
     first: &mut Window<J>,
     second: &mut Window<J>,
     phases: u64,
     reply: &Reply,
 ) -> bool {
-    shows(first, VIEW, phases, reply) && shows(second, VIEW, phases, reply)
+    shows(first, phases, reply) && shows(second, phases, reply)
 }
 
-// Publishes the item's row and then those of bids, and tells one window of the first phase and the other of the second.
-// Answers whether both windows show what they should before, between and after, and that there is no user 10.
+// Publishes the rows of one phase, and tells a window of it.
+fn publish<J: WindowName, R: Wait>(
+    rt: &R,
+    alloc: Global,
+    publisher: &mut Publisher<J>,
+    window: &mut Window<J>,
+    rows: &[Row],
+) -> Result<(), Fail>
+    requires rows { CanFollow J.opening (book_of J.rows publisher.old.phases) rows.now }
+    requires count { length publisher.old.phases < u64.MAX }
+    ensures { IfOk result (λ _. publisher.new ≡ record { phases = publisher.old.phases ++ rows.now ∷ []; failed = false }) }
+{
+    window.learn(publisher.publish(rt, Vec::from_slice(alloc, rows)?)?);
+    Ok(())
+}
+
+// Publishes the first row and then those after it, and tells one window of the first phase and the other of the second.
+// Answers whether both show what is wanted before, between and after.
 fn look_at_two_phases<J: WindowName, R: Wait>(
     rt: &R,
     alloc: Global,
@@ -32,100 +58,83 @@ fn look_at_two_phases<J: WindowName, R: Wait>(
     first: &mut Window<J>,
     second: &mut Window<J>,
     all: &OpeningBook,
-) -> Result<[bool; 4], Fail>
+    wanted: &[Reply; 3],
+) -> Result<[bool; 3], Fail>
     requires nothing { publisher.old ≡ record { phases = []; failed = false } }
     requires empty { J.rows ≡ [] }
     requires opening { opening_of all.now ≡ J.opening }
 {
-    let facts = vases(1)?;
     let rows = all.rows();
     if rows.is_empty() {
         return Err(Fail::from("no rows"));
     }
     let (item_row, bid_rows) = rows.split_at(1);
-    let absent = Reply::Refused(Refusal::NoSuchItem);
-    let before = both_show(first, second, 0, &absent) && answers_none(first);
-    first.learn(publisher.publish(rt, Vec::from_slice(alloc, item_row)?)?);
-    let between = both_show(first, second, 1, &item_seen(&facts, None, 0, 1));
-    second.learn(publisher.publish(rt, Vec::from_slice(alloc, bid_rows)?)?);
-    let after = both_show(second, first, 2, &item_seen(&facts, Some((50, 1)), 1, 1));
-    let stranger = Request::ViewUser { user: 10 };
-    let no_user = shows(second, stranger, 2, &Reply::Refused(Refusal::NoSuchUser));
-    Ok([before, between, after, no_user])
+    let before = both_show(first, second, 0, &wanted[0]);
+    publish(rt, alloc, publisher, first, item_row)?;
+    let between = both_show(first, second, 1, &wanted[1]);
+    publish(rt, alloc, publisher, second, bid_rows)?;
+    let after = both_show(second, first, 2, &wanted[2]);
+    Ok([before, between, after])
 }
 
-// The same of a publisher that begins with an empty book. Answers, too, that two phases are published, and that nothing is
-// shown once the publisher has ended.
+// Ends a publisher: how many phases it had published, and whether the window answers no more.
+fn end<J: WindowName, R: Wait>(
+    rt: &R,
+    publisher: Publisher<J>,
+    window: &mut Window<J>,
+) -> (u64, bool) {
+    publisher.agrees(window);
+    let phases = publisher.phases();
+    publisher.end(rt);
+    (phases, window.view(VIEW).is_err())
+}
+
+// The same of a publisher that begins with no row, and how it ends.
 fn two_phases<J: WindowName, R: Wait>(
     rt: &R,
     alloc: Global,
     log: PhaseLog,
-    empty: &OpeningBook,
     all: &OpeningBook,
-) -> Result<([bool; 4], u64, bool), Fail>
+    wanted: &[Reply; 3],
+) -> Result<([bool; 3], (u64, bool)), Fail>
     requires log { log ≡ J.log }
-    requires opening { opening_of empty.now ≡ J.opening }
-    requires rows { opening_rows empty.now ≡ J.rows }
     requires empty { J.rows ≡ [] }
-    requires all { opening_of all.now ≡ J.opening }
+    requires opening { opening_of all.now ≡ J.opening }
 {
-    let Ok((mut publisher, mut windows)) = Publisher::<J>::new(rt, alloc, log, empty, 2) else {
+    let empty = OpeningBook::empty(all.opening());
+    let Ok((mut publisher, mut windows)) = Publisher::<J>::new(rt, alloc, log, &empty, 2) else {
         return Err(Fail::from("no publisher"));
     };
-    let (Some(mut first), Some(mut second)) = (windows.pop(), windows.pop()) else {
-        publisher.end(rt);
-        return Err(Fail::from("no windows"));
-    };
-    let looked = look_at_two_phases(rt, alloc, &mut publisher, &mut first, &mut second, all);
-    publisher.agrees(&first);
-    let phases = publisher.phases();
-    publisher.end(rt);
-    let ended = first.view(VIEW).is_err() && answers_none(&mut first);
-    Ok((looked?, phases, ended))
+    let mut second = windows.remove(1);
+    let mut first = windows.remove(0);
+    let shown = look_at_two_phases(
+        rt,
+        alloc,
+        &mut publisher,
+        &mut first,
+        &mut second,
+        all,
+        wanted,
+    );
+    let ended = end(rt, publisher, &mut first);
+    Ok((shown?, ended))
+}
+
+fn item_and_bid(alloc: Global) -> Result<OpeningBook, Fail> {
+    let opened = [put_up(vases(1)?), bid(1, 50, 7)].map(|request| Opened { worker: 0, request });
+    Ok(OpeningBook::new(alloc, OPENING, Vec::from_array(alloc, opened)?)?)
 }
 
 #[test]
 fn windows_show_whole_phases(rt: HostRuntime) -> Result<(), Fail> {
-    let alloc = rt.alloc();
-    let asked = [item(vases(1)?), opened_bid(1, 50, 7)];
-    let empty = OpeningBook::empty(OPENING);
-    let all = OpeningBook::new(alloc, OPENING, Vec::from_slice(alloc, &asked)?)?;
-    let looked = two_phases::<Brand, _>(&rt, alloc, PhaseLog::new(), &empty, &all)?;
-    assert_same(&rt, &looked, &([true; 4], 2, true));
-    Ok(())
-}
-
-// Whether a window shows this of the item before anything is published.
-fn shows_first<J: WindowName, R: Wait>(
-    rt: &R,
-    alloc: Global,
-    log: PhaseLog,
-    book: &OpeningBook,
-    reply: &Reply,
-) -> bool
-    requires log { log ≡ J.log }
-    requires opening { opening_of book.now ≡ J.opening }
-    requires rows { opening_rows book.now ≡ J.rows }
-{
-    let Ok((publisher, mut windows)) = Publisher::<J>::new(rt, alloc, log, book, 1) else {
-        return false;
-    };
-    let right = match windows.pop() {
-        Some(mut window) => shows(&mut window, VIEW, 0, reply),
-        None => false,
-    };
-    publisher.end(rt);
-    right
-}
-
-#[test]
-fn windows_begin_with_the_opening_book(rt: HostRuntime) -> Result<(), Fail> {
-    let alloc = rt.alloc();
-    let facts = vases(2)?;
-    let asked = [item(facts), opened_bid(1, 20, 5)];
-    let book = OpeningBook::new(alloc, OPENING, Vec::from_slice(alloc, &asked)?)?;
-    let want = item_seen(&facts, Some((20, 1)), 1, 2);
-    let right = shows_first::<Brand, _>(&rt, alloc, PhaseLog::new(), &book, &want);
-    assert!(rt; right);
+    let all = item_and_bid(rt.alloc())?;
+    let facts = vases(1)?;
+    let wanted = [
+        Reply::Refused(Refusal::NoSuchItem),
+        item_seen(&facts, None, 0, 1),
+        item_seen(&facts, Some((50, 1)), 1, 1),
+    ];
+    let looked = two_phases::<Brand, _>(&rt, rt.alloc(), PhaseLog::new(), &all, &wanted)?;
+    assert_same(&rt, &looked, &([true; 3], (2, true)));
     Ok(())
 }
