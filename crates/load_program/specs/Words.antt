@@ -1,6 +1,8 @@
 -- What the program's words say of a plan, by the parser of words (`clap`).
 use Rattle.std.specs.Prelude.{◌≤◌, ◌<◌, ◌+◌, ℕ, List, [], ◌∷◌, Option, Some, fold, codes, ⊤}
 use Rattle.std.specs.Int.{div_ceil}
+use Rattle.auction_rows.specs.declared.limits.TheConstants.{MOST_OF_A_WORKER, MOST_WORKERS}
+use Rattle.auction_text.specs.declared.scripts.TheConstants.{MOST_RECORDS}
 use Rattle.clap.specs.declared.builder.action.ArgAction.TheVariants.{Set}
 use Rattle.clap.specs.declared.builder.value_parser.ValueParser.TheVariants.{Unsigned}
 use Rattle.clap.specs.Simple.{App, new_app, new_rule, with_rule}
@@ -25,8 +27,8 @@ seed_rule = record (new_rule (codes "seed")) {
 -- the program's options
 abbrev pub option_rules : List Rule
 option_rules =
-    number_rule (codes "requests") 0 16000000 (codes "1000")
-    ∷ number_rule (codes "workers") 1 16 (codes "1")
+    number_rule (codes "requests") 0 MOST_RECORDS (codes "1000")
+    ∷ number_rule (codes "workers") 1 MOST_WORKERS (codes "1")
     ∷ number_rule (codes "items") 1 1000000 (codes "100")
     ∷ number_rule (codes "users") 1 1000000 (codes "100")
     ∷ number_rule (codes "categories") 1 1000000 (codes "10")
@@ -43,8 +45,8 @@ program = fold with_rule (new_app (codes "rubis_load")) option_rules
 
 -- The texts of options say these counts.
 pub record SayCounts (text : List ℕ → Option (List ℕ)) (counts : Counts) : Type 0 where
-  pub requests : SaysNumber 0 16000000 (text (codes "requests")) counts.requests
-  pub workers : SaysNumber 1 16 (text (codes "workers")) counts.workers
+  pub requests : SaysNumber 0 MOST_RECORDS (text (codes "requests")) counts.requests
+  pub workers : SaysNumber 1 MOST_WORKERS (text (codes "workers")) counts.workers
   pub items : SaysNumber 1 1000000 (text (codes "items")) counts.items
   pub users : SaysNumber 1 1000000 (text (codes "users")) counts.users
   pub categories : SaysNumber 1 1000000 (text (codes "categories")) counts.categories
@@ -65,7 +67,7 @@ pub record SayPlan (text : List ℕ → Option (List ℕ)) (plan : Plan) : Type 
 
 -- no worker has more rows and requests than the auction takes
 abbrev pub Fits : Counts → Type 0
-Fits counts = div_ceil counts.items counts.workers + div_ceil counts.requests counts.workers ≤ 1000000
+Fits counts = div_ceil counts.items counts.workers + div_ceil counts.requests counts.workers ≤ MOST_OF_A_WORKER
 
 -- They say shares of more than a hundred percent.
 pub record SayTooMuch (text : List ℕ → Option (List ℕ)) : Type 0 where
@@ -83,7 +85,7 @@ pub record SayTooMuch (text : List ℕ → Option (List ℕ)) : Type 0 where
 pub record SayTooLong (text : List ℕ → Option (List ℕ)) : Type 0 where
   pub counts : Counts
   pub said : SayCounts text counts
-  pub over : 1000000 < div_ceil counts.items counts.workers + div_ceil counts.requests counts.workers
+  pub over : MOST_OF_A_WORKER < div_ceil counts.items counts.workers + div_ceil counts.requests counts.workers
 
 -- why words that the parser takes are refused
 abbrev pub IsCauseOf : (List ℕ → Option (List ℕ)) → PlanFault → Type 0

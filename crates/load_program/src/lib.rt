@@ -8,7 +8,6 @@ mod lines;
 mod options;
 mod plan;
 mod popularity;
-mod text;
 
 pub use faults::{Fault, PlanFault, status, write_fault};
 pub use generate::write_load;

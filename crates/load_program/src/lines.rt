@@ -1,11 +1,12 @@
 //! The lines of requests, as the auction reads them.
 ghost use Rattle.std.specs.Prelude.{◌≡◌, ◌++◌, IfOk, OnOk};
+ghost use Rattle.std.specs.Fmt.{signed_decimal};
 ghost use Rattle.std.specs.List.{flat_map};
-ghost use Rattle.auction_text.specs.RowLines.{byte_in_quotes, quoted};
 ghost use Rattle.load_program.specs.Lines.{bid_text, buy_text, comment_text, item_text, line_text, request_text};
 
-use crate::text::{push_labelled, push_labelled_id, push_number, push_signed, push_text};
 use auction_rows::{Facts, ItemId, Quantity, Request, Stars};
+use auction_text::{push_labelled, push_labelled_id, push_number, push_quoted, push_text};
+use itoa::Buffer;
 use std::alloc::{AllocError, Global};
 
 // The bytes of most lines: so much room is asked for ahead for each, and longer lines make a text grow.
@@ -20,31 +21,12 @@ pub struct Line {
     pub request: Request,
 }
 
-fn push_byte_in_quotes(text: &mut Vec<u8>, byte: u8) -> Result<(), AllocError>
-    ensures { OnOk result (text.new.items ≡ text.old.items ++ byte_in_quotes byte) }
+// Adds a label and a number that may be negative.
+fn push_signed(text: &mut Vec<u8>, label: &[u8], number: i64) -> Result<(), AllocError>
+    ensures { OnOk result (text.new.items ≡ text.old.items ++ (label.now ++ signed_decimal number)) }
 {
-    if byte == b'"' {
-        text.push(b'"')?;
-    }
-    text.push(byte)?;
-    Ok(())
-}
-
-fn push_bytes_in_quotes(text: &mut Vec<u8>, bytes: &[u8]) -> Result<(), AllocError>
-    ensures { OnOk result (text.new.items ≡ text.old.items ++ flat_map byte_in_quotes bytes.now) }
-{
-    for byte in bytes {
-        push_byte_in_quotes(text, *byte)?;
-    }
-    Ok(())
-}
-
-fn push_quoted(text: &mut Vec<u8>, bytes: &[u8]) -> Result<(), AllocError>
-    ensures { OnOk result (text.new.items ≡ text.old.items ++ quoted bytes.now) }
-{
-    push_text(text, b"\"")?;
-    push_bytes_in_quotes(text, bytes)?;
-    push_text(text, b"\"")
+    push_text(text, label)?;
+    text.extend_from_slice(Buffer::new().format(number).as_bytes())
 }
 
 fn push_item(text: &mut Vec<u8>, facts: &Facts, time: u64) -> Result<(), AllocError>

@@ -6,19 +6,21 @@ ghost use Rattle.program_options.specs.Words.{AreTaken, text_in};
 ghost use Rattle.load_program.specs.Words.{Fits, IsCauseOf, SayCounts, SayMix, SayPlan, SayTooMuch, program, seed_rule};
 
 use crate::faults::PlanFault;
-use crate::plan::{Counts, MOST_OF_A_WORKER, Mix, Plan};
+use crate::plan::{Counts, Mix, Plan};
+use auction_rows::{MOST_OF_A_WORKER, MOST_WORKERS};
+use auction_text::MOST_RECORDS;
 use clap::{Arg, ArgAction, ArgMatches, Command};
 use program_options::{NumberRange, UsageFault, number_of, number_option, parse_words};
 use std::alloc::{AllocError, Global};
 
 const REQUESTS: NumberRange = NumberRange {
     least: 0,
-    greatest: 16_000_000,
+    greatest: MOST_RECORDS,
 };
 
 const WORKERS: NumberRange = NumberRange {
     least: 1,
-    greatest: 16,
+    greatest: MOST_WORKERS as u32,
 };
 
 const NUMBERS: NumberRange = NumberRange {
@@ -70,25 +72,22 @@ fn seed_option<'a>(alloc: Global) -> Arg<'a>
 fn command<'a>(alloc: Global) -> Result<Command<'a>, AllocError>
     ensures { IfOk result (λ command. app_of command ≡ program) }
 {
+    let items = "How many items are stored first";
     let skew = "Exponent of Zipf's law of the items, in hundredths";
-    Command::new(alloc, "rubis_load")
-        .arg(described(alloc, "requests", REQUESTS, "1000", "How many requests"))?
-        .arg(described(alloc, "workers", WORKERS, "1", "How many workers"))?
-        .arg(described(
-            alloc,
-            "items",
-            NUMBERS,
-            "100",
-            "How many items are stored first",
-        ))?
-        .arg(described(alloc, "users", NUMBERS, "100", "How many users"))?
-        .arg(described(alloc, "categories", NUMBERS, "10", "How many categories"))?
-        .arg(described(alloc, "skew", SKEWS, "0", skew))?
-        .arg(described(alloc, "views", SHARES, "85", "Percent of views"))?
-        .arg(described(alloc, "comments", SHARES, "3", "Percent of comments"))?
-        .arg(described(alloc, "purchases", SHARES, "2", "Percent of purchases"))?
-        .arg(described(alloc, "new-items", SHARES, "2", "Percent of new items"))?
-        .arg(seed_option(alloc))
+    let options = vec![in alloc;
+        described(alloc, "requests", REQUESTS, "1000", "How many requests"),
+        described(alloc, "workers", WORKERS, "1", "How many workers"),
+        described(alloc, "items", NUMBERS, "100", items),
+        described(alloc, "users", NUMBERS, "100", "How many users"),
+        described(alloc, "categories", NUMBERS, "10", "How many categories"),
+        described(alloc, "skew", SKEWS, "0", skew),
+        described(alloc, "views", SHARES, "85", "Percent of views"),
+        described(alloc, "comments", SHARES, "3", "Percent of comments"),
+        described(alloc, "purchases", SHARES, "2", "Percent of purchases"),
+        described(alloc, "new-items", SHARES, "2", "Percent of new items"),
+        seed_option(alloc),
+    ]?;
+    Command::new(alloc, "rubis_load").args(options)
 }
 
 fn seed_of(matches: &ArgMatches<'_>) -> u64

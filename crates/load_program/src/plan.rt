@@ -1,8 +1,7 @@
 //! What a load is made of.
 ghost use Rattle.std.specs.Prelude.{◌≡◌, ◌+◌, ◌<◌, ◌≤◌, IfSome, MatchOption};
-
-/// The most rows and requests of a worker, together, that the auction takes.
-pub const MOST_OF_A_WORKER: u64 = 1_000_000;
+ghost use Rattle.auction_rows.specs.declared.limits.TheConstants.{MOST_WORKERS};
+ghost use Rattle.auction_text.specs.declared.scripts.TheConstants.{MOST_RECORDS};
 
 /// The shares of the kinds of requests in percent, at most 100 together. The rest are bids.
 #[derive(Clone, Copy, PartialEq, Eq, Debug)]
@@ -55,9 +54,9 @@ pub struct Counts {
     pub users: u32,
     /// The categories, 1 to 1,000,000.
     pub categories: u32,
-    ghost requests_limit: { requests ≤ 16000000 },
+    ghost requests_limit: { requests ≤ MOST_RECORDS },
     ghost some_workers: { 1 ≤ workers },
-    ghost workers_limit: { workers ≤ 16 },
+    ghost workers_limit: { workers ≤ MOST_WORKERS },
     ghost some_items: { 1 ≤ items },
     ghost items_limit: { items ≤ 1000000 },
     ghost some_users: { 1 ≤ users },

@@ -1,3 +1,4 @@
+pub mod AddedRules
 pub mod Numerals
 pub mod OneRule
 pub mod Parsed
