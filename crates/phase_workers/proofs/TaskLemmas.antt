@@ -4,9 +4,11 @@ use Rattle.std.proofs.Common.{Vec, inl, inr, ◌≡◌, ℕ, zero, suc, ◌+◌,
 use Rattle.std.specs.Prelude.{OnOk, IfErr, Result, unwrap_or, None, Some, Ok, Err}
 use Rattle.std.specs.List.{AllByRecursion, AllZip}
 use Rattle.std.proofs.lemmas.List.{map-append, length-map}
+use Rattle.std.proofs.lemmas.Slice.Zip.{AllZip-long}
 use Rattle.auction_rows.specs.declared.requests.Request.{Request}
 use Rattle.phase_transactions.specs.declared.fault.PermitFault.{PermitFault}
 use Rattle.phase_transactions.specs.Permits.{PermitState}
+use Rattle.run_laws.proofs.ListLemmas.{all-append}
 use Rattle.shard_boxes.specs.States.{ShardState}
 use Rattle.phase_workers.specs.declared.fault.ServingFault.{ServingFault}
 use Rattle.phase_workers.specs.declared.fault.ServingFault.TheVariants.{Worker, Spawn, Memory}
@@ -30,10 +32,6 @@ pub next_task : {P : Type 0} (shows : P → PermitState) (first : ℕ) (left nex
 next_task shows first left next permit rest after script is are =
     ap (λ ps. tasks (map shows ps) rest first) is ∙ ap (λ ss. tasks (map shows (permit ∷ next)) ss first) are
 
-all_more : {D : Type 0} (P : D → Type 0) (ds : List D) (d : D) → AllByRecursion P ds → P d → AllByRecursion P (ds ++ d ∷ [])
-all_more P [] d all more = (more, tt)
-all_more P (x ∷ ds) d all more = (all.0, all_more P ds d all.1 more)
-
 -- one worker's task more is made
 pub own_more : {D : Type 0} (Can : Task → Type 0) (CanDo : D → Type 0) (of : D → Task) (owns now : List D) (own : D) (rest next all : List Task) (t : Task) →
     now ≡ owns ++ own ∷ [] → of own ≡ t → rest ≡ t ∷ next → (Can t → CanDo own) →
@@ -42,7 +40,7 @@ pub own_more : {D : Type 0} (Can : Task → Type 0) (CanDo : D → Type 0) (of :
 own_more Can CanDo of owns now own rest next all t push is more can left made whole =
     let split : AllByRecursion Can (t ∷ next) = subst (AllByRecursion Can) more left in (
       split.1,
-      subst (AllByRecursion CanDo) (sym push) (all_more CanDo owns own made (can split.0)),
+      subst (AllByRecursion CanDo) (sym push) (all-append CanDo owns (own ∷ []) made (can split.0, tt)),
       ap (λ ds. map of ds ++ next) push
           ∙ ap (λ ts. ts ++ next) (map-append of owns (own ∷ []))
           ∙ append_assoc (map of owns) (of own ∷ []) next
@@ -55,6 +53,9 @@ own_more Can CanDo of owns now own rest next all t push is more can left made wh
 module _ {D T : Type 0} (of : D → Task) (left : T → PermitState) (takes : Bool) (opening : List ShardState) where
   abbrev Keeps : D → WorkerAnswer T → Type 0
   Keeps own answer = OnOk answer.done (IsDone takes (of own) (left answer.receipt)) × IfErr answer.done (HasMetFault takes opening (of own) (left answer.receipt))
+
+  pub as_many : (owns : List D) (answers : List (WorkerAnswer T)) → AllZip Keeps owns answers → length answers ≡ length owns
+  as_many owns answers kept = AllZip-long Keeps owns answers kept
 
   done_by : (owns : List D) (receipts : List T) → AllZip Keeps owns (map without_fault receipts) → AllZip (IsDone takes) (map of owns) (map left receipts)
   done_by [] [] kept = tt
@@ -91,12 +92,6 @@ unstarted_by jobs workers P Spawn few is = omega (arith, few, is)
 unstarted_by jobs workers P Memory few is = tt
 unstarted_by jobs workers P (Worker met) few is = absurd is
 
-pub zip_length : {A B : Type 0} (R : A → B → Type 0) (xs : List A) (ys : List B) → AllZip R xs ys → length ys ≡ length xs
-zip_length R [] [] all = refl
-zip_length R [] (y ∷ ys) all = absurd all
-zip_length R (x ∷ xs) [] all = absurd all
-zip_length R (x ∷ xs) (y ∷ ys) all = ap suc (zip_length R xs ys all.1)
-
 tasks_few : (permits : List PermitState) (scripts : List (List Request)) (first : ℕ) → length (tasks permits scripts first) ≤ length scripts
 tasks_few [] scripts first = omega arith
 tasks_few (p ∷ ps) [] first = omega arith
@@ -111,6 +106,20 @@ tasks_of_few of owns permits scripts first are =
     let few = tasks_few permits (lists scripts) first in
     let same : length (map of owns) ≡ length (tasks permits (lists scripts) first) = ap length are in
     omega (arith, mapped, of_lists, few, same)
+
+-- ---- receipts
+
+-- one worker more met no fault
+pub receipt_more : {T : Type 0} (receipts now : List T) (answer : WorkerAnswer T) (left next all : List (WorkerAnswer T)) → answer.done ≡ Ok tt → left ≡ answer ∷ next → now ≡ receipts ++ answer.receipt ∷ [] →
+    map without_fault receipts ++ left ≡ all → map without_fault now ++ next ≡ all
+receipt_more receipts now answer left next all ok first push whole =
+    let same : without_fault answer.receipt ≡ answer = ap (λ (done : Result _ PermitFault). record { receipt = answer.receipt; done = done }) (sym ok) in
+    ap (λ rs. map without_fault rs ++ next) push
+    ∙ ap (λ answers. answers ++ next) (map-append without_fault receipts (answer.receipt ∷ []))
+    ∙ append_assoc (map without_fault receipts) (without_fault answer.receipt ∷ []) next
+    ∙ ap (λ one. map without_fault receipts ++ one ∷ next) same
+    ∙ ap (λ answers. map without_fault receipts ++ answers) (sym first)
+    ∙ whole
 
 -- ---- faults
 

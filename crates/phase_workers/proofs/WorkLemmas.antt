@@ -1,7 +1,8 @@
 -- What a permit's calls are after one more request.
-use Rattle.std.proofs.Common.{◌≡◌, ℕ, zero, suc, ◌+◌, ◌-◌, ◌<◌, ◌≤◌, Bool, true, false, cond, List, [], ◌∷◌, ◌++◌, length, map, take, drop, Some, None, refl, sym, ap, subst, ◌∙◌, append_assoc, arith}
+use Rattle.std.proofs.Common.{◌≡◌, ℕ, zero, suc, ◌+◌, ◌-◌, ◌<◌, Bool, true, false, cond, List, [], ◌∷◌, ◌++◌, length, map, take, drop, Some, None, refl, sym, ap, subst, ◌∙◌, append_assoc, arith}
 use Rattle.std.specs.Prelude.{Option, IfSome, IfNone, Result, Ok, Err, OnOk, IfErr, IsErrAnd, slice_get, not, unwrap_or}
 use Rattle.std.specs.List.{filter, AllByRecursion}
+use Rattle.std.proofs.Math.Seq.{drop-nil}
 use Rattle.std.proofs.lemmas.Bool.{false≢true}
 use Rattle.std.proofs.lemmas.List.{append-nil, map-append, length-append, take-append-drop, drop-drop, drop_all}
 use Rattle.std.proofs.lemmas.List.Elements.{filter-append}
@@ -24,6 +25,7 @@ use Rattle.phase_transactions.specs.declared.fault.PermitFault.{PermitFault}
 use Rattle.phase_transactions.specs.Performing.{HasDealtWith, HasFailed, IsCause, with_try}
 use Rattle.phase_transactions.specs.Permits.{PermitState, HasCommitted}
 use Rattle.phase_transactions.specs.Stashed.{with_first_called, HasPerformedFirst, HasFailedFirst}
+use Rattle.run_laws.proofs.ListLemmas.{all-append}
 use Rattle.run_serving.specs.Serving.{call_of}
 use Rattle.shard_boxes.specs.States.{ShardState}
 use Rattle.worker_journals.specs.Journals.{JournalView, commit_in}
@@ -56,10 +58,6 @@ called permit = record { boxes = refl; worker = refl; opening = refl; begun = re
 abbrev AreOfPhaseIn : JournalView → Type 0
 AreOfPhaseIn journal = AllByRecursion (λ e. e.phase ≡ journal.phase) journal.entries
 
-all_of_more : (P : Entry → Type 0) (entries : List Entry) (entry : Entry) → AllByRecursion P entries → P entry → AllByRecursion P (entries ++ entry ∷ [])
-all_of_more P [] entry all more = (more, tt)
-all_of_more P (e ∷ entries) entry all more = (all.0, all_of_more P entries entry all.1 more)
-
 module _ (opening : List ShardState) (old new : PermitState) (request : Request) (index : ℕ) where
   pub commit_same : (answer : Reply) → HasCommitted opening old new request index answer → IsSamePermit old new
   commit_same answer h = record {
@@ -72,7 +70,7 @@ module _ (opening : List ShardState) (old new : PermitState) (request : Request)
     hot = ap objects_of h.slices ∙ objects-acts old.split.slices (writes_if (row_of old.split.context.journal.worker request answer));
     stocks = ap stocks_of h.slices ∙ stocks-acts old.split.slices (writes_if (row_of old.split.context.journal.worker request answer));
     own = λ are. subst (λ (d : ContextState). AreOfPhaseIn d.journal) (sym h.context)
-        (all_of_more (λ (e : Entry). e.phase ≡ old.split.context.journal.phase) old.split.context.journal.entries (commit_in old.split.context.journal h.number index request answer) are refl);
+        (all-append (λ (e : Entry). e.phase ≡ old.split.context.journal.phase) old.split.context.journal.entries (commit_in old.split.context.journal h.number index request answer ∷ []) are (refl, tt));
   }
 
   pub commit_calls : (answer : Reply) → HasCommitted opening old new request index answer → committed new ≡ committed old ++ (index, request) ∷ []
@@ -260,14 +258,6 @@ stash_less k ss waits now less was = less ∙ ap (drop 1) was ∙ drop-drop 1 k 
 
 -- ---- what is taken of the stash
 
-pub apart : (takes : Bool) (permit : PermitState) → stashed permit ≡ kept takes permit ++ taken takes permit
-apart true permit = refl
-apart false permit = sym (append-nil (stashed permit))
-
-pub taken_few : (takes : Bool) (permit : PermitState) → length (taken takes permit) ≤ length (stashed permit)
-taken_few true permit = omega arith
-taken_few false permit = omega arith
-
 -- where something is taken the phase takes stashes
 pub takes_some : (takes : Bool) (permit : PermitState) (k : ℕ) → k < length (taken takes permit) → takes ≡ true
 takes_some true permit k less = refl
@@ -308,10 +298,6 @@ pub err_as : {A E : Type 0} (result : Result A E) (fault : E) (Q : E → Type 0)
 err_as (Ok a) fault Q is q = tt
 err_as (Err e) fault Q is q = subst Q (sym is) q
 
-none_left : (n : ℕ) → drop {A = ℕ × Request} n [] ≡ []
-none_left zero = refl
-none_left (suc n) = refl
-
 module _ (opening : List ShardState) (old mid new : PermitState) (fault : PermitFault) where
   -- the request that waits longest met a fault
   pub stopped_first : (takes : Bool) (k : ℕ) → takes ≡ true → committed mid ≡ committed old ++ take k (taken takes old) → stashed mid ≡ kept takes old ++ drop k (taken takes old) →
@@ -343,7 +329,7 @@ module _ (opening : List ShardState) (old mid new : PermitState) (fault : Permit
     calls_are = next_is k calls call next;
     done = ap (λ sp. map call_of sp.context.journal.entries) failed.split ∙ was;
     waits = ap (λ sp. sp.context.stash.requests) failed.split ∙ waits
-        ∙ sym (ap (λ cs. stashed old ++ cs ++ put_off (hot_for old) (take k calls)) (none_left (length (take k calls)))
+        ∙ sym (ap (λ cs. stashed old ++ cs ++ put_off (hot_for old) (take k calls)) (drop-nil (length (take k calls)))
         ∙ ap (λ cs. cs ++ put_off (hot_for old) (take k calls)) (append-nil (stashed old)));
     cause = subst (λ sp. IsCause opening sp new.key call.1 fault) (sym failed.split) failed.cause;
   }
@@ -378,7 +364,7 @@ module _ (opening : List ShardState) (old mid new : PermitState) (fault : Permit
         calls_are = ap (λ cs. stash ++ cs) (sym as_given ∙ met.calls_are) ∙ sym (append_assoc stash met.before (met.call ∷ met.left));
         done = met.done ∙ ap (λ h. committed mid ++ not_put_off h met.before) hot ∙ ap (λ cs. cs ++ not_put_off (hot_for old) met.before) was
             ∙ append_assoc (committed old) stash (not_put_off (hot_for old) met.before) ∙ ap (λ cs. committed old ++ cs) (sym kept);
-        waits = met.waits ∙ ap (λ cs. stashed mid ++ cs ++ put_off (hot_for mid) met.before) (none_left (length met.before))
+        waits = met.waits ∙ ap (λ cs. stashed mid ++ cs ++ put_off (hot_for mid) met.before) (drop-nil (length met.before))
             ∙ ap (λ cs. cs ++ put_off (hot_for mid) met.before) (append-nil (stashed mid) ∙ on) ∙ ap (λ h. rest ++ put_off h met.before) hot
             ∙ ap (λ cs. rest ++ cs) (sym off) ∙ ap (λ cs. cs ++ put_off (hot_for old) (stash ++ met.before)) (sym (append-nil rest))
             ∙ ap (λ cs. rest ++ cs ++ put_off (hot_for old) (stash ++ met.before)) (sym (drop_all (length (stash ++ met.before)) stash (omega (arith, longer))));

@@ -1,7 +1,6 @@
 //! The workers of a phase: each but the first does its task on a thread of its own, but where the phase is short.
 ghost use Rattle.std.specs.Prelude.{◌≡◌, ◌≤◌, Some, length, map, vec_len, vec_capacity, IfOk, IfErr, OnOk};
 ghost use Rattle.std.specs.List.{AllByRecursion, AllZip};
-ghost use Rattle.std.specs.Vec.Iter.{into_iter_items, into_iter_len};
 ghost use Rattle.phase_workers.specs.Tasks.{lists, task, tasks, CanBeDone, IsDone, HasMetFault, without_fault, first_fault, IsFirstFault, IsFaultBy};
 ghost use Rattle.phase_workers.specs.Working.{IsPermitOf, ArePermitsOf};
 
@@ -22,7 +21,7 @@ use std::vec::IntoIter;
 const SHORT_PHASE: u64 = 256;
 
 /// A phase, as its workers are told of it.
-#[derive(Clone, Copy)]
+#[derive(Drop)]
 pub struct Round<'a, G> {
     /// A script for each worker.
     pub scripts: &'a [Vec<Request>],
@@ -115,13 +114,9 @@ where
     ensures fault { IfErr result (IsFaultBy (length (lists round.entry.scripts.now))
         (IsFirstFault P.takes_stash N.opening (tasks (map P.shows permits.items) (lists round.entry.scripts.now) round.entry.first))) }
 {
-    let permits = permits.into_iter();
-    let Ok(room) = Vec::with_capacity(alloc, round.scripts.len()) else {
-        spend_all(permits);
-        return Err(ServingFault::Memory);
-    };
     let gate = round.gate;
     let own_tasks = own_tasks(rt, alloc, boxes, permits, round)?;
+    let room = Vec::with_capacity(alloc, own_tasks.len())?;
     let in_turn = !gate.needs_threads() && requests_of(&own_tasks) <= SHORT_PHASE;
     let answers = work(rt, alloc, own_tasks, in_turn)?;
     Ok(receipts_of(answers, room)?)
@@ -142,20 +137,20 @@ fn own_tasks<'a, N: PhaseName, P: Permit<N>, R, G>(
     rt: &'a R,
     alloc: Global,
     boxes: &'a Boxes<N>,
-    mut permits: IntoIter<P>,
+    permits: Vec<P>,
     round: Round<'a, G>,
 ) -> Result<Vec<WorkerTask<'a, N, P, R, G>>, AllocError>
-    requires workers { into_iter_len permits ≡ length round.scripts.now }
+    requires workers { vec_len permits ≡ length round.scripts.now }
     requires few { length round.scripts.now ≤ MOST_WORKERS }
-    requires can { AllByRecursion (CanBeDone N.opening boxes.now)
-        (tasks (map P.shows (into_iter_items permits)) (lists round.scripts.now) round.first) }
-    requires of { ArePermitsOf round.phase 0 (map P.shows (into_iter_items permits)) }
+    requires can { AllByRecursion (CanBeDone N.opening boxes.now) (tasks (map P.shows permits.items) (lists round.scripts.now) round.first) }
+    requires of { ArePermitsOf round.phase 0 (map P.shows permits.items) }
     ensures can { IfOk result (λ made. AllByRecursion (λ own.
         CanBeDone N.opening own.boxes.now (task (P.shows own.permit) own.script.now own.first)
         × IsPermitOf own.post.phase own.post.worker (P.shows own.permit)) made.items) }
     ensures tasks { IfOk result (λ made. map (λ own. task (P.shows own.permit) own.script.now own.first) made.items
-        ≡ tasks (map P.shows (into_iter_items permits)) (lists round.entry.scripts.now) round.entry.first) }
+        ≡ tasks (map P.shows permits.items) (lists round.entry.scripts.now) round.entry.first) }
 {
+    let mut permits = permits.into_iter();
     let Ok(mut made) = Vec::with_capacity(alloc, round.scripts.len()) else {
         spend_all(permits);
         return Err(AllocError);

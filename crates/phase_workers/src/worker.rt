@@ -14,7 +14,7 @@ use shard_boxes::{Boxes, PhaseName};
 use std::sync::Wait;
 
 /// A worker's place in a phase, as a gate is told of it.
-#[derive(Clone, Copy)]
+#[derive(Drop)]
 pub(crate) struct Post<'a, G> {
     pub(crate) gate: &'a G,
     pub(crate) phase: u64,

@@ -44,7 +44,7 @@ loop-permit-preserved g c =
     })
     (tasks (map g.P.Permit.shows (into_iter_items c.loop-permit.permits)) (drop n (lists c.args.round.scripts.now)) c.args.round.first)
     (tasks (map g.P.Permit.shows (into_iter_items c.next.new.self)) (drop (vec_len c.push_reserved.new.self) (lists c.args.round.scripts.now)) c.args.round.first)
-    (tasks (map g.P.Permit.shows (into_iter_items c.args.permits)) (lists c.args.round.scripts.now) c.args.round.first) t push.items
+    (tasks (map g.P.Permit.shows c.args.permits.items) (lists c.args.round.scripts.now) c.args.round.first) t push.items
     made
     (next_task g.P.Permit.shows c.args.round.first (into_iter_items c.loop-permit.permits) (into_iter_items c.next.new.self) c.in-Some.permit (drop n (lists c.args.round.scripts.now))
     (drop (vec_len c.push_reserved.new.self) (lists c.args.round.scripts.now)) script.items step.0

@@ -16,7 +16,7 @@ invariant-loop-permit g l =
     × IsPermitOf own.post.phase own.post.worker (g.P.Permit.shows own.permit)) l.made.items
     × (map (λ own. task (g.P.Permit.shows own.permit) own.script.now own.first) l.made.items
     ++ tasks (map g.P.Permit.shows (into_iter_items l.permits)) (drop (vec_len l.made) (lists l.round.scripts.now)) l.round.first
-    ≡ tasks (map g.P.Permit.shows (into_iter_items l.fn.permits)) (lists l.round.scripts.now) l.round.first)
+    ≡ tasks (map g.P.Permit.shows l.fn.permits.items) (lists l.round.scripts.now) l.round.first)
     × ArePermitsOf l.round.phase (vec_len l.made) (map g.P.Permit.shows (into_iter_items l.permits))
 
 abbrev pub decreases-loop-permit : goal.decreases-loop-permit

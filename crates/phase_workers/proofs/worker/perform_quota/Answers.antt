@@ -1,10 +1,10 @@
-use Rattle.std.proofs.Common.{◌≡◌, ◌+◌, ◌<◌, ◌++◌, ◌∷◌, [], ℕ, not, List, take, subst, arith}
+use Rattle.std.proofs.Common.{◌≡◌, false, ◌+◌, ◌<◌, ◌++◌, ◌∷◌, [], ℕ, not, List, take, subst, arith}
 use Rattle.auction_rows.specs.declared.ids.Object.{Object}
 use Rattle.auction_rows.specs.declared.requests.Request.{Request}
 use Rattle.auction_rows.specs.Phases.{is_put_off}
 use Rattle.phase_transactions.specs.Permits.{PermitState}
 use Rattle.run_laws.proofs.QuotaLemmas.{next_call}
-use Rattle.phase_workers.specs.Working.{calls_from, committed, stashed, hot_for, put_off, not_put_off}
+use Rattle.phase_workers.specs.Working.{calls_from, committed, stashed, hot_for, put_off, not_put_off, HasStopped}
 use Rattle.phase_workers.proofs.WorkLemmas.{same_after, kept_more, err_as, stopped_next}
 use Rattle.phase_workers.proofs.worker.perform_quota.Goals as goal
 
@@ -42,6 +42,7 @@ returns-in_err-perform_next-clause-stopped g c =
     let less : c.loop-place.place < old.split.context.left = omega (arith, c.loop-place-test.true, c.quota_left-place-end.ensures) in
     let next : take (k + 1) calls ≡ take k calls ++ (first + k, request) ∷ [] =
     next_call first old.split.context.left k c.args.script.now request less c.requires.given c.index-script-index.is in
-    err_as c.from_residual.result c.in_err-perform_next.field-0.0 _ c.from_residual.ensures.1
-    (stopped_next g.N.PhaseName.opening old (g.P.Permit.shows c.loop-place.permit) (g.P.Permit.shows c.perform_next.new.permit) c.in_err-perform_next.field-0.0 k calls (first + k, request) next
+    let new : PermitState = g.P.Permit.shows c.perform_next.new.permit in
+    err_as c.from_residual.result c.in_err-perform_next.field-0.0 (HasStopped false g.N.PhaseName.opening calls old new) c.from_residual.ensures.1
+    (stopped_next g.N.PhaseName.opening old (g.P.Permit.shows c.loop-place.permit) new c.in_err-perform_next.field-0.0 k calls (first + k, request) next
     was.1 was.2 c.in_err-perform_next.ensures.failed)

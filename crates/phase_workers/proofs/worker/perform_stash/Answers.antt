@@ -2,8 +2,8 @@ use Rattle.std.proofs.Common.{◌≡◌, ℕ, ◌+◌, Bool, true, List, ◌++�
 use Rattle.std.proofs.lemmas.List.{append-nil, take_all, drop_all}
 use Rattle.auction_rows.specs.declared.requests.Request.{Request}
 use Rattle.phase_transactions.specs.Permits.{PermitState}
-use Rattle.phase_workers.specs.Working.{committed, stashed, taken, kept, hot_for, put_off, HasPerformedWaiting}
-use Rattle.phase_workers.proofs.WorkLemmas.{same_after, takes_some, apart, stash_goes, stash_more, stash_less, err_as, stopped_first}
+use Rattle.phase_workers.specs.Working.{committed, stashed, taken, kept, hot_for, put_off, HasPerformedWaiting, HasStopped}
+use Rattle.phase_workers.proofs.WorkLemmas.{same_after, takes_some, stash_goes, stash_more, stash_less, err_as, stopped_first}
 use Rattle.phase_workers.proofs.worker.perform_stash.Goals as goal
 
 pub loop-call-preserved : goal.loop-call-preserved
@@ -50,7 +50,8 @@ returns-in_err-perform_first-clause-stopped g c =
     let was = c.loop-call.invariant in
     let takes : Bool = g.P.Permit.takes_stash in
     let old : PermitState = g.P.Permit.shows c.args.permit.now in
-    err_as c.from_residual.result c.in_err-perform_first.field-0.0 _ c.from_residual.ensures.1
-    (stopped_first g.N.PhaseName.opening old (g.P.Permit.shows c.loop-call.permit) (g.P.Permit.shows c.perform_first.new.permit) c.in_err-perform_first.field-0.0 takes c.loop-call._call
+    let new : PermitState = g.P.Permit.shows c.perform_first.new.permit in
+    err_as c.from_residual.result c.in_err-perform_first.field-0.0 (HasStopped takes g.N.PhaseName.opening (taken takes old) old new) c.from_residual.ensures.1
+    (stopped_first g.N.PhaseName.opening old (g.P.Permit.shows c.loop-call.permit) new c.in_err-perform_first.field-0.0 takes c.loop-call._call
     (takes_some takes old c.loop-call._call (omega (arith, c.loop-call-test.true, c.waiting-call-end.ensures)))
     was.1 was.2 was.5 c.in_err-perform_first.ensures.failed)

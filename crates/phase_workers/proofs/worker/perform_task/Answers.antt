@@ -1,15 +1,19 @@
-use Rattle.std.proofs.Common.{ap}
+use Rattle.std.proofs.Common.{ℕ, Bool, false, List, ap}
 use Rattle.std.proofs.lemmas.Result.{IfErr-weaker}
+use Rattle.auction_rows.specs.declared.requests.Request.{Request}
 use Rattle.phase_transactions.specs.Permits.{PermitState}
-use Rattle.phase_workers.specs.Working.{calls_from, taken}
+use Rattle.phase_workers.specs.Tasks.{task, HasMetFault}
+use Rattle.phase_workers.specs.Working.{calls_from, taken, HasStopped}
 use Rattle.phase_workers.proofs.WorkLemmas.{on_ok3, task_done, err_as, stopped_early, stopped_late}
 use Rattle.phase_workers.proofs.worker.perform_task.Goals as goal
 
 pub returns-in_err-perform_stash-clause-stopped : goal.returns-in_err-perform_stash-clause-stopped
 returns-in_err-perform_stash-clause-stopped g c =
     let old : PermitState = g.P.Permit.shows c.args.permit.now in
-    err_as c.from_residual.result c.in_err-perform_stash.field-0.0 _ c.from_residual.ensures.1
-    (stopped_early g.N.PhaseName.opening old old (g.P.Permit.shows c.perform_stash.new.permit) c.in_err-perform_stash.field-0.0 g.P.Permit.takes_stash (taken g.P.Permit.takes_stash old)
+    let takes : Bool = g.P.Permit.takes_stash in
+    let new : PermitState = g.P.Permit.shows c.perform_stash.new.permit in
+    err_as c.from_residual.result c.in_err-perform_stash.field-0.0 (HasMetFault takes g.N.PhaseName.opening (task old c.args.script.now c.args.first) new) c.from_residual.ensures.1
+    (stopped_early g.N.PhaseName.opening old old new c.in_err-perform_stash.field-0.0 takes (taken takes old)
     (calls_from c.args.first old.split.context.left c.args.script.now) c.in_err-perform_stash.ensures.stopped)
 
 pub returns-clause-done : goal.returns-clause-done
@@ -25,8 +29,11 @@ pub returns-clause-stopped : goal.returns-clause-stopped
 returns-clause-stopped g c =
     let old : PermitState = g.P.Permit.shows c.args.permit.now in
     let mid : PermitState = g.P.Permit.shows c.perform_stash.new.permit in
+    let new : PermitState = g.P.Permit.shows c.perform_quota.new.permit in
+    let takes : Bool = g.P.Permit.takes_stash in
     let stash = c.in_ok-perform_stash.ensures in
-    IfErr-weaker c.perform_quota.result _ _ (λ fault. stopped_late g.N.PhaseName.opening old mid (g.P.Permit.shows c.perform_quota.new.permit) fault g.P.Permit.takes_stash
-    (calls_from c.args.first mid.split.context.left c.args.script.now) (calls_from c.args.first old.split.context.left c.args.script.now)
+    let calls : List (ℕ × Request) = calls_from c.args.first mid.split.context.left c.args.script.now in
+    IfErr-weaker c.perform_quota.result (HasStopped false g.N.PhaseName.opening calls mid new) (HasMetFault takes g.N.PhaseName.opening (task old c.args.script.now c.args.first) new)
+    (λ fault. stopped_late g.N.PhaseName.opening old mid new fault takes calls (calls_from c.args.first old.split.context.left c.args.script.now)
     stash.go stash.calls stash.stash stash.same.hot (ap (λ n. calls_from c.args.first n c.args.script.now) stash.left))
     c.perform_quota.ensures.stopped
