@@ -1,5 +1,5 @@
 //! How a phase begins.
-ghost use Rattle.std.specs.Prelude.{◌≡◌, ◌+◌, ◌<◌, ◌≤◌, ◌^◌, ℕ, [], length, vec_len, vec_capacity, IfOk, IfErr, ◌↔◌, slice_index};
+ghost use Rattle.std.specs.Prelude.{◌≡◌, ◌+◌, ◌<◌, ◌≤◌, ◌^◌, ℕ, [], length, vec_len, vec_capacity, IfOk, IfErr, ◌↔◌};
 ghost use Rattle.shard_boxes.specs.Keys.{AreNewKeys};
 ghost use Rattle.phase_floor.specs.declared.fault.BeginFault.TheVariants.{UnknownHot, TooLong};
 ghost use Rattle.phase_floor.specs.Begins.{IsTooLong, asked_in_all, AreKits};

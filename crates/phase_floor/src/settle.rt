@@ -1,5 +1,5 @@
 //! How a phase ends, up to the state that it leaves.
-ghost use Rattle.std.specs.Prelude.{◌≡◌, ◌+◌, ◌<◌, ◌≤◌, ◌++◌, ℕ, [], map, length, IfOk, OnOk, OnErr};
+ghost use Rattle.std.specs.Prelude.{◌≡◌, ◌+◌, ◌<◌, ◌≤◌, ◌++◌, ℕ, map, length, IfOk, OnOk, OnErr};
 ghost use Rattle.std.specs.List.{AllByRecursion};
 ghost use Rattle.item_shards.specs.Limits.{GivesStars};
 ghost use Rattle.shard_boxes.specs.States.{state_of};

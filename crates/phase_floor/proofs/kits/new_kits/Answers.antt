@@ -1,4 +1,4 @@
-use Rattle.std.proofs.Common.{◌≡◌, ◌+◌, ◌∙◌, ℕ, [], get_or, length, ap, arith}
+use Rattle.std.proofs.Common.{◌+◌, ◌∙◌, ℕ, [], get_or, length, ap, arith}
 use Rattle.std.proofs.lemmas.List.{get_or_read}
 use Rattle.shard_boxes.proofs.Each.{each_push}
 use Rattle.worker_journals.specs.Journals.{empty_journal}
