@@ -16,37 +16,31 @@ use Rattle.phase_floor.proofs.floor.Floor.close.Goals as goal
 
 pub invariant_of-state : goal.invariant_of-state
 invariant_of-state g c =
-    let opening = g.N.PhaseName.opening in let workers = g.N.PhaseName.workers in let floor = c.args.self in let receipts = (map g.T.Receipt.shows c.args.receipts.items) in
+    let opening = g.N.PhaseName.opening in let workers = g.N.PhaseName.workers in let floor = c.args.self in let receipts = map g.T.Receipt.shows c.args.receipts.items in
     let e = c.in_ok-opening.ensures in let left = c.in_ok-opening.field-0 in let entries = added c.args.history.now.entries c.settle.new.history.entries in
     let given = e.closed.given in let closed = e.closed.closed in let states = map state_of left.shards.items in
-    let stars = e.stars in
-    let kept = kept_after opening workers floor e.open receipts c.requires given entries closed e.limit stars left.shards.items
+    let kept = kept_after opening workers floor e.open receipts c.requires given entries closed e.limit e.stars left.shards.items
     (as_many opening workers floor e.open receipts c.requires given entries closed e.closed.order e.closed.each states e.closed.states_are)
     (ready opening workers floor e.open receipts c.requires given entries closed e.closed.order e.closed.each states e.closed.states_are)
     (stand_after opening workers floor e.open receipts c.requires given entries closed e.closed.order e.closed.each states e.closed.states_are) in
     subst (λ (o : Opening). IsKept o states left.counters.items) (sym e.opening) (subst (λ (cs : List Counters). IsKept floor.opening states cs) (sym e.counters) kept)
 
-pub returns-clause-lawful : goal.returns-clause-lawful
-returns-clause-lawful g c =
+pub returns-clause-leaves : goal.returns-clause-leaves
+returns-clause-leaves g c =
+    let opening = g.N.PhaseName.opening in let workers = g.N.PhaseName.workers in let floor = c.args.self in let receipts = map g.T.Receipt.shows c.args.receipts.items in
     let e = c.in_ok-opening.ensures in let left = c.in_ok-opening.field-0 in let entries = added c.args.history.now.entries c.settle.new.history.entries in
-    reconciled_lawful g.N.PhaseName.opening c.args.self (map g.T.Receipt.shows c.args.receipts.items) (map state_of left.shards.items) entries e.closed
-
-pub returns-clause-commits : goal.returns-clause-commits
-returns-clause-commits g c = λ w below.
-    let e = c.in_ok-opening.ensures in let floor = c.args.self in let receipts = (map g.T.Receipt.shows c.args.receipts.items) in let left = c.in_ok-opening.field-0 in let entries = added c.args.history.now.entries c.settle.new.history.entries in
-    let stars = e.stars in
-    ap (λ (cs : List Counters). (counters_at cs w).commits) e.counters
-    ∙ sym (ap (λ (cs : Counters). cs.commits) (counted g.N.PhaseName.opening g.N.PhaseName.workers floor e.open receipts c.requires e.closed.given entries e.closed.closed e.limit stars w below))
-    ∙ commits_grow (phase_of g.N.PhaseName.opening floor receipts e.closed.given entries) e.closed.closed w below
-
-pub returns-clause-replays : goal.returns-clause-replays
-returns-clause-replays g c = λ book holds.
-    let e = c.in_ok-opening.ensures in let entries = added c.args.history.now.entries c.settle.new.history.entries in
-    entries_replay (phase_of g.N.PhaseName.opening c.args.self (map g.T.Receipt.shows c.args.receipts.items) e.closed.given entries) e.closed.closed book holds
-
-pub returns-clause-stands : goal.returns-clause-stands
-returns-clause-stands g c = λ book holds.
-    let e = c.in_ok-opening.ensures in let left = c.in_ok-opening.field-0 in let entries = added c.args.history.now.entries c.settle.new.history.entries in let floor = c.args.self in
-    subst (λ (cs : List Counters). StandFor (map state_of left.shards.items) cs (book_after floor.opening book entries) []) (sym e.counters)
-    (stand_after g.N.PhaseName.opening g.N.PhaseName.workers floor e.open (map g.T.Receipt.shows c.args.receipts.items) c.requires e.closed.given entries e.closed.closed e.closed.order e.closed.each
-    (map state_of left.shards.items) e.closed.states_are book holds)
+    let given = e.closed.given in let closed = e.closed.closed in let states = map state_of left.shards.items in
+    let phase = phase_of opening floor receipts given entries in record {
+      opening_is = e.opening;
+      phase_is = e.phase;
+      counters_are = e.counters;
+      stashes_are = e.stashes;
+      lawful = reconciled_lawful opening floor receipts states entries e.closed;
+      commits = λ w below.
+          ap (λ (cs : List Counters). (counters_at cs w).commits) e.counters
+          ∙ sym (ap (λ (cs : Counters). cs.commits) (counted opening workers floor e.open receipts c.requires given entries closed e.limit e.stars w below))
+          ∙ commits_grow phase closed w below;
+      replays = λ book holds. entries_replay phase closed book holds;
+      stands = λ book holds. subst (λ (cs : List Counters). StandFor states cs (book_after floor.opening book entries) []) (sym e.counters)
+          (stand_after opening workers floor e.open receipts c.requires given entries closed e.closed.order e.closed.each states e.closed.states_are book holds);
+    }
