@@ -7,8 +7,10 @@ ghost use Rattle.phase_floor.specs.States.{states_of};
 use crate::fault::FloorFault;
 use crate::floor::{Floor, JoinedFloor, SplitFloor};
 use crate::joined::Joined;
+use crate::merge::merge_all;
+use crate::parts::Parts;
 use crate::receipt::Receipt;
-use crate::settle::Settled;
+use crate::reset::reset_clocks;
 use phase_transactions::{JoinedReceipt, SplitReceipt, Stash};
 use shard_boxes::PhaseName;
 use std::alloc::Global;
@@ -16,7 +18,8 @@ use std::sync::Wait;
 use worker_journals::History;
 
 impl<N: PhaseName> Floor<N> {
-    // Closes the phase, by one receipt of each worker, in order.
+    // Closes the phase, by one receipt of each worker, in order: adds it to the history, and merges all slices. All memory is asked
+    // for first.
     fn close<R: Wait, T: Receipt<N>>(
         self,
         rt: &R,
@@ -33,16 +36,26 @@ impl<N: PhaseName> Floor<N> {
         ensures leaves { IfOk result (λ closed.
             Leaves N.opening self (map T.shows receipts.items) (added history.old.entries history.new.entries) closed.0 closed.1.items) }
     {
-        let Settled {
+        let Floor {
             opening,
             phase,
-            shards,
-            counters,
+            boxes,
+            ..
+        } = self;
+        let Parts {
+            journals,
             stashes,
-        } = self.settle(rt, alloc, history, receipts)?;
+            keys,
+            counters,
+            slices,
+        } = Parts::of(alloc, receipts)?;
+        history.add_phase(journals)?;
+        let mut shards = boxes.close(rt, keys);
+        merge_all(&mut shards, slices);
+        reset_clocks(&mut shards);
         let state = Joined {
             opening,
-            phase,
+            phase: phase + 1,
             shards,
             counters,
         };
