@@ -1,4 +1,5 @@
 pub mod Blank
+pub mod Placed
 pub mod Views
 pub mod Begins
 pub mod Every

@@ -4,7 +4,8 @@ use Rattle.auction_rows.specs.declared.ids.Object.TheVariants.{Item}
 use Rattle.auction_rows.specs.Requests.{shard_of}
 use Rattle.item_shards.specs.ShardContents.{rooms}
 use Rattle.item_shards.proofs.SerialLemmas.{has_own_room}
-use Rattle.phase_floor.proofs.ResumeActs.{lies_there, room_there, shown_still}
+use Rattle.phase_floor.proofs.Placed.{lies_there}
+use Rattle.phase_floor.proofs.ResumeActs.{room_there, shown_still}
 use Rattle.phase_floor.proofs.resume.make_room.Goals as goal
 
 pub prepare_item-requires : goal.prepare_item-requires
