@@ -136,10 +136,10 @@ impl<N: PhaseName> Floor<N> {
         let mut stashes = stashes.into_iter();
         for key in keys {
             let Some(Kit { journal, slices }) = kits.next() else {
-                break;
+                unreachable!();
             };
             let Some(stash) = stashes.next() else {
-                break;
+                unreachable!();
             };
             let counters = self.counters[w];
             starts.push_reserved(Start {
