@@ -1,5 +1,5 @@
 -- What is done on cold objects is a commit in any phase, whatever its slices are.
-use Rattle.std.proofs.Common.{◌≡◌, ℕ, ◌<◌, false, List, [], ◌∷◌, ◌++◌, length, Option, Some, None, unwrap_or, refl, sym, ap, subst, ◌∙◌}
+use Rattle.std.proofs.Common.{◌≡◌, ℕ, false, List, [], ◌∷◌, ◌++◌, length, Option, Some, None, unwrap_or, refl, sym, ap, subst, ◌∙◌}
 use Rattle.std.specs.Prelude.{IfSome}
 use Rattle.auction_rows.specs.declared.ids.Object.{Object}
 use Rattle.auction_rows.specs.declared.ids.Object.TheVariants.{Item, User, Category}
@@ -74,13 +74,12 @@ touched x xs ys P is none = absurd (cc)
 
 -- a request over the shard of one cold object
 module _ (opening : List ShardState) (split : SplitState) (key back : KeyState) (request : Request) (object : Object) (index : ℕ) (context : ContextState) (same : context ≡ split.context)
-    (only : only_object request ≡ Some object) (allowed : number_refusal split.context.opening request ≡ None) (cold : is_hot (objects_of split.slices) object ≡ false)
-    (known : shard_of object (length opening) < length key.seats) (idle : IsIdle key) where
+    (only : only_object request ≡ Some object) (allowed : number_refusal split.context.opening request ≡ None) (cold : is_hot (objects_of split.slices) object ≡ false) (idle : IsIdle key) where
   pub cold_commits : (new : SplitState) (done : Commit Reply) → HasDone opening context key back request object index done
       → new.context ≡ done_at split.context index request done → new.slices ≡ split.slices
       → HasCommitted opening (permit split key) (permit new back) request index done.reply
   cold_commits new done is committed sliced =
-      done_commits opening split new key back request object index done only allowed (cold_setting split.slices object cold) known idle
+      done_commits opening split new key back request object index done only allowed (cold_setting split.slices object cold) idle
       (subst (λ (d : ContextState). HasDone opening d key back request object index done) same is) committed
       (sliced ∙ unwritten split.slices split.context.journal.worker request object done.reply only cold)
 

@@ -1,7 +1,8 @@
 -- What was done over the shards of a footprint is a commit, where each line is the one that is owed.
-use Rattle.std.proofs.Common.{◌≡◌, ◌≢◌, ℕ, suc, max, ◌<◌, ◌≤◌, ◌==◌, ◌||◌, Bool, true, false, cond, if◌then◌else◌, List, [], ◌∷◌, length, refl, sym, ap, ◌∙◌, arith}
+use Rattle.std.proofs.Common.{◌≡◌, ◌≢◌, ℕ, suc, max, ◌≤◌, ◌==◌, ◌||◌, cond, if◌then◌else◌, List, [], ◌∷◌, length, refl, sym, ap, ◌∙◌, arith}
 use Rattle.std.specs.List.{list_any}
-use Rattle.std.proofs.lemmas.Bool.{eq-eqb}
+use Rattle.std.proofs.Math.Bool.{or-false}
+use Rattle.std.proofs.lemmas.Bool.{eq-eqb, ne_eqb}
 use Rattle.phase_laws.specs.Numbers.{greatest_by}
 use Rattle.auction_rows.specs.declared.replies.Reply.{Reply}
 use Rattle.auction_rows.specs.declared.requests.Request.{Request}
@@ -21,11 +22,7 @@ use Rattle.phase_contexts.specs.Splits.{SplitState, setting_of}
 use Rattle.phase_transactions.specs.Pairs.{IsOverBoth}
 use Rattle.phase_transactions.specs.Permits.{permit, txn_of, IsIdle, HasCommitted}
 use Rattle.phase_transactions.specs.Putting.{IsOverOne}
-use Rattle.phase_transactions.proofs.KeyLemmas.{HasPutAll, one_put, both_put_all, differs}
-
-pub or_false : (b : Bool) → (b || false) ≡ b
-or_false true = refl
-or_false false = refl
+use Rattle.phase_transactions.proofs.KeyLemmas.{HasPutAll, one_put, both_put_all}
 
 no_less : (n : ℕ) → max n 0 ≡ n
 no_less n = omega arith
@@ -65,7 +62,7 @@ module _ (opening : List ShardState) (split new : SplitState) (key back : KeySta
 
   -- over one shard
   module _ (shard : ℕ) (acts : List Act) (over : IsOverOne opening split.context.clock key back shard number index found acts)
-      (owes : acts_owed z.opening shard z.shards (hot_in z) found.stock txn.0 ≡ acts) (known : shard < length key.seats) (idle : IsIdle key) where
+      (owes : acts_owed z.opening shard z.shards (hot_in z) found.stock txn.0 ≡ acts) (idle : IsIdle key) where
     pub found_by : (t : ℕ) → clock_found t txn ≡ (if shard == t then over.before else 0)
     found_by t = ap (λ (f : ReadSet). clock_found t (txn.0, f)) over.found_is
 
@@ -74,14 +71,14 @@ module _ (opening : List ShardState) (split new : SplitState) (key back : KeySta
 
     pub over_one_commits : ((t : ℕ) → takes z t txn ≡ (shard == t)) → greatest_clock z txn ≡ clock_found shard txn → HasCommitted opening (permit split key) (permit new back) request index reply
     over_one_commits took greatest =
-        commits (one_put opening key back shard (line over.before acts) (λ t. takes z t txn) (λ t. line_on z t txn) known idle over.put
-        (took shard ∙ eq-eqb shard shard refl) (λ i. line (sym found_there i) (sym owes i)) (λ t apart. took t ∙ differs shard t apart))
+        commits (one_put opening key back shard (line over.before acts) (λ t. takes z t txn) (λ t. line_on z t txn) idle over.put
+        (took shard ∙ eq-eqb shard shard refl) (λ i. line (sym found_there i) (sym owes i)) (λ t apart. took t ∙ ne_eqb shard t apart))
         (over.numbered ∙ ap (λ n. suc (max split.context.clock n)) (sym (greatest ∙ found_there))) over.within
 
     -- which is all of the footprint
     pub over_its_shard : footprint z.opening z.shards (hot_in z) txn.0 ≡ shard ∷ [] → HasCommitted opening (permit split key) (permit new back) request index reply
     over_its_shard prints =
-        over_one_commits (λ t. ap (list_any (λ s. s == t)) prints ∙ or_false (shard == t))
+        over_one_commits (λ t. ap (list_any (λ s. s == t)) prints ∙ or-false (shard == t))
         (ap (greatest_by (λ s. clock_found s txn)) prints ∙ no_less (clock_found shard txn))
 
   -- over two
@@ -95,14 +92,14 @@ module _ (opening : List ShardState) (split new : SplitState) (key back : KeySta
     found_on_other : clock_found other txn ≡ over.second
     found_on_other =
         ap (λ (f : ReadSet). clock_found other (txn.0, f)) over.found_is
-        ∙ (λ i. cond (differs one other apart i) over.first (cond (eq-eqb other other refl i) over.second 0))
+        ∙ (λ i. cond (ne_eqb one other apart i) over.first (cond (eq-eqb other other refl i) over.second 0))
 
     pub over_both_commit : ((t : ℕ) → takes z t txn ≡ ((one == t) || (other == t))) → greatest_clock z txn ≡ max (clock_found one txn) (clock_found other txn)
         → HasCommitted opening (permit split key) (permit new back) request index reply
     over_both_commit took greatest =
         let greatest_is : greatest_clock z txn ≡ max over.first over.second = greatest ∙ (λ i. max (found_on_one i) (found_on_other i)) in
         commits (both_put_all opening key back one other (line over.first acts) (line over.second more) (λ t. takes z t txn) (λ t. line_on z t txn) apart over.put
-        (took one ∙ ap (λ c. c || (other == one)) (eq-eqb one one refl)) (took other ∙ (λ i. differs one other apart i || eq-eqb other other refl i))
+        (took one ∙ ap (λ c. c || (other == one)) (eq-eqb one one refl)) (took other ∙ (λ i. ne_eqb one other apart i || eq-eqb other other refl i))
         (λ i. line (sym found_on_one i) (sym owes i)) (λ i. line (sym found_on_other i) (sym owes' i))
-        (λ t not_one not_other. took t ∙ (λ i. differs one t not_one i || differs other t not_other i)))
+        (λ t not_one not_other. took t ∙ (λ i. ne_eqb one t not_one i || ne_eqb other t not_other i)))
         (over.numbered ∙ ap (λ n. suc (max split.context.clock n)) (sym greatest_is)) over.within

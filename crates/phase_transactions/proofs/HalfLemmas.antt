@@ -1,5 +1,5 @@
 -- Transactions of a split phase that take one shard, or none, are commits.
-use Rattle.std.proofs.Common.{◌≡◌, ℕ, ◌<◌, ◌≤◌, ◌==◌, ◌&&◌, not, Bool, true, false, cond, if◌then◌else◌, List, [], ◌∷◌, length, map, filter, Option, Some, None, MatchOption, option_map, inl, inr, refl, sym, ap, subst, ◌∙◌, arith}
+use Rattle.std.proofs.Common.{◌≡◌, ℕ, ◌≤◌, ◌==◌, ◌&&◌, not, Bool, true, false, cond, if◌then◌else◌, List, [], ◌∷◌, length, map, filter, Option, Some, None, MatchOption, option_map, inl, inr, refl, sym, ap, subst, ◌∙◌}
 use Rattle.std.specs.Prelude.{is_some, ◌↔◌, IsNone, IfSome}
 use Rattle.std.proofs.lemmas.Bool.{eq-eqb}
 use Rattle.auction_rows.specs.declared.ids.ItemId.{ItemId}
@@ -146,12 +146,6 @@ act_by : (refused : Option Refusal) (reply stored : Reply) (one : Act) → Match
 act_by None reply stored one is = (one, (is, refl))
 act_by (Some reason) reply stored one is = (Look shown.Nothing, (is, refl))
 
--- the shard of an object, as a key has a seat for it
-pub seated : (object : Object) (n count shards seats : ℕ) → n ≡ shard_of object count → count ≡ shards → n < count → seats ≡ shards → (n ≡ shard_of object shards) × (shard_of object shards < seats)
-seated object n count shards seats is same within all =
-    let at : n ≡ shard_of object shards = is ∙ ap (shard_of object) same in
-    (at, subst (λ m. m < seats) at (omega (arith, within, same, all)))
-
 -- a comment on a hot item about a cold user
 module _ (opening : List ShardState) (split : SplitState) (key back : KeyState) (comment : Comment) (index : ℕ) (context : ContextState) (same : context ≡ split.context)
     (allowed : number_refusal split.context.opening (comment_request comment) ≡ None)
@@ -161,9 +155,9 @@ module _ (opening : List ShardState) (split : SplitState) (key back : KeyState) 
 
   pub user_commits : (new : SplitState) (done : Commit Reply) → HasCommentedUser opening context key back comment (stock_of (stocks_of split.slices) (Item comment.item)) index done
       → new.context ≡ done_at split.context index (comment_request comment) done → new.slices ≡ split.slices
-      → for_user < length key.seats → IsIdle key
+      → IsIdle key
       → HasCommitted opening (permit split key) (permit new back) (comment_request comment) index done.reply
-  user_commits new done over committed sliced known idle =
+  user_commits new done over committed sliced idle =
       let shards = length opening in
       let stock = stock_of (stocks_of split.slices) (Item comment.item) in
       let its = subst (λ (d : ContextState). HasCommentedUser opening d key back comment stock index done) same over in
@@ -176,7 +170,7 @@ module _ (opening : List ShardState) (split : SplitState) (key back : KeyState) 
       (replied (refusal_by split.context.opening stock (comment_request comment)) done.reply _ its.act _ _ its.answer))
       for_user (its.act ∷ Look shown.Nothing ∷ []) its.over
       (user_owed shards split comment done.reply done.number index done.found allowed stock its.act its.answer item user)
-      known idle
+      idle
       (comment_prints shards split comment done.reply done.number index done.found allowed true false item user)
 
   pub user_asked : shards_asked (length opening) split (comment_request comment) ≡ for_user ∷ []
@@ -200,9 +194,9 @@ module _ (opening : List ShardState) (split : SplitState) (key back : KeyState) 
       → IsCommentReplyBy split.context found.stock comment reply
       → new.context ≡ with_one_less (after_commit split.context number index (comment_request comment) reply found)
       → new.slices ≡ after_acts split.slices (writes_if (row_of split.context.journal.worker (comment_request comment) reply))
-      → for_item < length key.seats → IsIdle key
+      → IsIdle key
       → HasCommitted opening (permit split key) (permit new back) (comment_request comment) index reply
-  item_commits new number found reply looked answer committed sliced known idle =
+  item_commits new number found reply looked answer committed sliced idle =
       let shards = length opening in
       let stored = CommentStored (record { worker = split.context.journal.worker; serial = split.context.counters.comments }) in
       let item = cold_setting split.slices (Item comment.item) cold_item in
@@ -213,7 +207,7 @@ module _ (opening : List ShardState) (split : SplitState) (key back : KeyState) 
       for_item (comment_look comment found.stock ∷ Look shown.Nothing ∷ [])
       (subst (λ (d : ContextState). HasLooked opening d key back comment index number found) same looked)
       (item_owed shards split comment reply number index found allowed item user found.stock acted.0 acted.1)
-      known idle
+      idle
       (comment_prints shards split comment reply number index found allowed false true item user)
 
   pub item_asked : shards_asked (length opening) split (comment_request comment) ≡ for_item ∷ []

@@ -1,10 +1,11 @@
 -- Items that are stored: what their transactions leave is a commit.
-use Rattle.std.proofs.Common.{◌≡◌, ◌≢◌, ℕ, max, ◌<◌, ◌==◌, ◌||◌, ◌&&◌, not, Bool, true, false, cond, if◌then◌else◌, List, [], ◌∷◌, length, None, MatchOption, refl, sym, ap, subst, ◌∙◌, arith}
+use Rattle.std.proofs.Common.{◌≡◌, ◌≢◌, ℕ, max, ◌==◌, ◌||◌, ◌&&◌, not, Bool, true, false, cond, if◌then◌else◌, List, [], ◌∷◌, length, None, MatchOption, refl, sym, ap, subst, ◌∙◌, arith}
 use Rattle.std.specs.Prelude.{is_some, filter, map, IsTrue}
 use Rattle.std.specs.Prelude.{Result, Ok, Err, IsErrAnd, IfErr}
 use Rattle.std.specs.List.{list_any}
 use Rattle.std.specs.Option.{option_or}
-use Rattle.std.proofs.lemmas.Bool.{eq-eqb}
+use Rattle.std.proofs.Math.Bool.{or-false}
+use Rattle.std.proofs.lemmas.Bool.{eq-eqb, ne_eqb}
 use Rattle.phase_laws.specs.Numbers.{greatest_by}
 use Rattle.auction_rows.specs.declared.ids.ItemId.{ItemId}
 use Rattle.auction_rows.specs.declared.ids.Object.{Object}
@@ -12,12 +13,14 @@ use Rattle.auction_rows.specs.declared.ids.Object.TheVariants.{Item, Category}
 use Rattle.auction_rows.specs.declared.numbers.Opening.{Opening}
 use Rattle.auction_rows.specs.declared.replies.Reply.{Reply}
 use Rattle.auction_rows.specs.declared.replies.Reply.TheVariants.{ItemStored, Refused}
+use Rattle.auction_rows.specs.declared.requests.Facts.{Facts}
 use Rattle.auction_rows.specs.Footprint.{is_hot}
 use Rattle.auction_rows.specs.Refusals.{number_refusal, item_refusal}
 use Rattle.auction_rows.specs.Replies.{row_of}
 use Rattle.auction_rows.specs.Requests.{shard_of}
 use Rattle.auction_rows.proofs.RequestLemmas.{same_objects}
 use Rattle.item_shards.specs.declared.acts.Act.{Act}
+use Rattle.item_shards.specs.declared.acts.Act.TheVariants.{AddItem}
 use Rattle.item_shards.specs.declared.shard.Shard.{Shard}
 use Rattle.item_shards.specs.Acting.{CanActOn}
 use Rattle.item_shards.specs.ShardContents.{shard_number, shard_count, contents, opening as opening_of, rooms, clock, with_room, HasRoom, IsSameShard}
@@ -43,9 +46,8 @@ use Rattle.phase_transactions.specs.Performing.{HasFailed, shards_asked}
 use Rattle.phase_transactions.specs.Permits.{permit, done_at, txn_of, HasCommitted, IsIdle}
 use Rattle.phase_transactions.specs.Putting.{CanDo, IsOverOne}
 use Rattle.phase_transactions.specs.Taking.{HasStayed}
-use Rattle.phase_transactions.proofs.CommitLemmas.{or_false, found_by, over_one_commits, over_both_commit}
+use Rattle.phase_transactions.proofs.CommitLemmas.{found_by, over_one_commits, over_both_commit}
 use Rattle.phase_transactions.proofs.FailLemmas.{fails_over_one, fails_over_both}
-use Rattle.phase_transactions.proofs.KeyLemmas.{differs}
 use Rattle.phase_transactions.proofs.PairLemmas.{on_shard, equal_numbers, cold_kept}
 use Rattle.phase_transactions.proofs.TakeLemmas.{stayed_as, over_one_as, over_both_as}
 
@@ -57,14 +59,14 @@ pub room_made : (id : ItemId) (rooms : ItemId → Bool) → IsTrue (with_room id
 room_made id rooms = ap (λ b. b || rooms id) ((same_objects (Item id) (Item id)).1 refl)
 
 -- the item is added where there is room, and a second act is done after it
-pub can_add : (opening : List ShardState) (workers : ℕ) (key : KeyState) (s : ℕ) (held new : Shard) (item : NewItem) (id : ItemId) (second : Act)
+pub can_add : (opening : List ShardState) (workers : ℕ) (key : KeyState) (s : ℕ) (held new : Shard) (facts : Facts) (id : ItemId) (second : Act)
     → IsHistory opening workers s (seen_at key s) (state_of held) → state_of new ≡ state_of held → s ≡ shard_of (Item id) (length opening) → HasRoom new id → CanAlwaysDo opening s second
-    → CanDo new (adds item id ∷ second ∷ [])
-can_add opening workers key s held new item id second history same home room can =
+    → CanDo new (AddItem id facts ∷ second ∷ [])
+can_add opening workers key s held new facts id second history same home room can =
     let number : shard_number new ≡ s = ap (λ (state : ShardState). state.number) same ∙ history.number_is in
     let count : shard_count new ≡ length opening = ap (λ (state : ShardState). state.shards) same ∙ history.shards_is in
     let start : opening_of new ≡ (state_at opening s).opening = ap (λ (state : ShardState). state.opening) same ∙ history.opening_is in
-    let next = after_act (contents new) (adds item id) in (
+    let next = after_act (contents new) (AddItem id facts) in (
       (ap (shard_of (Item id)) count ∙ sym home ∙ sym number, room),
       (
         subst (λ (o : Opening). CanActOn o (shard_number new) (shard_count new) (rooms new) next second) (sym start)
@@ -123,7 +125,7 @@ module _ (opening : List ShardState) (split : SplitState) (item : NewItem) (hot 
 
   any_of : (t : ℕ) (h : Bool) → list_any (λ taken. taken == t) (home ∷ cond (not h) (listed ∷ []) []) ≡ (home == t) || (not h && (listed == t))
   any_of t true = refl
-  any_of t false = ap (λ b. (home == t) || b) (or_false (listed == t))
+  any_of t false = ap (λ b. (home == t) || b) (or-false (listed == t))
 
   greatest_of : (f : ℕ → ℕ) (h : Bool) → greatest_by f (home ∷ cond (not h) (listed ∷ []) []) ≡ max (f home) (cond h 0 (f listed))
   greatest_of f true = refl
@@ -175,14 +177,14 @@ module _ (opening : List ShardState) (split : SplitState) (item : NewItem) (hot 
     -- over its own shard alone, in which its category lies too or is hot
     pub one_commits : (second : Act) (over : IsOverOne opening split.context.clock key back home number index found (adds item id ∷ second ∷ []))
         → ((t : ℕ) → (home == t) ≡ false → lists_on t ≡ false) → on_shard (adds item id) (lists item id) true (lists_on home) ≡ adds item id ∷ second ∷ []
-        → home < length key.seats → IsIdle key → HasCommitted opening (permit split key) (permit new back) (item_request item) index (ItemStored id)
-    one_commits second over alone second_is known idle =
+        → IsIdle key → HasCommitted opening (permit split key) (permit new back) (item_request item) index (ItemStored id)
+    one_commits second over alone second_is idle =
         let owes = owed found index number home true (lists_on home) (equal_numbers home) refl ∙ second_is in
         let there = λ (t : ℕ). found_by opening split new key back (item_request item) index (ItemStored id) number found committed sliced (item_answered found index number)
-        home (adds item id ∷ second ∷ []) over owes known idle t in
+        home (adds item id ∷ second ∷ []) over owes idle t in
         let at_home : clock_found home (txn found index number) ≡ over.before = there home ∙ ap (λ c. cond c over.before 0) (equal_numbers home) in
         over_one_commits opening split new key back (item_request item) index (ItemStored id) number found committed sliced (item_answered found index number)
-        home (adds item id ∷ second ∷ []) over owes known idle
+        home (adds item id ∷ second ∷ []) over owes idle
         (λ t. taken_by found index number t ∙ or_alone (home == t) (lists_on t) (alone t))
         (greatest_is found index number ∙ (λ i. max (at_home i) (cond hot 0 (there listed i))) ∙ greatest_if hot (home == listed) over.before ∙ sym at_home)
 
@@ -194,8 +196,8 @@ module _ (opening : List ShardState) (split : SplitState) (item : NewItem) (hot 
         let on_listed = λ (t : ℕ). ap (λ h. not h && (listed == t)) cold in
         over_both_commit opening split new key back (item_request item) index (ItemStored id) number found committed sliced (item_answered found index number)
         home listed (adds item id ∷ nothing_else ∷ []) (lists item id ∷ nothing_else ∷ []) apart over
-        (owed found index number home true false (equal_numbers home) (on_listed home ∙ differs listed home (λ e. apart (sym e))))
-        (owed found index number listed false true (differs home listed apart) (on_listed listed ∙ equal_numbers listed))
+        (owed found index number home true false (equal_numbers home) (on_listed home ∙ ne_eqb listed home (λ e. apart (sym e))))
+        (owed found index number listed false true (ne_eqb home listed apart) (on_listed listed ∙ equal_numbers listed))
         (λ t. taken_by found index number t ∙ ap (λ b. (home == t) || b) (on_listed t))
         (greatest_is found index number ∙ ap (λ h. max (clock_found home (txn found index number)) (cond h 0 (clock_found listed (txn found index number)))) cold)
 
@@ -233,12 +235,12 @@ err_as (Err e) fault Q is q = subst Q (sym is) q
 -- an item in a hot category is stored over its own shard
 pub hot_stored : (opening : List ShardState) (split new : SplitState) (key back : KeyState) (item : NewItem) (id : ItemId) (own s index number : ℕ) (found : ReadSet) (reply : Reply)
     → number_refusal split.context.opening (item_request item) ≡ None → is_hot (objects_of split.slices) (Item id) ≡ false → IsHot split (Category item.facts.category)
-    → id ≡ next_item split.context → own ≡ split.context.clock → s ≡ shard_of (Item id) (length opening) → s < length key.seats → IsIdle key
+    → id ≡ next_item split.context → own ≡ split.context.clock → s ≡ shard_of (Item id) (length opening) → IsIdle key
     → IsOverOne opening own key back s number index found (adds item id ∷ nothing_else ∷ []) → reply ≡ ItemStored (next_item split.context)
     → new.context ≡ with_one_less (after_commit split.context number index (item_request item) reply found)
     → new.slices ≡ after_acts split.slices (writes_if (row_of split.context.journal.worker (item_request item) reply))
     → HasCommitted opening (permit split key) (permit new back) (item_request item) index reply
-hot_stored opening split new key back item id own s index number found reply allowed cold hot id_is own_is home known idle over reply_is committed sliced =
+hot_stored opening split new key back item id own s index number found reply allowed cold hot id_is own_is home idle over reply_is committed sliced =
     let mine = next_item split.context in
     let home_is : s ≡ shard_of (Item mine) (length opening) = home ∙ ap (λ (i : ItemId). shard_of (Item i) (length opening)) id_is in
     subst (λ (r : Reply). HasCommitted opening (permit split key) (permit new back) (item_request item) index r) (sym reply_is)
@@ -249,7 +251,7 @@ hot_stored opening split new key back item id own s index number found reply all
     (sliced ∙ ap (λ r. after_acts split.slices (writes_if (row_of split.context.journal.worker (item_request item) r))) reply_is)
     nothing_else
     (over_one_as opening own split.context.clock key back s (shard_of (Item mine) (length opening)) number index found (adds item id ∷ nothing_else ∷ []) (adds item mine ∷ nothing_else ∷ []) own_is home_is (λ i. adds item (id_is i) ∷ nothing_else ∷ []) over)
-    (λ t is. refl) refl (subst (λ n. n < length key.seats) home_is known) idle)
+    (λ t is. refl) refl idle)
 
 -- one in a cold category over the shards of both
 module _ (opening : List ShardState) (context : ContextState) (key back : KeyState) (item : NewItem) (id : ItemId) (index : ℕ) (allowed : number_refusal context.opening (item_request item) ≡ None) (id_is : id ≡ next_item context) where
@@ -274,17 +276,16 @@ module _ (opening : List ShardState) (context : ContextState) (key back : KeySta
   stored_as number found reply is stored =
       subst (λ (r : Reply). HasStoredCold opening context key back item index (record { number = number; reply = r; found = found })) (sym (is ∙ ap ItemStored id_is)) stored
 
-  pub cold_stored_one : (s number : ℕ) (found : ReadSet) (reply : Reply) → reply ≡ ItemStored id → s ≡ home_of → s ≡ listed_in → s < length key.seats → IsIdle key
+  pub cold_stored_one : (s number : ℕ) (found : ReadSet) (reply : Reply) → reply ≡ ItemStored id → s ≡ home_of → s ≡ listed_in → IsIdle key
       → IsOverOne opening context.clock key back s number index found (adds item id ∷ lists item id ∷ [])
       → HasStoredCold opening context key back item index (record { number = number; reply = reply; found = found })
-  cold_stored_one s number found reply reply_is home_is listed_is known idle over =
+  cold_stored_one s number found reply reply_is home_is listed_is idle over =
       let together : listed_in ≡ home_of = sym listed_is ∙ home_is in
       stored_as number found reply reply_is (λ slices cold.
       one_commits opening (with_slices slices context) item false allowed (hot_as slices (Item mine) false cold.item_is) (hot_as slices (Category item.facts.category) false cold.category_is)
       (after number found slices) key back index number found refl (cold_stay slices context item cold.category_is) (lists item mine)
       (over_one_as opening context.clock context.clock key back s home_of number index found (adds item id ∷ lists item id ∷ []) (adds item mine ∷ lists item mine ∷ []) refl home_is (λ i. adds item (id_is i) ∷ lists item (id_is i) ∷ []) over)
-      (λ t is. ap (λ n. n == t) together ∙ is) (ap (on_shard (adds item mine) (lists item mine) true) (eq-eqb listed_in home_of together))
-      (subst (λ n. n < length key.seats) home_is known) idle)
+      (λ t is. ap (λ n. n == t) together ∙ is) (ap (on_shard (adds item mine) (lists item mine) true) (eq-eqb listed_in home_of together)) idle)
 
   pub cold_stored_two : (one other number : ℕ) (found : ReadSet) (reply : Reply) → reply ≡ ItemStored id → one ≡ home_of → other ≡ listed_in → one ≢ other
       → IsOverBoth opening context.clock key back one other number index found (adds item id ∷ nothing_else ∷ []) (lists item id ∷ nothing_else ∷ [])

@@ -1,23 +1,17 @@
 -- A key that took one shard or two and put them back.
 use Rattle.std.proofs.Common.{◌≡◌, ◌≢◌, ℕ, ◌<◌, ◌==◌, Bool, true, false, cond, if◌then◌else◌, List, ◌∷◌, ◌++◌, length, Option, Some, refl, sym, ap, subst, ◌∙◌, ◌⊎◌, inl, inr, [], None, append-nil, append_assoc}
-use Rattle.std.proofs.lemmas.Bool.{eqb-true, eq-eqb, false≢true, true≢false}
+use Rattle.std.proofs.lemmas.Bool.{eqb-true, eq-eqb, ne_eqb, false≢true, true≢false}
 use Rattle.std.proofs.lemmas.Bool.Decides.{eqb_tells}
-use Rattle.std.proofs.lemmas.List.{get_or-set_same, get_or-set_other, length-set}
+use Rattle.std.proofs.lemmas.List.{length-set}
 use Rattle.shard_boxes.specs.declared.line.Line.{Line}
-use Rattle.shard_boxes.specs.Keys.{KeyState, SeatState, no_seat, seat_at, with_seat, put_seat, taking, putting, lines_at, holds_at, seen_at, added, entries}
+use Rattle.shard_boxes.specs.Keys.{KeyState, SeatState, seat_at, with_seat, put_seat, taking, putting, lines_at, holds_at, seen_at, added, entries}
 use Rattle.shard_boxes.specs.Helds.{HeldState}
 use Rattle.shard_boxes.specs.Lines.{after, MayFollow, StartsWith}
 use Rattle.shard_boxes.specs.States.{ShardState, state_at}
+use Rattle.shard_boxes.proofs.SeatLemmas.{seat-same, seat-other, taking-same, taking-other, putting-same, putting-other, length-with_seat}
 use Rattle.phase_transactions.specs.Permits.{IsIdle}
 use Rattle.phase_transactions.specs.Putting.{KeepsSeen, HasPut, HasPutOne, IsPutWith}
 use Rattle.phase_transactions.specs.Pairs.{HoldsBoth, HasSameLines, LeavesOthers, HasPutBoth, HasPutTwo}
-
--- the seat that was changed, and the others
-seat_same : (key : KeyState) (s : ℕ) (seat : SeatState) → s < length key.seats → seat_at (with_seat key s seat) s ≡ seat
-seat_same key s seat known = get_or-set_same key.seats s seat no_seat known
-
-seat_other : (key : KeyState) (s t : ℕ) (seat : SeatState) → t ≢ s → seat_at (with_seat key s seat) t ≡ seat_at key t
-seat_other key s t seat other = get_or-set_other key.seats s t seat no_seat other
 
 -- what a key has seen goes on where it stays, from step to step, with a take and with a put
 pub seen_still : (key : KeyState) → KeepsSeen key key
@@ -33,8 +27,8 @@ seen_with : (key new : KeyState) (s : ℕ) (seat : SeatState) → new ≡ with_s
 seen_with key new s seat is known later = subst (KeepsSeen key) (sym is) (λ t. go t (eqb_tells s t))
   where
     go : (t : ℕ) → (((s == t) ≡ true) × (s ≡ t)) ⊎ (((s == t) ≡ false) × (s ≢ t)) → StartsWith (seen_at (with_seat key s seat) t) (seen_at key t)
-    go t (inl h) = subst (λ n. StartsWith (seen_at (with_seat key s seat) n) (seen_at key n)) h.1 (later.0, ap (λ (seat : SeatState). seat.seen) (seat_same key s seat known) ∙ later.1)
-    go t (inr h) = ([], ap (λ (seat : SeatState). seat.seen) (seat_other key s t seat (λ e. h.1 (sym e))) ∙ sym (append-nil (seen_at key t)))
+    go t (inl h) = subst (λ n. StartsWith (seen_at (with_seat key s seat) n) (seen_at key n)) h.1 (later.0, ap (λ (seat : SeatState). seat.seen) (seat-same key s seat known) ∙ later.1)
+    go t (inr h) = ([], ap (λ (seat : SeatState). seat.seen) (seat-other key s t seat (λ e. h.1 (sym e))) ∙ sym (append-nil (seen_at key t)))
 
 pub seen_taken : (key new : KeyState) (s : ℕ) (seen : List (ℕ × Line)) → new ≡ taking key s seen → s < length key.seats → StartsWith seen (seen_at key s) → KeepsSeen key new
 seen_taken key new s seen = seen_with key new s (record (seat_at key s) { holds = true; seen = seen })
@@ -49,13 +43,13 @@ module _ (key : KeyState) (s : ℕ) (seen : List (ℕ × Line)) (line : Option L
 
   put_here : seat_at (putting (taking key s seen) s line) s ≡ put_seat key.worker (record (seat_at key s) { holds = true; seen = seen }) line
   put_here =
-      seat_same (taking key s seen) s (put_seat key.worker (seat_at (taking key s seen) s) line) still_known
-      ∙ ap (λ seat. put_seat key.worker seat line) (seat_same key s (record (seat_at key s) { holds = true; seen = seen }) known)
+      seat-same (taking key s seen) s (put_seat key.worker (seat_at (taking key s seen) s) line) still_known
+      ∙ ap (λ seat. put_seat key.worker seat line) (seat-same key s (record (seat_at key s) { holds = true; seen = seen }) known)
 
   put_there : (t : ℕ) → t ≢ s → seat_at (putting (taking key s seen) s line) t ≡ seat_at key t
   put_there t other =
-      seat_other (taking key s seen) s t (put_seat key.worker (seat_at (taking key s seen) s) line) other
-      ∙ seat_other key s t (record (seat_at key s) { holds = true; seen = seen }) other
+      seat-other (taking key s seen) s t (put_seat key.worker (seat_at (taking key s seen) s) line) other
+      ∙ seat-other key s t (record (seat_at key s) { holds = true; seen = seen }) other
 
   apart : (t : ℕ) → (t == s) ≡ false → t ≢ s
   apart t e is = false≢true (sym e ∙ eq-eqb t s is)
@@ -78,48 +72,32 @@ module _ (key : KeyState) (s : ℕ) (seen : List (ℕ × Line)) (line : Option L
   seen_after back is later =
       seen_on key (taking key s seen) back (seen_taken key (taking key s seen) s seen refl known later) (seen_put (taking key s seen) back s line is still_known)
 
--- what a take and a put leave of each shard
-pub taken_here : (key : KeyState) (s : ℕ) (seen : List (ℕ × Line)) → s < length key.seats → seat_at (taking key s seen) s ≡ record (seat_at key s) { holds = true; seen = seen }
-taken_here key s seen known = seat_same key s (record (seat_at key s) { holds = true; seen = seen }) known
-
-pub taken_there : (key : KeyState) (s t : ℕ) (seen : List (ℕ × Line)) → t ≢ s → seat_at (taking key s seen) t ≡ seat_at key t
-taken_there key s t seen other = seat_other key s t (record (seat_at key s) { holds = true; seen = seen }) other
-
-pub put_back_here : (key : KeyState) (s : ℕ) (line : Option Line) → s < length key.seats → seat_at (putting key s line) s ≡ put_seat key.worker (seat_at key s) line
-put_back_here key s line known = seat_same key s (put_seat key.worker (seat_at key s) line) known
-
-pub put_back_there : (key : KeyState) (s t : ℕ) (line : Option Line) → t ≢ s → seat_at (putting key s line) t ≡ seat_at key t
-put_back_there key s t line other = seat_other key s t (put_seat key.worker (seat_at key s) line) other
-
 -- putting a shard back as it was leaves what was seen of it
 pub seen_back : (key : KeyState) (s : ℕ) → s < length key.seats → seen_at (putting key s None) s ≡ seen_at key s
-seen_back key s known = ap (λ (seat : SeatState). seat.seen) (put_back_here key s None known) ∙ append-nil (seen_at key s)
-
-pub as_many_seats : (key : KeyState) (s : ℕ) (seat : SeatState) → length (with_seat key s seat).seats ≡ length key.seats
-as_many_seats key s seat = length-set key.seats s seat
+seen_back key s known = ap (λ (seat : SeatState). seat.seen) (putting-same key s None known) ∙ append-nil (seen_at key s)
 
 as_many_put : (key : KeyState) (s : ℕ) (seen : List (ℕ × Line)) (line : Option Line) → length (putting (taking key s seen) s line).seats ≡ length key.seats
 as_many_put key s seen line =
-    as_many_seats (taking key s seen) s (put_seat key.worker (seat_at (taking key s seen) s) line) ∙ as_many_seats key s (record (seat_at key s) { holds = true; seen = seen })
+    length-with_seat (taking key s seen) s (put_seat key.worker (seat_at (taking key s seen) s) line) ∙ length-with_seat key s (record (seat_at key s) { holds = true; seen = seen })
 
 -- a take leaves the lines
 pub lines_taken : (key : KeyState) (s : ℕ) (seen : List (ℕ × Line)) → s < length key.seats → (t : ℕ) → lines_at (taking key s seen) t ≡ lines_at key t
 lines_taken key s seen known t = go (eqb_tells s t)
   where
     go : (((s == t) ≡ true) × (s ≡ t)) ⊎ (((s == t) ≡ false) × (s ≢ t)) → lines_at (taking key s seen) t ≡ lines_at key t
-    go (inl h) = subst (λ n. lines_at (taking key s seen) n ≡ lines_at key n) h.1 (ap (λ (seat : SeatState). seat.lines) (taken_here key s seen known))
-    go (inr h) = ap (λ (seat : SeatState). seat.lines) (taken_there key s t seen (λ e. h.1 (sym e)))
+    go (inl h) = subst (λ n. lines_at (taking key s seen) n ≡ lines_at key n) h.1 (ap (λ (seat : SeatState). seat.lines) (taking-same key s seen known))
+    go (inr h) = ap (λ (seat : SeatState). seat.lines) (taking-other key s t seen (λ e. h.1 (sym e)))
 
 -- so do two
 pub same_lines : (k k1 k2 : KeyState) (a b : ℕ) → k1 ≡ taking k a (seen_at k1 a) → k2 ≡ taking k1 b (seen_at k2 b) → a < length k.seats → b < length k.seats
     → StartsWith (seen_at k1 a) (seen_at k a) → StartsWith (seen_at k2 b) (seen_at k1 b) → HasSameLines k k2
 same_lines k k1 k2 a b first second a_known b_known later later' =
-    let many : length k1.seats ≡ length k.seats = ap (λ (j : KeyState). length j.seats) first ∙ as_many_seats k a (record (seat_at k a) { holds = true; seen = seen_at k1 a }) in
+    let many : length k1.seats ≡ length k.seats = ap (λ (j : KeyState). length j.seats) first ∙ length-with_seat k a (record (seat_at k a) { holds = true; seen = seen_at k1 a }) in
     let known : b < length k1.seats = subst (λ n. b < n) (sym many) b_known in
     record {
       boxes = ap (λ (j : KeyState). j.boxes) second ∙ ap (λ (j : KeyState). j.boxes) first;
       worker = ap (λ (j : KeyState). j.worker) second ∙ ap (λ (j : KeyState). j.worker) first;
-      seats = ap (λ (j : KeyState). length j.seats) second ∙ as_many_seats k1 b (record (seat_at k1 b) { holds = true; seen = seen_at k2 b }) ∙ many;
+      seats = ap (λ (j : KeyState). length j.seats) second ∙ length-with_seat k1 b (record (seat_at k1 b) { holds = true; seen = seen_at k2 b }) ∙ many;
       lines = λ t. ap (λ j. lines_at j t) second ∙ lines_taken k1 b (seen_at k2 b) known t ∙ ap (λ j. lines_at j t) first ∙ lines_taken k a (seen_at k1 a) a_known t;
       seen = seen_on k k1 k2 (seen_taken k k1 a (seen_at k1 a) first a_known later) (seen_taken k1 k2 b (seen_at k2 b) second known later');
     }
@@ -128,19 +106,19 @@ same_lines k k1 k2 a b first second a_known b_known later later' =
 module _ (k k1 k2 : KeyState) (a b : ℕ) (x y : Option Line) (holds : HoldsBoth k a b) (first : k1 ≡ putting k a x) (second : k2 ≡ putting k1 b y) where
   -- the second is as it was
   pub second_kept : seat_at k1 b ≡ seat_at k b
-  second_kept = ap (λ j. seat_at j b) first ∙ put_back_there k a b x (λ e. holds.apart (sym e))
+  second_kept = ap (λ j. seat_at j b) first ∙ putting-other k a b x (λ e. holds.apart (sym e))
 
   known_still : b < length k1.seats
-  known_still = subst (λ n. b < n) (sym (ap (λ (j : KeyState). length j.seats) first ∙ as_many_seats k a (put_seat k.worker (seat_at k a) x))) holds.other_known
+  known_still = subst (λ n. b < n) (sym (ap (λ (j : KeyState). length j.seats) first ∙ length-with_seat k a (put_seat k.worker (seat_at k a) x))) holds.other_known
 
   at_first : seat_at k2 a ≡ put_seat k.worker (seat_at k a) x
-  at_first = ap (λ j. seat_at j a) second ∙ put_back_there k1 b a y holds.apart ∙ ap (λ j. seat_at j a) first ∙ put_back_here k a x holds.one_known
+  at_first = ap (λ j. seat_at j a) second ∙ putting-other k1 b a y holds.apart ∙ ap (λ j. seat_at j a) first ∙ putting-same k a x holds.one_known
 
   at_second : seat_at k2 b ≡ put_seat k1.worker (seat_at k1 b) y
-  at_second = ap (λ j. seat_at j b) second ∙ put_back_here k1 b y known_still
+  at_second = ap (λ j. seat_at j b) second ∙ putting-same k1 b y known_still
 
   at_another : (t : ℕ) → t ≢ a → t ≢ b → seat_at k2 t ≡ seat_at k t
-  at_another t not_a not_b = ap (λ j. seat_at j t) second ∙ put_back_there k1 b t y not_b ∙ ap (λ j. seat_at j t) first ∙ put_back_there k a t x not_a
+  at_another t not_a not_b = ap (λ j. seat_at j t) second ∙ putting-other k1 b t y not_b ∙ ap (λ j. seat_at j t) first ∙ putting-other k a t x not_a
 
   -- and putting both back as they were leaves what was seen of each
   pub seen_both : x ≡ None → y ≡ None → (seen_at k2 a ≡ seen_at k a) × (seen_at k2 b ≡ seen_at k b)
@@ -151,8 +129,8 @@ module _ (k k1 k2 : KeyState) (a b : ℕ) (x y : Option Line) (holds : HoldsBoth
 
   pub both_put : HasPutBoth k k2 a b x y
   both_put = record {
-    seats = ap (λ (j : KeyState). length j.seats) second ∙ as_many_seats k1 b (put_seat k1.worker (seat_at k1 b) y)
-        ∙ ap (λ (j : KeyState). length j.seats) first ∙ as_many_seats k a (put_seat k.worker (seat_at k a) x);
+    seats = ap (λ (j : KeyState). length j.seats) second ∙ length-with_seat k1 b (put_seat k1.worker (seat_at k1 b) y)
+        ∙ ap (λ (j : KeyState). length j.seats) first ∙ length-with_seat k a (put_seat k.worker (seat_at k a) x);
     boxes = ap (λ (j : KeyState). j.boxes) second ∙ ap (λ (j : KeyState). j.boxes) first;
     worker = ap (λ (j : KeyState). j.worker) second ∙ ap (λ (j : KeyState). j.worker) first;
     idle = λ t. idle_at t (eqb_tells t a) (eqb_tells t b);
@@ -279,7 +257,7 @@ one_back key taken back s n seen first second same known idle later =
 -- and what was seen of it when it was taken
 pub one_seen : (key taken back : KeyState) (s n : ℕ) (seen : List (ℕ × Line)) → taken ≡ taking key s seen → back ≡ putting taken n None → n ≡ s → s < length key.seats → seen_at back s ≡ seen_at taken s
 one_seen key taken back s n seen first second same known =
-    let many : length taken.seats ≡ length key.seats = ap (λ (j : KeyState). length j.seats) first ∙ as_many_seats key s (record (seat_at key s) { holds = true; seen = seen }) in
+    let many : length taken.seats ≡ length key.seats = ap (λ (j : KeyState). length j.seats) first ∙ length-with_seat key s (record (seat_at key s) { holds = true; seen = seen }) in
     ap (λ j. seen_at j s) second ∙ (λ i. seen_at (putting taken (same i) None) s) ∙ seen_back taken s (subst (λ m. s < m) (sym many) known)
 
 -- and no other seat changes
@@ -311,21 +289,14 @@ none_put opening key took owed none idle = record {
   seats = refl;
 }
 
-pub differs : (a b : ℕ) → a ≢ b → (a == b) ≡ false
-differs a b apart = go (eqb_tells a b)
-  where
-    go : (((a == b) ≡ true) × (a ≡ b)) ⊎ (((a == b) ≡ false) × (a ≢ b)) → (a == b) ≡ false
-    go (inl h) = absurd (apart h.1)
-    go (inr h) = h.0
-
 -- where one was
-module _ (opening : List ShardState) (key back : KeyState) (s : ℕ) (line : Line) (took : ℕ → Bool) (owed : ℕ → Line) (known : s < length key.seats) (idle : IsIdle key)
+module _ (opening : List ShardState) (key back : KeyState) (s : ℕ) (line : Line) (took : ℕ → Bool) (owed : ℕ → Line) (idle : IsIdle key)
     (put : HasPutOne opening key back s line) (taken : took s ≡ true) (owes : line ≡ owed s) (rest : (t : ℕ) → s ≢ t → took t ≡ false) where
   one_here : seat_at back s ≡ put_seat key.worker (record (seat_at key s) { holds = true; seen = put.seen }) (Some line)
-  one_here = ap (λ j. seat_at j s) put.put ∙ put_here key s put.seen (Some line) known
+  one_here = ap (λ j. seat_at j s) put.put ∙ put_here key s put.seen (Some line) put.known
 
   one_there : (t : ℕ) → s ≢ t → seat_at back t ≡ seat_at key t
-  one_there t other = ap (λ j. seat_at j t) put.put ∙ put_there key s put.seen (Some line) known t (λ e. other (sym e))
+  one_there t other = ap (λ j. seat_at j t) put.put ∙ put_there key s put.seen (Some line) put.known t (λ e. other (sym e))
 
   one_worker : key.worker ≡ back.worker
   one_worker = sym (ap (λ (j : KeyState). j.worker) put.put)
@@ -348,8 +319,8 @@ module _ (opening : List ShardState) (key back : KeyState) (s : ℕ) (line : Lin
     lines = λ t. lines_are t (eqb_tells s t);
     puts = λ t. puts_are t (eqb_tells s t);
     others = λ t. others_are t (eqb_tells s t);
-    seen = seen_after key s put.seen (Some line) known back put.put put.later;
-    idle = subst IsIdle (sym put.put) (idle_put key s put.seen (Some line) known idle);
+    seen = seen_after key s put.seen (Some line) put.known back put.put put.later;
+    idle = subst IsIdle (sym put.put) (idle_put key s put.seen (Some line) put.known idle);
     worker = sym one_worker;
     boxes = ap (λ (j : KeyState). j.boxes) put.put;
     seats = ap (λ (j : KeyState). length j.seats) put.put ∙ as_many_put key s put.seen (Some line);
@@ -383,7 +354,7 @@ module _ (opening : List ShardState) (key back : KeyState) (a b : ℕ) (first se
   lines_of_second : HasLines b
   lines_of_second =
       put.put.lines b
-      ∙ ap (λ c. cond c (lines_at key a ++ first ∷ []) (if b == b then lines_at key b ++ second ∷ [] else lines_at key b)) (differs b a (λ e. apart (sym e)))
+      ∙ ap (λ c. cond c (lines_at key a ++ first ∷ []) (if b == b then lines_at key b ++ second ∷ [] else lines_at key b)) (ne_eqb b a (λ e. apart (sym e)))
       ∙ ap (λ c. cond c (lines_at key b ++ second ∷ []) (lines_at key b)) (eq-eqb b b refl)
       ∙ ap (λ l. lines_at key b ++ l ∷ []) owes' ∙ sym (ap (λ c. cond c (lines_at key b ++ owed b ∷ []) (lines_at key b)) taken')
 

@@ -13,6 +13,7 @@ pub mod RightLemmas
 pub mod ItemLemmas
 pub mod HalfLemmas
 pub mod PermitLemmas
+pub mod TryLemmas
 pub mod StashedLemmas
 pub mod LastLemmas
 pub mod JoinedLemmas

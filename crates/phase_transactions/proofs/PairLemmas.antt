@@ -1,8 +1,9 @@
 -- A comment over the shards of its item and of its user is a commit.
-use Rattle.std.proofs.Common.{◌≡◌, ℕ, max, ◌<◌, ◌==◌, ◌||◌, ◌&&◌, not, Bool, true, false, cond, if◌then◌else◌, List, [], ◌∷◌, Option, Some, None, MatchOption, option_map, ◌⊎◌, inl, inr, refl, sym, ap, subst, ◌∙◌, arith, length}
+use Rattle.std.proofs.Common.{◌≡◌, ℕ, max, ◌<◌, ◌≤◌, ◌==◌, ◌||◌, ◌&&◌, not, Bool, true, false, cond, if◌then◌else◌, List, [], ◌∷◌, Option, Some, None, MatchOption, option_map, ◌⊎◌, inl, inr, refl, sym, ap, subst, ◌∙◌, arith, length}
 use Rattle.std.specs.Prelude.{ℤ, is_some, filter}
 use Rattle.std.specs.List.{list_any}
-use Rattle.std.proofs.lemmas.Bool.{eq-eqb, true≢false}
+use Rattle.std.proofs.Math.Bool.{or-false}
+use Rattle.std.proofs.lemmas.Bool.{eq-eqb, ne_eqb, or_parts, leb-false}
 use Rattle.phase_laws.specs.Numbers.{greatest_by}
 use Rattle.auction_rows.specs.declared.ids.Object.TheVariants.{Item, User}
 use Rattle.auction_rows.specs.declared.replies.Refusal.{Refusal}
@@ -18,8 +19,10 @@ use Rattle.item_shards.specs.declared.acts.Act.{Act}
 use Rattle.item_shards.specs.declared.acts.Act.TheVariants.{Look, Comment as CommentOn}
 use Rattle.item_shards.specs.declared.acts.Shown.TheVariants as shown
 use Rattle.item_shards.specs.Writing.{writes_if, is_done_on, done_on, padded}
+use Rattle.shard_boxes.specs.Helds.{HeldState}
 use Rattle.shard_boxes.specs.Keys.{KeyState}
-use Rattle.shard_boxes.specs.States.{ShardState}
+use Rattle.shard_boxes.specs.States.{ShardState, state_of}
+use Rattle.shard_boxes.proofs.LimitLemmas.{two_fit}
 use Rattle.phase_contexts.specs.declared.read_set.ReadSet.{ReadSet}
 use Rattle.phase_contexts.specs.declared.bids.Comment.{Comment}
 use Rattle.phase_contexts.specs.Bids.{comment_request}
@@ -27,25 +30,27 @@ use Rattle.item_shards.specs.declared.slices.Slice.{Slice}
 use Rattle.auction_rows.specs.declared.ids.Object.{Object}
 use Rattle.phase_contexts.proofs.AnswerLemmas.{same_objects_of}
 use Rattle.auction_rows.specs.Requests.{same_object}
-use Rattle.auction_rows.proofs.RequestLemmas.{same_object-true}
+use Rattle.auction_rows.proofs.RequestLemmas.{same_either_way}
 use Rattle.phase_contexts.specs.declared.slices.Hot.{Hot}
 use Rattle.phase_contexts.specs.Slicing.{after_acts, objects_of, changed, comment_about}
 use Rattle.phase_contexts.specs.Txns.{Setting, Txn, hot_in, takes, line_on, greatest_clock, clock_found, refusal_by, IsAnswered}
 use Rattle.phase_contexts.specs.Contexts.{ContextState}
 use Rattle.phase_contexts.specs.Splits.{SplitState, setting_of}
 use Rattle.phase_transactions.specs.declared.commit.Commit.{Commit}
-use Rattle.phase_transactions.specs.Pairs.{IsCommentAnswer, comment_look, HasCommented, HasCommentedInOne, HasCommentedCold}
+use Rattle.phase_transactions.specs.Pairs.{IsAsTaken, IsCommentAnswer, comment_look, HasCommented, HasCommentedInOne, HasCommentedCold}
 use Rattle.phase_transactions.specs.Permits.{txn_of, done_at, IsIdle}
-use Rattle.phase_transactions.proofs.CommitLemmas.{or_false, over_one_commits, over_both_commit}
-use Rattle.phase_transactions.proofs.KeyLemmas.{differs}
+use Rattle.phase_transactions.specs.Single.{HaveOpening}
+use Rattle.phase_transactions.proofs.SingleLemmas.{lies_taken}
+use Rattle.phase_transactions.proofs.CommitLemmas.{over_one_commits, over_both_commit}
 use Rattle.std.specs.Prelude.{nat_le}
-use Rattle.std.proofs.lemmas.Bool.{false≢true, leb-false}
 use Rattle.auction_rows.specs.declared.numbers.Opening.{Opening}
 use Rattle.auction_rows.specs.declared.replies.Refusal.TheVariants.{NoSuchUser, NoSuchCategory}
 use Rattle.auction_rows.specs.Refusals.{holds_by_number}
 use Rattle.item_shards.specs.declared.shard.Shard.{Shard}
 use Rattle.item_shards.specs.Acting.{CanAct}
-use Rattle.item_shards.specs.ShardContents.{LiesIn, contents, opening as opening_of}
+use Rattle.item_shards.specs.CommitNumbers.{last_number}
+use Rattle.item_shards.specs.Limits.{AreStars}
+use Rattle.item_shards.specs.ShardContents.{LiesIn, clock, contents, opening as opening_of}
 use Rattle.shard_boxes.specs.Limits.{SumsFit}
 
 -- what a comment writes: its act where it is accepted
@@ -164,38 +169,40 @@ no_reason true b x y e = absurd (cc)
 no_reason false true x y e = absurd (cc)
 no_reason false false x y e = (refl, refl)
 
-none_of : (a b : Bool) → (a || b) ≡ false → (a ≡ false) × (b ≡ false)
-none_of true b e = absurd (false≢true (sym e))
-none_of false b e = (refl, e)
-
-pub about_known : (opening : Opening) (comment : Comment) → number_refusal opening (comment_request comment) ≡ None → comment.about < opening.users
+about_known : (opening : Opening) (comment : Comment) → number_refusal opening (comment_request comment) ≡ None → comment.about < opening.users
 about_known opening comment allowed =
     let request = comment_request comment in
     let none = no_reason (holds_by_number opening request NoSuchUser) (holds_by_number opening request NoSuchCategory) NoSuchUser NoSuchCategory allowed in
-    leb-false opening.users comment.about (none_of (nat_le opening.users comment.about) false (none_of (nat_le opening.users comment.author) _ none.0).1).0
+    leb-false opening.users comment.about (or_parts (nat_le opening.users comment.about) false (or_parts (nat_le opening.users comment.author) _ none.0).1).0
 
 -- and what it does to the user can be done on the user's shard
-pub can_act : (shard : Shard) (about : ℕ) (stars : ℤ) (refused : Option Refusal) (reply stored : Reply) (act : Act) → LiesIn shard (User about) → about < (opening_of shard).users → SumsFit (contents shard) (CommentOn about stars)
+can_act : (shard : Shard) (about : ℕ) (stars : ℤ) (refused : Option Refusal) (reply stored : Reply) (act : Act) → LiesIn shard (User about) → about < (opening_of shard).users → SumsFit (contents shard) (CommentOn about stars)
     → MatchOption refused ((reply ≡ stored) × (act ≡ CommentOn about stars)) (λ reason. (reply ≡ Refused reason) × (act ≡ Look shown.Nothing)) → CanAct shard act
 can_act shard about stars None reply stored act lies known fits is = subst (CanAct shard) (sym is.1) (lies, known, fits.0, fits.1)
 can_act shard about stars (Some reason) reply stored act lies known fits is = subst (CanAct shard) (sym is.1) tt
+
+pub can_comment : (opening : List ShardState) (workers : ℕ) (key : KeyState) (held : HeldState) (context : ContextState) (comment : Comment) (stock : Option (Facts × ℕ)) (number : ℕ) (reply : Reply) (act : Act)
+    → IsAsTaken opening workers key held → held.number ≡ shard_of (User comment.about) (length opening) → HaveOpening opening context.opening
+    → number_refusal context.opening (comment_request comment) ≡ None → clock held.shard < number → number ≤ last_number → AreStars comment.stars
+    → IsCommentAnswer context stock comment reply act → CanAct held.shard act
+can_comment opening workers key held context comment stock number reply act taken user openings allowed later within given answer =
+    let shard = held.shard in
+    let lies = lies_taken opening workers key held (User comment.about) taken user in
+    let opened : opening_of shard ≡ context.opening = taken.opening_is ∙ openings held.number taken.known in
+    let known = subst (λ (o : Opening). comment.about < o.users) (sym opened) (about_known context.opening comment allowed) in
+    let fits = (two_fit (state_of shard) (CommentOn comment.about comment.stars) (Look shown.Nothing) taken.within (omega (arith, later, within)) given tt).0 in
+    can_act shard comment.about comment.stars (refusal_by context.opening stock (comment_request comment)) reply _ act lies known fits answer
 
 pub equal_numbers : (n : ℕ) → (n == n) ≡ true
 equal_numbers n = eq-eqb n n refl
 
 -- what is written of a cold object changes no slice
 
-turned_object : (one other : Object) (b : Bool) → same_object one other ≡ b → same_object other one ≡ false → b ≡ false
-turned_object one other false is apart = refl
-turned_object one other true is apart =
-    let same : one ≡ other = same_object-true one other is in
-    absurd (true≢false (sym (subst (λ o. same_object o one ≡ true) same (subst (λ o. same_object one o ≡ true) (sym same) is)) ∙ apart))
-
 pub cold_kept : (hots : List (Object × Hot)) (object : Object) (change : Slice → Slice) → is_hot (objects_of hots) object ≡ false → changed object change hots ≡ hots
 cold_kept [] object change cold = refl
 cold_kept (hot ∷ hots) object change cold =
-    let both = none_of (same_object hot.0 object) (is_hot (objects_of hots) object) cold in
-    let apart = turned_object object hot.0 (same_object object hot.0) refl both.0 in
+    let both = or_parts (same_object hot.0 object) (is_hot (objects_of hots) object) cold in
+    let apart = same_either_way object hot.0 ∙ both.0 in
     λ i. (hot.0, cond (apart i) (record hot.1 { slice = change hot.1.slice }) hot.1) ∷ cold_kept hots object change both.1 i
 
 pub cold_acts : (hots : List (Object × Hot)) (user : ℕ) (stars : ℤ) (acts : List Act) → is_hot (objects_of hots) (User user) ≡ false → (acts ≡ []) ⊎ (acts ≡ CommentOn user stars ∷ []) → hots ≡ after_acts hots acts
@@ -246,18 +253,18 @@ module _ (opening : List ShardState) (context : ContextState) (key back : KeySta
       let new : SplitState = record { context = done_at context index (comment_request comment) done; slices = slices } in
       let cold_item = cold_setting slices (Item comment.item) item in
       let cold_user = cold_setting slices (User comment.about) user in
-      let turned = differs its_user its_item (λ e. is.apart (sym e)) in
+      let turned = ne_eqb its_user its_item (λ e. is.apart (sym e)) in
       over_both_commit opening split new key back (comment_request comment) index done.reply done.number done.found refl (unwritten slices is.act user is.answer)
       (comment_answered shards split comment done.found index done.number done.reply is.act allowed cold_item cold_user is.answer)
       its_item its_user (its_look ∷ Look shown.Nothing ∷ []) (is.act ∷ Look shown.Nothing ∷ []) is.apart is.over
       (owed shards split comment done.found index done.number done.reply is.act allowed cold_item cold_user is.answer its_item true false (equal_numbers its_item) turned)
-      (owed shards split comment done.found index done.number done.reply is.act allowed cold_item cold_user is.answer its_user false true (differs its_item its_user is.apart) (equal_numbers its_user))
-      (λ t. taken_by shards split comment done.found index done.number done.reply is.act allowed cold_item cold_user is.answer t ∙ ap (λ b. (its_item == t) || b) (or_false (its_user == t)))
+      (owed shards split comment done.found index done.number done.reply is.act allowed cold_item cold_user is.answer its_user false true (ne_eqb its_item its_user is.apart) (equal_numbers its_user))
+      (λ t. taken_by shards split comment done.found index done.number done.reply is.act allowed cold_item cold_user is.answer t ∙ ap (λ b. (its_item == t) || b) (or-false (its_user == t)))
       (greatest_two shards split comment done.found index done.number done.reply is.act allowed cold_item cold_user is.answer ∙ greatest_both _ _)
 
   -- over the one in which both lie
-  pub cold_over_one : its_item < length key.seats → IsIdle key → HasCommentedInOne opening context key back comment index done → HasCommentedCold opening context key back comment index done
-  cold_over_one known idle is slices item user =
+  pub cold_over_one : IsIdle key → HasCommentedInOne opening context key back comment index done → HasCommentedCold opening context key back comment index done
+  cold_over_one idle is slices item user =
       let shards = length opening in
       let split : SplitState = record { context = context; slices = slices } in
       let new : SplitState = record { context = done_at context index (comment_request comment) done; slices = slices } in
@@ -268,7 +275,7 @@ module _ (opening : List ShardState) (context : ContextState) (key back : KeySta
       (comment_answered shards split comment done.found index done.number done.reply is.act allowed cold_item cold_user is.answer)
       its_item (its_look ∷ is.act ∷ []) is.over
       (owed shards split comment done.found index done.number done.reply is.act allowed cold_item cold_user is.answer its_item true true (equal_numbers its_item) (eq-eqb its_user its_item (sym is.together)))
-      known idle
+      idle
       (λ t. taken_by shards split comment done.found index done.number done.reply is.act allowed cold_item cold_user is.answer t
       ∙ ap (λ n. (its_item == t) || ((n == t) || false)) (sym is.together) ∙ or_same (its_item == t))
       (greatest_two shards split comment done.found index done.number done.reply is.act allowed cold_item cold_user is.answer

@@ -1,5 +1,5 @@
 -- A shard that has done a commit's acts, and the line with which it goes back.
-use Rattle.std.proofs.Common.{Some, ◌≡◌, ℕ, ◌<◌, List, refl, sym, subst}
+use Rattle.std.proofs.Common.{Some, ◌≡◌, ℕ, ◌<◌, List, refl, subst}
 use Rattle.item_shards.specs.declared.acts.Act.{Act}
 use Rattle.item_shards.specs.declared.shard.Shard.{Shard}
 use Rattle.item_shards.specs.Contents.{after_acts}

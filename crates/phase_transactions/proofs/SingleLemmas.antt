@@ -1,9 +1,10 @@
 -- A transaction over the shard of one object is a commit.
-use Rattle.std.proofs.Common.{◌≡◌, ℕ, ◌<◌, ◌==◌, ◌||◌, ◌&&◌, not, Bool, true, false, cond, if◌then◌else◌, List, [], ◌∷◌, ◌++◌, length, map, filter, Option, Some, None, MatchOption, unwrap_or, refl, sym, ap, subst, ◌∙◌, option_and_then}
+use Rattle.std.proofs.Common.{◌≡◌, ℕ, ◌==◌, ◌||◌, ◌&&◌, not, Bool, true, false, cond, if◌then◌else◌, List, [], ◌∷◌, ◌++◌, length, map, filter, Option, Some, None, MatchOption, unwrap_or, refl, sym, ap, subst, ◌∙◌, option_and_then}
 use Rattle.std.specs.Prelude.{is_some}
 use Rattle.std.specs.List.{AllByRecursion}
 use Rattle.std.specs.Option.{option_map_or}
 use Rattle.std.proofs.lemmas.Bool.{eq-eqb}
+use Rattle.std.proofs.lemmas.Option.{same_Some}
 use Rattle.auction_rows.specs.declared.ids.ItemId.{ItemId}
 use Rattle.auction_rows.specs.declared.ids.Object.{Object}
 use Rattle.auction_rows.specs.declared.ids.Object.TheVariants.{Item, User, Category}
@@ -20,8 +21,11 @@ use Rattle.auction_rows.specs.Refusals.{number_refusal}
 use Rattle.auction_rows.specs.Replies.{row_of, row_if}
 use Rattle.auction_rows.specs.Requests.{shard_of, item_of, is_view}
 use Rattle.item_shards.specs.declared.acts.Act.{Act}
+use Rattle.item_shards.specs.declared.shard.Shard.{Shard}
 use Rattle.item_shards.specs.Contents.{target}
+use Rattle.item_shards.specs.ShardContents.{LiesIn}
 use Rattle.item_shards.specs.Writing.{padded, looks_of, writes_of, writes_if, is_cold_in, is_done_on, acts_owed}
+use Rattle.shard_boxes.specs.Helds.{HeldState}
 use Rattle.shard_boxes.specs.Keys.{KeyState}
 use Rattle.shard_boxes.specs.States.{ShardState}
 use Rattle.phase_contexts.specs.declared.read_set.ReadSet.{ReadSet}
@@ -30,6 +34,7 @@ use Rattle.phase_contexts.specs.Slicing.{objects_of, stocks_of, stock_of, after_
 use Rattle.phase_contexts.specs.Txns.{hot_in, refusal_by, is_put_off, Answers}
 use Rattle.phase_contexts.specs.Splits.{SplitState, setting_of}
 use Rattle.phase_transactions.specs.declared.commit.Commit.{Commit}
+use Rattle.phase_transactions.specs.Pairs.{IsAsTaken}
 use Rattle.phase_transactions.specs.Permits.{IsIdle, permit, done_at, txn_of, HasCommitted}
 use Rattle.phase_transactions.specs.Putting.{IsOverOne, found_on}
 use Rattle.phase_transactions.specs.Single.{only_object, acts_done, reason_by, IsAnswerBy, HasDone}
@@ -129,10 +134,10 @@ not_put_off hot (ViewUser user) object is cold = ap (λ o. is_hot hot (unwrap_or
 
 module _ (opening : List ShardState) (split new : SplitState) (key back : KeyState) (request : Request) (object : Object) (index : ℕ) (done : Commit Reply) where
   pub done_commits : only_object request ≡ Some object → number_refusal split.context.opening request ≡ None → is_hot (objects_of (stocks_of split.slices)) object ≡ false
-      → shard_of object (length opening) < length key.seats → IsIdle key → HasDone opening split.context key back request object index done
+      → IsIdle key → HasDone opening split.context key back request object index done
       → new.context ≡ done_at split.context index request done → new.slices ≡ after_acts split.slices (writes_if (row_of split.context.journal.worker request done.reply))
       → HasCommitted opening (permit split key) (permit new back) request index done.reply
-  done_commits only accepted cold known idle is committed sliced =
+  done_commits only accepted cold idle is committed sliced =
       let shards = length opening in
       let shard = shard_of object shards in
       let worker = split.context.journal.worker in
@@ -156,7 +161,18 @@ module _ (opening : List ShardState) (split new : SplitState) (key back : KeySta
             (same_reason z.opening hot (λ item. stock_of z.stocks (Item item)) stock request object only cold) is.answered;
         not_put_off = not_put_off hot request object only cold;
       })
-      shard (acts_done worker request stock done.reply) is.over owes known idle prints
+      shard (acts_done worker request stock done.reply) is.over owes idle prints
+
+-- the object lies in the shard, as it was taken
+pub lies_taken : (opening : List ShardState) (workers : ℕ) (key : KeyState) (held : HeldState) (object : Object) → IsAsTaken opening workers key held → held.number ≡ shard_of object (length opening)
+    → LiesIn held.shard object
+lies_taken opening workers key held object taken here = ap (shard_of object) taken.shards_is ∙ sym here ∙ sym taken.number_is
+
+pub only_lies : (opening : List ShardState) (workers : ℕ) (key : KeyState) (held : HeldState) (shard : Shard) (request : Request) (object : Object) → shard ≡ held.shard → IsAsTaken opening workers key held
+    → held.number ≡ shard_of object (length opening) → only_object request ≡ Some object → (other : Object) → only_object request ≡ Some other → LiesIn shard other
+only_lies opening workers key held shard request object same taken here only other is =
+    subst (λ (s : Shard). LiesIn s other) (sym same)
+    (subst (LiesIn held.shard) (same_Some object other (sym only ∙ is)) (lies_taken opening workers key held object taken here))
 
 -- what was found on the shard and done there
 pub has_done : (opening : List ShardState) (context : ContextState) (key back : KeyState) (request : Request) (object : Object) (index : ℕ) (stock : Option (Facts × ℕ)) (reply : Reply) (acts : List Act) (shard before number : ℕ) (found : ReadSet)

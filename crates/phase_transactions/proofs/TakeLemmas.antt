@@ -1,5 +1,5 @@
 -- Shards that a transaction takes, and puts back with a line or as they were.
-use Rattle.std.proofs.Common.{◌≡◌, ℕ, suc, max, ◌<◌, ◌≤◌, true, List, length, Option, Some, None, refl, sym, ap, subst, ◌∙◌, arith}
+use Rattle.std.proofs.Common.{◌≡◌, ◌≢◌, ℕ, suc, max, ◌<◌, ◌≤◌, true, List, length, Option, Some, None, refl, sym, ap, subst, ◌∙◌, arith}
 use Rattle.std.specs.Prelude.{nat_lt, IfNone}
 use Rattle.std.proofs.lemmas.Bool.{ltb-true}
 use Rattle.std.proofs.lemmas.Option.{cond_some}
@@ -10,16 +10,17 @@ use Rattle.item_shards.specs.declared.shard.Shard.{Shard}
 use Rattle.item_shards.specs.ShardContents.{clock}
 use Rattle.shard_boxes.specs.declared.line.Line.{Line}
 use Rattle.shard_boxes.specs.Helds.{HeldState, taken_at}
-use Rattle.shard_boxes.specs.Keys.{KeyState, seen_at, holds_at, taking, putting}
+use Rattle.shard_boxes.specs.Keys.{KeyState, SeatState, seat_at, seen_at, holds_at, taking, putting, HoldsNoneFrom}
 use Rattle.shard_boxes.specs.Lines.{after, IsHistory, MayFollow, StartsWith}
 use Rattle.shard_boxes.specs.States.{ShardState, state_at, state_of}
+use Rattle.shard_boxes.proofs.SeatLemmas.{taking-same, taking-other, length-with_seat}
 use Rattle.phase_contexts.specs.declared.read_set.ReadSet.{ReadSet}
 use Rattle.phase_transactions.specs.declared.fault.PermitFault.{PermitFault}
-use Rattle.phase_transactions.specs.Pairs.{IsAsTaken, HoldsBoth, HasPutBoth, HasPutTwo, HasTakenBoth, IsNextOfBoth, IsOverBoth, found_on_both}
+use Rattle.phase_transactions.specs.Pairs.{IsAsTaken, HoldsBoth, LeavesOthers, HasPutBoth, HasPutTwo, HasTakenBoth, IsNextOfBoth, IsOverBoth, found_on_both}
 use Rattle.phase_transactions.specs.Permits.{IsIdle}
 use Rattle.phase_transactions.specs.Putting.{clock_seen, line_of, IsOverOne, IsPutWith, found_on}
 use Rattle.phase_transactions.specs.Taking.{HasTaken, IsNext, IsCauseAt, HasStayed}
-use Rattle.phase_transactions.proofs.KeyLemmas.{one_back, one_seen, one_others, others_as, lines_back, put_after, put_two_after, put_two_as}
+use Rattle.phase_transactions.proofs.KeyLemmas.{same_lines, one_back, one_seen, one_others, others_as, lines_back, put_after, put_two_after, put_two_as}
 
 -- a number that there is is not past the end
 pub next_within : (own found number : ℕ) → Some number ≡ next_number own found → number ≤ last_number
@@ -55,10 +56,11 @@ pub as_taken : (opening : List ShardState) (workers : ℕ) (key : KeyState) (hel
 as_taken opening workers key held new is same number =
     subst (λ (n : ℕ). IsHistory opening workers n (seen_at key n) (state_of new.shard)) (sym number) (subst (λ (s : ShardState). IsHistory opening workers held.number (seen_at key held.number) s) (sym same) is)
 
-pub has_taken : (opening : List ShardState) (workers : ℕ) (key taken_key : KeyState) (shard : ℕ) (held : HeldState) → taken_key ≡ taking key shard (seen_at taken_key shard)
+pub has_taken : (opening : List ShardState) (workers : ℕ) (key taken_key : KeyState) (shard : ℕ) (held : HeldState) → length key.seats ≡ length opening → shard < length opening → taken_key ≡ taking key shard (seen_at taken_key shard)
     → StartsWith (seen_at taken_key shard) (seen_at key shard) → held.number ≡ shard → holds_at taken_key shard ≡ true
     → IsHistory opening workers shard (seen_at taken_key shard) (state_of held.shard) → HasTaken opening workers key taken_key shard held
-has_taken opening workers key taken_key shard held is later number holds history = record {
+has_taken opening workers key taken_key shard held seats known is later number holds history = record {
+  known = subst (λ n. shard < n) (sym seats) known;
   key = is;
   later = later;
   number = number;
@@ -70,6 +72,7 @@ has_taken opening workers key taken_key shard held is later number holds history
 module _ (opening : List ShardState) (workers own : ℕ) (key taken back : KeyState) (shard : ℕ) (held : HeldState) (its : HasTaken opening workers key taken shard held) where
   pub still_taken : (new : HeldState) → state_of new.shard ≡ state_of held.shard → new.number ≡ held.number → HasTaken opening workers key taken shard new
   still_taken new same number = record {
+    known = its.known;
     key = its.key;
     later = its.later;
     number = number ∙ its.number;
@@ -77,9 +80,10 @@ module _ (opening : List ShardState) (workers own : ℕ) (key taken back : KeySt
     history = as_taken opening workers taken held new its.history same number;
   }
 
-  pub stays : shard < length key.seats → IsIdle key → back ≡ putting taken held.number None → (fault : PermitFault) → IsCauseAt (max own (clock held.shard)) fault
+  pub stays : IsIdle key → back ≡ putting taken held.number None → (fault : PermitFault) → IsCauseAt (max own (clock held.shard)) fault
       → HasStayed opening own key back shard shard fault
-  stays known idle put fault cause =
+  stays idle put fault cause =
+      let known = its.known in
       let kept = one_back key taken back shard held.number (seen_at taken shard) its.key put its.number known idle its.later in
       let seen = one_seen key taken back shard held.number (seen_at taken shard) its.key put its.number known in
       record {
@@ -99,6 +103,7 @@ module _ (opening : List ShardState) (workers own : ℕ) (key taken back : KeySt
         before = before;
         put = record {
           seen = seen_at taken shard;
+          known = its.known;
           put = put.put ∙ (λ i. putting (its.key i) (its.number i) (Some (line i)));
           later = its.later;
           follows = subst (λ (l : Line). MayFollow (after (state_at opening shard) (seen_at taken shard)) l) line
@@ -150,6 +155,77 @@ module _ (opening : List ShardState) (workers own : ℕ) (key taken back : KeySt
         within = next.within;
         found_is = found_is ∙ ap (found_on_both (one, first) (other, second)) (sym (ap (λ (f : ReadSet). f.stock) found_is));
       }
+
+pub less_apart : (a b : ℕ) → a ≤ b → a ≢ b → a < b
+less_apart a b at_most apart = omega (arith, at_most, apart)
+
+-- a key that has taken the lesser of two shards may take the greater
+pub none_from : (key taken : KeyState) (a b : ℕ) (seen : List (ℕ × Line)) → taken ≡ taking key a seen → IsIdle key → a < b → HoldsNoneFrom taken b
+none_from key taken a b seen first idle less t from =
+    ap (λ j. holds_at j t) first ∙ ap (λ (seat : SeatState). seat.holds) (taking-other key a t seen (λ is. absurd (omega (arith, is, less, from)))) ∙ idle t
+
+-- and then holds both
+pub both_taken : (opening : List ShardState) (workers : ℕ) (key first second : KeyState) (a b : ℕ) (one other : HeldState) → length key.seats ≡ length opening → a < length opening → b < length opening → a ≢ b → IsIdle key
+    → first ≡ taking key a (seen_at first a) → StartsWith (seen_at first a) (seen_at key a) → one.number ≡ a → IsHistory opening workers a (seen_at first a) (state_of one.shard)
+    → second ≡ taking first b (seen_at second b) → StartsWith (seen_at second b) (seen_at first b) → other.number ≡ b → IsHistory opening workers b (seen_at second b) (state_of other.shard)
+    → HasTakenBoth opening workers key second a b (one, other)
+both_taken opening workers key first second a b one other seats a_low b_low apart idle is later number history is' later' number' history' =
+    let a_known : a < length key.seats = subst (λ n. a < n) (sym seats) a_low in
+    let b_known : b < length key.seats = subst (λ n. b < n) (sym seats) b_low in
+    let many : length first.seats ≡ length key.seats = ap (λ (j : KeyState). length j.seats) is ∙ length-with_seat key a (record (seat_at key a) { holds = true; seen = seen_at first a }) in
+    let same = same_lines key first second a b is is' a_known b_known later later' in
+    let on_a : seat_at second a ≡ seat_at first a = ap (λ j. seat_at j a) is' ∙ taking-other first b a (seen_at second b) apart in
+    let at_a : seat_at second a ≡ record (seat_at key a) { holds = true; seen = seen_at first a } = on_a ∙ ap (λ j. seat_at j a) is ∙ taking-same key a (seen_at first a) a_known in
+    let at_b : seat_at second b ≡ record (seat_at first b) { holds = true; seen = seen_at second b } =
+    ap (λ j. seat_at j b) is' ∙ taking-same first b (seen_at second b) (subst (λ n. b < n) (sym many) b_known) in
+    let others : LeavesOthers key second a b = (λ t not_a not_b.
+    ap (λ j. seat_at j t) is' ∙ taking-other first b t (seen_at second b) not_b ∙ ap (λ j. seat_at j t) is ∙ taking-other key a t (seen_at first a) not_a) in
+    let holds : HoldsBoth second a b = record {
+      apart = apart;
+      one_known = subst (λ n. a < n) (sym same.seats) a_known;
+      other_known = subst (λ n. b < n) (sym same.seats) b_known;
+      has_one = ap (λ (seat : SeatState). seat.holds) at_a;
+      has_other = ap (λ (seat : SeatState). seat.holds) at_b;
+      no_more = λ t not_a not_b. ap (λ (seat : SeatState). seat.holds) (others t not_a not_b) ∙ idle t;
+    } in
+    record {
+      same = same;
+      others = others_as key second a one.number b other.number (sym number) (sym number') others;
+      one_is = number;
+      other_is = number';
+      holds = subst (λ n. HoldsBoth second n other.number) (sym number) (subst (λ n. HoldsBoth second a n) (sym number') holds);
+      on_one = subst (λ n. IsHistory opening workers n (seen_at second n) (state_of one.shard)) (sym number)
+          (subst (λ lines. IsHistory opening workers a lines (state_of one.shard)) (sym (ap (λ (seat : SeatState). seat.seen) on_a)) history);
+      on_other = subst (λ n. IsHistory opening workers n (seen_at second n) (state_of other.shard)) (sym number') history';
+    }
+
+pub both_turned : (opening : List ShardState) (workers : ℕ) (key taken : KeyState) (a b : ℕ) (one other : HeldState) → HasTakenBoth opening workers key taken a b (one, other) → HasTakenBoth opening workers key taken b a (other, one)
+both_turned opening workers key taken a b one other its = record {
+  same = its.same;
+  others = λ t not_b not_a. its.others t not_a not_b;
+  one_is = its.other_is;
+  other_is = its.one_is;
+  holds = record {
+    apart = λ e. its.holds.apart (sym e);
+    one_known = its.holds.other_known;
+    other_known = its.holds.one_known;
+    has_one = its.holds.has_other;
+    has_other = its.holds.has_one;
+    no_more = λ t not_b not_a. its.holds.no_more t not_a not_b;
+  };
+  on_one = its.on_other;
+  on_other = its.on_one;
+}
+
+-- the number of a commit there is after the shard's clock and the worker's
+pub after_own : (own : ℕ) (shard : Shard) (before number : ℕ) → IsNext own shard before number → own < number
+after_own own shard before number next = omega (arith, next.numbered)
+
+pub after_clock : (own : ℕ) (shard : Shard) (before number : ℕ) → IsNext own shard before number → clock shard < number
+after_clock own shard before number next = omega (arith, next.before_is, next.numbered)
+
+pub after_both : (own : ℕ) (held : HeldState × HeldState) (clocks : ℕ × ℕ) (number : ℕ) → IsNextOfBoth own held clocks number → (clock held.0.shard < number) × (clock held.1.shard < number)
+after_both own held clocks number next = (omega (arith, next.first_is, next.numbered), omega (arith, next.second_is, next.numbered))
 
 -- the same by other names
 pub stayed_as : (opening : List ShardState) (own own' : ℕ) (key back : KeyState) (one one' other other' : ℕ) (fault : PermitFault) → own ≡ own' → one ≡ one' → other ≡ other'

@@ -8,7 +8,6 @@ use Rattle.auction_rows.specs.Requests.{shard_of}
 use Rattle.item_shards.specs.declared.acts.Act.{Act}
 use Rattle.item_shards.specs.declared.acts.Act.TheVariants.{Look}
 use Rattle.item_shards.specs.declared.acts.Shown.TheVariants as shown
-use Rattle.shard_boxes.specs.Helds.{HeldState}
 use Rattle.shard_boxes.specs.Keys.{KeyState}
 use Rattle.shard_boxes.specs.States.{ShardState}
 use Rattle.phase_contexts.specs.declared.read_set.ReadSet.{ReadSet}
@@ -18,18 +17,11 @@ use Rattle.phase_contexts.specs.Splits.{SplitState}
 use Rattle.phase_transactions.specs.declared.commit.Commit.{Commit}
 use Rattle.phase_transactions.specs.Pairs.{IsCommentAnswer, comment_look}
 use Rattle.phase_transactions.specs.Performing.{shards_asked}
-use Rattle.phase_transactions.specs.Putting.{line_of, IsOverOne, IsPutWith}
+use Rattle.phase_transactions.specs.Putting.{IsOverOne}
 
 -- a request that takes no shard leaves the key
 abbrev pub IsUntouched : ℕ → SplitState → Request → KeyState → KeyState → Type 0
 IsUntouched shards split request old new = shards_asked shards split request ≡ [] → new ≡ old
-
--- the shard of the user whom a comment is about was put back with what the comment does to the user, and nothing more
-pub record HasPutUser (opening : List ShardState) (context : ContextState) (comment : Comment) (stock : Option (Facts × ℕ)) (number index : ℕ)
-    (old new : KeyState) (held : HeldState) (reply : Reply) : Type 0 where
-  pub act : Act
-  pub answer : IsCommentAnswer context stock comment reply act
-  pub put : IsPutWith opening old new held (line_of number index (act ∷ Look shown.Nothing ∷ []) held.shard)
 
 -- A comment was done over the shard of the user whom it is about alone, by what is known of its item.
 pub record HasCommentedUser (opening : List ShardState) (context : ContextState) (old new : KeyState) (comment : Comment) (stock : Option (Facts × ℕ))

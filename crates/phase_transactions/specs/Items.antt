@@ -1,9 +1,10 @@
 -- Items that are stored.
-use Rattle.std.specs.Prelude.{◌≡◌, ℕ, Bool, false, List, length}
+use Rattle.std.specs.Prelude.{◌≡◌, ℕ, Bool, false, List, [], ◌∷◌, length}
 use Rattle.auction_rows.specs.declared.ids.ItemId.{ItemId}
 use Rattle.auction_rows.specs.declared.ids.Object.{Object}
 use Rattle.auction_rows.specs.declared.ids.Object.TheVariants.{Item, Category}
 use Rattle.auction_rows.specs.declared.replies.Reply.{Reply}
+use Rattle.auction_rows.specs.declared.requests.Facts.{Facts}
 use Rattle.auction_rows.specs.Footprint.{is_hot}
 use Rattle.item_shards.specs.declared.acts.Act.{Act}
 use Rattle.item_shards.specs.declared.acts.Act.TheVariants.{AddItem, ListItem, Look}
@@ -32,6 +33,16 @@ lists item id = ListItem item.facts.category (listed_as item id)
 
 abbrev pub nothing_else : Act
 nothing_else = Look shown.Nothing
+
+-- the second of two acts
+abbrev pub second_of : List Act → Act
+second_of [] = nothing_else
+second_of (first ∷ []) = nothing_else
+second_of (first ∷ second ∷ more) = second
+
+-- two acts, the first of which adds the item
+abbrev pub AddsItem : ItemId → List Act → Type 0
+AddsItem id acts = (facts : Facts) × (acts ≡ AddItem id facts ∷ second_of acts ∷ [])
 
 -- the act can be done on the shard of this number whatever it holds, and is no false look
 abbrev pub CanAlwaysDo : List ShardState → ℕ → Act → Type 0

@@ -24,7 +24,7 @@ use Rattle.auction_rows.specs.declared.ids.Object.{Object}
 use Rattle.auction_rows.specs.Footprint.{is_hot}
 use Rattle.phase_contexts.specs.declared.slices.Hot.{Hot}
 use Rattle.phase_contexts.specs.Slicing.{objects_of}
-use Rattle.phase_transactions.specs.Putting.{line_of, KeepsSeen, HasPut, IsOverOne, IsPutWith}
+use Rattle.phase_transactions.specs.Putting.{KeepsSeen, HasPut, IsOverOne}
 use Rattle.auction_rows.specs.declared.ids.Object.TheVariants.{Item, User}
 use Rattle.auction_rows.specs.Requests.{shard_of}
 
@@ -100,16 +100,6 @@ IsCommentAnswer context stock comment answer act =
 abbrev pub comment_look : Comment → Option (Facts × ℕ) → Act
 comment_look comment seen = Look (shown.Facts comment.item (option_map (λ s. s.0) seen))
 
--- Two shards were put back after a comment at this number: that of its item with the look at it, and that of the user whom it
--- is about with what it does to the user. The reply is the answer by what was seen of the item.
-pub record HasPutComment (opening : List ShardState) (context : ContextState) (comment : Comment) (number index : ℕ) (old new : KeyState)
-    (one other : HeldState) (seen : Option (Facts × ℕ)) (reply : Reply) : Type 0 where
-  pub act : Act
-  pub answer : IsCommentAnswer context seen comment reply act
-  pub put : HasPutTwo opening old new one.number other.number
-      (line_of number index (comment_look comment seen ∷ Look shown.Nothing ∷ []) one.shard)
-      (line_of number index (act ∷ Look shown.Nothing ∷ []) other.shard)
-
 -- what is found on two shards
 abbrev pub found_on_both : ℕ × ℕ → ℕ × ℕ → Option (Facts × ℕ) → ReadSet
 found_on_both one other stock = record { stock = stock; clocks = Some one ∷ Some other ∷ [] }
@@ -136,14 +126,6 @@ pub record HasCommented (opening : List ShardState) (context : ContextState) (ke
   pub over : IsOverBoth opening context.clock key back
       (shard_of (Item comment.item) (length opening)) (shard_of (User comment.about) (length opening))
       done.number index done.found (comment_look comment done.found.stock ∷ Look shown.Nothing ∷ []) (act ∷ Look shown.Nothing ∷ [])
-
--- The one shard was put back after a comment at this number, with the look at its item and what it does to the user whom it is
--- about. The reply is the answer by what was seen of the item.
-pub record HasPutCommentInOne (opening : List ShardState) (context : ContextState) (comment : Comment) (number index : ℕ) (old new : KeyState)
-    (held : HeldState) (seen : Option (Facts × ℕ)) (reply : Reply) : Type 0 where
-  pub act : Act
-  pub answer : IsCommentAnswer context seen comment reply act
-  pub put : IsPutWith opening old new held (line_of number index (comment_look comment seen ∷ act ∷ []) held.shard)
 
 -- A comment was done over the one shard in which its item and the user whom it is about lie.
 pub record HasCommentedInOne (opening : List ShardState) (context : ContextState) (key back : KeyState) (comment : Comment) (index : ℕ)

@@ -1,5 +1,5 @@
 -- A shard that is put back with a line, and what a key has seen of it.
-use Rattle.std.specs.Prelude.{◌≡◌, ℕ, suc, max, ◌≤◌, List, [], ◌∷◌, ◌++◌, Option, Some, None}
+use Rattle.std.specs.Prelude.{◌≡◌, ℕ, suc, max, ◌<◌, ◌≤◌, List, [], ◌∷◌, ◌++◌, length, Option, Some, None}
 use Rattle.auction_rows.specs.declared.requests.Facts.{Facts}
 use Rattle.item_shards.specs.CommitNumbers.{last_number}
 use Rattle.item_shards.specs.declared.acts.Act.{Act}
@@ -33,10 +33,11 @@ pub record HasPut (opening : List ShardState) (old new : KeyState) (shard : ℕ)
   pub seen : seen_at new shard ≡ found ++ (new.worker, line) ∷ []
   pub follows : MayFollow (after (state_at opening shard) found) line
 
--- One shard was taken, under this list, which goes on from what the key had seen of it, and put back with the line, which may
--- follow it.
+-- One shard, for which the key has a seat, was taken, under this list, which goes on from what the key had seen of it, and put
+-- back with the line, which may follow it.
 pub record HasPutOne (opening : List ShardState) (old new : KeyState) (shard : ℕ) (line : Line) : Type 0 where
   pub seen : List (ℕ × Line)
+  pub known : shard < length old.seats
   pub put : new ≡ putting (taking old shard seen) shard (Some line)
   pub later : StartsWith seen (seen_at old shard)
   pub follows : MayFollow (after (state_at opening shard) seen) line

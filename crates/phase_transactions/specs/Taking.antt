@@ -1,10 +1,10 @@
 -- A shard that a transaction takes, and what stays where it can't go on.
-use Rattle.std.specs.Prelude.{◌≡◌, ℕ, suc, max, ◌<◌, ◌≤◌, true, List}
+use Rattle.std.specs.Prelude.{◌≡◌, ℕ, suc, max, ◌<◌, ◌≤◌, true, List, length}
 use Rattle.item_shards.specs.CommitNumbers.{last_number}
 use Rattle.item_shards.specs.declared.shard.Shard.{Shard}
 use Rattle.item_shards.specs.ShardContents.{clock}
 use Rattle.shard_boxes.specs.Helds.{HeldState}
-use Rattle.shard_boxes.specs.Keys.{KeyState, holds_at, seen_at, taking}
+use Rattle.shard_boxes.specs.Keys.{BoxId, KeyState, holds_at, seen_at, taking}
 use Rattle.shard_boxes.specs.Lines.{StartsWith}
 use Rattle.shard_boxes.specs.States.{ShardState}
 use Rattle.phase_transactions.specs.declared.fault.PermitFault.{PermitFault}
@@ -13,8 +13,15 @@ use Rattle.phase_transactions.specs.Pairs.{IsAsTaken, HasSameLines, LeavesOthers
 use Rattle.phase_transactions.specs.Permits.{IsIdle}
 use Rattle.phase_transactions.specs.Putting.{clock_seen}
 
--- The key has taken the shard.
+-- a key for these boxes with a seat for each shard, which holds none
+pub record IsReady (opening : List ShardState) (boxes : List BoxId) (key : KeyState) : Type 0 where
+  pub boxes_are : key.boxes ≡ boxes
+  pub seats : length key.seats ≡ length opening
+  pub idle : IsIdle key
+
+-- The key has taken the shard, for which it has a seat.
 pub record HasTaken (opening : List ShardState) (workers : ℕ) (old new : KeyState) (shard : ℕ) (held : HeldState) : Type 0 where
+  pub known : shard < length old.seats
   pub key : new ≡ taking old shard (seen_at new shard)
   pub later : StartsWith (seen_at new shard) (seen_at old shard)
   pub number : held.number ≡ shard

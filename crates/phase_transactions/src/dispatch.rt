@@ -1,5 +1,5 @@
 //! What a request needs, found and done: nothing, one shard or two.
-ghost use Rattle.std.specs.Prelude.{◌≡◌, ◌<◌, ◌≤◌, length, true, false, Some, None, IfSome, IfNone, IfOk, IfErr};
+ghost use Rattle.std.specs.Prelude.{◌≡◌, ◌<◌, length, true, false, Some, None, IfSome, IfNone, IfOk, IfErr};
 ghost use Rattle.auction_rows.specs.declared.ids.Object.TheVariants.{Item, User};
 ghost use Rattle.auction_rows.specs.Footprint.{is_hot};
 ghost use Rattle.auction_rows.specs.Refusals.{number_refusal};
@@ -10,11 +10,13 @@ ghost use Rattle.phase_contexts.specs.Items.{item_request};
 ghost use Rattle.phase_contexts.specs.Needing.{AreNeeded, IsStoreOf};
 ghost use Rattle.phase_contexts.specs.Slicing.{objects_of};
 ghost use Rattle.phase_transactions.specs.declared.fault.PermitFault.TheVariants.{NumberFull};
-ghost use Rattle.phase_transactions.specs.Permits.{IsIdle, permit, HasCommitted};
+ghost use Rattle.phase_transactions.specs.Permits.{permit, HasCommitted};
 ghost use Rattle.phase_transactions.specs.Performing.{HasFailed};
 ghost use Rattle.phase_transactions.specs.Single.{only_object, HaveOpening};
 ghost use Rattle.phase_transactions.specs.Halves.{IsUntouched};
+ghost use Rattle.phase_transactions.specs.Taking.{IsReady};
 
+use crate::commit::commit_done;
 use crate::fault::PermitFault;
 use crate::halves::{comment_about_hot_user, comment_on_hot_item};
 use crate::items::{store_in_hot_category, store_over_shards};
@@ -39,9 +41,7 @@ fn store_cold<N: PhaseName, R: Wait>(
     store: ItemStore,
     index: u32,
 ) -> Option<Ghost<Reply>>
-    requires of { key.old.boxes ≡ boxes.now }
-    requires seats { length key.old.seats ≡ length N.opening }
-    requires idle { IsIdle key.old }
+    requires ready { IsReady N.opening boxes.now key.old }
     requires left { 0 < split.old.context.left }
     requires allowed { number_refusal split.old.context.opening request.now ≡ None }
     requires store { IsStoreOf split.old.context request.now store }
@@ -52,11 +52,9 @@ fn store_cold<N: PhaseName, R: Wait>(
         (permit split.old key.old) (permit split.new key.new) request.now NumberFull) }
     ensures untouched { IsUntouched (length N.opening) split.old request.now key.old key.new }
 {
-    let _shards = boxes.shards();
     let context = split.context();
     let done = store_on(rt, boxes, key, context, request, store, index)?;
-    split.commit_cold(done.number, index, request, &done.reply, &done.found);
-    Some(Ghost::of(&done.reply.to_reply()))
+    Some(commit_done(split, request, &done, index))
 }
 
 /// A view of an object that is not hot, which the opening does not refuse: over the object's shard, as `store_cold`.
@@ -69,9 +67,7 @@ fn view_cold<N: PhaseName, R: Wait>(
     object: Object,
     index: u32,
 ) -> Option<Ghost<Reply>>
-    requires of { key.old.boxes ≡ boxes.now }
-    requires seats { length key.old.seats ≡ length N.opening }
-    requires idle { IsIdle key.old }
+    requires ready { IsReady N.opening boxes.now key.old }
     requires left { 0 < split.old.context.left }
     requires opening { HaveOpening N.opening split.old.context.opening }
     requires allowed { number_refusal split.old.context.opening request.now ≡ None }
@@ -84,7 +80,6 @@ fn view_cold<N: PhaseName, R: Wait>(
         (permit split.old key.old) (permit split.new key.new) request.now NumberFull) }
     ensures untouched { IsUntouched (length N.opening) split.old request.now key.old key.new }
 {
-    let _shards = boxes.shards();
     let context = split.context();
     let done = view_on(rt, boxes, key, context, request, object, index)?;
     let reply = Answer::of(&done.reply);
@@ -103,9 +98,7 @@ fn comment_cold<N: PhaseName, R: Wait>(
     comment: &Comment,
     index: u32,
 ) -> Option<Ghost<Reply>>
-    requires of { key.old.boxes ≡ boxes.now }
-    requires seats { length key.old.seats ≡ length N.opening }
-    requires idle { IsIdle key.old }
+    requires ready { IsReady N.opening boxes.now key.old }
     requires left { 0 < split.old.context.left }
     requires opening { HaveOpening N.opening split.old.context.opening }
     requires allowed { number_refusal split.old.context.opening (comment_request comment.now) ≡ None }
@@ -119,9 +112,7 @@ fn comment_cold<N: PhaseName, R: Wait>(
 {
     let context = split.context();
     let done = comment_over_shards(rt, boxes, key, context, comment, index)?;
-    let request = comment.request();
-    split.commit_cold(done.number, index, &request, &done.reply, &done.found);
-    Some(Ghost::of(&done.reply.to_reply()))
+    Some(commit_done(split, &comment.request(), &done, index))
 }
 
 /// A comment that the opening does not refuse: over the shards of those of its item and the user whom it is about that are
@@ -135,9 +126,7 @@ fn comment_in_split<N: PhaseName, R: Wait>(
     comment: &Comment,
     index: u32,
 ) -> Option<Ghost<Reply>>
-    requires of { key.old.boxes ≡ boxes.now }
-    requires seats { length key.old.seats ≡ length N.opening }
-    requires idle { IsIdle key.old }
+    requires ready { IsReady N.opening boxes.now key.old }
     requires left { 0 < split.old.context.left }
     requires opening { HaveOpening N.opening split.old.context.opening }
     requires allowed { number_refusal split.old.context.opening (comment_request comment.now) ≡ None }
@@ -170,9 +159,7 @@ fn store_in_split<N: PhaseName, R: Wait>(
     item: &NewItem,
     index: u32,
 ) -> Result<Ghost<Reply>, PermitFault>
-    requires of { key.old.boxes ≡ boxes.now }
-    requires seats { length key.old.seats ≡ length N.opening }
-    requires idle { IsIdle key.old }
+    requires ready { IsReady N.opening boxes.now key.old }
     requires left { 0 < split.old.context.left }
     requires opening { HaveOpening N.opening split.old.context.opening }
     requires allowed { number_refusal split.old.context.opening (item_request item.now) ≡ None }
@@ -188,9 +175,7 @@ fn store_in_split<N: PhaseName, R: Wait>(
     }
     let context = split.context();
     let done = store_over_shards(rt, boxes, key, context, item, index)?;
-    let request = item.request();
-    split.commit_cold(done.number, index, &request, &done.reply, &done.found);
-    Ok(Ghost::of(&done.reply.to_reply()))
+    Ok(commit_done(split, &item.request(), &done, index))
 }
 
 /// A request that is not put off, by what it needs: without a shard where the opening refuses it, and else over the shards of
@@ -204,9 +189,7 @@ pub(crate) fn commit_in_split<N: PhaseName, R: Wait>(
     needs: Needs,
     index: u32,
 ) -> Result<Ghost<Reply>, PermitFault>
-    requires of { key.old.boxes ≡ boxes.now }
-    requires seats { length key.old.seats ≡ length N.opening }
-    requires idle { IsIdle key.old }
+    requires ready { IsReady N.opening boxes.now key.old }
     requires left { 0 < split.old.context.left }
     requires opening { HaveOpening N.opening split.old.context.opening }
     requires not_put_off { is_put_off (objects_of split.old.slices) request.now ≡ false }

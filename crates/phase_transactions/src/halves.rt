@@ -1,25 +1,21 @@
 //! Comments of which the item is hot and the user is not, or the other way round.
-ghost use Rattle.std.specs.Prelude.{◌≡◌, ◌<◌, ◌≤◌, ℕ, length, false, true, IfSome, IfNone, None};
+ghost use Rattle.std.specs.Prelude.{◌≡◌, ◌<◌, length, false, IfSome, IfNone, None};
 ghost use Rattle.auction_rows.specs.declared.ids.Object.TheVariants.{Item, User};
 ghost use Rattle.auction_rows.specs.Footprint.{is_hot};
 ghost use Rattle.auction_rows.specs.Refusals.{number_refusal};
 ghost use Rattle.auction_rows.specs.Requests.{shard_of};
-ghost use Rattle.item_shards.specs.CommitNumbers.{last_number};
-ghost use Rattle.item_shards.specs.ShardContents.{clock};
-ghost use Rattle.shard_boxes.specs.Keys.{holds_at};
 ghost use Rattle.phase_contexts.specs.Bids.{comment_request};
 ghost use Rattle.phase_contexts.specs.Txns.{refusal_by};
 ghost use Rattle.phase_contexts.specs.Slicing.{objects_of};
 ghost use Rattle.phase_contexts.specs.Splits.{IsHot};
 ghost use Rattle.phase_transactions.specs.declared.fault.PermitFault.TheVariants.{NumberFull};
-ghost use Rattle.phase_transactions.specs.Permits.{IsIdle, permit, HasCommitted};
-ghost use Rattle.phase_transactions.specs.Pairs.{IsAsTaken};
+ghost use Rattle.phase_transactions.specs.Permits.{permit, HasCommitted};
 ghost use Rattle.phase_transactions.specs.Performing.{HasFailed};
 ghost use Rattle.phase_transactions.specs.Single.{HaveOpening};
-ghost use Rattle.phase_transactions.specs.Taking.{HasStayed};
-ghost use Rattle.phase_transactions.specs.Halves.{HasPutUser, IsUntouched, HasCommentedUser, HasLooked};
+ghost use Rattle.phase_transactions.specs.Taking.{IsReady, HasStayed};
+ghost use Rattle.phase_transactions.specs.Halves.{IsUntouched, HasCommentedUser, HasLooked};
 
-use crate::commit::Commit;
+use crate::commit::{Commit, commit_done};
 use crate::pairs::{alone, answer_comment, look_and};
 use crate::putting::put_with_line;
 use crate::taking::{found_on, take_next};
@@ -27,40 +23,9 @@ use auction_rows::{Facts, Object, Refusal, Reply, shard_of};
 use ghost_log::Ghost;
 use item_shards::{Act, Shown};
 use phase_contexts::{Comment, Context, ReadSet, SplitContext};
-use shard_boxes::{Boxes, Held, Key, PhaseName, sums_fit};
+use shard_boxes::{Boxes, Key, PhaseName};
 use std::sync::Wait;
 use worker_journals::Answer;
-
-/// A comment at a number after the clock of a shard that is as it was taken, that of the user whom it is about, by what
-/// is known of its item. It gives the reply.
-fn comment_user_at<N: PhaseName, R: Wait>(
-    rt: &R,
-    boxes: &Boxes<N>,
-    key: &mut Key<N>,
-    context: &Context,
-    comment: &Comment,
-    stock: Option<(Facts, u32)>,
-    held: Held<N>,
-    number: u64,
-    index: u32,
-) -> Answer<'static>
-    requires of { key.old.boxes ≡ boxes.now }
-    requires holder { holds_at key.old held.number ≡ true }
-    requires taken { IsAsTaken N.opening N.workers key.old held }
-    requires user { held.number ≡ shard_of (User comment.now.about) (length N.opening) }
-    requires later { clock held.shard < number }
-    requires within { number ≤ last_number }
-    requires openings { HaveOpening N.opening context.now.opening }
-    requires allowed { number_refusal context.now.opening (comment_request comment.now) ≡ None }
-    ensures { HasPutUser N.opening context.now comment.now stock number index key.old key.new held result }
-{
-    let _known = comment.stars.value();
-    sums_fit();
-    let (reply, act) = answer_comment(context, comment, stock);
-    let acts = alone(act);
-    put_with_line(rt, boxes, key, held, number, index, &acts);
-    reply
-}
 
 /// A comment over the shard of the user whom it is about alone, by what is known of its item. None exactly where the
 /// greater of the worker's clock and the shard's is at the end of numbers, and then nothing has changed but what the key
@@ -75,9 +40,7 @@ fn comment_over_user<N: PhaseName, R: Wait>(
     user: u32,
     index: u32,
 ) -> Option<Commit<Answer<'static>>>
-    requires of { key.old.boxes ≡ boxes.now }
-    requires seats { length key.old.seats ≡ length N.opening }
-    requires idle { IsIdle key.old }
+    requires ready { IsReady N.opening boxes.now key.old }
     requires openings { HaveOpening N.opening context.now.opening }
     requires allowed { number_refusal context.now.opening (comment_request comment.now) ≡ None }
     requires user { user ≡ shard_of (User comment.now.about) (length N.opening) }
@@ -85,8 +48,11 @@ fn comment_over_user<N: PhaseName, R: Wait>(
     ensures done { IfSome result (HasCommentedUser N.opening context.now key.old key.new comment.now stock index) }
     ensures stayed { IfNone result (HasStayed N.opening context.now.clock key.old key.new user user NumberFull) }
 {
+    let _known = comment.stars.value();
     let (held, before, number) = take_next(rt, boxes, key, context, user)?;
-    let reply = comment_user_at(rt, boxes, key, context, comment, stock, held, number, index);
+    let (reply, act) = answer_comment(context, comment, stock);
+    let acts = alone(act);
+    put_with_line(rt, boxes, key, held, number, index, &acts);
     Some(Commit {
         number,
         reply,
@@ -94,9 +60,9 @@ fn comment_over_user<N: PhaseName, R: Wait>(
     })
 }
 
-/// What a comment finds of its item on the item's shard, which it takes alone, with its number and the reason to refuse it, if any. None exactly where the
-/// greater of the worker's clock and the shard's is at the end of numbers, and then nothing has changed but what the key
-/// has seen. It takes no memory.
+/// What a comment finds of its item on the item's shard, which it takes alone, with its number and the reason to refuse it,
+/// if any. None exactly where the greater of the worker's clock and the shard's is at the end of numbers, and then nothing
+/// has changed but what the key has seen. It takes no memory.
 fn look_over_item<N: PhaseName, R: Wait>(
     rt: &R,
     boxes: &Boxes<N>,
@@ -106,9 +72,7 @@ fn look_over_item<N: PhaseName, R: Wait>(
     item: u32,
     index: u32,
 ) -> Option<(u64, Option<Refusal>, ReadSet)>
-    requires of { key.old.boxes ≡ boxes.now }
-    requires seats { length key.old.seats ≡ length N.opening }
-    requires idle { IsIdle key.old }
+    requires ready { IsReady N.opening boxes.now key.old }
     requires item { item ≡ shard_of (Item comment.now.item) (length N.opening) }
     requires known { item < length N.opening }
     ensures looked { IfSome result (λ looked. HasLooked N.opening context.now key.old key.new comment.now index looked.0 looked.2) }
@@ -136,9 +100,7 @@ pub(crate) fn comment_on_hot_item<N: PhaseName, R: Wait>(
     comment: &Comment,
     index: u32,
 ) -> Option<Ghost<Reply>>
-    requires of { key.old.boxes ≡ boxes.now }
-    requires seats { length key.old.seats ≡ length N.opening }
-    requires idle { IsIdle key.old }
+    requires ready { IsReady N.opening boxes.now key.old }
     requires left { 0 < split.old.context.left }
     requires openings { HaveOpening N.opening split.old.context.opening }
     requires allowed { number_refusal split.old.context.opening (comment_request comment.now) ≡ None }
@@ -154,9 +116,7 @@ pub(crate) fn comment_on_hot_item<N: PhaseName, R: Wait>(
     let stock = split.stock(comment.item);
     let context = split.context();
     let done = comment_over_user(rt, boxes, key, context, comment, stock, user, index)?;
-    let request = comment.request();
-    split.commit_cold(done.number, index, &request, &done.reply, &done.found);
-    Some(Ghost::of(&done.reply.to_reply()))
+    Some(commit_done(split, &comment.request(), &done, index))
 }
 
 /// A comment about a hot user on an item that is not hot, that the opening does not refuse: over the item's shard alone,
@@ -170,9 +130,7 @@ pub(crate) fn comment_about_hot_user<N: PhaseName, R: Wait>(
     comment: &Comment,
     index: u32,
 ) -> Option<Ghost<Reply>>
-    requires of { key.old.boxes ≡ boxes.now }
-    requires seats { length key.old.seats ≡ length N.opening }
-    requires idle { IsIdle key.old }
+    requires ready { IsReady N.opening boxes.now key.old }
     requires left { 0 < split.old.context.left }
     requires allowed { number_refusal split.old.context.opening (comment_request comment.now) ≡ None }
     requires item { is_hot (objects_of split.old.slices) (Item comment.now.item) ≡ false }

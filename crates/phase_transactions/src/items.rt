@@ -1,20 +1,20 @@
 //! Items that are stored.
-ghost use Rattle.std.specs.Prelude.{◌≡◌, ◌≢◌, ◌<◌, ◌≤◌, length, true, None, ◌∷◌, [], IfOk, IfErr};
+ghost use Rattle.std.specs.Prelude.{◌≡◌, ◌≢◌, ◌<◌, length, None, ◌∷◌, [], IfOk, IfErr};
 ghost use Rattle.auction_rows.specs.declared.ids.Object.TheVariants.{Item, Category};
 ghost use Rattle.auction_rows.specs.Refusals.{number_refusal};
 ghost use Rattle.auction_rows.specs.Requests.{shard_of};
 ghost use Rattle.item_shards.specs.ShardContents.{HasRoom, LiesIn};
-ghost use Rattle.shard_boxes.specs.States.{state_of, state_at};
+ghost use Rattle.shard_boxes.specs.States.{state_of};
 ghost use Rattle.phase_contexts.specs.Items.{item_request, next_item};
 ghost use Rattle.phase_contexts.specs.Splits.{IsHot};
 ghost use Rattle.phase_transactions.specs.declared.fault.PermitFault.TheVariants.{Memory};
 ghost use Rattle.phase_transactions.specs.Performing.{HasFailed};
 ghost use Rattle.phase_transactions.specs.Pairs.{IsOverBoth};
-ghost use Rattle.phase_transactions.specs.Permits.{IsIdle, permit, HasCommitted};
+ghost use Rattle.phase_transactions.specs.Permits.{permit, HasCommitted};
 ghost use Rattle.phase_transactions.specs.Putting.{IsOverOne};
-ghost use Rattle.phase_transactions.specs.Taking.{HasStayed};
+ghost use Rattle.phase_transactions.specs.Taking.{IsReady, HasStayed};
 ghost use Rattle.phase_transactions.specs.Single.{HaveOpening};
-ghost use Rattle.phase_transactions.specs.Items.{adds, lists, nothing_else, CanAlwaysDo, HasStoredCold, HasFailedCold};
+ghost use Rattle.phase_transactions.specs.Items.{adds, lists, nothing_else, second_of, AddsItem, CanAlwaysDo, HasStoredCold, HasFailedCold};
 
 use crate::commit::Commit;
 use crate::fault::PermitFault;
@@ -51,18 +51,16 @@ fn add_over_one<N: PhaseName, R: Wait>(
     key: &mut Key<N>,
     context: &Context,
     shard: u32,
-    item: &NewItem,
     id: ItemId,
-    second: Act,
+    acts: &[Act; 2],
     index: u32,
 ) -> Result<(u64, ReadSet), PermitFault>
-    requires of { key.old.boxes ≡ boxes.now }
-    requires seats { length key.old.seats ≡ length N.opening }
-    requires idle { IsIdle key.old }
+    requires ready { IsReady N.opening boxes.now key.old }
     requires known { shard < length N.opening }
     requires home { shard ≡ shard_of (Item id) (length N.opening) }
-    requires second { CanAlwaysDo N.opening shard second }
-    ensures added { IfOk result (λ done. IsOverOne N.opening context.now.clock key.old key.new shard done.0 index done.1 (adds item.now id ∷ second ∷ [])) }
+    requires first { AddsItem id acts.now }
+    requires second { CanAlwaysDo N.opening shard (second_of acts.now) }
+    ensures added { IfOk result (λ done. IsOverOne N.opening context.now.clock key.old key.new shard done.0 index done.1 acts.now) }
     ensures stock { IfOk result (λ done. done.1.stock ≡ None) }
     ensures stayed { IfErr result (HasStayed N.opening context.now.clock key.old key.new shard shard) }
 {
@@ -74,8 +72,7 @@ fn add_over_one<N: PhaseName, R: Wait>(
         boxes.put(rt, key, held, None);
         return Err(fault);
     }
-    let acts = [Act::AddItem(id, item.facts), second];
-    put_with_line(rt, boxes, key, held, number, index, &acts);
+    put_with_line(rt, boxes, key, held, number, index, acts);
     Ok((number, found_on(shard, before, Ghost::of(&None))))
 }
 
@@ -91,9 +88,7 @@ fn add_over_two<N: PhaseName, R: Wait>(
     id: ItemId,
     index: u32,
 ) -> Result<(u64, ReadSet), PermitFault>
-    requires of { key.old.boxes ≡ boxes.now }
-    requires seats { length key.old.seats ≡ length N.opening }
-    requires idle { IsIdle key.old }
+    requires ready { IsReady N.opening boxes.now key.old }
     requires known { (shards.0 < length N.opening) × (shards.1 < length N.opening) }
     requires apart { shards.0 ≢ shards.1 }
     requires home { shards.0 ≡ shard_of (Item id) (length N.opening) }
@@ -137,9 +132,7 @@ fn store_over_one<N: PhaseName, R: Wait>(
     shard: u32,
     index: u32,
 ) -> Result<Commit<Answer<'static>>, PermitFault>
-    requires of { key.old.boxes ≡ boxes.now }
-    requires seats { length key.old.seats ≡ length N.opening }
-    requires idle { IsIdle key.old }
+    requires ready { IsReady N.opening boxes.now key.old }
     requires opening { HaveOpening N.opening context.now.opening }
     requires allowed { number_refusal context.now.opening (item_request item.now) ≡ None }
     requires home { shard ≡ shard_of (Item (next_item context.now)) (length N.opening) }
@@ -150,8 +143,11 @@ fn store_over_one<N: PhaseName, R: Wait>(
     ensures failed { IfErr result (HasFailedCold N.opening context.now key.old key.new item.now) }
 {
     let id = context.next_item();
-    let list = Act::ListItem(item.facts.category, item.entry(id));
-    let (number, found) = add_over_one(rt, boxes, key, context, shard, item, id, list, index)?;
+    let acts = [
+        Act::AddItem(id, item.facts),
+        Act::ListItem(item.facts.category, item.entry(id)),
+    ];
+    let (number, found) = add_over_one(rt, boxes, key, context, shard, id, &acts, index)?;
     Ok(Commit {
         number,
         reply: Answer::store(StoreReply::ItemStored(id)),
@@ -169,9 +165,7 @@ fn store_over_two<N: PhaseName, R: Wait>(
     shards: (u32, u32),
     index: u32,
 ) -> Result<Commit<Answer<'static>>, PermitFault>
-    requires of { key.old.boxes ≡ boxes.now }
-    requires seats { length key.old.seats ≡ length N.opening }
-    requires idle { IsIdle key.old }
+    requires ready { IsReady N.opening boxes.now key.old }
     requires opening { HaveOpening N.opening context.now.opening }
     requires allowed { number_refusal context.now.opening (item_request item.now) ≡ None }
     requires home { shards.0 ≡ shard_of (Item (next_item context.now)) (length N.opening) }
@@ -202,9 +196,7 @@ pub(crate) fn store_over_shards<N: PhaseName, R: Wait>(
     item: &NewItem,
     index: u32,
 ) -> Result<Commit<Answer<'static>>, PermitFault>
-    requires of { key.old.boxes ≡ boxes.now }
-    requires seats { length key.old.seats ≡ length N.opening }
-    requires idle { IsIdle key.old }
+    requires ready { IsReady N.opening boxes.now key.old }
     requires opening { HaveOpening N.opening context.now.opening }
     requires allowed { number_refusal context.now.opening (item_request item.now) ≡ None }
     ensures cold { IfOk result (HasStoredCold N.opening context.now key.old key.new item.now index) }
@@ -231,9 +223,7 @@ pub(crate) fn store_in_hot_category<N: PhaseName, R: Wait>(
     item: &NewItem,
     index: u32,
 ) -> Result<Ghost<Reply>, PermitFault>
-    requires of { key.old.boxes ≡ boxes.now }
-    requires seats { length key.old.seats ≡ length N.opening }
-    requires idle { IsIdle key.old }
+    requires ready { IsReady N.opening boxes.now key.old }
     requires left { 0 < split.old.context.left }
     requires allowed { number_refusal split.old.context.opening (item_request item.now) ≡ None }
     requires hot { IsHot split.old (Category item.now.facts.category) }
@@ -244,9 +234,9 @@ pub(crate) fn store_in_hot_category<N: PhaseName, R: Wait>(
 {
     let id = split.next_item();
     let home = shard_of(Object::Item(id), boxes.shards());
-    let nothing = Act::Look(Shown::Nothing);
+    let acts = [Act::AddItem(id, item.facts), Act::Look(Shown::Nothing)];
     let context = split.context();
-    let (number, found) = add_over_one(rt, boxes, key, context, home, item, id, nothing, index)?;
+    let (number, found) = add_over_one(rt, boxes, key, context, home, id, &acts, index)?;
     let reply = split.store_item(number, index, item, &found);
     Ok(Ghost::of(&reply.to_reply()))
 }

@@ -139,7 +139,8 @@ impl<N: PhaseName> JoinedPermit<N> {
             (HasPerformedFirst N.opening (with_try self.old) self.new)) }
         ensures failed { IfErr result (HasFailedFirst N.opening (with_try self.old) self.new) }
     {
-        match self.commit_stashed(rt, boxes)? {
+        let answer = self.commit_stashed(rt, boxes)?;
+        match answer {
             Some(_reply) => Ok(Some(self.last_reply())),
             None => Ok(None),
         }

@@ -1,5 +1,5 @@
 //! Requests over the shards of two objects.
-ghost use Rattle.std.specs.Prelude.{◌≡◌, ◌≢◌, ◌<◌, ◌≤◌, ℕ, length, Option, None, IfSome, IfNone, true, ◌∷◌, []};
+ghost use Rattle.std.specs.Prelude.{◌≡◌, ◌≢◌, ◌<◌, ◌≤◌, length, None, IfSome, IfNone, ◌∷◌, []};
 ghost use Rattle.auction_rows.specs.declared.ids.Object.TheVariants.{Item, User};
 ghost use Rattle.auction_rows.specs.Refusals.{number_refusal};
 ghost use Rattle.auction_rows.specs.Requests.{shard_of};
@@ -7,15 +7,14 @@ ghost use Rattle.item_shards.specs.CommitNumbers.{last_number};
 ghost use Rattle.item_shards.specs.ShardContents.{clock, contents};
 ghost use Rattle.item_shards.specs.declared.acts.Act.TheVariants.{Look};
 ghost use Rattle.item_shards.specs.declared.acts.Shown.TheVariants as shown;
-ghost use Rattle.shard_boxes.specs.Keys.{holds_at, seen_at, HoldsNoneFrom};
+ghost use Rattle.shard_boxes.specs.Keys.{seen_at};
 ghost use Rattle.shard_boxes.specs.Lines.{AreTrueOf};
-ghost use Rattle.shard_boxes.specs.States.{state_at};
 ghost use Rattle.phase_contexts.specs.Bids.{comment_request};
 ghost use Rattle.phase_transactions.specs.declared.fault.PermitFault.TheVariants.{NumberFull};
 ghost use Rattle.phase_transactions.specs.Putting.{CanDo, line_of};
-ghost use Rattle.phase_transactions.specs.Permits.{IsIdle};
-ghost use Rattle.phase_transactions.specs.Pairs.{HoldsBoth, HasSameLines, LeavesOthers, HasTakenBoth, IsNextOfBoth, HasPutBoth, HasPutTwo, IsAsTaken, IsCommentAnswer, comment_look, HasPutComment, HasCommented, HasPutCommentInOne, HasCommentedInOne, HasCommentedCold};
-ghost use Rattle.phase_transactions.specs.Taking.{HasStayed};
+ghost use Rattle.phase_transactions.specs.Pairs.{HoldsBoth, HasTakenBoth, IsNextOfBoth, HasPutBoth, HasPutTwo, IsAsTaken, IsCommentAnswer, comment_look, HasCommented, HasCommentedInOne, HasCommentedCold};
+ghost use Rattle.phase_transactions.specs.Single.{HaveOpening};
+ghost use Rattle.phase_transactions.specs.Taking.{IsReady, HasStayed};
 
 use crate::commit::Commit;
 use crate::putting::put_with_line;
@@ -24,7 +23,7 @@ use auction_rows::{Facts, Object, StoreReply, shard_of};
 use ghost_log::Ghost;
 use item_shards::{Act, Shown};
 use phase_contexts::{Comment, Context};
-use shard_boxes::{Boxes, Held, Key, PhaseName, sums_fit};
+use shard_boxes::{Boxes, Held, Key, PhaseName};
 use std::sync::Wait;
 use worker_journals::Answer;
 
@@ -36,18 +35,11 @@ fn take_both<N: PhaseName, R: Wait>(
     one: u32,
     other: u32,
 ) -> (Held<N>, Held<N>)
-    requires of { key.old.boxes ≡ boxes.now }
+    requires ready { IsReady N.opening boxes.now key.old }
     requires one { one < length N.opening }
     requires other { other < length N.opening }
     requires apart { one ≢ other }
-    requires seats { length key.old.seats ≡ length N.opening }
-    requires idle { IsIdle key.old }
-    ensures same { HasSameLines key.old key.new }
-    ensures others { LeavesOthers key.old key.new result.0.number result.1.number }
-    ensures numbers { (result.0.number ≡ one) × (result.1.number ≡ other) }
-    ensures holds { HoldsBoth key.new result.0.number result.1.number }
-    ensures one { IsAsTaken N.opening N.workers key.new result.0 }
-    ensures other { IsAsTaken N.opening N.workers key.new result.1 }
+    ensures { HasTakenBoth N.opening N.workers key.old key.new one other result }
 {
     if one < other {
         let lesser = boxes.take(rt, key, one);
@@ -70,12 +62,10 @@ pub(crate) fn take_both_next<N: PhaseName, R: Wait>(
     one: u32,
     other: u32,
 ) -> Option<((Held<N>, Held<N>), (u64, u64), u64)>
-    requires of { key.old.boxes ≡ boxes.now }
+    requires ready { IsReady N.opening boxes.now key.old }
     requires one { one < length N.opening }
     requires other { other < length N.opening }
     requires apart { one ≢ other }
-    requires seats { length key.old.seats ≡ length N.opening }
-    requires idle { IsIdle key.old }
     ensures taken { IfSome result (λ next. HasTakenBoth N.opening N.workers key.old key.new one other next.0) }
     ensures next { IfSome result (λ next. IsNextOfBoth context.now.clock next.0 next.1 next.2) }
     ensures stayed { IfNone result (HasStayed N.opening context.now.clock key.old key.new one other NumberFull) }
@@ -177,50 +167,6 @@ pub(crate) fn alone(act: Act) -> [Act; 2]
     [act, Act::Look(Shown::Nothing)]
 }
 
-/// A comment at a number after the clocks of two shards that are as they were taken, that of its item and that of the
-/// user whom it is about. It gives the reply and what was seen of the item.
-fn comment_at<N: PhaseName, R: Wait>(
-    rt: &R,
-    boxes: &Boxes<N>,
-    key: &mut Key<N>,
-    context: &Context,
-    comment: &Comment,
-    held: (Held<N>, Held<N>),
-    number: u64,
-    index: u32,
-) -> (Answer<'static>, Option<(Facts, u32)>)
-    requires of { key.old.boxes ≡ boxes.now }
-    requires holds { HoldsBoth key.old held.0.number held.1.number }
-    requires one { IsAsTaken N.opening N.workers key.old held.0 }
-    requires other { IsAsTaken N.opening N.workers key.old held.1 }
-    requires item { held.0.number ≡ shard_of (Item comment.now.item) (length N.opening) }
-    requires user { held.1.number ≡ shard_of (User comment.now.about) (length N.opening) }
-    requires later { (clock held.0.shard < number) × (clock held.1.shard < number) }
-    requires within { number ≤ last_number }
-    requires openings { (s : ℕ) → s < length N.opening → (state_at N.opening s).opening ≡ context.now.opening }
-    requires allowed { number_refusal context.now.opening (comment_request comment.now) ≡ None }
-    ensures { HasPutComment N.opening context.now comment.now number index key.old key.new held.0 held.1 result.1 result.0 }
-{
-    let (on_item, on_user) = held;
-    let _known = comment.stars.value();
-    sums_fit();
-    let seen = on_item.shard().stock(comment.item);
-    let (reply, act) = answer_comment(context, comment, seen);
-    let looks = look_and(comment, &seen, Act::Look(Shown::Nothing));
-    let writes = alone(act);
-    put_both(
-        rt,
-        boxes,
-        key,
-        (on_item, on_user),
-        number,
-        index,
-        &looks,
-        &writes,
-    );
-    (reply, seen)
-}
-
 /// A comment over the shard of its item and another one, that of the user whom it is about. None exactly where the
 /// greatest of the worker's clock and theirs is at the end of numbers, and then nothing has changed but what the key has
 /// seen. It takes no memory.
@@ -234,10 +180,8 @@ fn comment_over_two<N: PhaseName, R: Wait>(
     user: u32,
     index: u32,
 ) -> Option<Commit<Answer<'static>>>
-    requires of { key.old.boxes ≡ boxes.now }
-    requires seats { length key.old.seats ≡ length N.opening }
-    requires idle { IsIdle key.old }
-    requires openings { (s : ℕ) → s < length N.opening → (state_at N.opening s).opening ≡ context.now.opening }
+    requires ready { IsReady N.opening boxes.now key.old }
+    requires openings { HaveOpening N.opening context.now.opening }
     requires allowed { number_refusal context.now.opening (comment_request comment.now) ≡ None }
     requires item { item ≡ shard_of (Item comment.now.item) (length N.opening) }
     requires user { user ≡ shard_of (User comment.now.about) (length N.opening) }
@@ -247,46 +191,19 @@ fn comment_over_two<N: PhaseName, R: Wait>(
     ensures later { IfSome result (λ done. context.now.clock < done.number) }
     ensures stayed { IfNone result (HasStayed N.opening context.now.clock key.old key.new item user NumberFull) }
 {
+    let _known = comment.stars.value();
     let next = take_both_next(rt, boxes, key, context, item, user)?;
     let (held, (first, second), number) = next;
-    let (reply, seen) = comment_at(rt, boxes, key, context, comment, held, number, index);
+    let seen = held.0.shard().stock(comment.item);
+    let (reply, act) = answer_comment(context, comment, seen);
+    let looks = look_and(comment, &seen, Act::Look(Shown::Nothing));
+    let writes = alone(act);
+    put_both(rt, boxes, key, held, number, index, &looks, &writes);
     Some(Commit {
         number,
         reply,
         found: found_on_both((item, first), (user, second), Ghost::of(&seen)),
     })
-}
-
-/// A comment at a number after the clock of a shard that is as it was taken, in which its item and the user whom it is
-/// about lie. It gives the reply and what was seen of the item.
-fn comment_in_one<N: PhaseName, R: Wait>(
-    rt: &R,
-    boxes: &Boxes<N>,
-    key: &mut Key<N>,
-    context: &Context,
-    comment: &Comment,
-    held: Held<N>,
-    number: u64,
-    index: u32,
-) -> (Answer<'static>, Option<(Facts, u32)>)
-    requires of { key.old.boxes ≡ boxes.now }
-    requires holder { holds_at key.old held.number ≡ true }
-    requires taken { IsAsTaken N.opening N.workers key.old held }
-    requires item { held.number ≡ shard_of (Item comment.now.item) (length N.opening) }
-    requires user { held.number ≡ shard_of (User comment.now.about) (length N.opening) }
-    requires later { clock held.shard < number }
-    requires within { number ≤ last_number }
-    requires openings { (s : ℕ) → s < length N.opening → (state_at N.opening s).opening ≡ context.now.opening }
-    requires allowed { number_refusal context.now.opening (comment_request comment.now) ≡ None }
-    ensures { HasPutCommentInOne N.opening context.now comment.now number index key.old key.new held result.1 result.0 }
-{
-    let _known = comment.stars.value();
-    sums_fit();
-    let seen = held.shard().stock(comment.item);
-    let (reply, act) = answer_comment(context, comment, seen);
-    let acts = look_and(comment, &seen, act);
-    put_with_line(rt, boxes, key, held, number, index, &acts);
-    (reply, seen)
 }
 
 /// A comment over the one shard in which its item and the user whom it is about lie. None exactly where the greater of
@@ -301,10 +218,8 @@ fn comment_over_one<N: PhaseName, R: Wait>(
     shard: u32,
     index: u32,
 ) -> Option<Commit<Answer<'static>>>
-    requires of { key.old.boxes ≡ boxes.now }
-    requires seats { length key.old.seats ≡ length N.opening }
-    requires idle { IsIdle key.old }
-    requires openings { (s : ℕ) → s < length N.opening → (state_at N.opening s).opening ≡ context.now.opening }
+    requires ready { IsReady N.opening boxes.now key.old }
+    requires openings { HaveOpening N.opening context.now.opening }
     requires allowed { number_refusal context.now.opening (comment_request comment.now) ≡ None }
     requires item { shard ≡ shard_of (Item comment.now.item) (length N.opening) }
     requires user { shard ≡ shard_of (User comment.now.about) (length N.opening) }
@@ -313,8 +228,12 @@ fn comment_over_one<N: PhaseName, R: Wait>(
     ensures later { IfSome result (λ done. context.now.clock < done.number) }
     ensures stayed { IfNone result (HasStayed N.opening context.now.clock key.old key.new shard shard NumberFull) }
 {
+    let _known = comment.stars.value();
     let (held, before, number) = take_next(rt, boxes, key, context, shard)?;
-    let (reply, seen) = comment_in_one(rt, boxes, key, context, comment, held, number, index);
+    let seen = held.shard().stock(comment.item);
+    let (reply, act) = answer_comment(context, comment, seen);
+    let acts = look_and(comment, &seen, act);
+    put_with_line(rt, boxes, key, held, number, index, &acts);
     Some(Commit {
         number,
         reply,
@@ -334,10 +253,8 @@ pub(crate) fn comment_over_shards<N: PhaseName, R: Wait>(
     comment: &Comment,
     index: u32,
 ) -> Option<Commit<Answer<'static>>>
-    requires of { key.old.boxes ≡ boxes.now }
-    requires seats { length key.old.seats ≡ length N.opening }
-    requires idle { IsIdle key.old }
-    requires openings { (s : ℕ) → s < length N.opening → (state_at N.opening s).opening ≡ context.now.opening }
+    requires ready { IsReady N.opening boxes.now key.old }
+    requires openings { HaveOpening N.opening context.now.opening }
     requires allowed { number_refusal context.now.opening (comment_request comment.now) ≡ None }
     ensures cold { IfSome result (HasCommentedCold N.opening context.now key.old key.new comment.now index) }
     ensures later { IfSome result (λ done. context.now.clock < done.number) }

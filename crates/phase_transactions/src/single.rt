@@ -8,9 +8,8 @@ ghost use Rattle.item_shards.specs.CommitNumbers.{last_number};
 ghost use Rattle.item_shards.specs.ShardContents.{clock, contents, LiesIn};
 ghost use Rattle.phase_contexts.specs.Needing.{IsStoreOf};
 ghost use Rattle.phase_transactions.specs.declared.fault.PermitFault.TheVariants.{NumberFull};
-ghost use Rattle.phase_transactions.specs.Permits.{IsIdle};
 ghost use Rattle.phase_transactions.specs.Single.{only_object, reply_unless, HaveOpening, HasDone};
-ghost use Rattle.phase_transactions.specs.Taking.{HasStayed};
+ghost use Rattle.phase_transactions.specs.Taking.{IsReady, HasStayed};
 
 use crate::commit::Commit;
 use crate::putting::put_with_line;
@@ -35,9 +34,7 @@ pub(crate) fn store_on<N: PhaseName, R: Wait>(
     store: ItemStore,
     index: u32,
 ) -> Option<Commit<Answer<'static>>>
-    requires of { key.old.boxes ≡ boxes.now }
-    requires seats { length key.old.seats ≡ length N.opening }
-    requires idle { IsIdle key.old }
+    requires ready { IsReady N.opening boxes.now key.old }
     requires accepted { number_refusal context.now.opening request.now ≡ None }
     requires store { IsStoreOf context.now request.now store }
     ensures done { IfSome result (HasDone N.opening context.now key.old key.new request.now (Item store.item) index) }
@@ -116,9 +113,7 @@ pub(crate) fn view_on<N: PhaseName, R: Wait>(
     object: Object,
     index: u32,
 ) -> Option<Commit<Reply>>
-    requires of { key.old.boxes ≡ boxes.now }
-    requires seats { length key.old.seats ≡ length N.opening }
-    requires idle { IsIdle key.old }
+    requires ready { IsReady N.opening boxes.now key.old }
     requires only { only_object request.now ≡ Some object }
     requires accepted { number_refusal context.now.opening request.now ≡ None }
     requires opening { HaveOpening N.opening context.now.opening }

@@ -156,7 +156,8 @@ impl<N: PhaseName> SplitPermit<N> {
         ensures failed { IfErr result (HasFailed N.opening (with_try self.old) self.new request.now) }
         ensures untouched { IsUntouched (length N.opening) self.old.split request.now self.old.key self.new.key }
     {
-        match self.commit(rt, boxes, request, index)? {
+        let answer = self.commit(rt, boxes, request, index)?;
+        match answer {
             Some(_reply) => Ok(Done::Committed(self.last_reply())),
             None => Ok(Done::Stashed),
         }

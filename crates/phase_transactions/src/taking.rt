@@ -2,9 +2,8 @@
 ghost use Rattle.std.specs.Prelude.{◌≡◌, ◌<◌, length, IfSome, IfNone};
 ghost use Rattle.phase_transactions.specs.declared.fault.PermitFault.TheVariants.{NumberFull};
 ghost use Rattle.phase_transactions.specs.Pairs.{found_on_both};
-ghost use Rattle.phase_transactions.specs.Permits.{IsIdle};
 ghost use Rattle.phase_transactions.specs.Putting.{found_on};
-ghost use Rattle.phase_transactions.specs.Taking.{HasTaken, IsNext, HasStayed};
+ghost use Rattle.phase_transactions.specs.Taking.{IsReady, HasTaken, IsNext, HasStayed};
 
 use auction_rows::Facts;
 use ghost_log::Ghost;
@@ -21,9 +20,7 @@ pub(crate) fn take_next<N: PhaseName, R: Wait>(
     context: &Context,
     shard: u32,
 ) -> Option<(Held<N>, u64, u64)>
-    requires of { key.old.boxes ≡ boxes.now }
-    requires seats { length key.old.seats ≡ length N.opening }
-    requires idle { IsIdle key.old }
+    requires ready { IsReady N.opening boxes.now key.old }
     requires known { shard < length N.opening }
     ensures taken { IfSome result (λ next. HasTaken N.opening N.workers key.old key.new shard next.0) }
     ensures next { IfSome result (λ next. IsNext context.now.clock next.0.shard next.1 next.2) }

@@ -18,10 +18,10 @@ returns-in_err-done-clause-untouched g c =
 
 pub returns-clause-committed : goal.returns-clause-committed
 returns-clause-committed g c =
-    as_told _ _ _ _ _ _ _ (c.of.ensures ∙ c.to_reply.ensures)
+    as_told _ _ _ _ _ _ _ c.commit_done.ensures.reply
     (comment_cold_commits g.N.PhaseName.opening c.args.split.now c.args.key.now c.comment_over_shards.new.key c.args.comment.now c.args.index c.context-context.result.now c.context-context.ensures
-    c.requires.allowed c.requires.item c.requires.user c.commit_cold.new.self c.in_ok-done.done c.in_ok-done.ensures.cold
-    (c.commit_cold.ensures.context ∙ (λ i. done_at c.args.split.now.context c.args.index (c.request-request.ensures i) c.in_ok-done.done)) c.commit_cold.ensures.slices)
+    c.requires.allowed c.requires.item c.requires.user c.commit_done.new.split c.in_ok-done.done c.in_ok-done.ensures.cold
+    (c.commit_done.ensures.context ∙ (λ i. done_at c.args.split.now.context c.args.index (c.request.ensures i) c.in_ok-done.done)) c.commit_done.ensures.slices)
 
 pub returns-clause-untouched : goal.returns-clause-untouched
 returns-clause-untouched g c =

@@ -1,7 +1,8 @@
-use Rattle.std.proofs.Common.{length, ◌∙◌}
+use Rattle.std.proofs.Common.{ap, ◌∙◌}
 use Rattle.auction_rows.specs.declared.ids.Object.TheVariants.{Item}
+use Rattle.auction_rows.specs.Requests.{shard_of}
 use Rattle.phase_transactions.proofs.ColdLemmas.{touched}
-use Rattle.phase_transactions.proofs.HalfLemmas.{seated, as_told, item_commits, item_fails, item_asked}
+use Rattle.phase_transactions.proofs.HalfLemmas.{as_told, item_commits, item_fails, item_asked}
 use Rattle.phase_transactions.proofs.TakeLemmas.{if_none}
 use Rattle.phase_transactions.proofs.halves.comment_about_hot_user.Goals as goal
 
@@ -10,20 +11,18 @@ returns-in_err-number-clause-full g c =
     let opening = g.N.PhaseName.opening in
     let comment = c.args.comment.now in
     let key = c.args.key.now in
-    let known = seated (Item comment.item) c.shard_of-item.result c.shards.result (length opening) (length key.seats) c.shard_of-item.ensures.shard c.shards.ensures.count c.shard_of-item.ensures.within c.requires.seats in
     if_none c.from_residual.result _
     (item_fails opening c.args.split.now key c.look_over_item.new.key comment c.args.index c.context-context.result.now c.context-context.ensures c.requires.allowed c.requires.item c.requires.user
-    c.shard_of-item.result known.0 c.in_err-number.ensures.stayed)
+    c.shard_of-item.result (c.shard_of-item.ensures.shard ∙ ap (shard_of (Item comment.item)) c.shards.ensures.count) c.in_err-number.ensures.stayed)
 
 pub returns-clause-committed : goal.returns-clause-committed
 returns-clause-committed g c =
     let opening = g.N.PhaseName.opening in
     let comment = c.args.comment.now in
     let key = c.args.key.now in
-    let known = seated (Item comment.item) c.shard_of-item.result c.shards.result (length opening) (length key.seats) c.shard_of-item.ensures.shard c.shards.ensures.count c.shard_of-item.ensures.within c.requires.seats in
     as_told _ _ _ _ _ _ _ (c.of.ensures ∙ c.to_reply.ensures)
     (item_commits opening c.args.split.now key c.look_over_item.new.key comment c.args.index c.context-context.result.now c.context-context.ensures c.requires.allowed c.requires.item c.requires.user
-    c.commit_comment-reply.new.self c.in_ok-number.number c.in_ok-number.found c.commit_comment-reply.result c.in_ok-number.ensures.looked c.commit_comment-reply.ensures.reply c.commit_comment-reply.ensures.context c.commit_comment-reply.ensures.slices known.1 c.requires.idle)
+    c.commit_comment-reply.new.self c.in_ok-number.number c.in_ok-number.found c.commit_comment-reply.result c.in_ok-number.ensures.looked c.commit_comment-reply.ensures.reply c.commit_comment-reply.ensures.context c.commit_comment-reply.ensures.slices c.requires.ready.idle)
 
 pub returns-in_err-number-clause-untouched : goal.returns-in_err-number-clause-untouched
 returns-in_err-number-clause-untouched g c =

@@ -1,9 +1,12 @@
-use Rattle.std.proofs.Common.{◌<◌, length, max, sym, ap, subst, ◌∙◌}
+use Rattle.std.proofs.Common.{◌<◌, max, sym, ap, subst, ◌∙◌}
 use Rattle.item_shards.specs.CommitNumbers.{last_number}
+use Rattle.item_shards.specs.declared.acts.Act.TheVariants.{AddItem}
 use Rattle.item_shards.specs.ShardContents.{rooms, contents}
 use Rattle.item_shards.specs.Contents.{after_act}
+use Rattle.shard_boxes.specs.Lines.{AreTrueOf}
 use Rattle.shard_boxes.specs.States.{ShardState}
-use Rattle.phase_transactions.specs.Items.{adds, CanAlwaysDo}
+use Rattle.phase_transactions.specs.Items.{second_of, CanAlwaysDo}
+use Rattle.phase_transactions.specs.Putting.{CanDo}
 use Rattle.phase_transactions.specs.Taking.{IsCauseAt}
 use Rattle.phase_transactions.proofs.ItemLemmas.{can_add}
 use Rattle.phase_transactions.proofs.TakeLemmas.{below_last, still_taken, stays, over_one}
@@ -18,12 +21,11 @@ returns-in-Err-clause-stayed g c =
     let own = c.args.context.now.clock in
     let next = c.in-Some.ensures.next in
     let taken = c.take_next.new.key in
-    let known : c.args.shard < length c.args.key.now.seats = subst (λ n. c.args.shard < n) (sym c.requires.seats) c.requires.known in
     let before_is = next.before_is ∙ sym (ap (λ (state : ShardState). state.clock) c.prepare.ensures.state) in
     let short = subst (λ n. max own n < last_number) before_is (below_last (max own c.in-Some.next.1) c.in-Some.next.2 next.numbered next.within) in
     stays g.N.PhaseName.opening g.N.PhaseName.workers own c.args.key.now taken c.put.new.key c.args.shard c.prepare.new.held
     (still_taken g.N.PhaseName.opening g.N.PhaseName.workers own c.args.key.now taken taken c.args.shard c.in-Some.next.0 c.in-Some.ensures.taken c.prepare.new.held c.prepare.ensures.state c.prepare.ensures.number)
-    known c.requires.idle c.put.ensures c.in-Err.fault (subst (IsCauseAt _) (sym c.in-Err.ensures.refused) short)
+    c.requires.ready.idle c.put.ensures c.in-Err.fault (subst (IsCauseAt _) (sym c.in-Err.ensures.refused) short)
 
 pub put_with_line-requires-clause-taken : goal.put_with_line-requires-clause-taken
 put_with_line-requires-clause-taken g c =
@@ -32,13 +34,15 @@ put_with_line-requires-clause-taken g c =
 pub put_with_line-requires-clause-can : goal.put_with_line-requires-clause-can
 put_with_line-requires-clause-can g c =
     let took = c.in-Some.ensures.taken in
-    can_add g.N.PhaseName.opening g.N.PhaseName.workers c.take_next.new.key c.in-Some.next.0.number c.in-Some.next.0.shard c.prepare.new.held.shard c.args.item.now c.args.id c.args.second
-    took.history c.prepare.ensures.state (took.number ∙ c.requires.home) c.in_default-prepare.ensures.room (subst (λ n. CanAlwaysDo g.N.PhaseName.opening n c.args.second) (sym took.number) c.requires.second)
+    let second = second_of c.args.acts.now in
+    subst (CanDo c.prepare.new.held.shard) (sym c.requires.first.1)
+    (can_add g.N.PhaseName.opening g.N.PhaseName.workers c.take_next.new.key c.in-Some.next.0.number c.in-Some.next.0.shard c.prepare.new.held.shard c.requires.first.0 c.args.id second
+    took.history c.prepare.ensures.state (took.number ∙ c.requires.home) c.in_default-prepare.ensures.room (subst (λ n. CanAlwaysDo g.N.PhaseName.opening n second) (sym took.number) c.requires.second))
 
 pub put_with_line-requires-clause-looks : goal.put_with_line-requires-clause-looks
 put_with_line-requires-clause-looks g c =
     let new = c.prepare.new.held.shard in
-    (tt, ((c.requires.second (rooms new) (after_act (contents new) (adds c.args.item.now c.args.id))).1, tt))
+    subst (AreTrueOf (contents new)) (sym c.requires.first.1) (tt, ((c.requires.second (rooms new) (after_act (contents new) (AddItem c.args.id c.requires.first.0))).1, tt))
 
 pub returns-clause-added : goal.returns-clause-added
 returns-clause-added g c =

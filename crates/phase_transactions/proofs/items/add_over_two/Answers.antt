@@ -40,7 +40,7 @@ put_both-requires-clause-can g c =
     let workers = g.N.PhaseName.workers in
     let taken = c.take_both_next.new.key in (
       subst (CanDo c.prepare.new.held.shard) (sym c.alone-add.ensures)
-          (can_add opening workers taken held.0.number held.0.shard c.prepare.new.held.shard c.args.item.now c.args.id nothing_else
+          (can_add opening workers taken held.0.number held.0.shard c.prepare.new.held.shard c.args.item.now.facts c.args.id nothing_else
           took.on_one c.prepare.ensures.state (took.one_is ∙ c.requires.home) c.in_default-prepare.ensures.room (λ rooms contents. (tt, tt))),
       subst (CanDo held.1.shard) (sym (c.alone-list.ensures ∙ ap (λ entry. ListItem c.args.item.now.facts.category entry ∷ nothing_else ∷ []) c.entry.ensures))
           (can_list_alone opening workers taken held.1.number held.1.shard (lists c.args.item.now c.args.id)

@@ -1,4 +1,4 @@
-use Rattle.std.proofs.Common.{◌≡◌, ◌<◌, true, false, length, sym, ap, subst, ◌∙◌}
+use Rattle.std.proofs.Common.{refl, ◌≡◌, true, false, length, ap, subst, ◌∙◌}
 use Rattle.auction_rows.specs.declared.ids.ItemId.{ItemId}
 use Rattle.auction_rows.specs.declared.ids.Object.TheVariants.{Item}
 use Rattle.auction_rows.specs.Footprint.{is_hot}
@@ -9,6 +9,9 @@ use Rattle.phase_transactions.proofs.HalfLemmas.{as_told}
 use Rattle.phase_transactions.proofs.ItemLemmas.{err_as, item_fails, hot_stored}
 use Rattle.phase_transactions.proofs.TakeLemmas.{stayed_as}
 use Rattle.phase_transactions.proofs.items.store_in_hot_category.Goals as goal
+
+pub add_over_one-requires-clause-first : goal.add_over_one-requires-clause-first
+add_over_one-requires-clause-first g c = (c.args.item.now.facts, refl)
 
 pub returns-in_err-number-clause-failed : goal.returns-in_err-number-clause-failed
 returns-in_err-number-clause-failed g c =
@@ -24,10 +27,8 @@ returns-in_err-number-clause-failed g c =
 pub returns-clause-committed : goal.returns-clause-committed
 returns-clause-committed g c =
     let opening = g.N.PhaseName.opening in
-    let within : c.shard_of-home.result < length c.args.key.now.seats =
-    subst (λ n. c.shard_of-home.result < n) (c.shards.ensures.count ∙ sym c.requires.seats) c.shard_of-home.ensures.within in
     as_told _ _ _ _ _ _ _ (c.of.ensures ∙ c.to_reply.ensures)
     (hot_stored opening c.args.split.now c.store_item-reply.new.self c.args.key.now c.add_over_one.new.key c.args.item.now c.next_item-id.result c.context-context.result.now.clock c.shard_of-home.result c.args.index
     c.in_ok-number.number c.in_ok-number.found c.store_item-reply.result
-    c.requires.allowed c.next_item-id.ensures.cold c.requires.hot c.next_item-id.ensures.next (ap (λ (d : ContextState). d.clock) c.context-context.ensures) (c.shard_of-home.ensures.shard ∙ ap (shard_of (Item c.next_item-id.result)) c.shards.ensures.count) within c.requires.idle
+    c.requires.allowed c.next_item-id.ensures.cold c.requires.hot c.next_item-id.ensures.next (ap (λ (d : ContextState). d.clock) c.context-context.ensures) (c.shard_of-home.ensures.shard ∙ ap (shard_of (Item c.next_item-id.result)) c.shards.ensures.count) c.requires.ready.idle
     c.in_ok-number.ensures.added c.store_item-reply.ensures.reply c.store_item-reply.ensures.context c.store_item-reply.ensures.slices)

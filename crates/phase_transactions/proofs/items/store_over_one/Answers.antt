@@ -1,10 +1,13 @@
-use Rattle.std.proofs.Common.{◌<◌, ◌∷◌, [], length, sym, subst}
+use Rattle.std.proofs.Common.{refl, ◌∷◌, [], subst}
 use Rattle.auction_rows.specs.declared.ids.ItemEntry.{ItemEntry}
 use Rattle.item_shards.specs.declared.acts.Act.TheVariants.{ListItem}
 use Rattle.phase_transactions.specs.Items.{adds}
 use Rattle.phase_transactions.specs.Putting.{IsOverOne}
 use Rattle.phase_transactions.proofs.ItemLemmas.{err_as, cold_failed, cold_stored_one}
 use Rattle.phase_transactions.proofs.items.store_over_one.Goals as goal
+
+pub add_over_one-requires-clause-first : goal.add_over_one-requires-clause-first
+add_over_one-requires-clause-first g c = (c.args.item.now.facts, refl)
 
 pub returns-in_err-number-clause-failed : goal.returns-in_err-number-clause-failed
 returns-in_err-number-clause-failed g c =
@@ -17,9 +20,8 @@ pub returns-clause-cold : goal.returns-clause-cold
 returns-clause-cold g c =
     let opening = g.N.PhaseName.opening in
     let item = c.args.item.now in
-    let known : c.args.shard < length c.args.key.now.seats = subst (λ n. c.args.shard < n) (sym c.requires.seats) c.requires.known in
     let listed = λ (entry : ItemEntry). IsOverOne opening c.args.context.now.clock c.args.key.now c.add_over_one.new.key c.args.shard c.in_ok-number.number c.args.index c.in_ok-number.found
     (adds item c.next_item-id.result ∷ ListItem item.facts.category entry ∷ []) in
     cold_stored_one opening c.args.context.now c.args.key.now c.add_over_one.new.key item c.next_item-id.result c.args.index
     c.requires.allowed c.next_item-id.ensures c.args.shard c.in_ok-number.number c.in_ok-number.found c.store.result c.store.ensures
-    c.requires.home c.requires.listed known c.requires.idle (subst listed c.entry.ensures c.in_ok-number.ensures.added)
+    c.requires.home c.requires.listed c.requires.ready.idle (subst listed c.entry.ensures c.in_ok-number.ensures.added)

@@ -20,6 +20,6 @@ returns-in_default-clause-stayed g c =
     let first_is = c.clock-first.ensures ∙ ap clock c.shard.ensures in
     let second_is = c.clock-second.ensures ∙ ap clock c.shard-2.ensures in
     both_stay g.N.PhaseName.opening g.N.PhaseName.workers c.args.context.now.clock c.args.key.now c.take_both-on_one.new.key c.put_both_back.new.key c.args.one c.args.other c.take_both-on_one.result
-    (record { same = took.same; others = took.others; one_is = took.numbers.0; other_is = took.numbers.1; holds = took.holds; on_one = took.one; on_other = took.other })
+    took
     c.put_both_back.ensures.put c.put_both_back.ensures.seen_of_one c.put_both_back.ensures.seen_of_other NumberFull
     (subst (λ n. last_number ≤ max c.args.context.now.clock n) (c.max.ensures ∙ (λ i. max (first_is i) (second_is i))) (c.in_default.ensures.none.0 refl))

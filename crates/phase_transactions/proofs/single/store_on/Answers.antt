@@ -31,21 +31,22 @@ returns-in_default-clause-stayed g c =
     let own = c.args.context.now.clock in
     let shard = c.shard_of-shard.result in
     let took = c.take-held.ensures in
-    let its = has_taken opening g.N.PhaseName.workers c.args.key.now c.take-held.new.key shard c.take-held.result took.key took.later took.number took.holds took.history in
+    let within = subst (λ n. c.shard_of-shard.result < n) c.shards.ensures.count c.shard_of-shard.ensures.within in
+    let its = has_taken opening g.N.PhaseName.workers c.args.key.now c.take-held.new.key shard c.take-held.result c.requires.ready.seats within took.key took.later took.number took.holds took.history in
     let there : shard ≡ shard_of (Item c.args.store.item) (length opening) = c.shard_of-shard.ensures.shard ∙ ap (shard_of (Item c.args.store.item)) c.shards.ensures.count in
-    let known : shard < length c.args.key.now.seats = subst (λ n. shard < n) (c.shards.ensures.count ∙ sym c.requires.seats) c.shard_of-shard.ensures.within in
     let full : last_number ≤ max own (clock c.take-held.result.shard) = subst (λ n. last_number ≤ max n (clock c.take-held.result.shard)) c.clock.ensures c.in_default.ensures.full in
     stayed_as opening own own c.args.key.now c.put.new.key shard _ shard _ NumberFull refl there there
-    (stays opening g.N.PhaseName.workers own c.args.key.now c.take-held.new.key c.put.new.key shard c.take-held.result its known c.requires.idle
+    (stays opening g.N.PhaseName.workers own c.args.key.now c.take-held.new.key c.put.new.key shard c.take-held.result its c.requires.ready.idle
     (c.put.ensures ∙ ap (λ n. putting c.take-held.new.key n None) c.answer_on.ensures.number) NumberFull full)
 
 pub put-requires-2-clause-may : goal.put-requires-2-clause-may
 put-requires-2-clause-may g c =
     let took = c.take-held.ensures in
+    let within = subst (λ n. c.shard_of-shard.result < n) c.shards.ensures.count c.shard_of-shard.ensures.within in
     let shard = c.shard_of-shard.result in
     let held = c.take-held.result in
     let new = c.answer_on.new.held in
-    let its = has_taken g.N.PhaseName.opening g.N.PhaseName.workers c.args.key.now c.take-held.new.key shard held took.key took.later took.number took.holds took.history in
+    let its = has_taken g.N.PhaseName.opening g.N.PhaseName.workers c.args.key.now c.take-held.new.key shard held c.requires.ready.seats within took.key took.later took.number took.holds took.history in
     may_put_answered g.N.PhaseName.opening g.N.PhaseName.workers c.args.context.now c.args.key.now c.take-held.new.key c.args.request.now c.args.store shard held new c.in-Some.done its
     c.answer_on.ensures.number c.requires.store
     (subst (λ own. HasAnswered held.shard new.shard own c.args.request.now c.args.store.item c.args.store.write c.in-Some.done) c.clock.ensures c.in-Some.ensures.answered)
@@ -59,10 +60,11 @@ returns-clause-done g c =
     let store = c.args.store in
     let shard = c.shard_of-shard.result in
     let took = c.take-held.ensures in
+    let within = subst (λ n. c.shard_of-shard.result < n) c.shards.ensures.count c.shard_of-shard.ensures.within in
     let held = c.take-held.result in
     let new = c.answer_on.new.held in
     let done = c.in-Some.done in
-    let its = has_taken opening g.N.PhaseName.workers c.args.key.now c.take-held.new.key shard held took.key took.later took.number took.holds took.history in
+    let its = has_taken opening g.N.PhaseName.workers c.args.key.now c.take-held.new.key shard held c.requires.ready.seats within took.key took.later took.number took.holds took.history in
     subst (λ (r : Reply). HasDone opening context c.args.key.now c.put-2.new.key request (Item store.item) c.args.index (record { number = done.number; reply = r; found = c.found_on.result }))
     (sym (c.store.ensures ∙ ap reply_of c.reply_unless.ensures))
     (store_done opening g.N.PhaseName.workers context c.args.key.now c.take-held.new.key request store shard held new done its c.answer_on.ensures.number c.requires.store

@@ -1,9 +1,45 @@
-use Rattle.std.proofs.Common.{None, ap, ◌∙◌}
+use Rattle.std.proofs.Common.{◌≡◌, None, refl, sym, ap, subst, ◌∙◌}
+use Rattle.item_shards.specs.declared.shard.Shard.{Shard}
+use Rattle.item_shards.specs.ShardContents.{contents, opening as opening_of}
+use Rattle.shard_boxes.specs.Lines.{AreTrueOf}
 use Rattle.auction_rows.specs.Requests.{shard_of}
-use Rattle.phase_transactions.specs.Putting.{found_on}
-use Rattle.phase_transactions.proofs.SingleLemmas.{has_done}
-use Rattle.phase_transactions.proofs.TakeLemmas.{over_one}
+use Rattle.phase_transactions.specs.declared.fault.PermitFault.TheVariants.{NumberFull}
+use Rattle.phase_transactions.specs.Putting.{CanDo, found_on}
+use Rattle.phase_transactions.proofs.SingleLemmas.{has_done, only_lies}
+use Rattle.phase_transactions.proofs.TakeLemmas.{after_clock, after_own, over_one, stayed_as, if_none}
 use Rattle.phase_transactions.proofs.single.view_on.Goals as goal
+
+pub returns-in_err-held-clause-stayed : goal.returns-in_err-held-clause-stayed
+returns-in_err-held-clause-stayed g c =
+    let there = c.shard_of-shard.ensures.shard ∙ ap (shard_of c.args.object) c.shards.ensures.count in
+    if_none c.from_residual.result _
+    (stayed_as g.N.PhaseName.opening c.args.context.now.clock c.args.context.now.clock c.args.key.now c.take_next.new.key c.shard_of-shard.result _ c.shard_of-shard.result _ NumberFull refl there there c.in_err-held.ensures.stayed)
+
+pub see_view-reply-requires-clause-here : goal.see_view-reply-requires-clause-here
+see_view-reply-requires-clause-here g c =
+    let took = c.in_ok-held.ensures.taken in
+    only_lies g.N.PhaseName.opening g.N.PhaseName.workers c.take_next.new.key c.in_ok-held.held _ c.args.request.now c.args.object c.shard.ensures took.history
+    (took.number ∙ c.shard_of-shard.ensures.shard ∙ ap (shard_of c.args.object) c.shards.ensures.count) c.requires.only
+
+pub see_view-reply-requires-clause-opening : goal.see_view-reply-requires-clause-opening
+see_view-reply-requires-clause-opening g c =
+    let history = c.in_ok-held.ensures.taken.history in
+    subst (λ (s : Shard). opening_of s ≡ c.args.context.now.opening) (sym c.shard.ensures) (history.opening_is ∙ c.requires.opening c.in_ok-held.held.number history.known)
+
+pub put_with_line-requires-clause-taken : goal.put_with_line-requires-clause-taken
+put_with_line-requires-clause-taken g c = c.in_ok-held.ensures.taken.history.state_is
+
+pub put_with_line-requires-clause-later : goal.put_with_line-requires-clause-later
+put_with_line-requires-clause-later g c = after_clock c.args.context.now.clock c.in_ok-held.held.shard c.in_ok-held.before c.in_ok-held.number c.in_ok-held.ensures.next
+
+pub put_with_line-requires-clause-can : goal.put_with_line-requires-clause-can
+put_with_line-requires-clause-can g c = subst (λ (s : Shard). CanDo s c.see_view-reply.result.acts) c.shard.ensures c.see_view-reply.ensures.can
+
+pub put_with_line-requires-clause-looks : goal.put_with_line-requires-clause-looks
+put_with_line-requires-clause-looks g c = subst (λ (s : Shard). AreTrueOf (contents s) c.see_view-reply.result.acts) c.shard.ensures c.see_view-reply.ensures.looks
+
+pub returns-clause-later : goal.returns-clause-later
+returns-clause-later g c = after_own c.args.context.now.clock c.in_ok-held.held.shard c.in_ok-held.before c.in_ok-held.number c.in_ok-held.ensures.next
 
 pub returns-clause-done : goal.returns-clause-done
 returns-clause-done g c =

@@ -1,4 +1,4 @@
-use Rattle.std.proofs.Common.{◌<◌, ◌≤◌, length, max, refl, sym, ap, subst, ◌∙◌}
+use Rattle.std.proofs.Common.{◌≤◌, max, refl, ap, subst, ◌∙◌}
 use Rattle.item_shards.specs.CommitNumbers.{last_number}
 use Rattle.item_shards.specs.ShardContents.{clock}
 use Rattle.phase_transactions.specs.declared.fault.PermitFault.TheVariants.{NumberFull}
@@ -9,7 +9,7 @@ use Rattle.phase_transactions.proofs.taking.take_next.Goals as goal
 pub returns-clause-taken : goal.returns-clause-taken
 returns-clause-taken g c =
     let took = c.take-held.ensures in
-    has_taken g.N.PhaseName.opening g.N.PhaseName.workers c.args.key.now c.take-held.new.key c.args.shard c.take-held.result took.key took.later took.number took.holds took.history
+    has_taken g.N.PhaseName.opening g.N.PhaseName.workers c.args.key.now c.take-held.new.key c.args.shard c.take-held.result c.requires.ready.seats c.requires.known took.key took.later took.number took.holds took.history
 
 pub returns-clause-next : goal.returns-clause-next
 returns-clause-next g c = record {
@@ -21,8 +21,7 @@ returns-clause-next g c = record {
 pub returns-in_default-clause-stayed : goal.returns-in_default-clause-stayed
 returns-in_default-clause-stayed g c =
     let took = c.take-held.ensures in
-    let known : c.args.shard < length c.args.key.now.seats = subst (λ n. c.args.shard < n) (sym c.requires.seats) c.requires.known in
     stays g.N.PhaseName.opening g.N.PhaseName.workers c.args.context.now.clock c.args.key.now c.take-held.new.key c.put.new.key c.args.shard c.take-held.result
-    (has_taken g.N.PhaseName.opening g.N.PhaseName.workers c.args.key.now c.take-held.new.key c.args.shard c.take-held.result took.key took.later took.number took.holds took.history)
-    known c.requires.idle c.put.ensures NumberFull
+    (has_taken g.N.PhaseName.opening g.N.PhaseName.workers c.args.key.now c.take-held.new.key c.args.shard c.take-held.result c.requires.ready.seats c.requires.known took.key took.later took.number took.holds took.history)
+    c.requires.ready.idle c.put.ensures NumberFull
     (subst (λ n. last_number ≤ max c.args.context.now.clock n) (c.clock-before.ensures ∙ ap clock c.shard.ensures) (c.in_default.ensures.none.0 refl))

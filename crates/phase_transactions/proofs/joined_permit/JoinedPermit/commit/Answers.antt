@@ -1,10 +1,13 @@
-use Rattle.std.proofs.Common.{◌≡◌, List, false, length, sym, subst, ◌∙◌}
+use Rattle.std.proofs.Common.{◌≡◌, List, false, length, sym, ap, subst, ◌∙◌}
+use Rattle.std.specs.Prelude.{IfOk, IfErr}
 use Rattle.auction_rows.specs.declared.ids.Object.{Object}
 use Rattle.phase_contexts.specs.declared.slices.Hot.{Hot}
 use Rattle.phase_contexts.specs.Txns.{is_put_off}
 use Rattle.phase_contexts.specs.Slicing.{objects_of}
-use Rattle.phase_transactions.specs.Permits.{permit}
+use Rattle.phase_transactions.specs.Permits.{PermitState, permit, HasCommitted}
+use Rattle.phase_transactions.specs.Performing.{HasFailed}
 use Rattle.phase_transactions.proofs.PermitLemmas.{none_put_off, tried_explained}
+use Rattle.phase_transactions.proofs.TryLemmas.{tried_as}
 use Rattle.phase_transactions.proofs.JoinedLemmas.{stays_joined}
 use Rattle.phase_transactions.proofs.joined_permit.JoinedPermit.commit.Goals as goal
 
@@ -16,6 +19,13 @@ pub commit_in_split-requires-clause-not_put_off : goal.commit_in_split-requires-
 commit_in_split-requires-clause-not_put_off g c =
     subst (λ (hots : List (Object × Hot)). is_put_off (objects_of hots) c.args.request.now ≡ false) (sym (c.begin-needs.ensures.slices ∙ c.self.invariant.0)) (none_put_off c.args.request.now)
 
+pub commit_in_split-requires-clause-ready : goal.commit_in_split-requires-clause-ready
+commit_in_split-requires-clause-ready g c = record {
+  boxes_are = ap (λ (p : PermitState). p.key.boxes) c.self.view_is ∙ c.requires.of;
+  seats = c.worker-worker.ensures.seats;
+  idle = c.self.invariant.1.idle;
+}
+
 pub invariant_of-self : goal.invariant_of-self
 invariant_of-self g c =
     let begun = c.begin-needs.new.self in
@@ -24,3 +34,17 @@ invariant_of-self g c =
     stays_joined g.N.PhaseName.opening (permit begun key) (permit new.split new.key) c.args.request.now c.args.index c.commit_in_split.result
     c.commit_in_split.ensures.committed c.commit_in_split.ensures.failed (c.begin-needs.ensures.slices ∙ c.self.invariant.0)
     (tried_explained (length g.N.PhaseName.opening) c.self.inside.split begun key c.begin-needs.ensures.context c.begin-needs.ensures.slices c.self.invariant.1)
+
+pub returns-clause-committed : goal.returns-clause-committed
+returns-clause-committed g c =
+    let new = permit c.commit_in_split.new.split c.commit_in_split.new.key in
+    subst (λ (old : PermitState). IfOk c.commit_in_split.result (λ reply. HasCommitted g.N.PhaseName.opening old new c.args.request.now c.args.index reply))
+    (tried_as c.args.self.now (permit c.self.inside.split c.self.inside.key) c.begin-needs.new.self c.self.view_is c.begin-needs.ensures.context c.begin-needs.ensures.slices)
+    c.commit_in_split.ensures.committed
+
+pub returns-clause-failed : goal.returns-clause-failed
+returns-clause-failed g c =
+    let new = permit c.commit_in_split.new.split c.commit_in_split.new.key in
+    subst (λ (old : PermitState). IfErr c.commit_in_split.result (HasFailed g.N.PhaseName.opening old new c.args.request.now))
+    (tried_as c.args.self.now (permit c.self.inside.split c.self.inside.key) c.begin-needs.new.self c.self.view_is c.begin-needs.ensures.context c.begin-needs.ensures.slices)
+    c.commit_in_split.ensures.failed
