@@ -1,4 +1,4 @@
-use Rattle.std.proofs.Common.{◌≡◌, ◌+◌, ◌<◌, ◌≤◌, ◌^◌, List, get_or, map, length, sym, ap, ◌∙◌, subst, arith}
+use Rattle.std.proofs.Common.{◌≡◌, ◌+◌, ◌<◌, ◌≤◌, ◌^◌, List, get_or, map, length, sym, ap, ◌∙◌, subst}
 use Rattle.shard_boxes.specs.States.{ShardState, AreOpened, state_of}
 use Rattle.phase_contexts.specs.Stashes.{StashState}
 use Rattle.phase_floor.specs.Begins.{AreKits, asked_in_all}
@@ -36,7 +36,7 @@ give-starts-requires-clause-fits g c = λ w below.
     (within c.args.self.counters c.args.stashes.items c.args.quotas.now c.requires.fits w (subst (λ n. w < n) (sym c.requires.workers) below))
 
 pub new_kits-requires-clause-stashes : goal.new_kits-requires-clause-stashes
-new_kits-requires-clause-stashes g c = omega (arith, ap length c.deref.ensures.value, c.requires.stashes, c.requires.quotas, c.args.stashes.ok.0)
+new_kits-requires-clause-stashes g c = ap length c.deref.ensures.value ∙ sym c.args.stashes.ok.0 ∙ c.requires.stashes ∙ sym c.requires.quotas
 
 pub new_kits-requires-clause-few : goal.new_kits-requires-clause-few
 new_kits-requires-clause-few g c =
