@@ -1,6 +1,7 @@
 -- What a phase begins with.
-use Rattle.std.proofs.Common.{◌≡◌, ◌+◌, ◌<◌, ◌≤◌, ℕ, zero, suc, List, [], ◌∷◌, map, length, get_or, drop, refl, sym, ap, ◌∙◌, subst, arith}
+use Rattle.std.proofs.Common.{◌≡◌, ◌+◌, ◌<◌, ◌≤◌, ℕ, zero, suc, Bool, true, false, IsTrue, List, [], ◌∷◌, ◌++◌, append_assoc, map, length, get_or, drop, refl, sym, ap, ◌∙◌, subst, arith}
 use Rattle.std.specs.List.{AllByRecursion}
+use Rattle.std.proofs.lemmas.Bool.{false≢true}
 use Rattle.std.proofs.lemmas.List.{get_or-map}
 use Rattle.auction_rows.specs.declared.numbers.Opening.{Opening}
 use Rattle.auction_rows.specs.declared.ids.Object.TheVariants.{Item}
@@ -13,11 +14,13 @@ use Rattle.phase_contexts.specs.Slicing.{slices_of}
 use Rattle.phase_contexts.specs.Stashes.{StashState}
 use Rattle.phase_contexts.proofs.Places.{stocks_of_rows}
 use Rattle.phase_transactions.specs.Permits.{PermitState}
+use Rattle.phase_closing.specs.Phases.{no_receipt}
 use Rattle.phase_closing.specs.Standing.{counters_at}
+use Rattle.phase_floor.specs.declared.fault.BeginFault.TheVariants.{UnknownHot, TooLong, Memory}
 use Rattle.phase_floor.specs.declared.kits.Kit.{Kit}
 use Rattle.phase_floor.specs.Begins.{IsTooLong, asked_in_all, empty_stash, IsKit, AreKits, start_of, CanStart, HasNoSlices, HasOwnStash}
 use Rattle.phase_floor.specs.Floors.{FloorState, IsOpen, IsBegun, AreBegun, no_stash, stash_at}
-use Rattle.phase_floor.proofs.Every.{every}
+use Rattle.phase_floor.proofs.Every.{every_from}
 use Rattle.phase_floor.proofs.HotItems.{objects_of_slices, hot_is_stored}
 use Rattle.phase_floor.proofs.StoredItems.{stored_before}
 
@@ -35,13 +38,44 @@ begun_next floor workers w quotas keys keys_left kits kits_left stashes stashes_
       key = subst (IsNewKey floor.boxes w) (at_head keys w key keys_left no_key next_key) (new.1 w below);
     }
 
-not_over : (n : ℕ) → ¬ (1000000 < n) → n ≤ 1000000
-not_over n h = omega (arith, h)
+-- the causes for which a phase does not begin are told apart
+pub unknown_not_long : ¬ (UnknownHot ≡ TooLong)
+unknown_not_long same = absurd cc
+
+pub long_not_unknown : ¬ (TooLong ≡ UnknownHot)
+long_not_unknown same = absurd cc
+
+pub memory_not_unknown : ¬ (Memory ≡ UnknownHot)
+memory_not_unknown same = absurd cc
+
+pub memory_not_long : ¬ (Memory ≡ TooLong)
+memory_not_long same = absurd cc
+
+-- what the test says of these, of the same as it was given
+module _ (test : Bool) (counters given_counters : List Counters) (stashes given_stashes : List StashState) (quotas : List ℕ) (same_counters : given_counters ≡ counters) (same_stashes : given_stashes ≡ stashes) where
+  pub too_long : (IsTrue test → IsTooLong given_counters given_stashes quotas) → test ≡ true → IsTooLong counters stashes quotas
+  too_long tested passes =
+      subst (λ (cs : List Counters). IsTooLong cs stashes quotas) same_counters (subst (λ (ss : List StashState). IsTooLong given_counters ss quotas) same_stashes (tested passes))
+
+  pub fits : (IsTooLong given_counters given_stashes quotas → IsTrue test) → test ≡ false → ¬ IsTooLong counters stashes quotas
+  fits tested fails long =
+      false≢true (sym fails ∙ tested (subst (λ (cs : List Counters). IsTooLong cs given_stashes quotas) (sym same_counters) (subst (λ (ss : List StashState). IsTooLong counters ss quotas) (sym same_stashes) long)))
 
 -- what each worker is asked for, where it is not too much
 pub within : (counters : List Counters) (stashes : List StashState) (quotas : List ℕ) → ¬ IsTooLong counters stashes quotas → (w : ℕ) → w < length counters
     → asked_in_all counters stashes quotas w ≤ 1000000
-within counters stashes quotas short w low = not_over (asked_in_all counters stashes quotas w) (λ more. short (w, low, more))
+within counters stashes quotas short w low =
+    let not_over : ¬ (1000000 < asked_in_all counters stashes quotas w) = λ more. short (w, low, more) in omega (arith, not_over)
+
+-- what waits for a worker and its quota, too
+pub waiting_within : (counters : List Counters) (stashes : List StashState) (quotas : List ℕ) → ¬ IsTooLong counters stashes quotas → (w : ℕ) → w < length counters
+    → length (stash_at stashes w).requests + get_or quotas w 0 ≤ 1000000
+waiting_within counters stashes quotas short w low = let all = within counters stashes quotas short w low in omega (arith, all)
+
+-- what is made of the first of some goes to the end of others
+pub passed_on : {X : Type 0} (done now left next all : List X) (x made : X) → now ≡ done ++ made ∷ [] → made ≡ x → left ≡ x ∷ next → done ++ left ≡ all → now ++ next ≡ all
+passed_on done now left next all x made pushed same took was =
+    ap (λ l. l ++ next) (pushed ∙ ap (λ one. done ++ one ∷ []) same) ∙ append_assoc done (x ∷ []) next ∙ ap (λ l. done ++ l) (sym took) ∙ was
 
 -- a worker can start with what is begun, where it asks for no more than 1,000,000
 pub can_start : (opening : List ShardState) (workers : ℕ) (floor : FloorState) → IsOpen opening workers floor → (w quota : ℕ) (stash : StashState) (start : PermitState) → w < workers
@@ -68,7 +102,7 @@ can_start opening workers floor is_open w quota stash start below fits begun =
 pub no_slices : (floor : FloorState) (quotas : List ℕ) (stashes : List StashState) (starts : List PermitState) → floor.stocks ≡ [] → AreBegun floor quotas stashes starts
     → AllByRecursion HasNoSlices starts
 no_slices floor quotas stashes starts cold are =
-    every HasNoSlices starts (λ w d low. ap (λ (p : PermitState). p.split.slices) (are.1 w d (omega (arith, low, are.0))).new ∙ ap (λ s. slices_of s []) cold)
+    every_from HasNoSlices starts no_receipt (λ w low. ap (λ (p : PermitState). p.split.slices) (are.1 w no_receipt (omega (arith, low, are.0))).new ∙ ap (λ s. slices_of s []) cold)
 
 -- in empty stashes nothing waits
 nothing_waits : (quotas : List ℕ) (w : ℕ) → length (stash_at (map empty_stash quotas) w).requests ≡ 0
@@ -85,7 +119,7 @@ not_too_long counters quotas short (w, low, more) =
 pub own_stashes : (floor : FloorState) (quotas : List ℕ) (starts : List PermitState) → length quotas ≡ length floor.counters → AreBegun floor quotas (map empty_stash quotas) starts
     → AllByRecursion HasOwnStash starts
 own_stashes floor quotas starts many are =
-    every HasOwnStash starts (λ w d low.
+    every_from HasOwnStash starts no_receipt (λ w low.
     let at : w < length floor.counters = omega (arith, low, are.0) in
     let there = get_or-map empty_stash quotas w 0 no_stash (omega (arith, at, many)) in
-    subst HasOwnStash (sym (are.1 w d at).new) (ap (λ (s : StashState). s.requests) there, omega (arith, ap (λ (s : StashState). s.room) there)))
+    subst HasOwnStash (sym (are.1 w no_receipt at).new) (ap (λ (s : StashState). s.requests) there, omega (arith, ap (λ (s : StashState). s.room) there)))

@@ -10,10 +10,11 @@ use Rattle.worker_journals.specs.Journals.{JournalView, entry_number, entry_work
 use Rattle.worker_journals.specs.Merged.{AreByWorker, added, entries_of}
 use Rattle.shard_boxes.specs.Closed.{AreClosed, AreSpent, IsSpent}
 use Rattle.shard_boxes.specs.States.{ShardState}
-use Rattle.phase_transactions.specs.Permits.{PermitState, IsExplained, first_of}
-use Rattle.phase_closing.specs.Phases.{receipt_at, key_of, journal_of, HasClosed}
-use Rattle.phase_floor.specs.Closings.{AreReceiptsOf, phase_of}
+use Rattle.phase_transactions.specs.Permits.{PermitState, first_of}
+use Rattle.phase_closing.specs.Phases.{receipt_at, no_receipt, key_of, journal_of, HasClosed}
+use Rattle.phase_floor.specs.Closings.{AreReceiptsOf, IsFinished, phase_of}
 use Rattle.phase_floor.specs.Floors.{FloorState, IsOpen}
+use Rattle.phase_floor.proofs.Every.{at_place}
 
 -- to a list that stays nothing is added
 pub nothing_added : {X : Type 0} (xs : List X) → xs ≡ xs ++ added xs xs
@@ -35,13 +36,16 @@ by_worker (r ∷ receipts) from h =
     (all_later (journal_of r).worker receipts (from + 1) (omega (arith, first)) rest, by_worker receipts (from + 1) rest)
 
 module _ (opening : List ShardState) (workers : ℕ) (floor : FloorState) (is_open : IsOpen opening workers floor) (receipts : List PermitState) (are : AreReceiptsOf floor receipts)
-    (explained : (w : ℕ) → w < length receipts → IsExplained (length opening) (receipt_at receipts w).split (receipt_at receipts w).key) where
+    (all : AllByRecursion (IsFinished (length opening)) receipts) where
+  pub finished : (w : ℕ) → w < length receipts → IsFinished (length opening) (receipt_at receipts w)
+  finished w below = at_place (IsFinished (length opening)) receipts all w no_receipt below
+
   known : (w : ℕ) → w < length receipts → w < length floor.counters
   known w below = omega (arith, below, are.0)
 
   -- the journals stand in the order of the workers
   pub in_order : AreByWorker (map journal_of receipts)
-  in_order = by_worker receipts 0 (λ w below. (explained w below).worker ∙ (are.1 w (known w below)).worker_is ∙ omega arith)
+  in_order = by_worker receipts 0 (λ w below. (finished w below).explained.worker ∙ (are.1 w (known w below)).worker_is ∙ omega arith)
 
   -- the keys may be given back
   pub are_spent : AreSpent floor.boxes workers (map key_of receipts)
@@ -52,7 +56,7 @@ module _ (opening : List ShardState) (workers : ℕ) (floor : FloorState) (is_op
             let below : w < length receipts = omega (arith, low, are.0, is_open.workers_are) in
             let receipt = are.1 w (known w below) in
             subst (IsSpent floor.boxes w) (sym (get_or-map key_of receipts w _))
-            (record { boxes_are = receipt.boxes_are; worker_is = receipt.worker_is; idle = (explained w below).idle }),
+            (record { boxes_are = receipt.boxes_are; worker_is = receipt.worker_is; idle = (finished w below).explained.idle }),
       )
 
   -- what the parts tell of the phase, once its boxes are closed and its journals merged
@@ -70,7 +74,7 @@ module _ (opening : List ShardState) (workers : ℕ) (floor : FloorState) (is_op
     };
     receipts = λ w below.
         let receipt = are.1 w (known w below) in record {
-          explained = explained w below;
+          explained = (finished w below).explained;
           worker_is = receipt.worker_is;
           setting = (λ i. record { opening = receipt.opening_is i; shards = length opening; stocks = receipt.stocks_are i });
           begun = ap first_of receipt.begun;

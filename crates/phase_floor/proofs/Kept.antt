@@ -38,9 +38,6 @@ elsewhere [] s below object apart = absurd (omega arith)
 elsewhere (shard ∷ shards) zero below object apart = ap (λ b. cond b (kept shard object) blank) apart
 elsewhere (shard ∷ shards) (suc s) below object apart = elsewhere shards s (omega (arith, below)) object apart
 
-not_over : (n m : ℕ) → ¬ (m < n) → n ≤ m
-not_over n m h = omega (arith, h)
-
 module _ (opening : Opening) (shards : List Shard) (counters : List Counters) (ready : AreReady opening (map state_of shards))
     (few : length counters ≤ 16) (limits : AreWithinLimit counters) (of_a_book : AreOfABook opening (map state_of shards) counters) where
   -- of a book for which they stand
@@ -71,7 +68,9 @@ module _ (opening : Opening) (shards : List Shard) (counters : List Counters) (r
           omega (arith, is, none, more)
 
     measured : measure (state.contents object) ≤ most
-    measured = not_over (measure (state.contents object)) most (λ more. of_a_book (λ book is stars own holds. over more book stars own holds))
+    measured =
+        let not_over : ¬ (most < measure (state.contents object)) = λ more. of_a_book (λ book is stars own holds. over more book stars own holds) in
+        omega (arith, not_over)
 
   within : (s : ℕ) → s < length (map state_of shards) → IsWithin (state_at (map state_of shards) s)
   within s below = record {

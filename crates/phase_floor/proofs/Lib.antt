@@ -1,11 +1,11 @@
 pub mod Blank
+pub mod Placed
 pub mod Views
 pub mod Begins
 pub mod Every
-pub mod ReceiptParts
+pub mod PartLemmas
 pub mod StoredItems
 pub mod HotItems
-pub mod Moved
 pub mod Closings
 pub mod BookSize
 pub mod Kept
@@ -20,3 +20,4 @@ pub mod ResumeKept
 pub mod Lawfully
 pub mod Shown
 pub mod Cold
+pub mod Leaving

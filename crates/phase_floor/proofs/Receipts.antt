@@ -1,16 +1,14 @@
 -- Permits whose receipts a close takes.
 use Rattle.std.proofs.Common.{◌≡◌, ℕ, zero, suc, List, [], ◌∷◌, ◌++◌, length, take, Option, Some, None, refl, sym, ap, ◌∙◌, subst, arith}
 use Rattle.std.specs.Prelude.{IfSome, IfNone}
-use Rattle.auction_rows.specs.declared.ids.Object.{Object}
 use Rattle.auction_rows.specs.declared.replies.Reply.{Reply}
-use Rattle.auction_rows.specs.declared.requests.Facts.{Facts}
 use Rattle.auction_rows.specs.declared.requests.Request.{Request}
-use Rattle.auction_rows.specs.Book.{Book}
 use Rattle.auction_rows.specs.Replies.{row_of}
 use Rattle.item_shards.specs.Writing.{writes_if}
 use Rattle.shard_boxes.specs.States.{ShardState}
-use Rattle.phase_contexts.specs.Slicing.{stocks_of, slices_of}
+use Rattle.phase_contexts.specs.Slicing.{stocks_of}
 use Rattle.phase_contexts.specs.Stashes.{StashState}
+use Rattle.phase_contexts.proofs.Places.{stocks_of_rows}
 use Rattle.phase_transactions.specs.Stashed.{with_first_called, HasPerformedFirst}
 use Rattle.phase_transactions.proofs.Hots.{stocks-acts}
 use Rattle.phase_transactions.specs.declared.fault.Done.{Done}
@@ -21,17 +19,13 @@ use Rattle.phase_closing.specs.Phases.{no_receipt}
 use Rattle.phase_floor.specs.Closings.{IsReceipt, AreReceiptsOf}
 use Rattle.phase_floor.specs.Floors.{FloorState, IsBegun, AreBegun}
 
-stocks_of_slices : (stocks : List (Object × Option (Facts × ℕ))) (rows : Book) → stocks_of (slices_of stocks rows) ≡ stocks
-stocks_of_slices [] rows = refl
-stocks_of_slices (stock ∷ stocks) rows = ap (λ l. stock ∷ l) (stocks_of_slices stocks rows)
-
 begun_receipt : (floor : FloorState) (w quota : ℕ) (stash : StashState) (permit : PermitState) → IsBegun floor w quota stash permit → IsReceipt floor w permit
 begun_receipt floor w quota stash permit begun = record {
   boxes_are = begun.key.boxes_are;
   worker_is = begun.key.worker_is;
   opening_is = ap (λ (p : PermitState). p.split.context.opening) begun.new;
   phase_is = ap (λ (p : PermitState). p.split.context.journal.phase) begun.new;
-  stocks_are = ap (λ (p : PermitState). stocks_of p.split.slices) begun.new ∙ stocks_of_slices floor.stocks [];
+  stocks_are = ap (λ (p : PermitState). stocks_of p.split.slices) begun.new ∙ stocks_of_rows floor.stocks [];
   begun = ap (λ (p : PermitState). p.split.context.begun) begun.new;
 }
 

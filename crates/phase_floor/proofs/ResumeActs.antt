@@ -3,27 +3,34 @@ use Rattle.std.proofs.Common.{◌≡◌, ℕ, ◌<◌, ◌==◌, Bool, true, fal
 use Rattle.std.specs.Option.{option_map_or}
 use Rattle.std.specs.List.{AllByRecursion}
 use Rattle.std.proofs.lemmas.Bool.{eqb-true, false≢true}
-use Rattle.std.proofs.lemmas.List.{length-map, get_or-map, map-set, set-get_or, get_or-set_same, get_or-set_other}
+use Rattle.std.proofs.lemmas.Nat.{mod_below}
+use Rattle.std.proofs.lemmas.List.{length-map, map-set, set-get_or, get_or-set_same, get_or-set_other}
+use Rattle.auction_rows.specs.declared.ids.ItemId.{ItemId}
 use Rattle.auction_rows.specs.declared.ids.Object.{Object}
+use Rattle.auction_rows.specs.declared.ids.Object.TheVariants.{Item, Category}
 use Rattle.auction_rows.specs.declared.numbers.Opening.{Opening}
+use Rattle.auction_rows.specs.declared.rows.ItemRow.{ItemRow}
 use Rattle.auction_rows.specs.declared.rows.Row.{Row}
-use Rattle.auction_rows.specs.Book.{Book}
+use Rattle.auction_rows.specs.declared.rows.Row.TheVariants.{Item as Stored}
+use Rattle.auction_rows.specs.Book.{Book, item_entry}
 use Rattle.auction_rows.specs.History.{GoOn, commit_of}
-use Rattle.auction_rows.specs.Requests.{shard_of}
+use Rattle.auction_rows.specs.Requests.{number_of, shard_of}
 use Rattle.auction_rows.proofs.HistoryLemmas.{own_row}
 use Rattle.item_shards.specs.declared.acts.Act.{Act}
+use Rattle.item_shards.specs.declared.acts.Act.TheVariants.{AddItem, ListItem}
 use Rattle.item_shards.specs.declared.shard.Shard.{Shard}
-use Rattle.item_shards.specs.ShardContents.{IsSameShard, clock, contents, shard_number, shard_count, opening as opening_of}
+use Rattle.item_shards.specs.ShardContents.{IsSameShard, LiesIn, HasRoom, clock, contents, shard_number, shard_count, opening as opening_of}
 use Rattle.item_shards.specs.Acting.{CanActOn}
 use Rattle.item_shards.specs.Limits.{IsWithinLimits}
 use Rattle.item_shards.specs.Contents.{Contents, target, after_act, after_acts}
 use Rattle.item_shards.specs.Writing.{writes_of, writes_if, is_cold_in, is_done_on, done_on}
 use Rattle.item_shards.proofs.CanActLemmas.{row_can}
 use Rattle.item_shards.proofs.SerialLemmas.{after_own}
-use Rattle.item_shards.proofs.StandingLemmas.{row_stands}
+use Rattle.item_shards.proofs.StandingLemmas.{cold_here, row_stands}
 use Rattle.shard_boxes.specs.States.{ShardState, state_of, state_at, no_shard}
 use Rattle.phase_closing.specs.Standing.{ShardsStandFor}
-use Rattle.phase_floor.specs.Resuming.{AreNumbered, AreReady, CanWriteOn, HaveDone, with_acts}
+use Rattle.phase_floor.specs.Resuming.{AreNumbered, AreReady, CanActIn, CanWriteOn, HasRoomIn, HaveDone, IsShardOf, with_acts}
+use Rattle.phase_floor.proofs.Placed.{seen, lies_there}
 
 abbrev pub acted : Act → ShardState → ShardState
 acted act state = record state { contents = after_act state.contents act }
@@ -98,10 +105,6 @@ module _ (opening : Opening) (old new : List ShardState) (r : Row) (ready : AreR
       (subst (λ o. AllByRecursion (λ act. is_done_on s (length old) [] act ≡ true → CanActOn opening s (length old) (λ id. true) state.contents act) (writes_if o)) (own_row r)
       (row_can opening s (length old) (λ id. true) state.contents b [] (stand s low) None (commit_of r) goes.0 (subst IsWithinLimits (sym (after_own opening b r goes)) limits) (λ id is lies. refl)))
 
--- what a shard shows that is read from a list of them
-pub seen : (shards : List Shard) (place : ℕ) → place < length shards → (old : Shard) → old ≡ get_or shards place old → state_of old ≡ state_at (map state_of shards) place
-seen shards place low old is = ap state_of is ∙ sym (get_or-map state_of shards place old no_shard low)
-
 -- one shard acts, of those that are numbered
 pub act_done : (shards : List Shard) → AreNumbered (map state_of shards) → (place : ℕ) → place < length shards → (object : Object) (act : Act) → target act ≡ Some object
     → shard_of object (length shards) ≡ place → (old new : Shard) → old ≡ get_or shards place old → IsSameShard old new → clock new ≡ clock old → contents new ≡ after_act (contents old) act
@@ -127,16 +130,6 @@ can_there shards numbered r can place low old is =
     (subst (λ (state : ShardState). AllByRecursion (λ act. is_done_on place (length (map state_of shards)) [] act ≡ true → CanActOn state.opening place (length (map state_of shards)) (λ id. true) state.contents act) (writes_of r)) (sym at)
     (can place below))))
 
--- what lies in the shard of a place, of as many as there are
-pub lies_there : (shards : List Shard) → AreNumbered (map state_of shards) → (object : Object) → (place : ℕ) → place < length shards → shard_of object (length shards) ≡ place → (old : Shard)
-    → old ≡ get_or shards place old → shard_of object (shard_count old) ≡ shard_number old
-lies_there shards numbered object place low lies old is =
-    let many : length (map state_of shards) ≡ length shards = simp length-map in
-    let below : place < length (map state_of shards) = omega (arith, low, many) in
-    let at = seen shards place low old is in
-    ap (shard_of object) (ap (λ (state : ShardState). state.shards) at ∙ (numbered place below).1 ∙ many) ∙ lies
-    ∙ sym (ap (λ (state : ShardState). state.number) at ∙ (numbered place below).0)
-
 -- a shard that shows what it showed
 pub shown_still : (shards : List Shard) (place : ℕ) → place < length shards → (old new : Shard) → old ≡ get_or shards place old → IsSameShard old new → clock new ≡ clock old → contents new ≡ contents old
     → map state_of (set shards place new) ≡ map state_of shards
@@ -150,3 +143,35 @@ numbered_next old new acts numbered done = λ s low.
       ap (λ (state : ShardState). state.number) (done.each s known) ∙ (numbered s known).0,
       ap (λ (state : ShardState). state.shards) (done.each s known) ∙ (numbered s known).1 ∙ sym done.len,
     )
+
+-- once there is room for an item in the shard at its place, there is in the shard in which it lies
+pub room_there : (shards : List Shard) (id : ItemId) (place : ℕ) → place < length shards → shard_of (Item id) (length shards) ≡ place → (prepared : Shard) → HasRoom prepared id
+    → HasRoomIn (set shards place prepared) id
+room_there shards id place low lies prepared room shard is =
+    let there : shard ≡ prepared =
+    is ∙ ap (λ k. get_or (set shards place prepared) k shard) (ap (shard_of (Item id)) (length-set shards place prepared) ∙ lies) ∙ get_or-set_same shards place prepared shard low in
+    subst (λ (s : Shard). HasRoom s id) (sym there) room
+
+module _ (shards : List Shard) (numbered : AreNumbered (map state_of shards)) (some : 0 < length shards) (object : Object) (shard : Shard) (is : IsShardOf shards object shard) where
+  -- an act of a row can be done where its object lies
+  pub can_in : (r : Row) → CanWriteOn (map state_of shards) r
+      → AllByRecursion (λ act. is_done_on (shard_of object (length shards)) (length shards) [] act ≡ true → CanActOn (opening_of shard) (shard_number shard) (shard_count shard) (λ id. true) (contents shard) act) (writes_of r)
+  can_in r can = can_there shards numbered r can (shard_of object (length shards)) (mod_below (number_of object) (length shards) some) shard is
+
+  pub lies_in : LiesIn shard object
+  lies_in = lies_there shards numbered object (shard_of object (length shards)) (mod_below (number_of object) (length shards) some) refl shard is
+
+-- a stored item can be listed in its category
+pub can_list : (old last : List Shard) (row : ItemRow) → AreNumbered (map state_of old) → 0 < length old → CanWriteOn (map state_of old) (Stored row)
+    → HaveDone (map state_of old) (map state_of last) (AddItem row.id row.facts ∷ []) → CanActIn last (Category row.facts.category) (ListItem row.facts.category (item_entry row))
+can_list old last row numbered some can done shard is =
+    let category = Category row.facts.category in let place = shard_of category (length last) in
+    let all_old : length (map state_of old) ≡ length old = simp length-map in
+    let all_last : length (map state_of last) ≡ length last = simp length-map in
+    let many : length last ≡ length old = omega (arith, all_old, all_last, done.len) in
+    let low : place < length last = mod_below row.facts.category (length last) (omega (arith, some, many)) in
+    let below : place < length (map state_of old) = omega (arith, low, many, all_old) in
+    let numbered_last = numbered_next (map state_of old) (map state_of last) (AddItem row.id row.facts ∷ []) numbered done in
+    let known = (can place below).1.0 (cold_here place (length (map state_of old)) [] category (ap (shard_of category) (all_old ∙ sym many)) refl) in
+    let opening_is = ap (λ (state : ShardState). state.opening.categories) (seen last place low shard is ∙ done.each place below) in
+    (lies_there last numbered_last category place low refl shard is, subst (λ n. row.facts.category < n) (sym opening_is) known.1)

@@ -1,7 +1,9 @@
 -- The items that are stored, between two phases.
-use Rattle.std.proofs.Common.{◌≡◌, ℕ, ◌-◌, ◌<◌, ◌≤◌, ◌%◌, List, [], Option, None, length, refl, sym, ap, ◌∙◌, subst, arith}
+use Rattle.std.proofs.Common.{◌≡◌, ℕ, ◌-◌, ◌<◌, ◌≤◌, List, [], Option, None, length, refl, sym, ap, ◌∙◌, subst, arith}
 use Rattle.std.specs.Prelude.{IsSome, is_some, option_map}
+use Rattle.std.proofs.Math.Nat.{lt_of_not-le}
 use Rattle.std.proofs.lemmas.Bool.{false≢true}
+use Rattle.std.proofs.lemmas.Nat.{mod_below}
 use Rattle.auction_rows.specs.declared.ids.ItemId.{ItemId}
 use Rattle.auction_rows.specs.declared.ids.Object.TheVariants.{Item}
 use Rattle.auction_rows.specs.declared.numbers.Opening.{Opening}
@@ -22,22 +24,16 @@ nothing_left : (book : Book) (id : ItemId) → facts_of book id ≡ None → IsS
 nothing_left book id none some =
     false≢true (sym (ap (λ (o : Option Facts). is_some {T = Facts × ℕ} (option_map (λ (facts : Facts). (facts, facts.quantity - bought book id)) o)) none) ∙ some)
 
-not_from : (n m : ℕ) → ¬ (m ≤ n) → n < m
-not_from n m h = omega (arith, h)
-
 module _ (opening : Opening) (states : List ShardState) (counters : List Counters) (kept : IsKept opening states counters) where
-  within : (n count : ℕ) → 0 < count → n % count < count
-  within n count h = omega arith
-
   -- of a book that is held, a stored item's serial is below its worker's count
   no_later : (id : ItemId) → IsSome (stock (value_on states (Item id))) → id.worker < length counters → (counters_at counters id.worker).items ≤ id.serial
       → (book : Book) → IsBook opening book → StandFor states counters book [] → ⊥
   no_later id some below from book is holds =
       let place = shard_of (Item id) (length states) in
-      let seen : value_on states (Item id) ≡ value book (Item id) = holds.shards place (within (number_of (Item id)) (length states) kept.some_shards) (Item id) refl refl in
+      let seen : value_on states (Item id) ≡ value book (Item id) = holds.shards place (mod_below (number_of (Item id)) (length states) kept.some_shards) (Item id) refl refl in
       let fresh = (ids_of_book opening book is).0.items id.worker id.serial (omega (arith, from, (holds.counts id.worker below).items)) in
       nothing_left book id (ap (option_map (λ row. row.facts)) fresh) (subst (λ v. IsSome (stock v)) seen some)
 
   -- a stored item's serial is below its worker's count
   pub stored_before : (id : ItemId) → IsSome (stock (value_on states (Item id))) → id.worker < length counters → id.serial < (counters_at counters id.worker).items
-  stored_before id some below = not_from id.serial _ (λ from. kept.of_a_book (λ book is stars own holds. no_later id some below from book is holds))
+  stored_before id some below = lt_of_not-le (λ from. kept.of_a_book (λ book is stars own holds. no_later id some below from book is holds))

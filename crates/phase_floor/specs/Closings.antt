@@ -1,24 +1,30 @@
 -- How a phase closes.
-use Rattle.std.specs.Prelude.{◌≡◌, ℕ, ◌<◌, ◌≤◌, List, [], ◌∷◌, map, fold, length, reverse, ⊤}
-use Rattle.std.specs.List.{AllByRecursion}
+use Rattle.std.specs.Prelude.{◌≡◌, ℕ, ◌+◌, ◌<◌, ◌≤◌, List, [], ◌∷◌, map, fold, length, reverse, ⊤}
+use Rattle.std.specs.List.{AllByRecursion, flat_map}
 use Rattle.std.specs.List.Sorted.{IsPermutation}
-use Rattle.auction_rows.specs.declared.limits.TheConstants.{MOST_SHARDS}
+use Rattle.auction_rows.specs.declared.limits.TheConstants.{MOST_OF_A_WORKER, MOST_SHARDS}
 use Rattle.auction_rows.specs.declared.numbers.Opening.{Opening}
 use Rattle.auction_rows.specs.declared.rows.Entry.{Entry}
-use Rattle.shard_boxes.specs.States.{ShardState, state_at}
 use Rattle.auction_rows.specs.declared.ids.Object.{Object}
 use Rattle.auction_rows.specs.declared.ids.Object.TheVariants.{Item, User, Category}
+use Rattle.auction_rows.specs.Book.{Book}
+use Rattle.auction_rows.specs.History.{ReplaysFrom, book_after}
 use Rattle.item_shards.specs.declared.slices.Slice.{Slice}
+use Rattle.shard_boxes.specs.Keys.{KeyState}
+use Rattle.shard_boxes.specs.States.{ShardState, state_at}
+use Rattle.worker_journals.specs.Journals.{JournalView}
+use Rattle.phase_contexts.specs.declared.counters.Counters.{Counters}
 use Rattle.phase_contexts.specs.declared.slices.Hot.{Hot}
-use Rattle.phase_contexts.specs.Slicing.{stocks_of, slices_in}
+use Rattle.phase_contexts.specs.Slicing.{stocks_of, slices_in, AreFew}
 use Rattle.phase_contexts.specs.Stashes.{StashState}
-use Rattle.phase_transactions.specs.Permits.{PermitState}
+use Rattle.phase_transactions.specs.Permits.{PermitState, IsExplained}
 use Rattle.phase_transactions.specs.Single.{HaveOpening}
-use Rattle.phase_closing.specs.Phases.{Phase, HasClosed, receipt_at}
+use Rattle.phase_closing.specs.Phases.{Phase, HasClosed, receipt_at, key_of, journal_of, counters_of}
 use Rattle.phase_closing.specs.Lawful.{ClosesLawfully}
 use Rattle.phase_closing.specs.Merging.{after_merge, slices_left}
-use Rattle.phase_closing.specs.Standing.{counters_at}
+use Rattle.phase_closing.specs.Standing.{StandFor, counters_at}
 use Rattle.phase_floor.specs.Floors.{FloorState}
+use Rattle.phase_floor.specs.States.{JoinedState, states_of, StandsFor}
 
 -- the worker's receipt of the phase: its key is to the phase's boxes, and it began with the floor's counters, at clock 0
 pub record IsReceipt (floor : FloorState) (worker : ℕ) (receipt : PermitState) : Type 0 where
@@ -33,6 +39,12 @@ pub record IsReceipt (floor : FloorState) (worker : ℕ) (receipt : PermitState)
 abbrev pub AreReceiptsOf : FloorState → List PermitState → Type 0
 AreReceiptsOf floor receipts =
     (length receipts ≡ length floor.counters) × ((w : ℕ) → w < length floor.counters → IsReceipt floor w (receipt_at receipts w))
+
+-- The receipt is of a worker who has ended: its transactions explain it, and there are few of each kind of its parts.
+pub record IsFinished (shards : ℕ) (receipt : PermitState) : Type 0 where
+  pub explained : IsExplained shards receipt.split receipt.key
+  pub limit : (counters_of receipt).commits ≤ MOST_OF_A_WORKER
+  pub few : AreFew MOST_OF_A_WORKER receipt.split.slices
 
 abbrev pub stash_of : PermitState → StashState
 stash_of receipt = receipt.split.context.stash
@@ -78,6 +90,22 @@ pub record HasClosedLawfully (opening : List ShardState) (floor : FloorState) (r
   pub given : List ShardState
   pub lawful : ClosesLawfully (phase_of opening floor receipts given entries) states
 
+-- What a phase that closes with these receipts and entries leaves: the state after it, and the stashes. Each worker has as many
+-- commits more as its journal has entries; of each book for which the state before the phase stood the entries replay, and the
+-- state after it stands for the book with their rows.
+pub record Leaves (opening : List ShardState) (floor : FloorState) (receipts : List PermitState) (entries : List Entry)
+    (state : JoinedState) (stashes : List StashState) : Type 0 where
+  pub opening_is : state.opening ≡ floor.opening
+  pub phase_is : state.phase ≡ floor.phase + 1
+  pub counters_are : state.counters ≡ map counters_of receipts
+  pub stashes_are : stashes ≡ map stash_of receipts
+  pub lawful : HasClosedLawfully opening floor receipts (states_of state) entries
+  pub commits : (w : ℕ) → w < length receipts →
+      (counters_at state.counters w).commits
+      ≡ (counters_at floor.counters w).commits + length (journal_of (receipt_at receipts w)).entries
+  pub replays : (book : Book) → StandFor opening floor.counters book [] → ReplaysFrom floor.opening book entries
+  pub stands : (book : Book) → StandFor opening floor.counters book [] → StandsFor state (book_after floor.opening book entries)
+
 -- the users and categories of shards
 abbrev pub opening_in : List ShardState → Opening
 opening_in states = (state_at states 0).opening
@@ -103,3 +131,12 @@ pub record AreOfOne (states : List ShardState) : Type 0 where
   pub number_is : (s : ℕ) → s < length states → (state_at states s).number ≡ s
   pub shards_is : (s : ℕ) → s < length states → (state_at states s).shards ≡ length states
   pub opening_is : HaveOpening states (opening_in states)
+
+-- the parts of receipts, each kind by itself, of slices those that there are
+pub record ArePartsOf (receipts : List PermitState) (journals : List JournalView) (stashes : List StashState) (keys : List KeyState)
+    (counters : List Counters) (slices : List (List (Object × Hot))) : Type 0 where
+  pub journals_are : journals ≡ map journal_of receipts
+  pub stashes_are : stashes ≡ map stash_of receipts
+  pub keys_are : keys ≡ map key_of receipts
+  pub counters_are : counters ≡ map counters_of receipts
+  pub slices_are : flat_map from_the_last slices ≡ flat_map from_the_last (map sliced_of receipts)

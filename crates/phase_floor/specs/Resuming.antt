@@ -1,15 +1,21 @@
 -- The state that an auction is resumed with.
-use Rattle.std.specs.Prelude.{◌≡◌, ℕ, ◌+◌, ◌<◌, true, List, [], length}
+use Rattle.std.specs.Prelude.{◌≡◌, ℕ, ◌+◌, ◌<◌, true, List, [], length, slice_index_or}
 use Rattle.std.specs.List.{AllByRecursion}
+use Rattle.auction_rows.specs.declared.ids.ItemId.{ItemId}
+use Rattle.auction_rows.specs.declared.ids.Object.{Object}
+use Rattle.auction_rows.specs.declared.ids.Object.TheVariants as object
 use Rattle.auction_rows.specs.declared.limits.TheConstants.{MOST_ROWS}
 use Rattle.auction_rows.specs.declared.numbers.Opening.{Opening}
 use Rattle.auction_rows.specs.declared.rows.Row.{Row}
 use Rattle.auction_rows.specs.declared.rows.Row.TheVariants as row
 use Rattle.auction_rows.specs.Book.{Book, items_stored, bids_stored, comments_stored, buys_stored}
+use Rattle.auction_rows.specs.Requests.{shard_of}
 use Rattle.item_shards.specs.declared.acts.Act.{Act}
-use Rattle.item_shards.specs.Acting.{CanActOn}
+use Rattle.item_shards.specs.declared.shard.Shard.{Shard}
+use Rattle.item_shards.specs.Acting.{CanActOn, CanAct}
 use Rattle.item_shards.specs.OpeningRows.{rows_by}
 use Rattle.item_shards.specs.Contents.{after_acts}
+use Rattle.item_shards.specs.ShardContents.{HasRoom}
 use Rattle.item_shards.specs.Writing.{writes_of, is_done_on, done_on}
 use Rattle.shard_boxes.specs.States.{ShardState, state_at}
 use Rattle.phase_contexts.specs.declared.counters.Counters.{Counters}
@@ -30,6 +36,18 @@ abbrev pub CanWriteOn : List ShardState → Row → Type 0
 CanWriteOn states row = (s : ℕ) → s < length states →
     AllByRecursion (λ act. is_done_on s (length states) [] act ≡ true →
     CanActOn (state_at states s).opening s (length states) (λ id. true) (state_at states s).contents act) (writes_of row)
+
+-- the shard of these in which an object lies
+abbrev pub IsShardOf : List Shard → Object → Shard → Type 0
+IsShardOf shards object shard = shard ≡ slice_index_or shards (shard_of object (length shards)) shard
+
+-- the act can be done on the shard in which the object lies
+abbrev pub CanActIn : List Shard → Object → Act → Type 0
+CanActIn shards object act = (shard : Shard) → IsShardOf shards object shard → CanAct shard act
+
+-- there is room for the item in the shard in which it lies
+abbrev pub HasRoomIn : List Shard → ItemId → Type 0
+HasRoomIn shards id = (shard : Shard) → IsShardOf shards (object.Item id) shard → HasRoom shard id
 
 -- a shard after those of the acts that are about its objects
 abbrev pub with_acts : ℕ → List Act → ShardState → ShardState

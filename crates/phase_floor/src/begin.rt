@@ -1,5 +1,5 @@
 //! How a phase begins.
-ghost use Rattle.std.specs.Prelude.{◌≡◌, ◌+◌, ◌<◌, ◌≤◌, ◌^◌, ℕ, [], length, vec_len, vec_capacity, IfOk, IfErr, ◌↔◌, slice_index};
+ghost use Rattle.std.specs.Prelude.{◌≡◌, ◌+◌, ◌<◌, ◌≤◌, ◌^◌, ℕ, [], length, vec_len, vec_capacity, IfOk, IfErr, ◌↔◌};
 ghost use Rattle.shard_boxes.specs.Keys.{AreNewKeys};
 ghost use Rattle.phase_floor.specs.declared.fault.BeginFault.TheVariants.{UnknownHot, TooLong};
 ghost use Rattle.phase_floor.specs.Begins.{IsTooLong, asked_in_all, AreKits};
@@ -136,10 +136,10 @@ impl<N: PhaseName> Floor<N> {
         let mut stashes = stashes.into_iter();
         for key in keys {
             let Some(Kit { journal, slices }) = kits.next() else {
-                break;
+                unreachable!();
             };
             let Some(stash) = stashes.next() else {
-                break;
+                unreachable!();
             };
             let counters = self.counters[w];
             starts.push_reserved(Start {

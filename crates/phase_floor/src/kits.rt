@@ -41,10 +41,9 @@ pub(crate) fn new_kits(
     let mut kits = Vec::with_capacity(alloc, quotas.len())?;
     for w in 0..quotas.len() {
         let room = stashes[w].len() + quotas[w] as usize;
-        kits.push(Kit {
-            journal: Journal::with_room(alloc, phase, w as u32, room)?,
-            slices: Slices::new(alloc, stocks)?,
-        })?;
+        let journal = Journal::with_room(alloc, phase, w as u32, room)?;
+        let slices = Slices::new(alloc, stocks)?;
+        kits.push_reserved(Kit { journal, slices });
     }
     Ok(kits)
 }

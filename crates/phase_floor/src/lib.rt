@@ -14,7 +14,6 @@ mod quotas;
 mod receipt;
 mod reset;
 mod resume;
-mod settle;
 mod split;
 mod start;
 mod view;

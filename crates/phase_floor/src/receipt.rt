@@ -1,9 +1,8 @@
 //! What the receipts of joined and of split phases have in common.
-ghost use Rattle.std.specs.Prelude.{◌≡◌, ◌≤◌, [], length, IfSome, IfNone};
-ghost use Rattle.phase_contexts.specs.Slicing.{AreFew};
-ghost use Rattle.phase_transactions.specs.Permits.{PermitState, IsExplained};
+ghost use Rattle.std.specs.Prelude.{◌≡◌, [], length, IfSome, IfNone};
+ghost use Rattle.phase_transactions.specs.Permits.{PermitState};
+ghost use Rattle.phase_floor.specs.Closings.{IsFinished};
 
-use auction_rows::MOST_OF_A_WORKER;
 use phase_transactions::{Counters, JoinedReceipt, Slices, SplitReceipt, Stash};
 use shard_boxes::{Key, PhaseName};
 use worker_journals::Journal;
@@ -21,9 +20,7 @@ pub(crate) trait Receipt<N: PhaseName>: Drop {
         ensures stash { result.2 ≡ (shows self).split.context.stash }
         ensures key { result.3 ≡ (shows self).key }
         ensures counters { result.4 ≡ (shows self).split.context.counters }
-        ensures explained { IsExplained (length N.opening) (shows self).split (shows self).key }
-        ensures limit { (shows self).split.context.counters.commits ≤ MOST_OF_A_WORKER }
-        ensures few { AreFew MOST_OF_A_WORKER (shows self).split.slices };
+        ensures finished { IsFinished (length N.opening) (shows self) };
 }
 
 impl<N: PhaseName> Receipt<N> for JoinedReceipt<N> {

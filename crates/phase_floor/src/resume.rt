@@ -1,19 +1,22 @@
 //! How an auction is resumed.
-ghost use Rattle.std.specs.Prelude.{◌≡◌, ℕ, ◌<◌, ◌≤◌, [], All, length, map, IfOk, OnOk};
-ghost use Rattle.item_shards.specs.Counting.{worker_of};
-ghost use Rattle.item_shards.specs.Writing.{writes_of};
+ghost use Rattle.std.specs.Prelude.{◌≡◌, ℕ, ◌<◌, ◌≤◌, ◌∷◌, [], All, Some, length, map, IfOk, OnOk};
+ghost use Rattle.auction_rows.specs.declared.rows.Row.TheVariants.{Item};
 ghost use Rattle.auction_rows.specs.History.{IsBook};
+ghost use Rattle.item_shards.specs.Contents.{target};
+ghost use Rattle.item_shards.specs.Counting.{worker_of};
 ghost use Rattle.item_shards.specs.Limits.{IsWithinLimits};
 ghost use Rattle.item_shards.specs.OpeningBooks.{opening_of, rows_of};
+ghost use Rattle.item_shards.specs.Writing.{writes_of};
 ghost use Rattle.shard_boxes.specs.States.{state_of};
 ghost use Rattle.phase_closing.specs.Standing.{ShardsStandFor, counters_at};
-ghost use Rattle.phase_floor.specs.Resuming.{counters_in, with_row, HaveRoom, AreNumbered, AreReady, CanWriteOn, HaveDone};
+ghost use Rattle.phase_floor.specs.Resuming.{counters_in, with_row, HaveRoom, AreNumbered, AreReady, CanWriteOn, CanActIn, HasRoomIn, HaveDone};
 ghost use Rattle.phase_floor.specs.States.{StandsFor};
 
 use crate::joined::Joined;
 use crate::making::{new_shards, nothing_counted};
 use auction_rows::{
-    BidEntry, ItemEntry, MOST_ROWS, MOST_SHARDS, MOST_WORKERS, Object, Opening, Row, shard_of,
+    BidEntry, ItemEntry, ItemId, ItemRow, MOST_ROWS, MOST_SHARDS, MOST_WORKERS, Object, Opening,
+    Row, shard_of,
 };
 use item_shards::{Act, OpeningBook, Shard};
 use phase_transactions::Counters;
@@ -123,17 +126,7 @@ fn write(shards: &mut Vec<Shard>, count: u32, row: &Row) -> Result<(), AllocErro
     ensures { OnOk result (HaveDone (map state_of shards.old.items) (map state_of shards.new.items) (writes_of row.now)) }
 {
     match *row {
-        Row::Item(row) => {
-            let entry = ItemEntry {
-                time: row.time,
-                id: row.id,
-            };
-            let place = shard_of(Object::Item(row.id), count) as usize;
-            let listed = shard_of(Object::Category(row.facts.category), count) as usize;
-            shards[place].prepare_item(row.id)?;
-            shards[place].act(&Act::AddItem(row.id, row.facts));
-            shards[listed].act(&Act::ListItem(row.facts.category, entry));
-        }
+        Row::Item(row) => write_item(shards, count, row)?,
         Row::Bid(row) => {
             let entry = BidEntry {
                 amount: row.amount,
@@ -141,17 +134,83 @@ fn write(shards: &mut Vec<Shard>, count: u32, row: &Row) -> Result<(), AllocErro
                 id: row.id,
                 bidder: row.bidder,
             };
-            let place = shard_of(Object::Item(row.item), count) as usize;
-            shards[place].act(&Act::Bid(row.item, entry));
+            act(
+                shards,
+                count,
+                Object::Item(row.item),
+                Act::Bid(row.item, entry),
+            );
         }
         Row::Comment(row) => {
-            let place = shard_of(Object::User(row.about), count) as usize;
-            shards[place].act(&Act::Comment(row.about, row.stars));
+            act(
+                shards,
+                count,
+                Object::User(row.about),
+                Act::Comment(row.about, row.stars),
+            );
         }
         Row::Buy(row) => {
-            let place = shard_of(Object::Item(row.item), count) as usize;
-            shards[place].act(&Act::Buy(row.item, row.quantity));
+            act(
+                shards,
+                count,
+                Object::Item(row.item),
+                Act::Buy(row.item, row.quantity),
+            );
         }
     }
     Ok(())
+}
+
+// Stores an item, once there is room for it, and lists it in its category.
+fn write_item(shards: &mut Vec<Shard>, count: u32, row: ItemRow) -> Result<(), AllocError>
+    requires some { 0 < count }
+    requires count { length shards.old.items ≡ count }
+    requires numbered { AreNumbered (map state_of shards.old.items) }
+    requires can { CanWriteOn (map state_of shards.old.items) (Item row) }
+    ensures { OnOk result (HaveDone (map state_of shards.old.items) (map state_of shards.new.items) (writes_of (Item row))) }
+{
+    let entry = ItemEntry {
+        time: row.time,
+        id: row.id,
+    };
+    let category = row.facts.category;
+    make_room(shards, count, row.id)?;
+    act(
+        shards,
+        count,
+        Object::Item(row.id),
+        Act::AddItem(row.id, row.facts),
+    );
+    act(
+        shards,
+        count,
+        Object::Category(category),
+        Act::ListItem(category, entry),
+    );
+    Ok(())
+}
+
+// Makes room for an item in the shard where it lies.
+fn make_room(shards: &mut Vec<Shard>, count: u32, item: ItemId) -> Result<(), AllocError>
+    requires some { 0 < count }
+    requires count { length shards.old.items ≡ count }
+    requires numbered { AreNumbered (map state_of shards.old.items) }
+    ensures same { map state_of shards.new.items ≡ map state_of shards.old.items }
+    ensures room { OnOk result (HasRoomIn shards.new.items item) }
+{
+    let place = shard_of(Object::Item(item), count) as usize;
+    shards[place].prepare_item(item)
+}
+
+// Does an act on the shard where its object lies.
+fn act(shards: &mut Vec<Shard>, count: u32, object: Object, act: Act)
+    requires some { 0 < count }
+    requires count { length shards.old.items ≡ count }
+    requires numbered { AreNumbered (map state_of shards.old.items) }
+    requires about { target act ≡ Some object }
+    requires can { CanActIn shards.old.items object act }
+    ensures { HaveDone (map state_of shards.old.items) (map state_of shards.new.items) (act ∷ []) }
+{
+    let place = shard_of(object, count) as usize;
+    shards[place].act(&act);
 }

@@ -1,5 +1,5 @@
 //! What a worker starts a phase with, and the permit that is made of it.
-ghost use Rattle.std.specs.Prelude.{◌≡◌, ◌≤◌, [], length, vec_len, vec_capacity};
+ghost use Rattle.std.specs.Prelude.{◌≡◌, ◌≤◌, [], vec_len, vec_capacity};
 ghost use Rattle.std.specs.List.{AllByRecursion};
 ghost use Rattle.phase_floor.specs.Begins.{HasNoSlices, HasOwnStash};
 

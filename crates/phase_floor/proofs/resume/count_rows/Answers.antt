@@ -1,5 +1,5 @@
 use Rattle.std.proofs.Common.{◌≡◌, ◌<◌, [], take, set, length, sym, ap, subst, ◌∙◌, arith}
-use Rattle.std.proofs.lemmas.List.{length-set, get_or_read}
+use Rattle.std.proofs.lemmas.List.{length-set, get_or_read, take_all}
 use Rattle.std.proofs.lemmas.List.Elements.{All-get_or}
 use Rattle.item_shards.specs.Counting.{worker_of}
 use Rattle.item_shards.proofs.SerialLemmas.{one_more}
@@ -33,3 +33,10 @@ loop-row-preserved c =
           ∙ each_next (take i rows) r old c.args.workers was.len was.each own v known
           ∙ ap (λ b. counters_in b v) (sym (one_more [] rows i r low c.row-item.is));
     }
+
+pub returns-clause-len : goal.returns-clause-len
+returns-clause-len c = c.loop-row.invariant.len
+
+pub returns-clause-each : goal.returns-clause-each
+returns-clause-each c = λ w low.
+    c.loop-row.invariant.each w low ∙ ap (λ b. counters_in b w) (take_all c.loop-row.row-index c.args.rows.now c.loop-row-test.false)

@@ -1,5 +1,5 @@
 use Rattle.std.proofs.Common.{◌≡◌, ◌+◌, [], take, map, length, sym, subst, ◌∙◌, arith}
-use Rattle.std.proofs.lemmas.List.{length-map}
+use Rattle.std.proofs.lemmas.List.{length-map, take_all}
 use Rattle.item_shards.specs.Limits.{IsWithinLimits}
 use Rattle.item_shards.proofs.SerialLemmas.{one_more, next_goes_on}
 use Rattle.item_shards.proofs.StandingLemmas.{blank_of_none}
@@ -8,6 +8,9 @@ use Rattle.phase_closing.specs.Standing.{ShardsStandFor}
 use Rattle.phase_floor.proofs.ResumeActs.{ready_next, stand_next, can_write}
 use Rattle.phase_floor.proofs.ResumeLemmas.{front_within}
 use Rattle.phase_floor.proofs.resume.write_rows.Goals as goal
+
+pub write-requires-clause-count : goal.write-requires-clause-count
+write-requires-clause-count c = c.loop-row.invariant.len
 
 pub write-requires-clause-numbered : goal.write-requires-clause-numbered
 write-requires-clause-numbered c = c.loop-row.invariant.ready.numbered
@@ -42,3 +45,13 @@ loop-row-preserved c =
       ready = ready_next c.args.opening (map state_of old) (map state_of new) r was.ready done;
       stand = subst (λ b. ShardsStandFor (map state_of new) b []) (sym (one_more [] rows i r low c.row-item.is)) (stand_next c.args.opening (map state_of old) (map state_of new) r was.ready done (take i rows) was.stand);
     }
+
+pub returns-clause-len : goal.returns-clause-len
+returns-clause-len c = c.loop-row.invariant.len
+
+pub returns-clause-ready : goal.returns-clause-ready
+returns-clause-ready c = c.loop-row.invariant.ready
+
+pub returns-clause-stand : goal.returns-clause-stand
+returns-clause-stand c =
+    subst (λ b. ShardsStandFor (map state_of c.loop-row.shards.items) b []) (take_all c.loop-row.row-index c.args.rows.now c.loop-row-test.false) c.loop-row.invariant.stand

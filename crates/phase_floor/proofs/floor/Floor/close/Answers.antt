@@ -1,52 +1,95 @@
-use Rattle.std.proofs.Common.{List, [], map, sym, ap, ◌∙◌, subst}
-use Rattle.auction_rows.specs.declared.numbers.Opening.{Opening}
-use Rattle.auction_rows.specs.History.{book_after}
+use Rattle.std.proofs.Common.{◌++◌, ◌+◌, List, map, length, sym, ap, ◌∙◌, subst, arith}
+use Rattle.std.proofs.lemmas.List.{length-map}
+use Rattle.shard_boxes.specs.Closed.{AreSpent}
+use Rattle.shard_boxes.specs.Keys.{BoxId, KeyState}
 use Rattle.shard_boxes.specs.States.{state_of}
-use Rattle.worker_journals.specs.Merged.{added}
-use Rattle.phase_contexts.specs.declared.counters.Counters.{Counters}
-use Rattle.phase_closing.specs.Standing.{StandFor, counters_at}
-use Rattle.phase_closing.proofs.CommitLemmas.{commits_grow}
-use Rattle.phase_closing.proofs.ReplayLemmas.{entries_replay}
-use Rattle.phase_floor.specs.Closings.{phase_of}
-use Rattle.phase_floor.specs.States.{IsKept}
-use Rattle.phase_floor.proofs.Kept.{kept_after, counted}
-use Rattle.phase_floor.proofs.Lawfully.{reconciled_lawful}
-use Rattle.phase_floor.proofs.Reconciled.{as_many, ready, stand_after}
+use Rattle.worker_journals.specs.Histories.{HistoryView}
+use Rattle.worker_journals.specs.Merged.{AreByWorker, added}
+use Rattle.worker_journals.proofs.AddedLemmas.{added_front, last_merged, added_stars}
+use Rattle.phase_closing.specs.Phases.{journal_of}
+use Rattle.phase_floor.specs.Closings.{at_start}
+use Rattle.phase_floor.specs.Floors.{FloorState, IsOpen}
+use Rattle.phase_floor.proofs.Closings.{nothing_added, in_order, are_spent}
+use Rattle.phase_floor.proofs.Leaving.{shards_one, slices_known, slices_can, reconciled, kept_left, leaves}
 use Rattle.phase_floor.proofs.floor.Floor.close.Goals as goal
+
+pub add_phase-requires-clause-few : goal.add_phase-requires-clause-few
+add_phase-requires-clause-few g c =
+    let e = c.in_ok-journals.ensures in let receipts = map g.T.Receipt.shows c.args.receipts.items in
+    let is_open = subst (IsOpen g.N.PhaseName.opening g.N.PhaseName.workers) c.self.view_is c.self.invariant in
+    omega (arith, ap length e.parts.journals_are, length-map receipts journal_of, c.requires.0, is_open.workers_are, is_open.kept.few_workers, c.in_ok-journals.field-0.journals.ok.0)
+
+pub add_phase-requires-clause-by_worker : goal.add_phase-requires-clause-by_worker
+add_phase-requires-clause-by_worker g c =
+    let e = c.in_ok-journals.ensures in let opening = g.N.PhaseName.opening in let workers = g.N.PhaseName.workers in
+    subst AreByWorker (sym e.parts.journals_are)
+    (in_order opening workers c.args.self (subst (IsOpen opening workers) c.self.view_is c.self.invariant) (map g.T.Receipt.shows c.args.receipts.items) c.requires e.finished)
+
+pub close-shards-requires : goal.close-shards-requires
+close-shards-requires g c =
+    let e = c.in_ok-journals.ensures in let opening = g.N.PhaseName.opening in let workers = g.N.PhaseName.workers in
+    let spent = are_spent opening workers c.args.self (subst (IsOpen opening workers) c.self.view_is c.self.invariant) (map g.T.Receipt.shows c.args.receipts.items) c.requires e.finished in
+    subst (λ (boxes : List BoxId). AreSpent boxes workers c.in_ok-journals.field-0.keys.items) (sym (ap (λ (f : FloorState). f.boxes) c.self.view_is))
+    (subst (λ (keys : List KeyState). AreSpent c.args.self.boxes workers keys) (sym e.parts.keys_are) spent)
+
+pub merge_all-requires-clause-shards : goal.merge_all-requires-clause-shards
+merge_all-requires-clause-shards g c =
+    let opening = g.N.PhaseName.opening in let workers = g.N.PhaseName.workers in let receipts = map g.T.Receipt.shows c.args.receipts.items in
+    let e = c.in_ok-journals.ensures in let h = c.in_ok-add_phase.ensures in let parts = c.in_ok-journals.field-0 in
+    let is_open = subst (IsOpen opening workers) c.self.view_is c.self.invariant in
+    shards_one opening workers c.args.self is_open receipts c.requires e.finished (map state_of c.close-shards.result.items) c.args.history.now c.add_phase.new.self parts.journals.items parts.stashes.items parts.keys.items parts.counters.items parts.slices.items e.parts h.added h.lawful c.close-shards.ensures
+
+pub merge_all-requires-clause-known : goal.merge_all-requires-clause-known
+merge_all-requires-clause-known g c =
+    let opening = g.N.PhaseName.opening in let workers = g.N.PhaseName.workers in let receipts = map g.T.Receipt.shows c.args.receipts.items in
+    let e = c.in_ok-journals.ensures in let h = c.in_ok-add_phase.ensures in let parts = c.in_ok-journals.field-0 in
+    let is_open = subst (IsOpen opening workers) c.self.view_is c.self.invariant in
+    slices_known opening workers c.args.self is_open receipts c.requires e.finished (map state_of c.close-shards.result.items) c.args.history.now c.add_phase.new.self parts.journals.items parts.stashes.items parts.keys.items parts.counters.items parts.slices.items e.parts h.added h.lawful c.close-shards.ensures
+
+pub merge_all-requires-clause-can : goal.merge_all-requires-clause-can
+merge_all-requires-clause-can g c =
+    let opening = g.N.PhaseName.opening in let workers = g.N.PhaseName.workers in let receipts = map g.T.Receipt.shows c.args.receipts.items in
+    let e = c.in_ok-journals.ensures in let h = c.in_ok-add_phase.ensures in let parts = c.in_ok-journals.field-0 in
+    let is_open = subst (IsOpen opening workers) c.self.view_is c.self.invariant in
+    slices_can opening workers c.args.self is_open receipts c.requires e.finished (map state_of c.close-shards.result.items) c.args.history.now c.add_phase.new.self parts.journals.items parts.stashes.items parts.keys.items parts.counters.items parts.slices.items e.parts h.added h.lawful c.close-shards.ensures
 
 pub invariant_of-state : goal.invariant_of-state
 invariant_of-state g c =
-    let opening = g.N.PhaseName.opening in let workers = g.N.PhaseName.workers in let floor = c.args.self in let receipts = (map g.T.Receipt.shows c.args.receipts.items) in
-    let e = c.in_ok-opening.ensures in let left = c.in_ok-opening.field-0 in let entries = added c.args.history.now.entries c.settle.new.history.entries in
-    let given = e.closed.given in let closed = e.closed.closed in let states = map state_of left.shards.items in
-    let stars = e.stars in
-    let kept = kept_after opening workers floor e.open receipts c.requires given entries closed e.limit stars left.shards.items
-    (as_many opening workers floor e.open receipts c.requires given entries closed e.closed.order e.closed.each states e.closed.states_are)
-    (ready opening workers floor e.open receipts c.requires given entries closed e.closed.order e.closed.each states e.closed.states_are)
-    (stand_after opening workers floor e.open receipts c.requires given entries closed e.closed.order e.closed.each states e.closed.states_are) in
-    subst (λ (o : Opening). IsKept o states left.counters.items) (sym e.opening) (subst (λ (cs : List Counters). IsKept floor.opening states cs) (sym e.counters) kept)
+    let opening = g.N.PhaseName.opening in let workers = g.N.PhaseName.workers in let receipts = map g.T.Receipt.shows c.args.receipts.items in
+    let e = c.in_ok-journals.ensures in let h = c.in_ok-add_phase.ensures in let parts = c.in_ok-journals.field-0 in
+    let is_open = subst (IsOpen opening workers) c.self.view_is c.self.invariant in
+    kept_left opening workers c.args.self is_open receipts c.requires e.finished (added c.args.history.now.entries c.add_phase.new.self.entries) (added_stars c.args.history.now c.add_phase.new.self parts.journals.items h.added h.lawful)
+    c.reset_clocks.new.shards.items (reconciled opening workers c.args.self is_open receipts c.requires e.finished (map state_of c.close-shards.result.items) c.args.history.now c.add_phase.new.self parts.journals.items parts.stashes.items parts.keys.items parts.counters.items parts.slices.items e.parts h.added h.lawful c.close-shards.ensures (map state_of c.reset_clocks.new.shards.items) (c.reset_clocks.ensures ∙ ap (map at_start) c.merge_all.ensures))
+    c.self.inside.opening parts.counters.items (ap (λ (f : FloorState). f.opening) c.self.view_is) e.parts.counters_are
 
-pub returns-clause-lawful : goal.returns-clause-lawful
-returns-clause-lawful g c =
-    let e = c.in_ok-opening.ensures in let left = c.in_ok-opening.field-0 in let entries = added c.args.history.now.entries c.settle.new.history.entries in
-    reconciled_lawful g.N.PhaseName.opening c.args.self (map g.T.Receipt.shows c.args.receipts.items) (map state_of left.shards.items) entries e.closed
+pub returns-clause-closed : goal.returns-clause-closed
+returns-clause-closed g c =
+    let opening = g.N.PhaseName.opening in let workers = g.N.PhaseName.workers in let receipts = map g.T.Receipt.shows c.args.receipts.items in
+    let e = c.in_ok-journals.ensures in let h = c.in_ok-add_phase.ensures in let parts = c.in_ok-journals.field-0 in
+    let is_open = subst (IsOpen opening workers) c.self.view_is c.self.invariant in
+    reconciled opening workers c.args.self is_open receipts c.requires e.finished (map state_of c.close-shards.result.items) c.args.history.now c.add_phase.new.self parts.journals.items parts.stashes.items parts.keys.items parts.counters.items parts.slices.items e.parts h.added h.lawful c.close-shards.ensures
+    (map state_of c.reset_clocks.new.shards.items) (c.reset_clocks.ensures ∙ ap (map at_start) c.merge_all.ensures)
 
-pub returns-clause-commits : goal.returns-clause-commits
-returns-clause-commits g c = λ w below.
-    let e = c.in_ok-opening.ensures in let floor = c.args.self in let receipts = (map g.T.Receipt.shows c.args.receipts.items) in let left = c.in_ok-opening.field-0 in let entries = added c.args.history.now.entries c.settle.new.history.entries in
-    let stars = e.stars in
-    ap (λ (cs : List Counters). (counters_at cs w).commits) e.counters
-    ∙ sym (ap (λ (cs : Counters). cs.commits) (counted g.N.PhaseName.opening g.N.PhaseName.workers floor e.open receipts c.requires e.closed.given entries e.closed.closed e.limit stars w below))
-    ∙ commits_grow (phase_of g.N.PhaseName.opening floor receipts e.closed.given entries) e.closed.closed w below
+pub returns-clause-leaves : goal.returns-clause-leaves
+returns-clause-leaves g c =
+    let opening = g.N.PhaseName.opening in let workers = g.N.PhaseName.workers in let receipts = map g.T.Receipt.shows c.args.receipts.items in
+    let e = c.in_ok-journals.ensures in let h = c.in_ok-add_phase.ensures in let parts = c.in_ok-journals.field-0 in
+    let is_open = subst (IsOpen opening workers) c.self.view_is c.self.invariant in
+    leaves opening workers c.args.self is_open receipts c.requires e.finished (added c.args.history.now.entries c.add_phase.new.self.entries) (added_stars c.args.history.now c.add_phase.new.self parts.journals.items h.added h.lawful)
+    c.reset_clocks.new.shards.items (reconciled opening workers c.args.self is_open receipts c.requires e.finished (map state_of c.close-shards.result.items) c.args.history.now c.add_phase.new.self parts.journals.items parts.stashes.items parts.keys.items parts.counters.items parts.slices.items e.parts h.added h.lawful c.close-shards.ensures (map state_of c.reset_clocks.new.shards.items) (c.reset_clocks.ensures ∙ ap (map at_start) c.merge_all.ensures))
+    c.self.inside.opening parts.counters.items (ap (λ (f : FloorState). f.opening) c.self.view_is) e.parts.counters_are
+    (c.self.inside.phase + 1) parts.stashes.items (ap (λ (f : FloorState). f.phase + 1) c.self.view_is) e.parts.stashes_are
 
-pub returns-clause-replays : goal.returns-clause-replays
-returns-clause-replays g c = λ book holds.
-    let e = c.in_ok-opening.ensures in let entries = added c.args.history.now.entries c.settle.new.history.entries in
-    entries_replay (phase_of g.N.PhaseName.opening c.args.self (map g.T.Receipt.shows c.args.receipts.items) e.closed.given entries) e.closed.closed book holds
+pub returns-clause-history : goal.returns-clause-history
+returns-clause-history g c = added_front c.args.history.now c.add_phase.new.self c.in_ok-journals.field-0.journals.items c.in_ok-add_phase.ensures.added
 
-pub returns-clause-stands : goal.returns-clause-stands
-returns-clause-stands g c = λ book holds.
-    let e = c.in_ok-opening.ensures in let left = c.in_ok-opening.field-0 in let entries = added c.args.history.now.entries c.settle.new.history.entries in let floor = c.args.self in
-    subst (λ (cs : List Counters). StandFor (map state_of left.shards.items) cs (book_after floor.opening book entries) []) (sym e.counters)
-    (stand_after g.N.PhaseName.opening g.N.PhaseName.workers floor e.open (map g.T.Receipt.shows c.args.receipts.items) c.requires e.closed.given entries e.closed.closed e.closed.order e.closed.each
-    (map state_of left.shards.items) e.closed.states_are book holds)
+pub returns-clause-last : goal.returns-clause-last
+returns-clause-last g c = last_merged c.args.history.now c.add_phase.new.self c.in_ok-journals.field-0.journals.items c.in_ok-add_phase.ensures.added
+
+pub returns-in_err-journals-clause-history : goal.returns-in_err-journals-clause-history
+returns-in_err-journals-clause-history g c = nothing_added c.args.history.now.entries
+
+pub returns-in_err-add_phase-clause-history : goal.returns-in_err-add_phase-clause-history
+returns-in_err-add_phase-clause-history g c =
+    let old = c.args.history.now.entries in let same = ap (λ (h : HistoryView). h.entries) c.in_err-add_phase.ensures.refused in
+    same ∙ nothing_added old ∙ ap (λ new. old ++ added old new) (sym same)

@@ -7,7 +7,6 @@ use Rattle.phase_closing.specs.Standing.{counters_at}
 use Rattle.phase_floor.specs.Begins.{start_of}
 use Rattle.phase_floor.specs.Floors.{FloorState, IsOpen, IsBegun, stash_at}
 use Rattle.phase_floor.proofs.Begins.{begun_next, can_start}
-use Rattle.phase_floor.proofs.floor.Floor.give.Goals.{in-None, in-Some+in_default, in-Some+in-Some-next+in_default-next}
 use Rattle.phase_floor.proofs.floor.Floor.give.Goals as goal
 
 pub invariant_of-push_reserved : goal.invariant_of-push_reserved
@@ -52,11 +51,7 @@ loop-key-preserved g c =
 pub returns : goal.returns
 returns g c =
     let was = c.loop-key.invariant in
-    let all : c.loop-key.w ≡ g.N.PhaseName.workers = elim c.match-next.branch [
-      | in-None w ↦ omega (arith, was.keys_left, w.in-None.ensures.steps)
-      | in-Some+in_default w ↦ omega (arith, was.kits_left, w.in_default.ensures.cases)
-      | in-Some+in-Some-next+in_default-next w ↦ omega (arith, was.stashes_left, w.in_default-next.ensures.cases)
-    ] in
+    let all : c.loop-key.w ≡ g.N.PhaseName.workers = omega (arith, was.keys_left, c.in-None.ensures.steps) in
     let many = ap (λ (f : FloorState). length f.counters) (sym c.self.view_is) ∙ c.self.invariant.workers_are in (
       omega (arith, all, many, was.len, c.loop-key.starts.ok.0),
       λ w d low. was.each w d (omega (arith, all, many, low)),

@@ -1,12 +1,11 @@
 use Rattle.std.proofs.Common.{◌≡◌, ℕ, ◌<◌, [], map, sym, subst, ◌∙◌, arith}
-use Rattle.std.proofs.lemmas.List.Elements.{All-get_or}
+use Rattle.std.proofs.lemmas.List.Elements.{recursion_from_All}
 use Rattle.auction_rows.specs.History.{IsBook}
 use Rattle.item_shards.specs.Counting.{worker_of}
 use Rattle.item_shards.specs.OpeningBooks.{rows_of}
 use Rattle.shard_boxes.specs.States.{state_of}
 use Rattle.phase_closing.specs.Standing.{ShardsStandFor, counters_at}
 use Rattle.phase_floor.specs.Resuming.{counters_in, AreReady}
-use Rattle.phase_floor.proofs.Every.{every}
 use Rattle.phase_floor.proofs.ResumeKept.{stand_for, kept_of}
 use Rattle.phase_floor.proofs.joined.Joined.resume.Goals as goal
 
@@ -14,7 +13,7 @@ pub returns-clause-stands : goal.returns-clause-stands
 returns-clause-stands c =
     let book = c.args.book.now in let rows = rows_of book in let shards = c.in_ok-shards.shards in let counters = c.in_ok-counters.counters in
     let same = c.rows-rows.ensures.rows in
-    let own = every (λ one. worker_of one < c.args.workers) rows (λ k d low. All-get_or (λ one. worker_of one < c.args.workers) rows k d low c.requires.own) in
+    let own = recursion_from_All (λ one. worker_of one < c.args.workers) rows c.requires.own in
     let each = subst (λ b. (w : ℕ) → w < c.args.workers → counters_at counters.items w ≡ counters_in b w) same c.in_ok-counters.ensures.each in
     let stand = subst (λ b. ShardsStandFor (map state_of shards.items) b []) same c.in_ok-shards.ensures.stand in
     stand_for c.opening-2.result rows shards.items counters.items c.args.workers c.in_ok-counters.ensures.len each own stand
@@ -23,7 +22,7 @@ pub invariant_of-result : goal.invariant_of-result
 invariant_of-result c =
     let book = c.args.book.now in let rows = rows_of book in let shards = c.in_ok-shards.shards in let counters = c.in_ok-counters.counters in
     let same = c.rows-rows.ensures.rows in
-    let own = every (λ one. worker_of one < c.args.workers) rows (λ k d low. All-get_or (λ one. worker_of one < c.args.workers) rows k d low c.requires.own) in
+    let own = recursion_from_All (λ one. worker_of one < c.args.workers) rows c.requires.own in
     let each = subst (λ b. (w : ℕ) → w < c.args.workers → counters_at counters.items w ≡ counters_in b w) same c.in_ok-counters.ensures.each in
     let stand = subst (λ b. ShardsStandFor (map state_of shards.items) b []) same c.in_ok-shards.ensures.stand in
     let ready = subst (λ o. AreReady o (map state_of shards.items)) (c.opening.ensures ∙ sym c.opening-2.ensures) c.in_ok-shards.ensures.ready in

@@ -1,0 +1,94 @@
+-- The state that a phase leaves.
+use Rattle.std.proofs.Common.{◌≡◌, ℕ, ◌+◌, List, [], map, fold, length, sym, ap, ◌∙◌, subst}
+use Rattle.std.specs.List.{AllByRecursion, flat_map}
+use Rattle.phase_laws.specs.Replay.{SawInTurn}
+use Rattle.auction_rows.specs.declared.ids.Object.{Object}
+use Rattle.auction_rows.specs.declared.numbers.Opening.{Opening}
+use Rattle.auction_rows.specs.declared.rows.Entry.{Entry}
+use Rattle.auction_rows.specs.History.{book_after}
+use Rattle.item_shards.specs.declared.shard.Shard.{Shard}
+use Rattle.item_shards.specs.declared.slices.Slice.{Slice}
+use Rattle.item_shards.specs.Limits.{GivesStars}
+use Rattle.shard_boxes.specs.Closed.{AreClosed}
+use Rattle.shard_boxes.specs.Keys.{KeyState}
+use Rattle.shard_boxes.specs.States.{ShardState, state_of}
+use Rattle.worker_journals.specs.Histories.{HistoryView, with_phase}
+use Rattle.worker_journals.specs.Journals.{JournalView, IsLawful}
+use Rattle.worker_journals.specs.Merged.{AreByWorker, added, entries_of}
+use Rattle.worker_journals.proofs.AddedLemmas.{added_ascends, added_parts}
+use Rattle.phase_contexts.specs.declared.counters.Counters.{Counters}
+use Rattle.phase_contexts.specs.declared.slices.Hot.{Hot}
+use Rattle.phase_contexts.specs.Stashes.{StashState}
+use Rattle.phase_transactions.specs.Permits.{PermitState}
+use Rattle.phase_closing.specs.Merging.{CanMerge, after_merge}
+use Rattle.phase_closing.specs.Phases.{HasClosed, counters_of}
+use Rattle.phase_closing.specs.Standing.{StandFor, counters_at}
+use Rattle.phase_closing.proofs.CommitLemmas.{commits_grow}
+use Rattle.phase_closing.proofs.ReplayLemmas.{entries_replay}
+use Rattle.phase_floor.specs.Closings.{AreReceiptsOf, AreKnown, AreOfOne, ArePartsOf, HasReconciled, IsFinished, Leaves, at_start, from_the_last, phase_of, stash_of}
+use Rattle.phase_floor.specs.Floors.{FloorState, IsOpen}
+use Rattle.phase_floor.specs.States.{IsKept, joined_of}
+use Rattle.phase_floor.proofs.Closings.{finished, has_closed, in_order}
+use Rattle.phase_floor.proofs.Kept.{kept_after, counted}
+use Rattle.phase_floor.proofs.Lawfully.{reconciled_lawful}
+use Rattle.phase_floor.proofs.Reconciled.{order_of, all_once, given_one, given_known, given_can, as_many, ready, stand_after}
+
+-- what the parts of the receipts, the boxes and the history tell: the phase has reconciled
+module _ (opening : List ShardState) (workers : ℕ) (floor : FloorState) (is_open : IsOpen opening workers floor) (receipts : List PermitState) (are : AreReceiptsOf floor receipts)
+    (all : AllByRecursion (IsFinished (length opening)) receipts) (given : List ShardState) (old new : HistoryView) (journals : List JournalView) (stashes : List StashState) (keys : List KeyState)
+    (counters : List Counters) (slices : List (List (Object × Hot))) (parts : ArePartsOf receipts journals stashes keys counters slices) (is : new ≡ with_phase old journals)
+    (lawful : AllByRecursion IsLawful journals) (boxes : AreClosed opening workers keys given) where
+  closed : HasClosed (phase_of opening floor receipts given (added old.entries new.entries))
+  closed =
+      let up = subst AreByWorker (sym parts.journals_are) (in_order opening workers floor is_open receipts are all) in
+      has_closed opening workers floor is_open receipts are all given (added old.entries new.entries)
+      (subst (λ (keys : List KeyState). AreClosed opening workers keys given) parts.keys_are boxes) (added_ascends old new journals is up lawful)
+      (λ w. added_parts old new journals is up lawful w ∙ ap (entries_of w) parts.journals_are)
+
+  pub shards_one : AreOfOne given
+  shards_one = given_one opening workers floor is_open receipts are given (added old.entries new.entries) closed
+
+  pub slices_known : AreKnown given (flat_map from_the_last slices)
+  slices_known = subst (AreKnown given) (sym parts.slices_are) (given_known opening workers floor is_open receipts are given (added old.entries new.entries) closed)
+
+  pub slices_can : SawInTurn CanMerge after_merge given (flat_map from_the_last slices)
+  slices_can =
+      subst (SawInTurn CanMerge after_merge given) (sym parts.slices_are)
+      (given_can opening workers floor is_open receipts are given (added old.entries new.entries) closed (λ w below. (finished opening workers floor is_open receipts are all w below).few))
+
+  pub reconciled : (states : List ShardState) → states ≡ map at_start (fold after_merge given (flat_map from_the_last slices)) → HasReconciled opening floor receipts states (added old.entries new.entries)
+  reconciled states states_are = record {
+    given = given;
+    closed = closed;
+    order = order_of receipts;
+    each = all_once receipts;
+    states_are = states_are ∙ ap (λ (order : List (Object × Slice)). map at_start (fold after_merge given order)) parts.slices_are;
+  }
+
+module _ (opening : List ShardState) (workers : ℕ) (floor : FloorState) (is_open : IsOpen opening workers floor) (receipts : List PermitState) (are : AreReceiptsOf floor receipts)
+    (all : AllByRecursion (IsFinished (length opening)) receipts) (entries : List Entry) (stars : AllByRecursion (λ entry. GivesStars entry.request) entries) (shards : List Shard)
+    (e : HasReconciled opening floor receipts (map state_of shards) entries) (start : Opening) (counters : List Counters) (start_is : start ≡ floor.opening) (counters_are : counters ≡ map counters_of receipts) where
+  pub kept_left : IsKept start (map state_of shards) counters
+  kept_left =
+      let states = map state_of shards in
+      let kept = kept_after opening workers floor is_open receipts are e.given entries e.closed (λ w below. (finished opening workers floor is_open receipts are all w below).limit) stars shards
+      (as_many opening workers floor is_open receipts are e.given entries e.closed e.order e.each states e.states_are)
+      (ready opening workers floor is_open receipts are e.given entries e.closed e.order e.each states e.states_are)
+      (stand_after opening workers floor is_open receipts are e.given entries e.closed e.order e.each states e.states_are) in
+      subst (λ (o : Opening). IsKept o states counters) (sym start_is) (subst (λ (cs : List Counters). IsKept floor.opening states cs) (sym counters_are) kept)
+
+  pub leaves : (phase : ℕ) (stashes : List StashState) → phase ≡ floor.phase + 1 → stashes ≡ map stash_of receipts → Leaves opening floor receipts entries (joined_of start phase shards counters) stashes
+  leaves phase stashes phase_is stashes_are = record {
+    opening_is = start_is;
+    phase_is = phase_is;
+    counters_are = counters_are;
+    stashes_are = stashes_are;
+    lawful = reconciled_lawful opening floor receipts (map state_of shards) entries e;
+    commits = λ w below.
+        ap (λ (cs : List Counters). (counters_at cs w).commits) counters_are
+        ∙ sym (ap (λ (cs : Counters). cs.commits) (counted opening workers floor is_open receipts are e.given entries e.closed (λ v low. (finished opening workers floor is_open receipts are all v low).limit) stars w below))
+        ∙ commits_grow (phase_of opening floor receipts e.given entries) e.closed w below;
+    replays = λ book holds. entries_replay (phase_of opening floor receipts e.given entries) e.closed book holds;
+    stands = λ book holds. subst (λ (cs : List Counters). StandFor (map state_of shards) cs (book_after floor.opening book entries) []) (sym counters_are)
+        (stand_after opening workers floor is_open receipts are e.given entries e.closed e.order e.each (map state_of shards) e.states_are book holds);
+  }
