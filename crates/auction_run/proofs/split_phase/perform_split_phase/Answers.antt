@@ -68,7 +68,7 @@ returns-clause-closed g c =
     let begun = c.in-Ok.ensures in
     let may = c.requires.may in
     let scripts : List (List Request) = lists c.args.round.scripts.now in
-    let closed = c.in_ok-state.ensures in
+    let closed = c.in_ok-state.ensures in let left = closed.leaves in
     let mapped : length (lists c.args.round.scripts.now) ≡ length c.args.round.scripts.now = simp length-map in
     let quotas_are = quotas_of c.args.round.policy scripts c.args.state.phase (length c.args.round.scripts.now) c.args.round.policy.split_quota c.args.round.first
     c.deref.result.now _ mapped c.deref.ensures.value (cond-true (is_split c.args.state.phase) c.args.round.policy.split_quota c.args.round.policy.joined_quota c.requires.split) c.requires.round.1 c.in_ok-quotas.ensures.each in
@@ -76,7 +76,7 @@ returns-clause-closed g c =
     c.deref.result.now c.in-Ok.begun.1.items c.requires.shards begun.opening begun.phase begun.counters quotas_are begun.permits (λ w. empty_at c.deref.result.now w ∙ sym (may.split c.requires.split w)) false c.in_ok-receipts.receipts.items
     (plain (IsDone false) c.in-Ok.begun.1.items c.in_ok-receipts.receipts.items scripts c.args.round.first c.in_ok-receipts.ensures.done)
     (λ w no. may.split c.requires.split w) begun.hot (record { state = c.in_ok-state.state; stashes = c.in_ok-state.stashes }) (added c.args.history.now.entries c.close.new.history.entries)
-    closed.opening closed.phase closed.counters closed.stashes closed.commits closed.replays closed.stands closed.closed
+    left.opening_is left.phase_is left.counters_are left.stashes_are left.commits left.replays left.stands closed.closed
 
 pub returns-in_err-receipts-clause-fault : goal.returns-in_err-receipts-clause-fault
 returns-in_err-receipts-clause-fault g c =
