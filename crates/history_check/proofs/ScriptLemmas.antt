@@ -4,8 +4,8 @@ use Rattle.std.proofs.Common.{Vec, ◌≡◌, ℕ, zero, suc, ◌+◌, ◌<◌, 
 use Rattle.std.specs.Prelude.{replicate}
 use Rattle.std.proofs.Math.ListN.{length-set}
 use Rattle.std.proofs.lemmas.Bool.{cases_lt, eqb-true, eq-eqb, false≢true, and_left, and_right}
-use Rattle.std.proofs.lemmas.List.{get_or-set_same, get_or-set_other}
-use Rattle.std.proofs.lemmas.Option.{slice_get_within}
+use Rattle.std.proofs.lemmas.List.{get_or_default, get_or_past, get_or-set_same, get_or-set_other, length-map}
+use Rattle.std.proofs.lemmas.Option.{slice_get_within, unwrap_or-slice_get}
 use Rattle.auction_rows.specs.declared.requests.Request.{Request}
 use Rattle.run_serving.specs.Serving.{script_of}
 use Rattle.history_check.specs.Scripts.{lists, request_at}
@@ -17,13 +17,10 @@ script_at (x ∷ xs) zero d less = refl
 script_at (x ∷ xs) (suc i) d less = script_at xs i d (omega arith)
 
 pub past_end : (scripts : List (List Request)) (i : ℕ) → length scripts ≤ i → script_of scripts i ≡ []
-past_end [] i over = refl
-past_end (x ∷ xs) zero over = absurd (omega arith)
-past_end (x ∷ xs) (suc i) over = past_end xs i (omega arith)
+past_end scripts i over = unwrap_or-slice_get scripts i [] ∙ get_or_past scripts i [] over
 
 pub lists_length : (scripts : List (Vec Request Global)) → length (lists scripts) ≡ length scripts
-lists_length [] = refl
-lists_length (x ∷ xs) = ap suc (lists_length xs)
+lists_length scripts = length-map scripts (λ v. v.items)
 
 -- a request that there is, is of a worker and at an index that there is
 pub index_within : (scripts : List (List Request)) (worker index : ℕ) (request : Request) → request_at scripts worker index ≡ Some request → index < length (script_of scripts worker)
@@ -95,23 +92,18 @@ marked_next rows worker index within below w i = at (index == i) refl where
         ∙ ap (λ k. get_or (get_or rows k []) w false) same
         ∙ sym (ap (λ b. cond b true (is_marked rows w i)) (and_left (worker == w) (index == i) f))
 
-get_or_any : {X : Type 0} (xs : List X) (i : ℕ) (a b : X) → i < length xs → get_or xs i a ≡ get_or xs i b
-get_or_any [] i a b less = absurd (omega arith)
-get_or_any (x ∷ xs) zero a b less = refl
-get_or_any (x ∷ xs) (suc i) a b less = get_or_any xs i a b (omega arith)
-
 pub mark_made : (rows : List (List Bool)) (worker index : ℕ) (row : List Bool) → row ≡ get_or rows index row → index < length rows → worker < length row
     → (w i : ℕ) → is_marked (set rows index (set row worker true)) w i ≡ cond ((worker == w) && (index == i)) true (is_marked rows w i)
 mark_made rows worker index row is within below w i =
-    let same : row ≡ get_or rows index [] = is ∙ get_or_any rows index row [] within in
+    let same : row ≡ get_or rows index [] = is ∙ get_or_default rows index row [] within in
     ap (λ r. is_marked (set rows index (set r worker true)) w i) same ∙ marked_next rows worker index within (omega (arith, below, ap length same)) w i
 
 pub unmarked : (rows : List (List Bool)) (worker index : ℕ) (row : List Bool) → row ≡ get_or rows index row → index < length rows
     → get_or row worker false ≡ is_marked rows worker index
-unmarked rows worker index row is within = ap (λ r. get_or r worker false) (is ∙ get_or_any rows index row [] within)
+unmarked rows worker index row is within = ap (λ r. get_or r worker false) (is ∙ get_or_default rows index row [] within)
 
 pub wide_at : (rows : List (List Bool)) (i : ℕ) (row : List Bool) → AreWide rows → i < length rows → row ≡ get_or rows i row → length row ≡ 16
-wide_at rows i row wide less is = ap length (is ∙ get_or_any rows i row [] less) ∙ wide i less
+wide_at rows i row wide less is = ap length (is ∙ get_or_default rows i row [] less) ∙ wide i less
 
 pub wide_set : (rows : List (List Bool)) (i : ℕ) (row : List Bool) → AreWide rows → i < length rows → length row ≡ 16 → AreWide (set rows i row)
 wide_set rows i row wide within len k less = at (i == k) refl where

@@ -57,6 +57,21 @@ impl Marks {
         row[worker]
     }
 
+    /// An index below so many at which a worker has no mark, if there is one.
+    pub fn lacks(&self, worker: usize, count: usize) -> Option<usize>
+        requires worker { worker < MOST_WORKERS }
+        requires places { count ≤ length self.now.rows.items }
+        ensures none { IfNone result ((index : ℕ) → index < count → is_marked self.now.rows.items worker index ≡ true) }
+        ensures some { IfSome result (λ index. (index < count) × (is_marked self.now.rows.items worker index ≡ false)) }
+    {
+        for index in 0..count {
+            if !self.has(worker, index) {
+                return Some(index);
+            }
+        }
+        None
+    }
+
     /// Marks a place.
     pub fn mark(&mut self, worker: usize, index: usize)
         requires worker { worker < MOST_WORKERS }

@@ -145,10 +145,8 @@ impl Replay {
         ensures some { IfSome result (λ place. IsUnmarked (lists scripts.now) self.now.marks.rows.items place.0 place.1) }
     {
         for worker in 0..scripts.len() {
-            for index in 0..scripts[worker].len() {
-                if !self.marks.has(worker, index) {
-                    return Some((worker, index));
-                }
+            if let Some(index) = self.marks.lacks(worker, scripts[worker].len()) {
+                return Some((worker, index));
             }
         }
         None

@@ -6,6 +6,3 @@ use Rattle.history_check.proofs.replay.Replay.lacks.Given as goal
 
 abbrev pub invariant-loop-worker : goal.invariant-loop-worker
 invariant-loop-worker l = (w i : ℕ) → w < l.worker → i < length (script_of (lists l.scripts) w) → is_marked l.self.marks.rows.items w i ≡ true
-
-abbrev pub invariant-loop-index : goal.invariant-loop-index
-invariant-loop-index l = (i : ℕ) → i < l.index → is_marked l.self.marks.rows.items l.worker i ≡ true
