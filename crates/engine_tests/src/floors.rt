@@ -1,3 +1,2 @@
-//! Tests of `phase_floor`: which phases begin.
-mod testing;
+//! Tests of `phase_floor`: split phases that don't begin.
 mod tests;

@@ -1,5 +1,4 @@
-//! Tests of `phase_transactions`: what permits of joined and of split phases answer, and leave, over real boxes.
-mod split_testing;
+//! Tests of `phase_transactions`: what waits for a joined permit, and the calls of a split permit for what is hot.
+mod joined_tests;
 mod split_tests;
 pub(crate) mod testing;
-mod tests;

@@ -1,9 +1,9 @@
 //! Runs that are refused before they begin.
-use crate::runs::testing::{LOOK, item};
+use crate::runs::testing::LOOK;
 use crate::testing::assert_same;
 use auction_rows::Request;
 use auction_run::{FreeGate, Policy, RunFault, run};
-use item_shards::{Opened, OpeningBook};
+use item_shards::OpeningBook;
 use library_tests::testing::OPENING;
 use std::alloc::Global;
 use std::sync::Wait;
@@ -60,18 +60,5 @@ fn policies_that_are_refused(rt: HostRuntime) -> Result<(), Fail> {
         let found = fault_of(&rt, rt.alloc(), &book, workers, policy)?;
         assert_same(&rt, &found, &fault);
     }
-    Ok(())
-}
-
-#[test]
-fn rows_of_workers_without_script(rt: HostRuntime) -> Result<(), Fail> {
-    let alloc = rt.alloc();
-    let opened = Opened {
-        worker: 1,
-        request: item()?,
-    };
-    let book = OpeningBook::new(alloc, OPENING, vec![in alloc; opened]?)?;
-    let found = fault_of(&rt, alloc, &book, 1, POLICY)?;
-    assert_same(&rt, &found, &Some(RunFault::Workers));
     Ok(())
 }

@@ -1,6 +1,6 @@
 use Rattle.std.proofs.Common.{refl, ap, ◌∙◌}
 use Rattle.worker_journals.specs.Journals.{JournalView}
-use Rattle.engine_tests.proofs.permits.split_testing.phase.Goals as goal
+use Rattle.engine_tests.proofs.permits.split_tests.answers.Goals as goal
 
 pub new-permit-requires-clause-stored : goal.new-permit-requires-clause-stored
 new-permit-requires-clause-stored g c = λ item hot own.

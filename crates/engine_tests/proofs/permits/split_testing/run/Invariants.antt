@@ -1,6 +1,0 @@
-use Rattle.std.proofs.Common.{map}
-use Rattle.shard_boxes.specs.States.{state_of}
-use Rattle.engine_tests.proofs.permits.split_testing.run.Given as goal
-
-abbrev pub ghosts-phase : goal.ghosts-phase
-ghosts-phase g a = record { opening = map state_of a.shards.items; workers = 1 }
