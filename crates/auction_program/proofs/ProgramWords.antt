@@ -1,5 +1,6 @@
 -- The program's options are simple ones, and those of numbers have each its range.
 use Rattle.std.proofs.Common.{◌≡◌, ◌∙◌, ℕ, true, [], ◌∷◌, Some, codes, refl, sym, ap, subst, arith}
+use Rattle.auction_rows.specs.declared.limits.TheConstants.{MOST_HOT, MOST_SHARDS, MOST_WORKERS}
 use Rattle.clap.specs.Faults.{is_simple_and_free}
 use Rattle.clap.specs.Simple.{App, built}
 use Rattle.clap.specs.Walk.{Rule, Text}
@@ -25,11 +26,11 @@ module _ (id : Text) (least greatest : ℕ) (usual : Text) where
     filled = subst (IsOneNumber id least greatest) (sym filled) (record { own = refl; simple = refl; action = refl; parser = refl; usual = omega arith }, omega arith);
   }
 
-pub has_workers : HasNumberOption program (codes "workers") 1 16
-has_workers = has_number (codes "workers") 1 16 (codes "1") (λ e. absurd cc) refl refl
+pub has_workers : HasNumberOption program (codes "workers") 1 MOST_WORKERS
+has_workers = has_number (codes "workers") 1 MOST_WORKERS (codes "1") (λ e. absurd cc) refl refl
 
-pub has_shards : HasNumberOption program (codes "shards") 1 64
-has_shards = has_number (codes "shards") 1 64 (codes "4") (λ e. absurd cc) refl refl
+pub has_shards : HasNumberOption program (codes "shards") 1 MOST_SHARDS
+has_shards = has_number (codes "shards") 1 MOST_SHARDS (codes "4") (λ e. absurd cc) refl refl
 
 pub has_joined : HasNumberOption program (codes "joined") 1 1000000
 has_joined = has_number (codes "joined") 1 1000000 (codes "64") (λ e. absurd cc) refl refl
@@ -40,8 +41,8 @@ has_split = has_number (codes "split") 1 1000000 (codes "64") (λ e. absurd cc) 
 pub has_threshold : HasNumberOption program (codes "threshold") 1 1000000
 has_threshold = has_number (codes "threshold") 1 1000000 (codes "8") (λ e. absurd cc) refl refl
 
-pub has_hot : HasNumberOption program (codes "hot") 0 64
-has_hot = has_number (codes "hot") 0 64 (codes "8") (λ e. absurd cc) refl refl
+pub has_hot : HasNumberOption program (codes "hot") 0 MOST_HOT
+has_hot = has_number (codes "hot") 0 MOST_HOT (codes "8") (λ e. absurd cc) refl refl
 
 pub has_users : HasNumberOption program (codes "users") 0 1000000
 has_users = has_number (codes "users") 0 1000000 (codes "100") (λ e. absurd cc) refl refl

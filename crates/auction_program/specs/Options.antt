@@ -1,5 +1,6 @@
 -- What options say of an auction and of its run.
 use Rattle.std.specs.Prelude.{◌≤◌}
+use Rattle.auction_rows.specs.declared.limits.TheConstants.{MOST_HOT, MOST_SHARDS, MOST_WORKERS}
 use Rattle.auction_rows.specs.declared.numbers.Opening.{Opening}
 use Rattle.run_serving.specs.declared.policy.Policy.{Policy}
 use Rattle.auction_program.specs.declared.options.Options.{Options}
@@ -21,15 +22,15 @@ policy_of options = record {
 -- Each number lies in its option's range.
 pub record AreInRange (options : Options) : Type 0 where
   pub some_workers : 1 ≤ options.workers
-  pub workers : options.workers ≤ 16
+  pub workers : options.workers ≤ MOST_WORKERS
   pub some_shards : 1 ≤ options.shards
-  pub shards : options.shards ≤ 64
+  pub shards : options.shards ≤ MOST_SHARDS
   pub some_joined : 1 ≤ options.joined
   pub joined : options.joined ≤ 1000000
   pub some_split : 1 ≤ options.split
   pub split : options.split ≤ 1000000
   pub some_threshold : 1 ≤ options.threshold
   pub threshold : options.threshold ≤ 1000000
-  pub hot : options.hot ≤ 64
+  pub hot : options.hot ≤ MOST_HOT
   pub users : options.users ≤ 1000000
   pub categories : options.categories ≤ 1000000

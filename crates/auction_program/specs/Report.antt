@@ -14,10 +14,17 @@ use Rattle.auction_rows.specs.Replies.{reply}
 use Rattle.auction_text.specs.Report.{report_text}
 use Rattle.auction_window.specs.Published.{book_of}
 use Rattle.phase_floor.specs.States.{JoinedState, StandsFor}
+use Rattle.auction_program.specs.declared.views.Viewed.{Viewed}
+use Rattle.auction_program.specs.declared.views.Viewed.TheVariants.{Categories, Users}
 
 -- the replies that a book gives to the views of so many numbers from 0
 abbrev pub views : Opening → Book → (ℕ → Request) → ℕ → List Reply
 views opening book view count = map (λ number. reply opening book 0 (view number)) (range_with_len 0 count)
+
+-- the view of a number
+abbrev pub view_of : Viewed → ℕ → Request
+view_of Categories = λ number. ViewCategory number
+view_of Users = λ number. ViewUser number
 
 abbrev pub category_views : Opening → Book → List Reply
 category_views opening book = views opening book ViewCategory opening.categories

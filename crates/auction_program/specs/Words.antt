@@ -1,5 +1,6 @@
 -- What the program's words say of its options, by the parser of words (`clap`).
 use Rattle.std.specs.Prelude.{ℕ, true, List, [], ◌∷◌, Option, fold, codes}
+use Rattle.auction_rows.specs.declared.limits.TheConstants.{MOST_HOT, MOST_SHARDS, MOST_WORKERS}
 use Rattle.clap.specs.Simple.{App, new_app, on_top, with_rule}
 use Rattle.clap.specs.Walk.{Rule}
 use Rattle.program_options.specs.Options.{flag_rule, is_set, number_of, number_rule}
@@ -13,12 +14,12 @@ named_rule id least greatest usual = record (number_rule id least greatest usual
 -- the program's options
 abbrev pub option_rules : List Rule
 option_rules =
-    named_rule (codes "workers") 1 16 (codes "1")
-    ∷ named_rule (codes "shards") 1 64 (codes "4")
+    named_rule (codes "workers") 1 MOST_WORKERS (codes "1")
+    ∷ named_rule (codes "shards") 1 MOST_SHARDS (codes "4")
     ∷ named_rule (codes "joined") 1 1000000 (codes "64")
     ∷ named_rule (codes "split") 1 1000000 (codes "64")
     ∷ named_rule (codes "threshold") 1 1000000 (codes "8")
-    ∷ named_rule (codes "hot") 0 64 (codes "8")
+    ∷ named_rule (codes "hot") 0 MOST_HOT (codes "8")
     ∷ named_rule (codes "users") 0 1000000 (codes "100")
     ∷ named_rule (codes "categories") 0 1000000 (codes "10")
     ∷ flag_rule (codes "history")

@@ -8,7 +8,7 @@ ghost use Rattle.auction_program.specs.Options.{AreInRange};
 ghost use Rattle.auction_program.specs.Words.{bare_program, named_rule, options_in, options_of, program};
 
 use crate::help;
-use auction_rows::Opening;
+use auction_rows::{MOST_HOT, MOST_SHARDS, MOST_WORKERS, Opening};
 use auction_run::Policy;
 use clap::{Arg, ArgMatches, Command};
 use program_options::{
@@ -72,12 +72,12 @@ impl Options {
 
 const WORKERS: NumberRange = NumberRange {
     least: 1,
-    greatest: 16,
+    greatest: MOST_WORKERS as u32,
 };
 
 const SHARDS: NumberRange = NumberRange {
     least: 1,
-    greatest: 64,
+    greatest: MOST_SHARDS as u32,
 };
 
 const QUOTAS: NumberRange = NumberRange {
@@ -87,7 +87,7 @@ const QUOTAS: NumberRange = NumberRange {
 
 const HOT: NumberRange = NumberRange {
     least: 0,
-    greatest: 64,
+    greatest: MOST_HOT as u32,
 };
 
 const NUMBERS: NumberRange = NumberRange {
@@ -131,18 +131,20 @@ fn bare_command<'a>(alloc: Global) -> Command<'a>
 fn command<'a>(alloc: Global) -> Result<Command<'a>, AllocError>
     ensures { IfOk result (λ command. app_of command ≡ program) }
 {
-    bare_command(alloc)
-        .arg(described_number(alloc, "workers", WORKERS, "1", help::WORKERS))?
-        .arg(described_number(alloc, "shards", SHARDS, "4", help::SHARDS))?
-        .arg(described_number(alloc, "joined", QUOTAS, "64", help::JOINED))?
-        .arg(described_number(alloc, "split", QUOTAS, "64", help::SPLIT))?
-        .arg(described_number(alloc, "threshold", QUOTAS, "8", help::THRESHOLD))?
-        .arg(described_number(alloc, "hot", HOT, "8", help::HOT))?
-        .arg(described_number(alloc, "users", NUMBERS, "100", help::USERS))?
-        .arg(described_number(alloc, "categories", NUMBERS, "10", help::CATEGORIES))?
-        .arg(described_flag(alloc, "history", help::HISTORY))?
-        .arg(described_flag(alloc, "rows", help::ROWS))?
-        .arg(described_flag(alloc, "report", help::REPORT))
+    let options = vec![in alloc;
+        described_number(alloc, "workers", WORKERS, "1", help::WORKERS),
+        described_number(alloc, "shards", SHARDS, "4", help::SHARDS),
+        described_number(alloc, "joined", QUOTAS, "64", help::JOINED),
+        described_number(alloc, "split", QUOTAS, "64", help::SPLIT),
+        described_number(alloc, "threshold", QUOTAS, "8", help::THRESHOLD),
+        described_number(alloc, "hot", HOT, "8", help::HOT),
+        described_number(alloc, "users", NUMBERS, "100", help::USERS),
+        described_number(alloc, "categories", NUMBERS, "10", help::CATEGORIES),
+        described_flag(alloc, "history", help::HISTORY),
+        described_flag(alloc, "rows", help::ROWS),
+        described_flag(alloc, "report", help::REPORT),
+    ]?;
+    bare_command(alloc).args(options)
 }
 
 fn options_of(matches: &ArgMatches<'_>) -> Options

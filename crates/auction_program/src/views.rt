@@ -3,16 +3,35 @@ ghost use Rattle.std.specs.Prelude.{◌≡◌, ◌≤◌, ◌<◌, List, length,
 ghost use mathlib.Core.List.{IsPrefix};
 ghost use Rattle.auction_rows.specs.declared.rows.Row.{Row as Stored};
 ghost use Rattle.auction_rows.specs.Book.{Book};
-ghost use Rattle.auction_rows.specs.declared.requests.Request.TheVariants.{ViewCategory, ViewUser};
 ghost use Rattle.auction_rows.specs.Replies.{reply};
 ghost use Rattle.auction_rows.specs.Requests.{is_view};
-ghost use Rattle.auction_program.specs.Report.{category_views, user_views, views, IsEnd};
+ghost use Rattle.auction_program.specs.Report.{category_views, user_views, view_of, views, IsEnd};
 
 use auction_rows::{Opening, Reply, Request};
 use auction_text::ReportLines;
 use auction_window::{Window, WindowName};
 use phase_floor::Joined;
 use std::alloc::{AllocError, Global};
+
+// What a report shows, by number.
+#[derive(Clone, Copy)]
+enum Viewed {
+    Categories,
+    Users,
+}
+
+impl Viewed {
+    // The request to see the one of a number.
+    fn request(self, number: u32) -> Request
+        ensures request { result ≡ view_of self number }
+        ensures view { is_view result ≡ true }
+    {
+        match self {
+            Viewed::Categories => Request::ViewCategory { category: number },
+            Viewed::Users => Request::ViewUser { user: number },
+        }
+    }
+}
 
 /// The replies to the views of all categories and users at the end of a run: those of the window where it shows all phases,
 /// else those of the state. Both are the book's, so that no caller sees which it got.
@@ -30,45 +49,27 @@ pub fn report_lines<J: WindowName>(
         IsEnd J.opening J.rows window.old all state.now book →
         lines.users.items ≡ user_views opening book) }
 {
-    let categories = views_of_categories(alloc, window, state, opening.categories)?;
-    let users = views_of_users(alloc, window, state, opening.users)?;
+    let categories = views_of(alloc, window, state, Viewed::Categories, opening.categories)?;
+    let users = views_of(alloc, window, state, Viewed::Users, opening.users)?;
     Ok(ReportLines { categories, users })
 }
 
-fn views_of_categories<J: WindowName>(
+// The replies to the views of so many numbers from 0.
+fn views_of<J: WindowName>(
     alloc: Global,
     window: &mut Window<J>,
     state: &Joined,
+    viewed: Viewed,
     count: u32,
 ) -> Result<Vec<Reply>, AllocError>
     ensures onward { IsPrefix window.old window.new }
     ensures replies { IfOk result (λ replies. (all : List (List Stored)) (book : Book) →
         IsEnd J.opening J.rows window.old all state.now book →
-        replies.items ≡ views J.opening book ViewCategory count) }
+        replies.items ≡ views J.opening book (view_of viewed) count) }
 {
     let mut replies = Vec::with_capacity(alloc, count as usize)?;
-    for category in 0..count {
-        let request = Request::ViewCategory { category };
-        replies.push(last_view(window, state, request))?;
-    }
-    Ok(replies)
-}
-
-fn views_of_users<J: WindowName>(
-    alloc: Global,
-    window: &mut Window<J>,
-    state: &Joined,
-    count: u32,
-) -> Result<Vec<Reply>, AllocError>
-    ensures onward { IsPrefix window.old window.new }
-    ensures replies { IfOk result (λ replies. (all : List (List Stored)) (book : Book) →
-        IsEnd J.opening J.rows window.old all state.now book →
-        replies.items ≡ views J.opening book ViewUser count) }
-{
-    let mut replies = Vec::with_capacity(alloc, count as usize)?;
-    for user in 0..count {
-        let request = Request::ViewUser { user };
-        replies.push(last_view(window, state, request))?;
+    for number in 0..count {
+        replies.push(last_view(window, state, viewed.request(number)))?;
     }
     Ok(replies)
 }

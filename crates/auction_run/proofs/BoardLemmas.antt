@@ -1,8 +1,9 @@
 -- The rows of a run's phases follow one another, and are few.
-use Rattle.std.proofs.Common.{◌≡◌, ℕ, zero, suc, ◌+◌, ◌*◌, ◌-◌, ◌<◌, ◌≤◌, ◌==◌, ◌⊎◌, Bool, true, false, cond, List, [], ◌∷◌, ◌++◌, Option, Some, None, map, length, slice_get, All, refl, subst, sym, ap, ◌∙◌, inl, inr, arith, append_assoc, length-append, eqb-true, filter_map}
+use Rattle.std.proofs.Common.{◌≡◌, ℕ, zero, suc, ◌+◌, ◌*◌, ◌-◌, ◌<◌, ◌≤◌, ◌==◌, ◌⊎◌, Bool, true, false, cond, List, [], ◌∷◌, ◌++◌, Option, Some, None, map, length, slice_get, All, refl, subst, sym, ap, ◌∙◌, inl, inr, arith, append_assoc, length-append, eqb-true}
 use Rattle.std.specs.List.{filter, AllByRecursion, cons_option}
-use Rattle.std.proofs.lemmas.Bool.{eq-eqb, false≢true, cases_lt}
+use Rattle.std.proofs.lemmas.Bool.{eq-eqb, ne_eqb, false≢true, cases_lt}
 use Rattle.std.proofs.lemmas.List.{append-nil, length-map}
+use Rattle.std.proofs.lemmas.List.Sums.{length-filter}
 use Rattle.std.proofs.lemmas.List.Elements.{All-from_recursion, recursion_from_All, filter-append, filter_map-append}
 use Rattle.auction_rows.specs.declared.numbers.Opening.{Opening}
 use Rattle.auction_rows.specs.declared.requests.Request.{Request}
@@ -28,12 +29,12 @@ use Rattle.run_laws.proofs.PartLemmas.{all_of_parts}
 use Rattle.run_laws.proofs.TurnLemmas.{length-numbered}
 use Rattle.worker_journals.specs.Merged.{merged}
 use Rattle.run_serving.specs.declared.policy.Policy.{Policy}
-use Rattle.run_serving.specs.Run.{HasRun, calls_of}
+use Rattle.run_serving.specs.Run.{calls_of}
 use Rattle.run_serving.specs.Serving.{script_of, segment_of, call_of, commit_phase}
 use Rattle.auction_run.specs.declared.running.Running.{Running}
 use Rattle.auction_run.specs.Beginning.{AreShort}
 use Rattle.auction_run.specs.Boards.{CanShow, HasShown, phase_rows}
-use Rattle.auction_run.specs.Phases.{hot_sets, waiting_in}
+use Rattle.auction_run.specs.Phases.{hot_sets}
 use Rattle.auction_run.specs.Running.{IsRunning}
 use Rattle.auction_run.proofs.ScriptLemmas.{past_end}
 
@@ -81,12 +82,7 @@ total_at_most zero ns few = omega arith
 total_at_most (suc k) ns few = omega (arith, few k (omega arith), total_at_most k ns (λ n below. few n (omega (arith, below))))
 
 kept_length : {X : Type 0} (p : X → Bool) (xs : List X) → length (filter p xs) ≡ how_many p xs
-kept_length p [] = refl
-kept_length p (x ∷ xs) = go (p x) (kept_length p xs)
-  where
-    go : (b : Bool) → length (filter p xs) ≡ how_many p xs → length (cond b (x ∷ filter p xs) (filter p xs)) ≡ cond b 1 0 + how_many p xs
-    go true again = omega (arith, again)
-    go false again = omega (arith, again)
+kept_length p xs = length-filter p xs ∙ sym (how_many-is p xs)
 
 -- ---- turns are no more than the script
 
@@ -124,27 +120,17 @@ of_phase : (p : ℕ) (history es : List Entry) → segment_of p history ≡ es �
 of_phase p history es is =
     subst (AllByRecursion (λ e. e.phase ≡ p)) is (all-weaker (λ e. (e.phase == p) ≡ true) (λ e. e.phase ≡ p) (λ e same. eqb-true e.phase p same) (segment_of p history) (all-kept (λ e. e.phase == p) history))
 
-no_eqb : (a b : ℕ) → (a ≡ b → ⊥) → (a == b) ≡ false
-no_eqb a b other = go (a == b) refl
-  where
-    go : (t : Bool) → (a == b) ≡ t → (a == b) ≡ false
-    go true e = absurd (other (eqb-true a b e))
-    go false e = e
-
 -- entries of a later phase leave the rows of those before it
 earlier_rows : (n p : ℕ) (history es : List Entry) → n ≤ p → AllByRecursion (λ e. e.phase ≡ p) es → phase_rows n (history ++ es) ≡ phase_rows n history
 earlier_rows zero p history es low now = refl
 earlier_rows (suc n) p history es low now =
-    let none : segment_of n es ≡ [] = filter_false (λ e. e.phase == n) es (all-weaker (λ e. e.phase ≡ p) (λ e. (e.phase == n) ≡ false) (λ e is. no_eqb e.phase n (λ same. omega (arith, is, same, low))) es now) in
+    let none : segment_of n es ≡ [] = filter_false (λ e. e.phase == n) es (all-weaker (λ e. e.phase ≡ p) (λ e. (e.phase == n) ≡ false) (λ e is. ne_eqb e.phase n (λ same. omega (arith, is, same, low))) es now) in
     let same : segment_of n (history ++ es) ≡ segment_of n history = filter-append (λ e. e.phase == n) history es ∙ ap (λ xs. segment_of n history ++ xs) none ∙ append-nil (segment_of n history) in
     (λ i. earlier_rows n p history es (omega (arith, low)) now i ++ rows_of (same i) ∷ [])
 
 pub rows_length : (n : ℕ) (history : List Entry) → length (phase_rows n history) ≡ n
 rows_length zero history = refl
 rows_length (suc n) history = omega (arith, length-append (phase_rows n history) (rows_of (segment_of n history) ∷ []), rows_length n history)
-
-rows_of-append : (xs ys : List Entry) → rows_of (xs ++ ys) ≡ rows_of xs ++ rows_of ys
-rows_of-append xs ys = filter_map-append row_of_entry xs ys
 
 module _ (opening : Opening) (rows : Book) (is_book : IsBook opening rows) (policy : Policy) (scripts : List (List Request)) (workers : length scripts ≤ 16)
     (own : All (λ row. worker_of row < length scripts) rows) (short : AreShort rows scripts)
@@ -205,7 +191,7 @@ module _ (opening : Opening) (rows : Book) (is_book : IsBook opening rows) (poli
     last = sym run.last_entries ∙ run.last ∙ (let e : suc p - 1 ≡ p = omega arith in ap (λ n. segment_of n history) e)
 
     rows_now : rows_of history ≡ rows_of old ++ rows_of es
-    rows_now = ap rows_of grown ∙ rows_of-append old es
+    rows_now = ap rows_of grown ∙ filter_map-append row_of_entry old es
 
     now : AllByRecursion (λ e. e.phase ≡ p) es
     now = of_phase p history es (sym last)

@@ -4,7 +4,7 @@ use Rattle.std.specs.Prelude.{nat_le}
 use Rattle.std.specs.List.{IsDistinct, AllByRecursion, list_any}
 use Rattle.std.proofs.Math.Seq.{take-suc}
 use Rattle.std.proofs.lemmas.Bool.{le-leb, lt-leb}
-use Rattle.std.proofs.lemmas.List.{get_or-take, get_or-map, length-take, length-map, map-append, take-map}
+use Rattle.std.proofs.lemmas.List.{get_or-take, get_or-map, length-take, length-map, map-append, take-map, take_min}
 use Rattle.auction_rows.specs.contracts.ids.ObjectPartialEq.TheImpl.{eq-value as object_eq}
 use Rattle.auction_rows.specs.declared.ids.Object.{Object}
 use Rattle.auction_rows.specs.Requests.{same_object}
@@ -42,11 +42,6 @@ none_before (x ∷ xs) (suc i) d distinct less =
     ap (λ b. b || list_any (same_object (get_or xs i d)) (take i xs)) (same_either_way (get_or xs i d) x ∙ all_or (λ y. same_object x y ≡ false) xs i d distinct.0 (omega arith))
     ∙ none_before xs i d distinct.1 (omega arith)
 
-take_least : {X : Type 0} (n : ℕ) (xs : List X) → take (min (length xs) n) xs ≡ take n xs
-take_least zero xs = let e : min (length xs) 0 ≡ 0 = omega arith in ap (λ m. take m xs) e
-take_least (suc n) [] = let e : min 0 (suc n) ≡ 0 = omega arith in ap (λ m. take m []) e
-take_least (suc n) (x ∷ xs) = let e : min (suc (length xs)) (suc n) ≡ suc (min (length xs) n) = omega arith in ap (λ m. take m (x ∷ xs)) e ∙ ap (λ ys. x ∷ ys) (take_least n xs)
-
 any_is : (object : Object) (keys : List Object) → list_any (object_eq.it object) keys ≡ list_any (same_object object) keys
 any_is object keys = λ i. list_any (λ other. eq_is_same object other i) keys
 
@@ -75,4 +70,5 @@ pub all_kept : (cs : List Candidate) (n i : ℕ) → i ≤ length (take (min (le
 all_kept cs n i low high =
     let len : length (take (min (length cs) n) cs) ≡ min (min (length cs) n) (length cs) = length-take (min (length cs) n) cs in
     let is : i ≡ min (length cs) n = omega arith in
-    ap (λ m. map (λ c. c.object) (take m cs)) is ∙ ap (map (λ c. c.object)) (take_least n cs)
+    let least : min (length cs) n ≡ min n (length cs) = omega arith in
+    ap (λ m. map (λ c. c.object) (take m cs)) (is ∙ least) ∙ ap (map (λ c. c.object)) (take_min n cs)

@@ -83,7 +83,7 @@ shown_is (suc n) m is = cc
 
 -- ---- lists in order
 
-from_members : {X : Type 0} (P : X → Type 0) (xs : List X) → ((x : X) → Contains xs x → P x) → AllByRecursion P xs
+pub from_members : {X : Type 0} (P : X → Type 0) (xs : List X) → ((x : X) → Contains xs x → P x) → AllByRecursion P xs
 from_members P [] h = tt
 from_members P (x ∷ xs) h = (h x (Contains-first x xs), from_members P xs (λ y there. h y (Contains-later x xs y there)))
 

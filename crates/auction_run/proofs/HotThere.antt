@@ -3,11 +3,11 @@ use Rattle.std.proofs.Common.{◌≡◌, ℕ, zero, suc, ◌-◌, ◌<◌, ◌%�
 use Rattle.std.specs.Prelude.{IsSome, is_some, is_none, nat_le}
 use Rattle.std.specs.List.{AllByRecursion, cons_option}
 use Rattle.std.specs.Option.{option_or}
-use Rattle.std.proofs.lemmas.Bool.{false≢true, leb-false}
+use Rattle.std.proofs.lemmas.Bool.{false≢true, leb-false, or_parts}
 use Rattle.std.proofs.lemmas.List.{length-map}
 use Rattle.std.proofs.lemmas.List.Elements.{filter_map-append}
 use Rattle.std.proofs.lemmas.List.Folds.{find-append}
-use Rattle.phase_laws.proofs.MemberLemmas.{Contains-first, Contains-later, all-member, filter-member}
+use Rattle.phase_laws.proofs.MemberLemmas.{all-member, filter-member}
 use Rattle.phase_laws.proofs.RankLemmas.{top_is_top}
 use Rattle.auction_rows.specs.declared.ids.Object.{Object}
 use Rattle.auction_rows.specs.declared.ids.Object.TheVariants.{Item, User, Category}
@@ -32,6 +32,7 @@ use Rattle.auction_rows.proofs.RequestLemmas.{row_made}
 use Rattle.item_shards.specs.Values.{value, stock}
 use Rattle.phase_closing.specs.Phases.{value_on}
 use Rattle.phase_floor.specs.States.{JoinedState, states_of, StandsFor, DoesExist, DoAllExist}
+use Rattle.auction_run.proofs.ChosenLemmas.{from_members}
 
 -- an item that a book has, or a user or category of its opening
 abbrev IsThere : Opening → Book → Object → Type 0
@@ -58,10 +59,6 @@ stays opening book rows (Category category) h = h
 none_first : (o p : Option Refusal) → option_or o p ≡ None → o ≡ None
 none_first None p e = refl
 none_first (Some reason) p e = absurd (cc)
-
-none_of : (a b : Bool) → (a || b) ≡ false → (a ≡ false) × (b ≡ false)
-none_of true b e = absurd (false≢true (sym e))
-none_of false b e = (refl, e)
 
 no_reason : (a b : Bool) (x y : Refusal) → cond a (Some x) (cond b (Some y) None) ≡ None → (a ≡ false) × (b ≡ false)
 no_reason true b x y e = absurd (cc)
@@ -90,7 +87,7 @@ module _ (opening : Opening) (book : Book) (worker : ℕ) where
   written : (request : Request) (refused : Option Refusal) → refusal opening book request ≡ refused → (object : Object) → Written request refused ≡ Some object → IsThere opening book object
   written (StoreItem facts time) None e object is =
       subst (IsThere opening book) (accepted (StoreItem facts time) object (Category facts.category) (row_made book worker (StoreItem facts time) None) is)
-      (leb-false opening.categories facts.category (none_of (nat_le opening.categories facts.category) false (in_range opening book (StoreItem facts time) e).1).0)
+      (leb-false opening.categories facts.category (or_parts (nat_le opening.categories facts.category) false (in_range opening book (StoreItem facts time) e).1).0)
   written (StoreItem facts time) (Some reason) e object is = absurd (cc)
   written (StoreBid bidder item amount time) None e object is =
       subst (IsThere opening book) (accepted (StoreBid bidder item amount time) object (Item item) (row_made book worker (StoreBid bidder item amount time) None) is)
@@ -98,7 +95,7 @@ module _ (opening : Opening) (book : Book) (worker : ℕ) where
   written (StoreBid bidder item amount time) (Some reason) e object is = absurd (cc)
   written (StoreComment author about item stars) None e object is =
       subst (IsThere opening book) (accepted (StoreComment author about item stars) object (User about) (row_made book worker (StoreComment author about item stars) None) is)
-      (leb-false opening.users about (none_of (nat_le opening.users about) false (none_of (nat_le opening.users author) _ (in_range opening book (StoreComment author about item stars) e).0).1).0)
+      (leb-false opening.users about (or_parts (nat_le opening.users about) false (or_parts (nat_le opening.users author) _ (in_range opening book (StoreComment author about item stars) e).0).1).0)
   written (StoreComment author about item stars) (Some reason) e object is = absurd (cc)
   written (BuyNow buyer item quantity time) refused e object is = absurd (cc)
   written (ViewItem item) refused e object is = absurd (cc)
@@ -136,13 +133,9 @@ rest_of P (suc n) (e ∷ es) h = rest_of P n es (go (written_by e) h)
     go None all = all
     go (Some object) all = all.1
 
-of_members : {X : Type 0} (P : X → Type 0) (xs : List X) → ((x : X) → Contains xs x → P x) → AllByRecursion P xs
-of_members P [] h = tt
-of_members P (x ∷ xs) h = (h x (Contains-first x xs), of_members P xs (λ y later. h y (Contains-later x xs y later)))
-
 -- and of what is chosen from them
 of_chosen : (P : Object → Type 0) (es : List Entry) (threshold most : ℕ) → AllByRecursion P (objects_written es) → AllByRecursion P (choose es threshold most)
-of_chosen P es threshold most all = of_members P (choose es threshold most)
+of_chosen P es threshold most all = from_members P (choose es threshold most)
     (λ object member. all-member P (objects_written es) object all
     ((filter-member (λ o. nat_le threshold (heat es o)) (objects_written es) object).0 (((top_is_top (heat_total es) (heat_same es) most _).members object).0 member).0).0)
 

@@ -1,10 +1,12 @@
 -- From the floor, the permits and the receipts of a phase to what a run knows of it.
-use Rattle.std.proofs.Common.{◌≡◌, ℕ, zero, suc, ◌+◌, ◌-◌, ◌<◌, ◌≤◌, ◌==◌, ◌⊎◌, inl, inr, min, fold, Bool, true, false, cond, List, [], ◌∷◌, ◌++◌, map, length, take, drop, refl, sym, ap, subst, ◌∙◌, arith, eq-eqb}
+use Rattle.std.specs.declared.alloc.Global.{Global}
+use Rattle.std.proofs.Common.{Vec, ◌≡◌, ℕ, zero, suc, ◌+◌, ◌-◌, ◌<◌, ◌≤◌, ◌⊎◌, inl, inr, min, Bool, true, false, cond, List, [], ◌∷◌, ◌++◌, map, length, take, drop, refl, sym, ap, subst, ◌∙◌, arith}
 use Rattle.std.specs.Prelude.{Option, slice_index}
 use Rattle.std.specs.List.{AllByRecursion, AllZip}
 use Rattle.std.proofs.Math.ListN.{get_or-map}
-use Rattle.std.proofs.lemmas.Bool.{cases_lt, false≢true}
-use Rattle.std.proofs.lemmas.List.{length-map, get_or_past}
+use Rattle.std.proofs.Math.Seq.{drop-nil, take-nil}
+use Rattle.std.proofs.lemmas.Bool.{cases_lt}
+use Rattle.std.proofs.lemmas.List.{length-map, get_or_past, map-id}
 use Rattle.auction_rows.specs.declared.ids.Object.{Object}
 use Rattle.auction_rows.specs.declared.requests.Facts.{Facts}
 use Rattle.auction_rows.specs.declared.requests.Request.{Request}
@@ -15,37 +17,33 @@ use Rattle.auction_rows.specs.Phases.{IsNumbered}
 use Rattle.phase_laws.specs.Order.{part}
 use Rattle.run_laws.specs.Phases.{is_split, quota}
 use Rattle.run_laws.specs.Turns.{numbered}
-use Rattle.run_laws.proofs.ListLemmas.{all-append}
+use Rattle.run_laws.proofs.PartLemmas.{all_of_parts}
 use Rattle.run_serving.specs.declared.policy.Policy.{Policy}
-use Rattle.run_serving.specs.Books.{ReplaysOn}
 use Rattle.run_serving.specs.Run.{first_index, calls_of, calls_given, HasPerformed}
 use Rattle.run_serving.specs.Serving.{call_of, script_of}
 use Rattle.shard_boxes.specs.Keys.{BoxId}
 use Rattle.shard_boxes.specs.States.{ShardState, state_of}
 use Rattle.phase_contexts.specs.Slicing.{objects_of, stocks_of, slices_of}
 use Rattle.phase_contexts.specs.Stashes.{StashState}
-use Rattle.phase_transactions.specs.declared.fault.PermitFault.TheVariants.{NumberFull}
 use Rattle.phase_transactions.specs.Permits.{PermitState}
 use Rattle.phase_transactions.specs.Single.{HaveOpening}
-use Rattle.phase_closing.specs.Phases.{HasClosed, no_receipt, receipt_at, journal_of, counters_of}
+use Rattle.phase_closing.specs.Phases.{no_receipt, receipt_at, journal_of, counters_of}
 use Rattle.phase_closing.specs.Standing.{StandFor, counters_at}
-use Rattle.phase_closing.specs.Merging.{after_merge}
-use Rattle.phase_closing.proofs.MergeLemmas.{as_many as merged_count}
-use Rattle.phase_closing.proofs.ListLemmas.{follow_what_they_share}
-use Rattle.phase_closing.proofs.ReceiptLemmas.{entries_are, journal_entries}
+use Rattle.worker_journals.specs.Journals.{entry_worker}
 use Rattle.phase_floor.specs.declared.fault.BeginFault.{BeginFault}
 use Rattle.phase_floor.specs.declared.fault.BeginFault.TheVariants.{UnknownHot, TooLong, Memory}
 use Rattle.phase_floor.specs.Begins.{IsTooLong, empty_stash}
-use Rattle.phase_floor.specs.Closings.{AreReceiptsOf, HasSettled, HasReconciled, phase_of, stash_of, at_start}
-use Rattle.phase_floor.specs.Floors.{FloorState, IsBegun, AreBegun, no_stash, stash_at}
+use Rattle.phase_floor.specs.Closings.{AreReceiptsOf, HasClosedLawfully, stash_of}
+use Rattle.phase_floor.specs.Floors.{FloorState, IsBegun, AreBegun, stash_at}
 use Rattle.phase_floor.specs.States.{JoinedState, states_of, StandsFor}
 use Rattle.auction_run.specs.declared.phase.Closed.{Closed}
 use Rattle.auction_run.specs.Closed.{HasClosedPhase}
-use Rattle.auction_run.specs.Phases.{IsCallOf, HasMetTheEnd, MayPerform, waiting_in, quota_of}
-use Rattle.phase_workers.specs.Tasks.{Task, task, tasks, to_do, calls_for, CanBeDone, IsDone, IsFirstFault}
+use Rattle.auction_run.specs.Phases.{lists, IsCallOf, MayPerform, waiting_in, quota_of}
+use Rattle.auction_run.specs.Serving.{AreReady}
+use Rattle.phase_workers.specs.Tasks.{Task, task, tasks, to_do, calls_for, CanBeDone, IsDone}
 use Rattle.phase_workers.specs.Working.{committed, stashed, taken, kept, hot_for, put_off, not_put_off, AreOfPhase, IsSamePermit, IsPermitOf, ArePermitsOf}
 use Rattle.phase_workers.proofs.WorkLemmas.{cold_kept, cold_off}
-use Rattle.auction_run.proofs.EndLemmas.{calls_of_its, first_end}
+use Rattle.auction_run.proofs.ScriptLemmas.{lists_length, past_end, past_stashes}
 
 -- ---- tasks, by worker
 
@@ -72,17 +70,6 @@ done_at P (p ∷ ps) [] (s ∷ ss) first same all w less = absurd all
 done_at P (p ∷ ps) (r ∷ rs) (s ∷ ss) first same all zero less = all.0
 done_at P (p ∷ ps) (r ∷ rs) (s ∷ ss) first same all (suc w) less = done_at P ps rs ss first (omega (arith, same)) all.1 w (omega (arith, less))
 
-pub same_list : {X : Type 0} (xs : List X) → map (λ x. x) xs ≡ xs
-same_list [] = refl
-same_list (x ∷ xs) = ap (λ ys. x ∷ ys) (same_list xs)
-
--- permits and receipts show themselves
-pub plain : (P : Task → PermitState → Type 0) (permits receipts : List PermitState) (scripts : List (List Request)) (first : ℕ) →
-    AllZip P (tasks (map (λ x. x) permits) scripts first) (map (λ x. x) receipts) → AllZip P (tasks permits scripts first) receipts
-plain P permits receipts scripts first all =
-    subst (λ ps. AllZip P (tasks ps scripts first) receipts) (same_list permits)
-    (subst (AllZip P (tasks (map (λ x. x) permits) scripts first)) (same_list receipts) all)
-
 -- ---- quotas
 
 pub only_memory : (fault : BeginFault) → (fault ≡ UnknownHot → ⊥) → (fault ≡ TooLong → ⊥) → fault ≡ Memory
@@ -100,33 +87,16 @@ not_too_long policy scripts state stashes handed hot quotas may handed_is are lo
     let over = long.2 in
     absurd (omega (arith, room, same, as_long, over))
 
--- ---- small facts
-
 -- what each worker is given is its quota of the phase
-pub quotas_of : (policy : Policy) (scripts : List (List Request)) (phase count quota first : ℕ) (given quotas : List ℕ) →
-    length scripts ≡ count → given ≡ quotas → cond (is_split phase) policy.split_quota policy.joined_quota ≡ quota → first ≡ first_index policy phase →
-    ((w : ℕ) → w < count → slice_index quotas w ≡ min quota (length (script_of scripts w) - first)) →
-    (w : ℕ) → w < length scripts → slice_index given w ≡ quota_of policy phase (script_of scripts w)
-quotas_of policy scripts phase count quota first given quotas many same own at are w less =
-    ap (λ qs. slice_index qs w) same ∙ are w (omega (arith, less, many))
-    ∙ ap (λ k. min quota (length (script_of scripts w) - k)) at
-    ∙ ap (λ k. min k (length (script_of scripts w) - first_index policy phase)) (sym own)
+pub given_quotas : (policy : Policy) (scripts : List (Vec Request Global)) (phase quota first : ℕ) (given quotas : List ℕ) → cond (is_split phase) policy.split_quota policy.joined_quota ≡ quota →
+    first ≡ first_index policy phase → given ≡ quotas → ((w : ℕ) → w < length scripts → slice_index quotas w ≡ min quota (length (script_of (lists scripts) w) - first)) →
+    (w : ℕ) → w < length (lists scripts) → slice_index given w ≡ quota_of policy phase (script_of (lists scripts) w)
+given_quotas policy scripts phase quota first given quotas own at same are w less =
+    ap (λ qs. slice_index qs w) same ∙ are w (omega (arith, less, lists_length scripts))
+    ∙ ap (λ k. min quota (length (script_of (lists scripts) w) - k)) at
+    ∙ ap (λ k. min k (length (script_of (lists scripts) w) - first_index policy phase)) (sym own)
 
--- what holds of each worker's part holds of all
-of_parts : (P : Entry → Type 0) (entries : List Entry) → ((w : ℕ) → AllByRecursion P (part (λ e. e.worker) w entries)) → AllByRecursion P entries
-of_parts P [] each = tt
-of_parts P (e ∷ entries) each = (
-  first (part (λ d. d.worker) e.worker entries) (e.worker == e.worker) (eq-eqb e.worker e.worker refl) (each e.worker),
-  of_parts P entries (λ w. rest (part (λ d. d.worker) w entries) (e.worker == w) (each w)),
-)
-  where
-    first : (es : List Entry) (b : Bool) → b ≡ true → AllByRecursion P (cond b (e ∷ es) es) → P e
-    first es true is all = all.0
-    first es false is all = absurd (false≢true is)
-
-    rest : (es : List Entry) (b : Bool) → AllByRecursion P (cond b (e ∷ es) es) → AllByRecursion P es
-    rest es true all = all.1
-    rest es false all = all
+-- ---- small facts
 
 stocks_back : (stocks : List (Object × Option (Facts × ℕ))) → stocks_of (slices_of stocks []) ≡ stocks
 stocks_back [] = refl
@@ -139,30 +109,13 @@ objects_back (s ∷ ss) = ap (λ xs. s.0 ∷ xs) (objects_back ss)
 within : (q len f first : ℕ) → first ≡ f → min q (len - f) ≤ len - first
 within q len f first is = omega (arith, is)
 
-none_dropped : {X : Type 0} (n : ℕ) → drop {A = X} n [] ≡ []
-none_dropped zero = refl
-none_dropped (suc n) = refl
-
-none_taken : {X : Type 0} (n : ℕ) → take {A = X} n [] ≡ []
-none_taken zero = refl
-none_taken (suc n) = refl
-
--- there is no script past the last, and nothing is given of none
-script_past : (scripts : List (List Request)) (w : ℕ) → length scripts ≤ w → script_of scripts w ≡ []
-script_past [] w beyond = refl
-script_past (s ∷ ss) zero beyond = absurd (omega (arith, beyond))
-script_past (s ∷ ss) (suc w) beyond = script_past ss w (omega (arith, beyond))
-
+-- nothing is given of no script
 given_none : (policy : Policy) (phase : ℕ) → calls_given policy phase [] ≡ []
 given_none policy phase =
-    ap (take (quota policy.joined_quota policy.split_quota phase 0)) (none_dropped (first_index policy phase))
-    ∙ none_taken (quota policy.joined_quota policy.split_quota phase 0)
+    ap (take (quota policy.joined_quota policy.split_quota phase 0)) (drop-nil (first_index policy phase))
+    ∙ take-nil (quota policy.joined_quota policy.split_quota phase 0)
 
 -- ---- what a phase takes of a stash
-
-all_taken : (P : ℕ × Request → Type 0) (takes : Bool) (permit : PermitState) → AllByRecursion P (stashed permit) → AllByRecursion P (taken takes permit)
-all_taken P true permit all = all
-all_taken P false permit all = tt
 
 -- it is all that waits, where nothing waits that is not taken
 all_are_taken : (takes : Bool) (permit : PermitState) (waiting : List (ℕ × Request)) → stashed permit ≡ waiting → (takes ≡ false → waiting ≡ []) → taken takes permit ≡ waiting
@@ -188,28 +141,50 @@ of_workers phase n (p ∷ ps) each =
           subst (λ m. IsPermitOf phase m (receipt_at ps w)) next (each (suc w) (omega (arith, less)))),
     )
 
-module _ (policy : Policy) (scripts : List (List Request)) (state : JoinedState) (stashes handed : List StashState) (hot : List Object) (first : ℕ)
-    (first_is : first ≡ first_index policy state.phase) (may : MayPerform policy scripts state stashes hot) (opening : List ShardState) (floor : FloorState) (quotas : List ℕ) (permits : List PermitState)
-    (named : states_of state ≡ opening) (opening_is : floor.opening ≡ state.opening) (phase_is : floor.phase ≡ state.phase) (counters_are : floor.counters ≡ state.counters)
-    (quotas_are : (w : ℕ) → w < length scripts → slice_index quotas w ≡ quota_of policy state.phase (script_of scripts w))
-    (begun : AreBegun floor quotas handed permits) (handed_is : (w : ℕ) → (stash_at handed w).requests ≡ waiting_in stashes w) where
+-- The next phase of a state has begun: each worker's permit is a new one, for its quota, with what waits in its stash.
+pub record HasBegun (policy : Policy) (scripts : List (List Request)) (state : JoinedState) (stashes : List StashState) (floor : FloorState) (permits : List PermitState) : Type 0 where
+  pub opening_is : floor.opening ≡ state.opening
+  pub phase_is : floor.phase ≡ state.phase
+  pub counters_are : floor.counters ≡ state.counters
+  pub quotas : List ℕ
+  pub quotas_are : (w : ℕ) → w < length scripts → slice_index quotas w ≡ quota_of policy state.phase (script_of scripts w)
+  pub handed : List StashState
+  pub handed_are : (w : ℕ) → (stash_at handed w).requests ≡ waiting_in stashes w
+  pub new : AreBegun floor quotas handed permits
+
+-- permits show themselves
+pub has_begun : (policy : Policy) (scripts : List (List Request)) (state : JoinedState) (stashes handed : List StashState) (quotas : List ℕ) (floor : FloorState) (permits : List PermitState) →
+    ((w : ℕ) → w < length scripts → slice_index quotas w ≡ quota_of policy state.phase (script_of scripts w)) → ((w : ℕ) → (stash_at handed w).requests ≡ waiting_in stashes w) →
+    floor.opening ≡ state.opening → floor.phase ≡ state.phase → floor.counters ≡ state.counters → AreBegun floor quotas handed permits →
+    HasBegun policy scripts state stashes floor (map (λ permit. permit) permits)
+has_begun policy scripts state stashes handed quotas floor permits quotas_are handed_are opening phase counters new = record {
+  opening_is = opening;
+  phase_is = phase;
+  counters_are = counters;
+  quotas = quotas;
+  quotas_are = quotas_are;
+  handed = handed;
+  handed_are = handed_are;
+  new = subst (AreBegun floor quotas handed) (sym (map-id permits)) new;
+}
+
+module _ (policy : Policy) (scripts : List (List Request)) (state : JoinedState) (stashes : List StashState) (hot : List Object) (first : ℕ)
+    (first_is : first ≡ first_index policy state.phase) (may : MayPerform policy scripts state stashes hot)
+    (floor : FloorState) (permits : List PermitState) (begun : HasBegun policy scripts state stashes floor permits) where
   workers_are : length floor.counters ≡ length scripts
-  workers_are = ap length counters_are ∙ sym may.scripts_are
+  workers_are = ap length begun.counters_are ∙ sym may.scripts_are
 
-  pub as_many : length permits ≡ length scripts
-  as_many = begun.0 ∙ workers_are
+  as_many : length permits ≡ length scripts
+  as_many = begun.new.0 ∙ workers_are
 
-  permit : ℕ → PermitState
-  permit w = receipt_at permits w
-
-  begins : (w : ℕ) → w < length scripts → IsBegun floor w (slice_index quotas w) (stash_at handed w) (receipt_at permits w)
-  begins w less = begun.1 w no_receipt (omega (arith, less, workers_are))
+  begins : (w : ℕ) → w < length scripts → IsBegun floor w (slice_index begun.quotas w) (stash_at begun.handed w) (receipt_at permits w)
+  begins w less = begun.new.1 w no_receipt (omega (arith, less, workers_are))
 
   left_is : (w : ℕ) → w < length scripts → (receipt_at permits w).split.context.left ≡ quota_of policy state.phase (script_of scripts w)
-  left_is w less = ap (λ (p : PermitState). p.split.context.left) (begins w less).new ∙ quotas_are w less
+  left_is w less = ap (λ (p : PermitState). p.split.context.left) (begins w less).new ∙ begun.quotas_are w less
 
   stash_is : (w : ℕ) → w < length scripts → stashed (receipt_at permits w) ≡ waiting_in stashes w
-  stash_is w less = ap (λ (p : PermitState). stashed p) (begins w less).new ∙ handed_is w
+  stash_is w less = ap (λ (p : PermitState). stashed p) (begins w less).new ∙ begun.handed_are w
 
   none_committed : (w : ℕ) → w < length scripts → committed (receipt_at permits w) ≡ []
   none_committed w less = ap (λ (p : PermitState). committed p) (begins w less).new
@@ -219,17 +194,9 @@ module _ (policy : Policy) (scripts : List (List Request)) (state : JoinedState)
       ap (λ n. take n (drop first (numbered 0 (script_of scripts w)))) (left_is w less)
       ∙ ap (λ n. take (quota_of policy state.phase (script_of scripts w)) (drop n (numbered 0 (script_of scripts w)))) first_is
 
-  -- the permits are of the phase's workers
-  pub permits_of : ArePermitsOf state.phase 0 permits
-  permits_of = of_workers state.phase 0 permits (λ w below.
-      let less : w < length scripts = omega (arith, below, as_many) in record {
-        phase_is = ap (λ (p : PermitState). p.split.context.journal.phase) (begins w less).new ∙ phase_is;
-        worker_is = (begins w less).key.worker_is ∙ (let e : w ≡ 0 + w = omega arith in e);
-      })
-
   -- each worker can do its task
-  pub can_all : (boxes : List BoxId) → boxes ≡ floor.boxes → HaveOpening opening floor.opening → AllByRecursion (CanBeDone opening boxes) (tasks permits scripts first)
-  can_all boxes same have = tasks_all (CanBeDone opening boxes) permits scripts first as_many (λ w below.
+  can_all : (opening : List ShardState) (boxes : List BoxId) → boxes ≡ floor.boxes → HaveOpening opening floor.opening → AllByRecursion (CanBeDone opening boxes) (tasks permits scripts first)
+  can_all opening boxes same have = tasks_all (CanBeDone opening boxes) permits scripts first as_many (λ w below.
       let less : w < length scripts = omega (arith, below, as_many) in
       let left = left_is w less in
       let waits : length (stashed (receipt_at permits w)) ≡ length (waiting_in stashes w) = ap length (stash_is w less) in
@@ -243,24 +210,19 @@ module _ (policy : Policy) (scripts : List (List Request)) (state : JoinedState)
         tries = omega (arith, left, waits, tries, few);
       })
 
-  -- where a worker met the end of numbers, it was at a call of its script
-  pub end_met : (takes : Bool) → IsFirstFault takes opening (tasks permits scripts first) NumberFull → (worker : ℕ) × HasMetTheEnd (script_of scripts worker)
-  end_met takes = first_end takes opening permits scripts first (λ w below.
-      let less : w < length scripts = omega (arith, below, as_many) in
-      all-append (IsCallOf (script_of scripts w)) (taken takes (receipt_at permits w)) (calls_for (task (receipt_at permits w) (script_of scripts w) first))
-      (all_taken (IsCallOf (script_of scripts w)) takes (receipt_at permits w) (subst (AllByRecursion (IsCallOf (script_of scripts w))) (sym (stash_is w less)) (may.own w)))
-      (calls_of_its first (receipt_at permits w).split.context.left (script_of scripts w)))
-
-  pub replays_on : (after : JoinedState) (entries : List Entry) →
-      ((book : Book) → StandFor opening floor.counters book [] → ReplaysFrom floor.opening book entries) →
-      ((book : Book) → StandFor opening floor.counters book [] → StandsFor after (book_after floor.opening book entries)) →
-      ReplaysOn state.opening entries (StandsFor state) (StandsFor after)
-  replays_on after entries replays stands = λ book is here.
-      let stood : StandFor opening floor.counters book [] =
-      subst (λ cs. StandFor opening cs book []) (sym counters_are) (subst (λ ss. StandFor ss state.counters book []) named here) in (
-        subst (λ o. ReplaysFrom o book entries) opening_is (replays book stood),
-        subst (λ o. StandsFor after (book_after o book entries)) opening_is (stands book stood),
-      )
+  -- the permits are ready to be served, in a round that has the phase's number
+  pub are_ready : (opening : List ShardState) (boxes : List BoxId) (phase : ℕ) → boxes ≡ floor.boxes → HaveOpening opening floor.opening → phase ≡ state.phase →
+      AreReady opening boxes phase first scripts permits
+  are_ready opening boxes phase same have now = record {
+    can = can_all opening boxes same have;
+    of = of_workers phase 0 permits (λ w below.
+        let less : w < length scripts = omega (arith, below, as_many) in record {
+          phase_is = ap (λ (p : PermitState). p.split.context.journal.phase) (begins w less).new ∙ begun.phase_is ∙ sym now;
+          worker_is = (begins w less).key.worker_is ∙ (let e : w ≡ 0 + w = omega arith in e);
+        });
+    own = λ w below.
+        subst (AllByRecursion (IsCallOf (script_of scripts w))) (sym (stash_is w (omega (arith, below, as_many)))) (may.own w);
+  }
 
   module _ (receipts : List PermitState) (count : length receipts ≡ length permits)
       (same : (w : ℕ) → w < length scripts → IsSamePermit (receipt_at permits w) (receipt_at receipts w)) where
@@ -268,9 +230,9 @@ module _ (policy : Policy) (scripts : List (List Request)) (state : JoinedState)
     journal_phase w less = (same w less).phase ∙ ap (λ (p : PermitState). p.split.context.journal.phase) (begins w less).new
 
     -- the receipts are those of the phase
-    pub are_receipts : AreReceiptsOf floor receipts
+    are_receipts : AreReceiptsOf floor receipts
     are_receipts = (
-      count ∙ begun.0,
+      count ∙ begun.new.0,
       λ w below.
           let less : w < length scripts = omega (arith, below, workers_are) in record {
             boxes_are = (same w less).boxes ∙ (begins w less).key.boxes_are;
@@ -285,17 +247,9 @@ module _ (policy : Policy) (scripts : List (List Request)) (state : JoinedState)
     past : (w : ℕ) → length scripts ≤ w → receipt_at receipts w ≡ no_receipt
     past w beyond = get_or_past receipts w no_receipt (omega (arith, beyond, count, as_many))
 
-    module _ (given : List ShardState) (entries : List Entry) (closed : HasClosed (phase_of opening floor receipts given entries)) where
-      part_is : (w : ℕ) → part (λ e. e.worker) w entries ≡ (journal_of (receipt_at receipts w)).entries
-      part_is w =
-          closed.merged.parts w ∙ entries_are (phase_of opening floor receipts given entries) closed w
-          ∙ sym (journal_entries (phase_of opening floor receipts given entries) closed w)
-
-      pub calls_are : (w : ℕ) → calls_of w entries ≡ committed (receipt_at receipts w)
-      calls_are w = ap (map call_of) (part_is w)
-
-      pub none_past : (w : ℕ) → length scripts ≤ w → calls_of w entries ≡ []
-      none_past w beyond = calls_are w ∙ ap (λ (p : PermitState). committed p) (past w beyond)
+    module _ (entries : List Entry) (parts : (w : ℕ) → part entry_worker w entries ≡ (journal_of (receipt_at receipts w)).entries) where
+      calls_are : (w : ℕ) → calls_of w entries ≡ committed (receipt_at receipts w)
+      calls_are w = ap (map call_of) (parts w)
 
       own_at : (w : ℕ) → AllByRecursion (λ (e : Entry). e.phase ≡ state.phase) (journal_of (receipt_at receipts w)).entries
       own_at w = at (cases_lt w (length scripts))
@@ -303,36 +257,24 @@ module _ (policy : Policy) (scripts : List (List Request)) (state : JoinedState)
           at : (w < length scripts) ⊎ (length scripts ≤ w) → AllByRecursion (λ (e : Entry). e.phase ≡ state.phase) (journal_of (receipt_at receipts w)).entries
           at (inl less) =
               let before : AreOfPhase (receipt_at permits w) = subst AreOfPhase (sym (begins w less).new) tt in
-              subst (λ n. AllByRecursion (λ (e : Entry). e.phase ≡ n) (journal_of (receipt_at receipts w)).entries) (journal_phase w less ∙ phase_is) ((same w less).own before)
+              subst (λ n. AllByRecursion (λ (e : Entry). e.phase ≡ n) (journal_of (receipt_at receipts w)).entries) (journal_phase w less ∙ begun.phase_is) ((same w less).own before)
           at (inr beyond) = subst (λ (p : PermitState). AllByRecursion (λ (e : Entry). e.phase ≡ state.phase) (journal_of p).entries) (sym (past w beyond)) tt
 
-      pub of_phase : AllByRecursion (λ (e : Entry). e.phase ≡ state.phase) entries
-      of_phase = of_parts (λ e. e.phase ≡ state.phase) entries (λ w. subst (AllByRecursion (λ (e : Entry). e.phase ≡ state.phase)) (sym (part_is w)) (own_at w))
+      of_phase : AllByRecursion (λ (e : Entry). e.phase ≡ state.phase) entries
+      of_phase = all_of_parts entry_worker (λ e. e.phase ≡ state.phase) entries (λ w. subst (AllByRecursion (λ (e : Entry). e.phase ≡ state.phase)) (sym (parts w)) (own_at w))
 
-      pub are_numbered : objects_of floor.stocks ≡ hot → IsNumbered state.opening policy.shards hot entries
-      are_numbered hot_are =
-          let mapped : length (states_of state) ≡ length state.shards = simp length-map in
-          let shards : length opening ≡ policy.shards = sym (ap length named) ∙ mapped ∙ may.shards_are in
-          subst (λ h. IsNumbered state.opening policy.shards h entries) hot_are
-          (subst (λ n. IsNumbered state.opening n (objects_of floor.stocks) entries) shards
-          (subst (λ o. IsNumbered o (length opening) (objects_of floor.stocks) entries) opening_is
-          (record { ascending = closed.merged.ascending; follows = follow_what_they_share (phase_of opening floor receipts given entries) closed })))
-
-      pub commits_are : (after : ℕ → ℕ) → ((w : ℕ) → w < length receipts → after w ≡ (counters_at floor.counters w).commits + length (journal_of (receipt_at receipts w)).entries) →
+      commits_are : (after : ℕ → ℕ) → ((w : ℕ) → w < length receipts → after w ≡ (counters_at floor.counters w).commits + length (journal_of (receipt_at receipts w)).entries) →
           (w : ℕ) → w < length state.counters → after w ≡ (counters_at state.counters w).commits + length (calls_of w entries)
       commits_are after told w less =
           let entries_count : length (calls_of w entries) ≡ length (journal_of (receipt_at receipts w)).entries =
           ap length (calls_are w) ∙ length-map (journal_of (receipt_at receipts w)).entries call_of in
           told w (omega (arith, less, count, as_many, may.scripts_are))
-          ∙ ap (λ cs. (counters_at cs w).commits + length (journal_of (receipt_at receipts w)).entries) counters_are
+          ∙ ap (λ cs. (counters_at cs w).commits + length (journal_of (receipt_at receipts w)).entries) begun.counters_are
           ∙ ap (λ n. (counters_at state.counters w).commits + n) (sym entries_count)
 
       -- what waits after the phase is what the receipts have left
       waits_after : (w : ℕ) → waiting_in (map stash_of receipts) w ≡ stashed (receipt_at receipts w)
       waits_after w = ap (λ (s : StashState). s.requests) (get_or-map stash_of receipts w no_receipt)
-
-      none_given : (w : ℕ) → length scripts ≤ w → calls_given policy state.phase (script_of scripts w) ≡ []
-      none_given w beyond = ap (calls_given policy state.phase) (script_past scripts w beyond) ∙ given_none policy state.phase
 
       module _ (takes : Bool) (none : (w : ℕ) → takes ≡ false → waiting_in stashes w ≡ []) (hot_are : objects_of floor.stocks ≡ hot)
           (done : (w : ℕ) → w < length scripts → IsDone takes (task (receipt_at permits w) (script_of scripts w) first) (receipt_at receipts w)) where
@@ -350,8 +292,8 @@ module _ (policy : Policy) (scripts : List (List Request)) (state : JoinedState)
 
         none_asked : (w : ℕ) → length scripts ≤ w → asked w ≡ []
         none_asked w beyond =
-            let none : waiting_in stashes w ≡ [] = ap (λ (s : StashState). s.requests) (get_or_past stashes w no_stash (omega (arith, beyond, may.stashes_are, may.scripts_are))) in
-            ap (λ ss. ss ++ calls_given policy state.phase (script_of scripts w)) none ∙ none_given w beyond
+            ap (λ ss. ss ++ calls_given policy state.phase (script_of scripts w)) (past_stashes stashes w (omega (arith, beyond, may.stashes_are, may.scripts_are)))
+            ∙ ap (calls_given policy state.phase) (past_end scripts w beyond) ∙ given_none policy state.phase
 
         calls_done : (w : ℕ) → calls_of w entries ≡ not_put_off hot (asked w)
         calls_done w = at (cases_lt w (length scripts))
@@ -364,7 +306,7 @@ module _ (policy : Policy) (scripts : List (List Request)) (state : JoinedState)
                 ∙ ap (λ cs. cs ++ not_put_off (hot_for permit) given) (none_committed w less)
                 ∙ ap (λ h. not_put_off h given) (hot_is w less)
                 ∙ ap (not_put_off hot) (asked_is w less)
-            at (inr beyond) = none_past w beyond ∙ sym (ap (not_put_off hot) (none_asked w beyond))
+            at (inr beyond) = calls_are w ∙ ap (λ (p : PermitState). committed p) (past w beyond) ∙ sym (ap (not_put_off hot) (none_asked w beyond))
 
         stash_left : (w : ℕ) → waiting_in (map stash_of receipts) w ≡ put_off hot (asked w)
         stash_left w = at (cases_lt w (length scripts))
@@ -378,7 +320,7 @@ module _ (policy : Policy) (scripts : List (List Request)) (state : JoinedState)
                 ∙ ap (put_off hot) (asked_is w less)
             at (inr beyond) = waits_after w ∙ ap (λ (p : PermitState). stashed p) (past w beyond) ∙ sym (ap (put_off hot) (none_asked w beyond))
 
-        pub performed : HasPerformed policy scripts state.phase hot (waiting_in stashes) (waiting_in (map stash_of receipts)) entries
+        performed : HasPerformed policy scripts state.phase hot (waiting_in stashes) (waiting_in (map stash_of receipts)) entries
         performed = record {
           phases = of_phase;
           joined_calls = λ joined w. calls_done w ∙ ap (λ h. not_put_off h (asked w)) (may.joined joined) ∙ cold_kept (asked w);
@@ -387,29 +329,11 @@ module _ (policy : Policy) (scripts : List (List Request)) (state : JoinedState)
           split_stash = λ split w. stash_left w ∙ ap (λ ss. put_off hot (ss ++ calls_given policy state.phase (script_of scripts w))) (may.split split w);
         }
 
-    -- all that a run knows of the phase, once it is closed
-    pub closed_phase : (after : Closed) (entries : List Entry) (given : List ShardState) (closed : HasClosed (phase_of opening floor receipts given entries)) →
-        objects_of floor.stocks ≡ hot →
-        HasPerformed policy scripts state.phase hot (waiting_in stashes) (waiting_in (map stash_of receipts)) entries →
-        after.state.opening ≡ floor.opening → after.state.phase ≡ floor.phase + 1 → after.state.counters ≡ map counters_of receipts →
-        after.stashes.items ≡ map stash_of receipts → length (states_of after.state) ≡ length opening →
-        ((w : ℕ) → w < length receipts → (counters_at after.state.counters w).commits ≡ (counters_at floor.counters w).commits + length (journal_of (receipt_at receipts w)).entries) →
-        ((book : Book) → StandFor opening floor.counters book [] → ReplaysFrom floor.opening book entries) →
-        ((book : Book) → StandFor opening floor.counters book [] → StandsFor after.state (book_after floor.opening book entries)) →
-        HasClosedPhase policy scripts state stashes hot entries after
-    closed_phase after entries given closed hot_are performed opened counted counts waits shards commits replays stands = record {
-      performed = subst (λ ss. HasPerformed policy scripts state.phase hot (waiting_in stashes) (waiting_in ss) entries) (sym waits) performed;
-      numbered = are_numbered given entries closed hot_are;
-      replays = replays_on after.state entries replays stands;
-      phase_is = let next : floor.phase + 1 ≡ suc floor.phase = omega arith in counted ∙ next ∙ ap suc phase_is;
-      opening_is = opened ∙ opening_is;
-      shards_are = sym (length-map after.state.shards state_of) ∙ shards ∙ sym (ap length named) ∙ length-map state.shards state_of;
-      workers_are = ap length counts ∙ length-map receipts counters_of ∙ count ∙ begun.0 ∙ ap length counters_are;
-      stashes_are = ap length waits ∙ length-map receipts stash_of ∙ count ∙ begun.0 ∙ ap length counters_are;
-      commits = commits_are given entries closed (λ w. (counters_at after.state.counters w).commits) commits;
-    }
+  -- receipts show themselves
+  module _ (takes : Bool) (receipts : List PermitState) (served : AllZip (IsDone takes) (tasks permits scripts first) (map (λ receipt. receipt) receipts)) where
+    all : AllZip (IsDone takes) (tasks permits scripts first) receipts
+    all = subst (AllZip (IsDone takes) (tasks permits scripts first)) (map-id receipts) served
 
-  module _ (takes : Bool) (receipts : List PermitState) (all : AllZip (IsDone takes) (tasks permits scripts first) receipts) where
     count : length receipts ≡ length permits
     count = done_count (IsDone takes) permits receipts scripts first as_many all
 
@@ -422,22 +346,32 @@ module _ (policy : Policy) (scripts : List (List Request)) (state : JoinedState)
     pub receipts_are : AreReceiptsOf floor receipts
     receipts_are = are_receipts receipts count same
 
-    module _ (none : (w : ℕ) → takes ≡ false → waiting_in stashes w ≡ []) (hot_are : objects_of floor.stocks ≡ hot) (after : Closed) (entries : List Entry)
-        (opened : after.state.opening ≡ floor.opening) (counted : after.state.phase ≡ floor.phase + 1) (counts : after.state.counters ≡ map counters_of receipts)
-        (waits : after.stashes.items ≡ map stash_of receipts)
-        (commits : (w : ℕ) → w < length receipts → (counters_at after.state.counters w).commits ≡ (counters_at floor.counters w).commits + length (journal_of (receipt_at receipts w)).entries)
-        (replays : (book : Book) → StandFor opening floor.counters book [] → ReplaysFrom floor.opening book entries)
-        (stands : (book : Book) → StandFor opening floor.counters book [] → StandsFor after.state (book_after floor.opening book entries)) where
-      pub joined_closed : HasSettled opening floor receipts (states_of after.state) entries → HasClosedPhase policy scripts state stashes hot entries after
-      joined_closed settled =
-          closed_phase receipts count same after entries settled.given settled.closed hot_are
-          (performed receipts count same settled.given entries settled.closed takes none hot_are done)
-          opened counted counts waits (ap length settled.states_are ∙ length-map settled.given at_start ∙ settled.closed.boxes.0) commits replays stands
-
-      pub split_closed : HasReconciled opening floor receipts (states_of after.state) entries → HasClosedPhase policy scripts state stashes hot entries after
-      split_closed settled =
-          closed_phase receipts count same after entries settled.given settled.closed hot_are
-          (performed receipts count same settled.given entries settled.closed takes none hot_are done)
-          opened counted counts waits
-          (ap length settled.states_are ∙ length-map (fold after_merge settled.given settled.order) at_start ∙ merged_count settled.order settled.given ∙ settled.closed.boxes.0)
-          commits replays stands
+    -- all that a run knows of the phase, once it is closed
+    pub closed_phase : (opening : List ShardState) → states_of state ≡ opening → ((w : ℕ) → takes ≡ false → waiting_in stashes w ≡ []) → objects_of floor.stocks ≡ hot → (after : Closed) (entries : List Entry) →
+        after.state.opening ≡ floor.opening → after.state.phase ≡ floor.phase + 1 → after.state.counters ≡ map counters_of receipts → after.stashes.items ≡ map stash_of receipts →
+        HasClosedLawfully opening floor receipts (states_of after.state) entries →
+        ((w : ℕ) → w < length receipts → (counters_at after.state.counters w).commits ≡ (counters_at floor.counters w).commits + length (journal_of (receipt_at receipts w)).entries) →
+        ((book : Book) → StandFor opening floor.counters book [] → ReplaysFrom floor.opening book entries) →
+        ((book : Book) → StandFor opening floor.counters book [] → StandsFor after.state (book_after floor.opening book entries)) →
+        HasClosedPhase policy scripts state stashes hot entries after
+    closed_phase opening named none hot_are after entries opened counted counts waits closed commits replays stands =
+        let law = closed.lawful in
+        let shards : length opening ≡ policy.shards = sym (ap length named) ∙ length-map state.shards state_of ∙ may.shards_are in record {
+          performed = subst (λ ss. HasPerformed policy scripts state.phase hot (waiting_in stashes) (waiting_in ss) entries) (sym waits)
+              (performed receipts count same entries law.parts takes none hot_are done);
+          numbered = subst (λ h. IsNumbered state.opening policy.shards h entries) hot_are
+              (subst (λ n. IsNumbered state.opening n (objects_of floor.stocks) entries) shards
+              (subst (λ o. IsNumbered o (length opening) (objects_of floor.stocks) entries) begun.opening_is law.numbers));
+          replays = λ book is here.
+              let stood : StandFor opening floor.counters book [] =
+              subst (λ cs. StandFor opening cs book []) (sym begun.counters_are) (subst (λ ss. StandFor ss state.counters book []) named here) in (
+                subst (λ o. ReplaysFrom o book entries) begun.opening_is (replays book stood),
+                subst (λ o. StandsFor after.state (book_after o book entries)) begun.opening_is (stands book stood),
+              );
+          phase_is = let next : floor.phase + 1 ≡ suc floor.phase = omega arith in counted ∙ next ∙ ap suc begun.phase_is;
+          opening_is = opened ∙ begun.opening_is;
+          shards_are = sym (length-map after.state.shards state_of) ∙ law.left ∙ sym (ap length named) ∙ length-map state.shards state_of;
+          workers_are = ap length counts ∙ length-map receipts counters_of ∙ count ∙ begun.new.0 ∙ ap length begun.counters_are;
+          stashes_are = ap length waits ∙ length-map receipts stash_of ∙ count ∙ begun.new.0 ∙ ap length begun.counters_are;
+          commits = commits_are receipts count same entries law.parts (λ w. (counters_at after.state.counters w).commits) commits;
+        }

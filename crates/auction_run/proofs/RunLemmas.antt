@@ -1,9 +1,10 @@
 -- Where a run begins, one phase more, and its end.
 use Rattle.std.proofs.Common.{◌≡◌, ℕ, zero, suc, ◌+◌, ◌-◌, ◌<◌, ◌≤◌, ◌^◌, ◌⊎◌, not, min, Bool, true, false, cond, List, [], ◌∷◌, ◌++◌, length, drop, refl, subst, sym, ap, ◌∙◌, inl, inr, arith}
 use Rattle.std.specs.List.{filter, AllByRecursion}
-use Rattle.std.specs.HashSet.{HashSet}
 use Rattle.std.proofs.lemmas.Bool.{cases_Bool, cases_lt, false≢true}
-use Rattle.std.proofs.lemmas.List.{length-append}
+use Rattle.std.proofs.Math.Seq.{drop-append_seam}
+use Rattle.std.proofs.lemmas.List.{length-append, length-map}
+use Rattle.std.proofs.lemmas.List.Filters.{length-filter_both}
 use Rattle.auction_rows.specs.declared.numbers.Opening.{Opening}
 use Rattle.auction_rows.specs.declared.ids.Object.{Object}
 use Rattle.auction_rows.specs.declared.requests.Request.{Request}
@@ -40,24 +41,6 @@ use Rattle.auction_run.proofs.EndLemmas.{own_calls}
 use Rattle.auction_run.proofs.HotThere.{chosen_exist}
 use Rattle.auction_run.proofs.ScriptLemmas.{past_end}
 
-drop_front : {X : Type 0} (xs ys : List X) → drop (length xs) (xs ++ ys) ≡ ys
-drop_front [] ys = refl
-drop_front (x ∷ xs) ys = drop_front xs ys
-
-front_within : {X : Type 0} (xs ys : List X) → length xs ≤ length (xs ++ ys)
-front_within [] ys = omega arith
-front_within (x ∷ xs) ys = let again : length xs ≤ length (xs ++ ys) = front_within xs ys in omega arith
-
--- those that a test puts off and the others are all
-two_parts : {X : Type 0} (p : X → Bool) (xs : List X) → length (filter (λ x. not (p x)) xs) + length (filter p xs) ≡ length xs
-two_parts p [] = refl
-two_parts p (x ∷ xs) = go (p x) (two_parts p xs)
-  where
-    go : (b : Bool) → length (filter (λ y. not (p y)) xs) + length (filter p xs) ≡ length xs →
-        length (cond (not b) (x ∷ filter (λ y. not (p y)) xs) (filter (λ y. not (p y)) xs)) + length (cond b (x ∷ filter p xs) (filter p xs)) ≡ suc (length xs)
-    go true again = omega (arith, again)
-    go false again = omega (arith, again)
-
 -- ---- what a worker committed, and what waits, after one phase more
 
 module _ (policy : Policy) (some : 0 < policy.joined_quota + policy.split_quota) (scripts : List (List Request)) (p : ℕ) (hot : List Object)
@@ -76,10 +59,10 @@ module _ (policy : Policy) (some : 0 < policy.joined_quota + policy.split_quota)
       go (inl split) =
           let done : length (calls_of worker entries) ≡ length (filter (λ (call : ℕ × Request). not (is_put_off hot call.1)) (calls_given policy p script)) = ap length (performed.split_calls split worker) in
           let left : length (after worker) ≡ length (filter (λ (call : ℕ × Request). is_put_off hot call.1) (calls_given policy p script)) = ap length (performed.split_stash split worker) in
-          let all = two_parts (λ (call : ℕ × Request). is_put_off hot call.1) (calls_given policy p script) in
+          let all = length-filter_both (λ (call : ℕ × Request). is_put_off hot call.1) (λ (call : ℕ × Request). not (is_put_off hot call.1)) (λ call. refl) (calls_given policy p script) in
           plain (length (calls_of worker entries)) (length (after worker)) (length (waits worker)) _ _ (length (calls_given policy p script)) (quota_of policy p script) done left all given
         where
-          plain : (done left waited a b all quota : ℕ) → done ≡ a → left ≡ b → a + b ≡ all → all ≡ quota → done + left ≤ waited + quota
+          plain : (done left waited a b all quota : ℕ) → done ≡ a → left ≡ b → b + a ≡ all → all ≡ quota → done + left ≤ waited + quota
           plain done left waited a b all quota e f g h = omega (arith, e, f, g, h)
       go (inr joined) =
           let done : length (calls_of worker entries) ≡ length (waits worker) + length (calls_given policy p script) =
@@ -158,9 +141,9 @@ module _ (policy : Policy) (some : 0 < policy.joined_quota + policy.split_quota)
     stashes_are = stashes ∙ run.workers_are;
     counted = counted_next;
     from = length old.history.entries;
-    last_within = subst (λ es. length old.history.entries ≤ length es) (sym history) (front_within old.history.entries entries);
-    last_entries = ap (drop (length old.history.entries)) history ∙ drop_front old.history.entries entries ∙ sym last;
-    last = ap (drop (length old.history.entries)) history ∙ drop_front old.history.entries entries
+    last_within = subst (λ es. length old.history.entries ≤ length es) (sym history) (omega (arith, length-append old.history.entries entries));
+    last_entries = ap (drop (length old.history.entries)) history ∙ drop-append_seam old.history.entries entries ∙ sym last;
+    last = ap (drop (length old.history.entries)) history ∙ drop-append_seam old.history.entries entries
         ∙ sym (segment_now p old.history.entries entries run.run.phases_before here.phases) ∙ ap (segment_of p) (sym history)
         ∙ (let e : p ≡ suc p - 1 = omega arith in ap (λ n. segment_of n new.history.entries) e);
   }
@@ -265,12 +248,8 @@ module _ (opening : Opening) (rows : Book) (policy : Policy) (some : 0 < policy.
       let most = few_phases policy some scripts p 1000000 (hot_sets running.hot.items) running.history.entries (waiting_in running.stashes.items) run.run (all_short rows scripts short) in
       omega (arith, most)
 
-  sets_length : {S : Type 0} (sets : List (HashSet Object S)) → length (hot_sets sets) ≡ length sets
-  sets_length [] = refl
-  sets_length (set ∷ sets) = ap suc (sets_length sets)
-
   pub phases_counted : running.state.phase ≡ length running.hot.items
-  phases_counted = run.phase_is ∙ sym run.run.phase_count ∙ sets_length running.hot.items
+  phases_counted = run.phase_is ∙ sym run.run.phase_count ∙ length-map running.hot.items (λ set. set.keys)
 
   -- where nothing is left, the outcome is that of a run
   pub ended : (first : ℕ) → first ≡ first_index policy p →

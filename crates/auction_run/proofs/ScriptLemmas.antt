@@ -1,11 +1,15 @@
 -- The scripts and stashes of workers.
 use Rattle.std.specs.declared.alloc.Global.{Global}
 use Rattle.std.proofs.Common.{Vec, ◌≡◌, ℕ, zero, suc, ◌+◌, ◌-◌, ◌<◌, ◌≤◌, ◌⊎◌, List, [], ◌∷◌, ◌++◌, length, get_or, refl, subst, sym, ap, ◌∙◌, inl, inr, arith}
+use Rattle.std.specs.Prelude.{unwrap_or}
 use Rattle.std.proofs.lemmas.Bool.{cases_lt}
+use Rattle.std.proofs.lemmas.List.{length-map, get_or_default, get_or_past}
+use Rattle.std.proofs.lemmas.Option.{slice_get_past}
 use Rattle.auction_rows.specs.declared.requests.Request.{Request}
 use Rattle.auction_rows.specs.Book.{Book}
 use Rattle.item_shards.specs.OpeningRows.{rows_by}
 use Rattle.phase_contexts.specs.Stashes.{StashState}
+use Rattle.phase_floor.specs.Floors.{no_stash}
 use Rattle.run_serving.specs.Serving.{script_of}
 use Rattle.auction_run.specs.Beginning.{AreShort}
 use Rattle.auction_run.specs.Phases.{lists, waiting_in}
@@ -16,19 +20,10 @@ script_at (x ∷ xs) zero d less = refl
 script_at (x ∷ xs) (suc i) d less = script_at xs i d (omega arith)
 
 pub past_end : (scripts : List (List Request)) (i : ℕ) → length scripts ≤ i → script_of scripts i ≡ []
-past_end [] i over = refl
-past_end (x ∷ xs) zero over = absurd (omega arith)
-past_end (x ∷ xs) (suc i) over = past_end xs i (omega arith)
-
-waits_at : (stashes : List StashState) (i : ℕ) (d : StashState) → i < length stashes → waiting_in stashes i ≡ (get_or stashes i d).requests
-waits_at [] i d less = absurd (omega arith)
-waits_at (x ∷ xs) zero d less = refl
-waits_at (x ∷ xs) (suc i) d less = waits_at xs i d (omega arith)
+past_end scripts i over = ap (λ script. unwrap_or script []) (slice_get_past scripts i over)
 
 pub past_stashes : (stashes : List StashState) (i : ℕ) → length stashes ≤ i → waiting_in stashes i ≡ []
-past_stashes [] i over = refl
-past_stashes (x ∷ xs) zero over = absurd (omega arith)
-past_stashes (x ∷ xs) (suc i) over = past_stashes xs i (omega arith)
+past_stashes stashes i over = ap (λ (s : StashState). s.requests) (get_or_past stashes i no_stash over)
 
 -- one stash more in which nothing waits
 pub one_stash_more : (stashes : List StashState) (x : StashState) → x.requests ≡ [] → ((worker : ℕ) → waiting_in stashes worker ≡ []) →
@@ -47,8 +42,7 @@ one_worker_more P i before here w less = go (cases_lt w i)
     go (inr later) = let same : i ≡ w = omega arith in subst P same here
 
 pub lists_length : (scripts : List (Vec Request Global)) → length (lists scripts) ≡ length scripts
-lists_length [] = refl
-lists_length (x ∷ xs) = ap suc (lists_length xs)
+lists_length scripts = length-map scripts (λ script. script.items)
 
 -- where neither a request nor a stash is left, nothing is
 pub neither : (first len waits : ℕ) → ((first < len) ⊎ (0 < waits) → ⊥) → (len ≤ first) × (waits ≡ 0)
@@ -69,7 +63,7 @@ module _ (scripts : List (Vec Request Global)) (stashes : List StashState) (firs
   own_script = script_at scripts i script within ∙ ap (λ (v : Vec Request Global). v.items) (sym script_is)
 
   own_stash : waiting_in stashes i ≡ stash.requests
-  own_stash = waits_at stashes i stash (omega (arith, within, same)) ∙ ap (λ (s : StashState). s.requests) (sym stash_is)
+  own_stash = ap (λ (s : StashState). s.requests) (get_or_default stashes i no_stash stash (omega (arith, within, same)) ∙ sym stash_is)
 
   pub something_left : (first < length script.items) ⊎ (0 < length stash.requests) → (first < length (script_of (lists scripts) i)) ⊎ (0 < length (waiting_in stashes i))
   something_left (inl more) = inl (subst (λ rs. first < length rs) (sym own_script) more)

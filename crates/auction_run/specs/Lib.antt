@@ -1,5 +1,6 @@
 pub mod Ranking
 pub mod Phases
+pub mod Serving
 pub mod Beginning
 pub mod Running
 pub mod Closed

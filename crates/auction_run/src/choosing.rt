@@ -34,7 +34,7 @@ pub fn choose_hot(
 
 /// An object with its heat, in the order in which objects are chosen: a hotter one first, and of
 /// equally hot ones the first in the order of objects.
-#[derive(Clone, Copy, PartialEq, Eq, PartialOrd, Ord)]
+#[derive(PartialEq, Eq, PartialOrd, Ord, Drop)]
 struct Candidate {
     heat: Reverse<u64>,
     object: Object,

@@ -1,6 +1,5 @@
 //! A joined phase of a run.
 ghost use Rattle.std.specs.Prelude.{◌≡◌, ◌++◌, [], false, length, IfOk, OnOk, IfErr};
-ghost use Rattle.phase_floor.specs.declared.fault.BeginFault.TheVariants.{Memory};
 ghost use Rattle.phase_floor.specs.States.{states_of};
 ghost use Rattle.run_laws.specs.Phases.{is_split};
 ghost use Rattle.worker_journals.specs.Merged.{added, merged};
@@ -8,12 +7,12 @@ ghost use Rattle.auction_run.specs.Closed.{HasClosedPhase};
 ghost use Rattle.auction_run.specs.Phases.{lists, IsRoundOf, MayPerform, IsMet};
 
 use crate::fault::RunFault;
-use crate::phase::{Closed, begin_fault};
+use crate::phase::{Closed, begin_fault, serve};
 use crate::plan::Plan;
 use crate::quotas::quotas;
 use phase_floor::Joined;
 use phase_transactions::Stash;
-use phase_workers::{Gate, Round, serve_all};
+use phase_workers::Gate;
 use shard_boxes::PhaseName;
 use std::alloc::Global;
 use std::sync::Wait;
@@ -49,13 +48,7 @@ where
         Ok(begun) => begun,
         Err((_state, _stashes, fault)) => return Err(begin_fault(fault)),
     };
-    let work = Round {
-        scripts: round.scripts,
-        first: round.first,
-        phase: round.phase,
-        gate: round.gate,
-    };
-    let receipts = serve_all(rt, alloc, floor.boxes(), permits, work)?;
+    let receipts = serve(rt, alloc, floor.boxes(), permits, round)?;
     let (state, stashes) = floor.close(rt, alloc, history, receipts)?;
     Ok(Closed { state, stashes })
 }

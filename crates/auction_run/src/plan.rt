@@ -6,7 +6,7 @@ use auction_rows::Request;
 use run_serving::Policy;
 
 /// A phase of a run: the scripts, how they are divided, and where the phase goes on with each.
-#[derive(Clone, Copy)]
+#[derive(Drop)]
 pub(crate) struct Plan<'a, G> {
     pub(crate) scripts: &'a [Vec<Request>],
     pub(crate) policy: Policy,

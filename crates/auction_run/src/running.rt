@@ -24,7 +24,7 @@ use crate::choosing::choose_hot;
 use crate::fault::RunFault;
 use crate::phase::{Closed, perform_phase};
 use crate::plan::Plan;
-use auction_rows::{Object, Request};
+use auction_rows::{MOST_OF_A_WORKER, Object, Request};
 use auction_window::last_rows;
 use indexmap::IndexSet;
 use item_shards::OpeningBook;
@@ -37,8 +37,8 @@ use std::sync::Wait;
 use std::thread::Threads;
 use worker_journals::History;
 
-// Scripts of at most 1,000,000 requests have fewer phases.
-const MOST_PHASES: u64 = 2_000_003;
+// Scripts have fewer phases.
+const MOST_PHASES: u64 = 2 * MOST_OF_A_WORKER + 3;
 
 /// What a run answers.
 #[derive(Drop)]

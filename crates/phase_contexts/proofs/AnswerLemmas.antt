@@ -3,7 +3,8 @@ use Rattle.std.proofs.Common.{◌≡◌, ℕ, Bool, true, false, cond, List, [],
 use Rattle.std.specs.Prelude.{ℤ}
 use Rattle.std.specs.List.{AllByRecursion}
 use Rattle.std.specs.Option.{option_or}
-use Rattle.std.proofs.lemmas.Bool.{false≢true}
+use Rattle.std.proofs.lemmas.Bool.{eq-eqb, false≢true}
+use Rattle.auction_rows.specs.declared.ids.BidId.{BidId}
 use Rattle.auction_rows.specs.declared.ids.ItemId.{ItemId}
 use Rattle.auction_rows.specs.declared.ids.Object.{Object}
 use Rattle.auction_rows.specs.declared.ids.Object.TheVariants.{Item}
@@ -14,6 +15,8 @@ use Rattle.auction_rows.specs.declared.replies.Reply.TheVariants.{BidStored, Com
 use Rattle.auction_rows.specs.declared.requests.Facts.{Facts}
 use Rattle.auction_rows.specs.declared.requests.Request.{Request}
 use Rattle.auction_rows.specs.declared.requests.Request.TheVariants.{StoreItem, StoreBid, StoreComment, BuyNow, ViewItem, ViewBids, ViewCategory, ViewUser}
+use Rattle.auction_rows.specs.declared.rows.Row.TheVariants as row
+use Rattle.item_shards.specs.declared.acts.Act.TheVariants.{Bid as BidOn}
 use Rattle.item_shards.specs.Writing.{writes_if}
 use Rattle.auction_rows.specs.Book.{Book, facts_of, left, bids_stored, comments_stored}
 use Rattle.auction_rows.proofs.RefusalLemmas.{refusal-split}
@@ -21,14 +24,15 @@ use Rattle.auction_rows.proofs.RequestLemmas.{same_object-true}
 use Rattle.auction_rows.specs.Requests.{same_object, item_of, is_view}
 use Rattle.auction_rows.specs.Footprint.{is_hot}
 use Rattle.auction_rows.specs.Refusals.{refusal, number_refusal, item_refusal, facts_for, left_for}
-use Rattle.auction_rows.specs.Replies.{reply, answer, answer_unless, row_of}
+use Rattle.auction_rows.specs.Replies.{reply, answer, answer_unless, row_of, row_if}
 use Rattle.item_shards.specs.Values.{stock_in}
 use Rattle.phase_contexts.specs.declared.slices.Hot.{Hot}
 use Rattle.phase_contexts.specs.Slicing.{objects_of, stocks_of, stock_of, after_acts, IsStocked}
 use Rattle.phase_contexts.specs.Txns.{refusal_by, stock_seen, is_put_off, Answers, IsAnswered}
 use Rattle.phase_contexts.specs.declared.bids.Bid.{Bid}
 use Rattle.phase_contexts.specs.declared.bids.Comment.{Comment}
-use Rattle.phase_contexts.specs.Bids.{bid_request, comment_request, IsBidReply, IsCommentReply}
+use Rattle.phase_contexts.specs.Bids.{bid_request, entry_with, comment_request, IsBidReply, IsCommentReply}
+use Rattle.phase_contexts.specs.Contexts.{ContextState}
 use Rattle.phase_contexts.specs.Splits.{SplitState, IsHot, setting_of, hot_txn, CountsOf, HasStocks}
 
 -- the objects of what is fixed are those of the slices
@@ -49,6 +53,19 @@ bid_refused : (opening : Opening) (book : Book) (bidder : ℕ) (item : ItemId) (
 bid_refused opening book bidder item amount time =
     let request = StoreBid bidder item amount time in
     refusal-split opening book request ∙ ap (option_or (number_refusal opening request)) (bid_refusal opening book bidder item amount time (facts_of book item) refl)
+
+-- the reply to a bid by what was seen of its item
+pub bid_replied : (context : ContextState) (bid : Bid) (stock seen : Option (Facts × ℕ)) (request : Request) (refused : Option Refusal) (answer : Reply) → request ≡ bid_request bid → seen ≡ stock
+    → refused ≡ refusal_by context.opening seen request
+    → MatchOption refused (answer ≡ BidStored (record { worker = context.journal.worker; serial = context.counters.bids })) (λ reason. answer ≡ Refused reason) → IsBidReply context stock bid answer
+bid_replied context bid stock seen request refused answer asked fixed is replied =
+    subst (λ r. MatchOption r (answer ≡ BidStored (record { worker = context.journal.worker; serial = context.counters.bids })) (λ reason. answer ≡ Refused reason))
+    (is ∙ (λ i. refusal_by context.opening (fixed i) (asked i))) replied
+
+-- and what it writes, where it is accepted
+pub bid_written : (worker : ℕ) (bid : Bid) (id : BidId) → id.worker ≡ worker → writes_if (row_of worker (bid_request bid) (BidStored id)) ≡ BidOn bid.item (entry_with bid id) ∷ []
+bid_written worker bid id own =
+    ap (λ b. writes_if (row_if b (row.Bid (record { id = id; item = bid.item; bidder = bid.bidder; amount = bid.amount; time = bid.time })))) (eq-eqb id.worker worker own)
 
 -- it is the book's
 answered_by : (refused : Option Refusal) (answer mine theirs : Reply) → MatchOption refused (answer ≡ mine) (λ reason. answer ≡ Refused reason) → mine ≡ theirs → answer ≡ answer_unless refused theirs

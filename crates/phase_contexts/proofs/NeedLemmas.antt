@@ -1,5 +1,5 @@
 -- What a request that is not put off needs.
-use Rattle.std.proofs.Common.{◌≡◌, ◌||◌, ℕ, Bool, true, false, List, Option, Some, None, unwrap_or, refl, sym, ap, subst, ◌∙◌}
+use Rattle.std.proofs.Common.{◌≡◌, ◌||◌, ℕ, Bool, true, false, List, Some, None, unwrap_or, refl, sym, ap, subst, ◌∙◌}
 use Rattle.std.proofs.lemmas.Bool.{true≢false}
 use Rattle.auction_rows.specs.declared.ids.BidEntry.{BidEntry}
 use Rattle.auction_rows.specs.declared.ids.BidId.{BidId}

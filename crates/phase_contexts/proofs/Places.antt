@@ -1,6 +1,5 @@
 -- The slices by place: what is found there, and what a write there leaves.
 use Rattle.std.proofs.Common.{◌≡◌, ℕ, zero, suc, ◌++◌, ◌∷◌, [], Bool, true, false, cond, if◌then◌else◌, ◌||◌, List, map, take, slice_get, get_or, position, IfSome, Option, Some, None, is_some, refl, sym, ap, subst, ◌∙◌}
-use Rattle.std.proofs.lemmas.Bool.{true≢false}
 use Rattle.std.proofs.lemmas.List.Quantifiers.{position-Some}
 use Rattle.std.proofs.lemmas.Option.{slice_get-get_or}
 use Rattle.std.specs.List.{IsDistinct, AllByRecursion}
@@ -8,48 +7,17 @@ use Rattle.std.specs.Map.{lookup}
 use Rattle.indexmap.specs.Layout.{set_value_at}
 use Rattle.auction_rows.specs.contracts.ids.ObjectPartialEq.TheImpl.{eq-value as object_eq}
 use Rattle.auction_rows.specs.declared.ids.Object.{Object}
-use Rattle.auction_rows.specs.declared.ids.Object.TheVariants.{Item, User, Category}
 use Rattle.auction_rows.specs.declared.requests.Facts.{Facts}
 use Rattle.auction_rows.specs.Book.{Book}
 use Rattle.auction_rows.specs.Footprint.{is_hot}
 use Rattle.auction_rows.specs.Requests.{same_object}
-use Rattle.auction_rows.proofs.RequestLemmas.{same_object-true, same_objects}
+pub use Rattle.auction_rows.proofs.RequestLemmas.{distinct_objects}
+use Rattle.auction_rows.proofs.RequestLemmas.{eq_is_same, same_either_way, same_object-true, same_objects}
 use Rattle.item_shards.specs.declared.slices.Slice.{Slice}
 use Rattle.item_shards.specs.Values.{blank, value}
 use Rattle.item_shards.proofs.StandingLemmas.{blank_of_none}
 use Rattle.phase_contexts.specs.declared.slices.Hot.{Hot}
 use Rattle.phase_contexts.specs.Slicing.{objects_of, slice_of, slices_of, stocks_of, stock_of, changed, IsAt, HasAtMost, AreFew}
-
--- objects are equal where they are the same one
-eq_is_same : (a b : Object) → object_eq.it a b ≡ same_object a b
-eq_is_same (Item i) (Item j) = refl
-eq_is_same (Item i) (User user) = refl
-eq_is_same (Item i) (Category category) = refl
-eq_is_same (User user) (Item j) = refl
-eq_is_same (User user) (User other) = refl
-eq_is_same (User user) (Category category) = refl
-eq_is_same (Category category) (Item j) = refl
-eq_is_same (Category category) (User user) = refl
-eq_is_same (Category category) (Category other) = refl
-
--- the keys of a map of objects are distinct objects
-pub distinct_objects : (objects : List Object) → IsDistinct object_eq.it objects → IsDistinct same_object objects
-distinct_objects objects distinct = subst (λ (eq : Object → Object → Bool). IsDistinct eq objects) (λ i a b. eq_is_same a b i) distinct
-
--- being the same one goes both ways
-not_same : (a b : Object) → same_object a b ≡ false → same_object b a ≡ false
-not_same a b apart = go (same_object b a) refl
-  where
-    go : (is : Bool) → same_object b a ≡ is → is ≡ false
-    go false e = refl
-    go true e = absurd (true≢false (sym ((same_objects a b).1 (sym (same_object-true b a e))) ∙ apart))
-
-pub same_either_way : (a b : Object) → same_object a b ≡ same_object b a
-same_either_way a b = go (same_object a b) refl
-  where
-    go : (is : Bool) → same_object a b ≡ is → is ≡ same_object b a
-    go false e = sym (not_same a b e)
-    go true e = sym ((same_objects b a).1 (sym (same_object-true a b e)))
 
 -- what holds of each element holds of the one at a place
 all_at : {X : Type 0} (P : X → Type 0) (xs : List X) (k : ℕ) (x : X) → AllByRecursion P xs → slice_get xs k ≡ Some x → P x
@@ -76,7 +44,7 @@ placed object change (hot ∷ hots) zero old new distinct at is written =
     (λ i. (hot.0, (written ∙ ap (λ (h : Hot). record h { slice = change h.slice }) was ∙ ap (λ b. cond b (record hot.1 { slice = change hot.1.slice }) hot.1) (sym ((same_objects object hot.0).1 (sym here)))) i) ∷ hots)
     ∙ ap (λ hs. (hot.0, if same_object object hot.0 then record hot.1 { slice = change hot.1.slice } else hot.1) ∷ hs) (sym rest)
 placed object change (hot ∷ hots) (suc place) old new distinct at is written =
-    let apart = not_same hot.0 object (all_at (λ other. same_object hot.0 other ≡ false) (objects_of hots) place object distinct.0 at) in
+    let apart = same_either_way object hot.0 ∙ all_at (λ other. same_object hot.0 other ≡ false) (objects_of hots) place object distinct.0 at in
     (λ i. (hot.0, cond (sym apart i) (record hot.1 { slice = change hot.1.slice }) hot.1) ∷ placed object change hots place old new distinct.1 at is written i)
 
 -- an object that stands at a place has a slice there

@@ -12,10 +12,9 @@ use Rattle.history_check.specs.declared.lines.Verdict.TheVariants.{Replays}
 use Rattle.history_check.specs.Checking.{IsAccepted, IsVerdict}
 use Rattle.rubis_check.specs.declared.options.Options.{Options}
 use Rattle.rubis_check.specs.Finding.{IsFound}
-use Rattle.rubis_check.specs.Options.{opening_of}
 
 module _ (options : Options) (rows : List Opened) (scripts : List (List Request)) (opening : Opening) (start : Book) (verdict : Verdict)
-    (opening_is : opening ≡ opening_of options) (start_is : start ≡ opening_rows (opening_of options) rows) (are_rows : AreRows (opening_of options) rows) where
+    (opening_is : opening ≡ options.opening) (start_is : start ≡ opening_rows options.opening rows) (are_rows : AreRows options.opening rows) where
   here : (input text : List ℕ) → input_of options.workers input ≡ Ok (record { rows = rows; scripts = scripts })
       → IsVerdict opening start scripts options.order text verdict → (IsAccepted opening start scripts options.order text → verdict ≡ Replays) → IsFound options input text verdict
   here input text reads found accepted = record {
@@ -23,9 +22,9 @@ module _ (options : Options) (rows : List Opened) (scripts : List (List Request)
     scripts = scripts;
     reads = reads;
     are_rows = are_rows;
-    found = subst (λ o. IsVerdict o (opening_rows (opening_of options) rows) scripts options.order text verdict) opening_is
+    found = subst (λ o. IsVerdict o (opening_rows options.opening rows) scripts options.order text verdict) opening_is
         (subst (λ b. IsVerdict opening b scripts options.order text verdict) start_is found);
-    accepted = subst (λ o. IsAccepted o (opening_rows (opening_of options) rows) scripts options.order text → verdict ≡ Replays) opening_is
+    accepted = subst (λ o. IsAccepted o (opening_rows options.opening rows) scripts options.order text → verdict ≡ Replays) opening_is
         (subst (λ b. IsAccepted opening b scripts options.order text → verdict ≡ Replays) start_is accepted);
   }
 

@@ -8,14 +8,13 @@ use Rattle.history_check.specs.declared.lines.Verdict.{Verdict}
 use Rattle.history_check.specs.declared.lines.Verdict.TheVariants.{Replays}
 use Rattle.history_check.specs.Checking.{IsAccepted, IsVerdict}
 use Rattle.rubis_check.specs.declared.options.Options.{Options}
-use Rattle.rubis_check.specs.Options.{opening_of}
 
 -- The input has no fault and asks for rows, each a row at its place, and for scripts; and this is found of a text of theirs.
 pub record IsFound (options : Options) (input text : List ℕ) (verdict : Verdict) : Type 0 where
   pub rows : List Opened
   pub scripts : List (List Request)
   pub reads : input_of options.workers input ≡ Ok (record { rows = rows; scripts = scripts })
-  pub are_rows : AreRows (opening_of options) rows
-  pub found : IsVerdict (opening_of options) (opening_rows (opening_of options) rows) scripts options.order text verdict
+  pub are_rows : AreRows options.opening rows
+  pub found : IsVerdict options.opening (opening_rows options.opening rows) scripts options.order text verdict
   -- what is accepted is found to replay
-  pub accepted : IsAccepted (opening_of options) (opening_rows (opening_of options) rows) scripts options.order text → verdict ≡ Replays
+  pub accepted : IsAccepted options.opening (opening_rows options.opening rows) scripts options.order text → verdict ≡ Replays

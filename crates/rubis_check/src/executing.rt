@@ -5,6 +5,7 @@ ghost use Rattle.rubis_check.specs.Finding.{IsFound};
 use crate::faults::Fault;
 use crate::finding::write_verdict;
 use crate::options::Options;
+use auction_rows::MOST_WORKERS;
 use auction_text::read_scripts;
 use history_check::{Verdict, check_history};
 use item_shards::OpeningBook;
@@ -20,12 +21,12 @@ pub fn execute<I: Read + Drop, H: BufRead, W: Write>(
     writer: &mut W,
     options: &Options,
 ) -> Result<Verdict, Fault>
-    requires { options.now.workers ≤ 16 }
+    requires { options.now.workers ≤ MOST_WORKERS }
     ensures { IfOk result (λ verdict. IfSome (I.remaining reader) (λ input. IfSome (H.remaining history.old) (λ text.
         IsFound options.now input text verdict))) }
 {
     let input = read_scripts(alloc, reader, options.workers)?;
-    let book = OpeningBook::new(alloc, options.opening(), input.rows)?;
+    let book = OpeningBook::new(alloc, options.opening, input.rows)?;
     let mut line = Vec::new(alloc);
     let verdict = check_history(
         alloc,

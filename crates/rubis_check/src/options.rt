@@ -1,7 +1,7 @@
 //! The options of the program.
-ghost use Rattle.std.specs.Prelude.{◌≡◌, ◌≤◌, IfOk};
+ghost use Rattle.std.specs.Prelude.{◌≤◌, IfOk};
 
-use auction_rows::Opening;
+use auction_rows::{MOST_WORKERS, Opening};
 use clap::{Arg, ArgAction, ArgMatches, Command};
 use history_check::Order;
 use program_options::{
@@ -15,33 +15,17 @@ use std::alloc::{AllocError, Global};
 pub struct Options {
     /// How many workers there are, 1 to 16.
     pub workers: u32,
-    /// How many users there are, at most 1,000,000.
-    pub users: u32,
-    /// How many categories there are, at most 1,000,000.
-    pub categories: u32,
+    /// The users and categories of the auction, at most 1,000,000 of each.
+    pub opening: Opening,
     /// The order of each worker's entries.
     pub order: Order,
     /// The name of the file that has the history.
     pub history: String,
 }
 
-impl Options {
-    ghost use Rattle.rubis_check.specs.Options.{opening_of};
-
-    /// The users and categories of the auction.
-    pub fn opening(&self) -> Opening
-        ensures { result ≡ opening_of self.now }
-    {
-        Opening {
-            users: self.users,
-            categories: self.categories,
-        }
-    }
-}
-
 const WORKERS: NumberRange = NumberRange {
     least: 1,
-    greatest: 16,
+    greatest: MOST_WORKERS as u32,
 };
 
 const NUMBERS: NumberRange = NumberRange {
@@ -54,13 +38,15 @@ fn command<'a>(alloc: Global) -> Result<Command<'a>, AllocError> {
         .long("history")
         .action(ArgAction::Set)
         .required(true);
-    Command::new(alloc, "rubis_check")
-        .arg(history)?
-        .arg(number_option(alloc, "workers", WORKERS, "1"))?
-        .arg(number_option(alloc, "users", NUMBERS, "100"))?
-        .arg(number_option(alloc, "categories", NUMBERS, "10"))?
-        .arg(flag(alloc, "order"))?
-        .arg(flag(alloc, "strict"))
+    let options = vec![in alloc;
+        history,
+        number_option(alloc, "workers", WORKERS, "1"),
+        number_option(alloc, "users", NUMBERS, "100"),
+        number_option(alloc, "categories", NUMBERS, "10"),
+        flag(alloc, "order"),
+        flag(alloc, "strict"),
+    ]?;
+    Command::new(alloc, "rubis_check").args(options)
 }
 
 // The order that flags ask for.
@@ -75,7 +61,7 @@ fn order_of(first: bool, strict: bool) -> Order {
 }
 
 fn options_of(alloc: Global, matches: &ArgMatches<'_>) -> Result<Options, UsageFault>
-    ensures { IfOk result (λ options. options.workers ≤ 16) }
+    ensures { IfOk result (λ options. options.workers ≤ MOST_WORKERS) }
 {
     let name = matches.get_str("history").unwrap_or("");
     let Ok(history) = format!(in alloc; "{name}") else {
@@ -83,8 +69,10 @@ fn options_of(alloc: Global, matches: &ArgMatches<'_>) -> Result<Options, UsageF
     };
     Ok(Options {
         workers: number_of(matches, "workers", WORKERS),
-        users: number_of(matches, "users", NUMBERS),
-        categories: number_of(matches, "categories", NUMBERS),
+        opening: Opening {
+            users: number_of(matches, "users", NUMBERS),
+            categories: number_of(matches, "categories", NUMBERS),
+        },
         order: order_of(flag_of(matches, "order"), flag_of(matches, "strict")),
         history,
     })
@@ -94,7 +82,7 @@ fn options_of(alloc: Global, matches: &ArgMatches<'_>) -> Result<Options, UsageF
 /// 10 categories, any order; a file with a history has to be named. Words that are refused, or that ask for help, are answered
 /// in `clap`'s words.
 pub fn read_options(alloc: Global, words: &[String]) -> Result<Options, UsageFault>
-    ensures { IfOk result (λ options. options.workers ≤ 16) }
+    ensures { IfOk result (λ options. options.workers ≤ MOST_WORKERS) }
 {
     let Ok(command) = command(alloc) else {
         return Err(UsageFault::Memory);

@@ -4,6 +4,7 @@ use auction_program::{Fault, status, write_fault};
 use auction_run::RunFault;
 use auction_text::WriteFault;
 use auction_window::MakeFault;
+use program_options::{UsageFault, words_fault};
 use std::alloc::Global;
 use std::io;
 use std::io::Write;
@@ -64,4 +65,15 @@ impl Write for Full {
 fn a_full_writer_refuses_the_line_of_a_fault(rt: HostRuntime) {
     let refused = write_fault(&mut Full, &Fault::Run(RunFault::Memory));
     assert_same(&rt, &refused, &Err(WriteFault::Write));
+}
+
+#[test]
+fn words_that_are_no_text_are_told_why(rt: HostRuntime) -> Result<(), Fail> {
+    let unread = io::Error::from(io::ErrorKind::InvalidData);
+    let UsageFault::Text(said) = words_fault(rt.alloc(), &unread) else {
+        return Err(Fail::from("no text"));
+    };
+    let wanted = format!(in rt.alloc(); "error: {unread}\n")?;
+    assert_same(&rt, &said.as_str(), &wanted.as_str());
+    Ok(())
 }

@@ -1,7 +1,7 @@
-//! Histories of whole runs on threads, beside the plain program. Worked examples of runs stand in tests/worked.
+//! Histories of whole runs, on threads and in turn, beside the plain program. Worked examples of runs stand in tests/worked.
 use crate::runs::testing::{LOOK, Threaded, buy_one, item, run_of};
 use crate::testing::assert_same;
-use auction_rows::{BuyId, Reply, Request, Row, Stars, reply_to, row_of};
+use auction_rows::{BuyId, Reply, Request, Row, Stars, reply_to, row_to_add};
 use auction_run::{FreeGate, Gate};
 use library_tests::testing::{FIRST, OPENING, bid, item_seen, purchase, put_up, vases};
 use std::alloc::Global;
@@ -32,7 +32,7 @@ fn is_replayed(alloc: Global, history: &History) -> Result<bool, Fail> {
         if reply != entry.reply {
             return Ok(false);
         }
-        if let Some(row) = row_of(entry.worker, entry.request, reply) {
+        if let Some(row) = row_to_add(&rows, OPENING, entry.worker, entry.request) {
             rows.push(row)?;
         }
     }
@@ -53,33 +53,25 @@ fn count_replayed<R: Threads + Wait + Sync, G: Gate + Sync>(
     Ok(replayed.then_some(outcome.history.len()))
 }
 
+fn scripts() -> Result<[[Request; 6]; 3], Fail> {
+    let (item, buy) = (item()?, buy_one()?);
+    let (good, bad) = (comment(0, 3)?, comment(1, -2)?);
+    Ok([
+        [item, bid(0, 10, 1), good, VIEW, bid(1, 30, 3), LOOK],
+        [LOOK, bid(2, 25, 2), item, bad, bid(2, 35, 4), VIEW],
+        [bid(3, 40, 5), LOOK, bid(3, 45, 5), buy, bid(3, 50, 6), VIEW],
+    ])
+}
+
 #[test]
 fn histories_replay_on_the_plain_program(rt: HostRuntime) -> Result<(), Fail> {
     let alloc = rt.alloc();
-    let buy = buy_one()?;
-    let first = [
-        item()?,
-        bid(0, 10, 1),
-        comment(0, 3)?,
-        VIEW,
-        bid(1, 30, 3),
-        LOOK,
-    ];
-    let second = [
-        LOOK,
-        bid(2, 25, 2),
-        item()?,
-        comment(1, -2)?,
-        bid(2, 35, 4),
-        VIEW,
-    ];
-    let third = [bid(3, 40, 5), LOOK, bid(3, 45, 5), buy, bid(3, 50, 6), VIEW];
+    let own = scripts()?;
+    let scripts = [own[0].as_slice(), own[1].as_slice(), own[2].as_slice()];
     for quotas in [(1, 1), (2, 3), (3, 2), (6, 1), (1, 5)] {
-        let scripts = [first.as_slice(), second.as_slice(), third.as_slice()];
         let side_by_side = count_replayed(&rt, alloc, &scripts, quotas, &Threaded)?;
-        assert_same(&rt, &side_by_side, &Some(18));
         let in_turn = count_replayed(&rt, alloc, &scripts, quotas, &FreeGate)?;
-        assert_same(&rt, &in_turn, &Some(18));
+        assert_same(&rt, &(side_by_side, in_turn), &(Some(18), Some(18)));
     }
     Ok(())
 }
@@ -109,8 +101,8 @@ fn what_was_put_off_is_performed_first(rt: HostRuntime) -> Result<(), Fail> {
     });
     let item = item_seen(&facts, Some((19, 2)), 3, 0);
     assert_same(&rt, &(waited.index(), looked.index()), &(4, 5));
-    assert_same(&rt, &waited.to_entry().reply, &bought);
-    assert_same(&rt, &looked.to_entry().reply, &item);
+    let replies = [waited.to_entry().reply, looked.to_entry().reply];
+    assert_same(&rt, &replies, &[bought, item]);
     assert_same(&rt, &outcome.state.view(&VIEW), &Some(item));
     assert_same(
         &rt,

@@ -22,21 +22,20 @@ const POLICY: Policy = Policy {
 fn fault_of<R: Threads + Wait + Sync>(
     rt: &R,
     alloc: Global,
-    book: &OpeningBook,
     workers: usize,
     policy: Policy,
 ) -> Result<Option<RunFault>, Fail> {
+    let book = OpeningBook::empty(OPENING);
     let mut scripts: Vec<Vec<Request>> = Vec::new(alloc);
     for _worker in 0..workers {
         scripts.push(vec![in alloc; LOOK]?)?;
     }
-    Ok(run(rt, alloc, book, scripts, policy, &FreeGate).err())
+    Ok(run(rt, alloc, &book, scripts, policy, &FreeGate).err())
 }
 
 // Each but the first has two causes, of which the first is told.
 #[test]
 fn policies_that_are_refused(rt: HostRuntime) -> Result<(), Fail> {
-    let book = OpeningBook::empty(OPENING);
     let no_shards = Policy {
         shards: 0,
         ..POLICY
@@ -57,7 +56,7 @@ fn policies_that_are_refused(rt: HostRuntime) -> Result<(), Fail> {
         (1, many_shards, Some(RunFault::Shards)),
         (1, much_is_hot, Some(RunFault::Quota)),
     ] {
-        let found = fault_of(&rt, rt.alloc(), &book, workers, policy)?;
+        let found = fault_of(&rt, rt.alloc(), workers, policy)?;
         assert_same(&rt, &found, &fault);
     }
     Ok(())

@@ -1,21 +1,22 @@
-use Rattle.std.proofs.Common.{◌≡◌, ◌∙◌, ap₂}
+use Rattle.std.proofs.Common.{◌≡◌, ◌∙◌, ◌∷◌, [], List, false, ap₂, map, subst}
+use Rattle.std.specs.List.{AllByRecursion}
+use Rattle.std.specs.Prelude.{fold}
 use Rattle.std.proofs.lemmas.Result.{IfOk-weaker}
+use Rattle.clap.specs.Built.{AddsArg, AddsInTurn}
 use Rattle.clap.specs.Simple.{with_rule}
-use Rattle.clap.specs.Words.{app_of}
-use Rattle.auction_program.specs.Words.{program}
+use Rattle.clap.specs.Words.{app_of, rule_of}
+use Rattle.clap.specs.declared.builder.arg.Arg.{Arg}
+use Rattle.program_options.proofs.AddedRules.{rules_added}
+use Rattle.auction_program.specs.Words.{option_rules, program}
 use Rattle.auction_program.proofs.options.command.Goals as goal
 
 pub returns : goal.returns
 returns c =
-    let start = c.bare_command.ensures in
-    let added-1 = c.in_ok-arg.ensures.shape c.described_number.ensures.local ∙ ap₂ with_rule start c.described_number.ensures.rule in
-    let added-2 = c.in_ok-arg-2.ensures.shape c.described_number-2.ensures.local ∙ ap₂ with_rule added-1 c.described_number-2.ensures.rule in
-    let added-3 = c.in_ok-arg-3.ensures.shape c.described_number-3.ensures.local ∙ ap₂ with_rule added-2 c.described_number-3.ensures.rule in
-    let added-4 = c.in_ok-arg-4.ensures.shape c.described_number-4.ensures.local ∙ ap₂ with_rule added-3 c.described_number-4.ensures.rule in
-    let added-5 = c.in_ok-arg-5.ensures.shape c.described_number-5.ensures.local ∙ ap₂ with_rule added-4 c.described_number-5.ensures.rule in
-    let added-6 = c.in_ok-arg-6.ensures.shape c.described_number-6.ensures.local ∙ ap₂ with_rule added-5 c.described_number-6.ensures.rule in
-    let added-7 = c.in_ok-arg-7.ensures.shape c.described_number-7.ensures.local ∙ ap₂ with_rule added-6 c.described_number-7.ensures.rule in
-    let added-8 = c.in_ok-arg-8.ensures.shape c.described_number-8.ensures.local ∙ ap₂ with_rule added-7 c.described_number-8.ensures.rule in
-    let added-9 = c.in_ok-arg-9.ensures.shape c.described_flag.ensures.local ∙ ap₂ with_rule added-8 c.described_flag.ensures.rule in
-    let added-10 = c.in_ok-arg-10.ensures.shape c.described_flag-2.ensures.local ∙ ap₂ with_rule added-9 c.described_flag-2.ensures.rule in
-    IfOk-weaker c.arg-11.result _ (λ command. app_of command ≡ program) (λ command added. added.shape c.described_flag-3.ensures.local ∙ ap₂ with_rule added-10 c.described_flag-3.ensures.rule) c.arg-11.ensures
+    let options : List Arg = c.described_number.result ∷ c.described_number-2.result ∷ c.described_number-3.result ∷ c.described_number-4.result ∷ c.described_number-5.result ∷ c.described_number-6.result
+    ∷ c.described_number-7.result ∷ c.described_number-8.result ∷ c.described_flag.result ∷ c.described_flag-2.result ∷ c.described_flag-3.result ∷ [] in
+    let local : AllByRecursion (λ a. a.global ≡ false) options = (c.described_number.ensures.local, (c.described_number-2.ensures.local, (c.described_number-3.ensures.local, (c.described_number-4.ensures.local, (c.described_number-5.ensures.local, (c.described_number-6.ensures.local, (c.described_number-7.ensures.local, (c.described_number-8.ensures.local, (c.described_flag.ensures.local, (c.described_flag-2.ensures.local, (c.described_flag-3.ensures.local, tt))))))))))) in
+    let rules : map rule_of options ≡ option_rules = λ i. c.described_number.ensures.rule i ∷ c.described_number-2.ensures.rule i ∷ c.described_number-3.ensures.rule i ∷ c.described_number-4.ensures.rule i ∷ c.described_number-5.ensures.rule i ∷ c.described_number-6.ensures.rule i
+    ∷ c.described_number-7.ensures.rule i ∷ c.described_number-8.ensures.rule i ∷ c.described_flag.ensures.rule i ∷ c.described_flag-2.ensures.rule i ∷ c.described_flag-3.ensures.rule i ∷ [] in
+    IfOk-weaker c.args-2.result _ (λ command. app_of command ≡ program) (λ command added.
+    rules_added c.bare_command.result command options local (subst (λ all. AddsInTurn AddsArg c.bare_command.result all command) c.in_ok-options.ensures.items added)
+    ∙ ap₂ (fold with_rule) c.bare_command.ensures rules) c.args-2.ensures

@@ -1,15 +1,16 @@
+use Rattle.auction_rows.specs.declared.limits.TheConstants.{MOST_HOT, MOST_SHARDS, MOST_WORKERS}
 use Rattle.program_options.proofs.Numerals.{number_said}
 use Rattle.auction_program.proofs.ProgramWords as program
 use Rattle.auction_program.proofs.options.options_of.Goals as goal
 
 pub returns-clause-given : goal.returns-clause-given
 returns-clause-given c = λ numbers i. record {
-  workers = number_said 1 16 _ _ (numbers _ 1 16 program.has_workers) c.number_of.ensures.said i;
-  shards = number_said 1 64 _ _ (numbers _ 1 64 program.has_shards) c.number_of-2.ensures.said i;
+  workers = number_said 1 MOST_WORKERS _ _ (numbers _ 1 MOST_WORKERS program.has_workers) c.number_of.ensures.said i;
+  shards = number_said 1 MOST_SHARDS _ _ (numbers _ 1 MOST_SHARDS program.has_shards) c.number_of-2.ensures.said i;
   joined = number_said 1 1000000 _ _ (numbers _ 1 1000000 program.has_joined) c.number_of-3.ensures.said i;
   split = number_said 1 1000000 _ _ (numbers _ 1 1000000 program.has_split) c.number_of-4.ensures.said i;
   threshold = number_said 1 1000000 _ _ (numbers _ 1 1000000 program.has_threshold) c.number_of-5.ensures.said i;
-  hot = number_said 0 64 _ _ (numbers _ 0 64 program.has_hot) c.number_of-6.ensures.said i;
+  hot = number_said 0 MOST_HOT _ _ (numbers _ 0 MOST_HOT program.has_hot) c.number_of-6.ensures.said i;
   users = number_said 0 1000000 _ _ (numbers _ 0 1000000 program.has_users) c.number_of-7.ensures.said i;
   categories = number_said 0 1000000 _ _ (numbers _ 0 1000000 program.has_categories) c.number_of-8.ensures.said i;
   history = c.flag_of.ensures i;

@@ -1,9 +1,8 @@
-use Rattle.std.proofs.Common.{rules, arith, ◌≡◌, ◌≤◌, ◌<◌, ◌+◌, ◌^◌, ℕ, suc, length, subst, sym, ap, ◌∙◌}
-use Rattle.auction_rows.specs.declared.rows.Entry.{Entry}
+use Rattle.std.proofs.Common.{rules, arith, ◌≡◌, ◌≤◌, ◌+◌, ℕ, suc, length, subst, sym, ap, ◌∙◌}
 use Rattle.item_shards.specs.OpeningBooks.{opening_of, rows_of}
 use Rattle.run_serving.specs.Run.{HasLeft}
-use Rattle.run_serving.specs.Serving.{script_of, segment_of}
-use Rattle.auction_run.specs.Boards.{HasShown, phase_rows}
+use Rattle.run_serving.specs.Serving.{script_of}
+use Rattle.auction_run.specs.Boards.{HasShown}
 use Rattle.auction_run.specs.Phases.{lists, waiting_in, IsMet}
 use Rattle.auction_run.specs.Running.{IsRunning}
 use Rattle.auction_run.proofs.BoardLemmas.{begins_shown, can_show, has_shown, next_runs}

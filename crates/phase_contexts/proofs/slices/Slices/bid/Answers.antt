@@ -3,7 +3,8 @@ use Rattle.auction_rows.specs.declared.ids.Object.TheVariants.{Item}
 use Rattle.std.specs.List.{AllByRecursion}
 use Rattle.phase_contexts.specs.declared.slices.Slices.TheInside.{Inside}
 use Rattle.phase_contexts.specs.Slicing.{stocks_of, IsStocked, objects_of, bid_on, changed, IsAt, AreFew}
-use Rattle.phase_contexts.proofs.Places.{placed, none_there, few_there, distinct_objects, stocks_stay}
+use Rattle.auction_rows.proofs.RequestLemmas.{distinct_objects}
+use Rattle.phase_contexts.proofs.Places.{placed, none_there, few_there, stocks_stay}
 use Rattle.phase_contexts.proofs.slices.Slices.bid.Goals as goal
 use Rattle.phase_contexts.proofs.slices.Slices.bid.Goals.{in-Some, in_default}
 

@@ -3,7 +3,8 @@ use Rattle.auction_rows.specs.declared.ids.Object.TheVariants.{Category}
 use Rattle.std.specs.List.{AllByRecursion}
 use Rattle.phase_contexts.specs.declared.slices.Slices.TheInside.{Inside}
 use Rattle.phase_contexts.specs.Slicing.{stocks_of, IsStocked, objects_of, item_listed, changed, IsAt}
-use Rattle.phase_contexts.proofs.Places.{placed, none_there, distinct_objects, stocks_stay}
+use Rattle.auction_rows.proofs.RequestLemmas.{distinct_objects}
+use Rattle.phase_contexts.proofs.Places.{placed, none_there, stocks_stay}
 use Rattle.phase_contexts.proofs.slices.Slices.list_item.Goals as goal
 use Rattle.phase_contexts.proofs.slices.Slices.list_item.Goals.{in-Some, in_default}
 
