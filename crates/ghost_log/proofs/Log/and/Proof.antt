@@ -31,7 +31,7 @@ use denote.Triple.Spec.{Meets, triple_of}
 use denote.Triple.Table.{entered}
 use denote.Triple.Walked.{says, Stays, stay_dropped, walk_of, ends_at, walk_Meets, Goes-dropped}
 use Rattle.std.specs.contracts.marker.PhantomData as Mark
-use Rattle.bytes.proofs.Walks.{none, one, one_made}
+use Rattle.ghost_log.proofs.Walks.{none, one, one_made}
 use Rattle.ghost_log.specs.contracts.Log as Log
 use Rattle.ghost_log.specs.contracts.Log.and as F
 use Rattle.ghost_log.specs.contracts.Log.and.Key.{name as #self}

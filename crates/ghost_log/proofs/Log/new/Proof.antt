@@ -29,7 +29,7 @@ use denote.Triple.Spec.{Meets, triple_of}
 use denote.Triple.Table.{entered}
 use denote.Triple.Walked.{says, Stays, walk_of, ends_at, walk_Meets}
 use Rattle.std.specs.contracts.marker.PhantomData as Mark
-use Rattle.bytes.proofs.Walks.{none, one, one_made}
+use Rattle.ghost_log.proofs.Walks.{none, one, one_made}
 use Rattle.ghost_log.specs.contracts.Log as Log
 use Rattle.ghost_log.specs.contracts.Log.new as F
 use Rattle.ghost_log.specs.contracts.Log.new.Key.{name as #self}
