@@ -11,7 +11,9 @@ said=$(mktemp -d)
 trap 'kill $(jobs -p) 2> /dev/null || true; rm -rf "$said"' EXIT
 
 if [ "${1:-}" != --built ]; then
-    rt ci | tee "$said/rt_ci"
+    # A lane a processor, where there are 4 GB for each: a check here takes half of the memory that rt sets aside for it.
+    lanes=$(awk -v most="$(nproc)" '/^MemAvailable/ { fits = int($2 / 4000000); print fits < 1 ? 1 : fits < most ? fits : most }' /proc/meminfo)
+    RT_JOBS=${RT_JOBS:-$lanes} rt ci | tee "$said/rt_ci"
 fi
 beside="second_opinion tutorial"
 for script in $beside; do
