@@ -18,5 +18,8 @@ pub const MOST_ROWS: usize = 16_000_000;
 /// Requests that a permit tries in a phase.
 pub const MOST_TRIES: u32 = 1_000_000_000;
 
+/// Bids or items that a view shows.
+pub const MOST_SHOWN: usize = 10;
+
 /// Of an item that are put up or bought.
 pub const MOST_QUANTITY: u32 = 1_000_000;

@@ -8,7 +8,7 @@ use Rattle.auction_rows.specs.declared.rows.Entry.{Entry}
 use Rattle.auction_rows.specs.Requests.{same_object}
 use Rattle.auction_rows.specs.Choosing.{written_by, objects_written, heat}
 use Rattle.auction_rows.specs.contracts.ids.ObjectPartialEq.TheImpl.{eq-value as object_eq}
-use Rattle.auction_rows.proofs.PlainLemmas.{filter_map-one}
+use Rattle.auction_rows.proofs.HistoryLemmas.{filter_map-one}
 use Rattle.auction_rows.proofs.RequestLemmas.{eq_is_same, same_object-true}
 use Rattle.run_laws.proofs.CountLemmas.{how_many, how_many-is, count-append}
 use Rattle.auction_run.specs.Ranking.{heat_shown}

@@ -21,7 +21,7 @@ use Rattle.auction_rows.specs.declared.rows.Row.TheVariants as row
 use Rattle.auction_rows.specs.Book.{Book, as_item, as_bid, as_comment, as_buy, facts_of, item_entry}
 use Rattle.auction_rows.specs.Book as book
 use Rattle.auction_rows.specs.History.{commit, commit_of, after_entry, GoOn, IsBook}
-use Rattle.auction_rows.specs.Replies.{reply, row_of}
+use Rattle.auction_rows.specs.Replies.{answer, answer_unless, reply, row_of}
 use Rattle.auction_rows.specs.Requests.{item_of, shard_of}
 use Rattle.auction_rows.specs.Refusals.{number_refusal, item_refusal, refusal, facts_for, left_for}
 use Rattle.auction_rows.proofs.HistoryLemmas.{own_row, stored_by as commit_is, rows_go_on, book_parts}
@@ -30,10 +30,13 @@ use Rattle.item_shards.specs.declared.counting.StoreCounts.{StoreCounts}
 use Rattle.item_shards.specs.Values.{stock_in}
 use Rattle.item_shards.specs.declared.acts.Act.TheVariants.{AddItem, ListItem}
 use Rattle.item_shards.specs.declared.shard.Shard.{Shard}
-use Rattle.item_shards.specs.ShardContents.{with_room, LiesIn, IsSameShard}
+use Rattle.auction_rows.specs.declared.replies.Reply.{Reply}
+use Rattle.item_shards.specs.declared.serial.SerialAuction.{SerialAuction}
+use Rattle.item_shards.specs.Serial.{HoldsBook}
+use Rattle.item_shards.specs.ShardContents.{contents as contents_of, opening, shard_count, shard_number, with_room, LiesIn, IsSameShard}
 use Rattle.item_shards.specs.Contents.{Contents, after_acts}
 use Rattle.item_shards.specs.Standing.{ContentsStandsFor}
-use Rattle.item_shards.specs.Acting.{CanActOn, HasRoomFor}
+use Rattle.item_shards.specs.Acting.{CanActOn, CanWrite, HasRoomFor}
 use Rattle.item_shards.specs.Counting.{stored_by, worker_of, counted, AreFew}
 use Rattle.item_shards.specs.Limits.{IsWithinLimits, HasStars}
 use Rattle.item_shards.specs.Writing.{writes_of, writes_if, is_done_on, done_on}
@@ -230,6 +233,26 @@ has_own_room id others = (λ i. ((eq-eqb id.worker id.worker refl i) && (eq-eqb 
 -- what lies in a shard lies in the same one later
 pub lies_as : (old new : Shard) → IsSameShard old new → (object : Object) → LiesIn old object → LiesIn new object
 lies_as old new same object here = ap (shard_of object) same.shards ∙ here ∙ sym same.number
+
+-- each act that writes the row at hand can be done on a shard
+pub written : (shard : Shard) (any one : Row) → any ≡ one → CanWrite shard any
+    → AllByRecursion (CanActOn (opening shard) (shard_number shard) (shard_count shard) (λ id. true) (contents_of shard)) (writes_of one)
+written shard any one is can =
+    subst (λ r. AllByRecursion (CanActOn (opening shard) (shard_number shard) (shard_count shard) (λ id. true) (contents_of shard)) (writes_of r)) is (can (λ id. true) (λ id e here. refl))
+
+-- ---- replies
+
+abbrev pub none_counted : StoreCounts
+none_counted = record { items = 0; bids = 0; comments = 0; buys = 0 }
+
+-- a worker's counts are those of the book
+pub counted_in : (auction : SerialAuction) (b : Book) (worker : ℕ) → HoldsBook auction b → worker < 16 → get_or auction.stored worker none_counted ≡ stored_by b worker
+counted_in auction b worker holds below = get_or_from_slice_get auction.stored worker (stored_by b worker) none_counted (holds.counts worker below)
+
+-- the reply, where the answer is the book's
+pub reply_is : (start : Opening) (b : Book) (worker : ℕ) (request : Request) (told result : Reply) → result ≡ answer_unless (refusal start b request) told
+    → told ≡ answer b worker request → result ≡ reply start b worker request
+reply_is start b worker request told result is same = is ∙ ap (answer_unless (refusal start b request)) same
 
 -- ---- the empty book
 

@@ -4,6 +4,7 @@ use Rattle.auction_rows.specs.declared.limits.TheConstants.{MOST_ROWS}
 use Rattle.auction_rows.specs.declared.rows.Row.{Row}
 use Rattle.auction_rows.specs.declared.rows.Row.TheVariants as row
 use Rattle.auction_rows.specs.Book.{Book, items_stored, bids_stored, comments_stored, buys_stored}
+pub use Rattle.auction_rows.specs.Book.{worker_of}
 use Rattle.item_shards.specs.declared.counting.StoreCounts.{StoreCounts}
 
 -- how many stores of each kind of a worker stand in a book
@@ -14,13 +15,6 @@ stored_by book worker = record {
   comments = comments_stored book worker;
   buys = buys_stored book worker;
 }
-
--- the worker whose store a row is
-abbrev pub worker_of : Row → ℕ
-worker_of (row.Item r) = r.id.worker
-worker_of (row.Bid r) = r.id.worker
-worker_of (row.Comment r) = r.id.worker
-worker_of (row.Buy r) = r.id.worker
 
 -- counts with one more store of the row's kind
 abbrev pub counted : Row → StoreCounts → StoreCounts

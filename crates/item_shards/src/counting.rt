@@ -1,12 +1,11 @@
 //! How many stores of each kind a worker has.
 ghost use Rattle.std.specs.Prelude.{◌≡◌};
-ghost use Rattle.item_shards.specs.Counting.{worker_of};
 ghost use Rattle.item_shards.specs.Limits.{HasStars};
 
 use auction_rows::Row;
 
 /// How many stores of each kind a worker has had accepted.
-#[derive(Clone, Copy, PartialEq, Eq, Debug)]
+#[derive(Clone, Copy)]
 pub(crate) struct StoreCounts {
     pub(crate) items: u32,
     pub(crate) bids: u32,
@@ -28,18 +27,6 @@ impl StoreCounts {
             Row::Comment(_) => self.comments += 1,
             Row::Buy(_) => self.buys += 1,
         }
-    }
-}
-
-// The worker whose store a row is.
-pub(crate) fn worker_of(row: &Row) -> u32
-    ensures { result ≡ worker_of row.now }
-{
-    match row {
-        Row::Item(row) => row.id.worker,
-        Row::Bid(row) => row.id.worker,
-        Row::Comment(row) => row.id.worker,
-        Row::Buy(row) => row.id.worker,
     }
 }
 

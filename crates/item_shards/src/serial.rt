@@ -4,7 +4,7 @@ ghost use Rattle.auction_rows.specs.declared.ids.Object.{Object as Thing};
 ghost use Rattle.item_shards.specs.ShardContents.{LiesIn};
 
 use crate::answering::refusal_with;
-use crate::counting::{StoreCounts, row_has_stars, worker_of};
+use crate::counting::{StoreCounts, row_has_stars};
 use crate::shard::Shard;
 use auction_rows::{
     BidId, BuyId, CommentId, ItemId, MOST_WORKERS, Opening, Refusal, Reply, Request, Row, item_of,
@@ -88,24 +88,23 @@ impl SerialAuction {
             result ≡ reply (opening_of self.now) book worker request }
     {
         let stored = self.stored[worker as usize];
-        // A request is large, and lent here so that each call copies it once.
         let request = &request;
         match *request {
             Request::StoreItem { .. } => {
                 let serial = stored.items;
-                self.unless_refused(*request, Reply::ItemStored(ItemId { worker, serial }))
+                self.unless_refused(request, Reply::ItemStored(ItemId { worker, serial }))
             }
             Request::StoreBid { .. } => {
                 let serial = stored.bids;
-                self.unless_refused(*request, Reply::BidStored(BidId { worker, serial }))
+                self.unless_refused(request, Reply::BidStored(BidId { worker, serial }))
             }
             Request::StoreComment { .. } => {
                 let serial = stored.comments;
-                self.unless_refused(*request, Reply::CommentStored(CommentId { worker, serial }))
+                self.unless_refused(request, Reply::CommentStored(CommentId { worker, serial }))
             }
             Request::BuyNow { .. } => {
                 let serial = stored.buys;
-                self.unless_refused(*request, Reply::Bought(BuyId { worker, serial }))
+                self.unless_refused(request, Reply::Bought(BuyId { worker, serial }))
             }
             Request::ViewItem { item } => self.shard.view_item(item),
             Request::ViewBids { item } => self.shard.view_bids(item),
@@ -115,9 +114,9 @@ impl SerialAuction {
     }
 
     // The refusal of a request, or else the reply.
-    fn unless_refused(&self, request: Request, reply: Reply) -> Reply
+    fn unless_refused(&self, request: &Request, reply: Reply) -> Reply
         ensures { (book : Book) → HoldsBook self.now book →
-            result ≡ answer_unless (refusal (opening_of self.now) book request) reply }
+            result ≡ answer_unless (refusal (opening_of self.now) book request.now) reply }
     {
         match self.refusal(request) {
             Some(reason) => Reply::Refused(reason),
@@ -125,11 +124,10 @@ impl SerialAuction {
         }
     }
 
-    fn refusal(&self, request: Request) -> Option<Refusal>
+    fn refusal(&self, request: &Request) -> Option<Refusal>
         ensures { (book : Book) → HoldsBook self.now book →
-            result ≡ refusal (opening_of self.now) book request }
+            result ≡ refusal (opening_of self.now) book request.now }
     {
-        let request = &request;
         if let Some(reason) = number_refusal(self.shard.parts.opening, *request) {
             return Some(reason);
         }
@@ -146,7 +144,7 @@ impl SerialAuction {
         ensures opening { opening_of self.new ≡ opening_of self.old }
     {
         self.shard.write(row)?;
-        let worker = worker_of(row) as usize;
+        let worker = row.worker() as usize;
         let mut counts = self.stored[worker];
         counts.count(row);
         self.stored[worker] = counts;

@@ -14,7 +14,7 @@ use Rattle.auction_rows.specs.declared.rows.Row.{Row}
 use Rattle.auction_rows.specs.declared.rows.Row.TheVariants as row
 use Rattle.auction_rows.specs.Book.{Book, same_item, bid_entry, item_entry, bid_entries, item_entries}
 use Rattle.auction_rows.specs.History.{row_of_entry, rows_of}
-use Rattle.auction_rows.specs.Plain.{row_bid, row_listing, row_stars}
+use Rattle.auction_rows.specs.RowParts.{row_bid, row_listing, row_stars}
 use Rattle.item_shards.specs.Contents.{with_facts, bid_on, bought_of, comment_about, item_listed}
 use Rattle.item_shards.specs.SliceLaws.{item_laws, item_values, user_laws, category_laws, category_values}
 use Rattle.item_shards.specs.Slices.{with_bids, with_comments, with_items}

@@ -1,5 +1,6 @@
 pub mod JournalLemmas
 pub mod OneProof
+pub mod KeptLemmas
 pub mod GrowthLemmas
 pub mod ReadLemmas
 pub mod OrderedLemmas

@@ -1,6 +1,7 @@
 -- What is left of journals while their entries are told in one order.
 use Rattle.std.specs.Prelude.{◌≡◌, Bool, ℕ, ◌<◌, ◌≤◌, List, [], ◌∷◌, ◌++◌, Option, None, Some, map, take, drop, length, slice_get, slice_index_or, unwrap_or, IfSome, nat_lt, if◌then◌else◌}
 use Rattle.std.specs.List.{flat_map}
+use Rattle.auction_rows.specs.declared.limits.TheConstants.{MOST_WORKERS}
 use Rattle.auction_rows.specs.declared.replies.Refusal.TheVariants.{NoSuchItem}
 use Rattle.auction_rows.specs.declared.replies.Reply.{Reply}
 use Rattle.auction_rows.specs.declared.replies.Reply.TheVariants.{Refused}
@@ -42,8 +43,8 @@ pub record IsLeastOf (numbers : List (Option ℕ)) (i : ℕ) : Type 0 where
 -- what is kept while the journals of a phase are merged: the places in them, and the numbers of the entries there
 pub record AreMerging (journals : List JournalView) (places : List ℕ) (numbers : List (Option ℕ)) : Type 0 where
   pub phase : ArePhase journals
-  pub each_place : length places ≡ 16
-  pub each_number : length numbers ≡ 16
+  pub each_place : length places ≡ MOST_WORKERS
+  pub each_number : length numbers ≡ MOST_WORKERS
   pub are_next : take (length journals) numbers ≡ map first_number (left_of journals places)
 
 -- the entries of a worker in phases, from a place on in the first of them

@@ -1,5 +1,6 @@
 -- What a journal keeps beside its heads, and what a head says with it.
 use Rattle.std.specs.Prelude.{◌≡◌, ℕ, pos, ◌+◌, ◌-◌, ◌<◌, ◌≤◌, List, [], ◌∷◌, ◌++◌, ⊤, None, length, take, drop, slice_index_or}
+use Rattle.auction_rows.specs.declared.limits.TheConstants.{MOST_SHOWN}
 use Rattle.auction_rows.specs.declared.requests.Facts.{Facts}
 use Rattle.auction_rows.specs.declared.requests.Request.{Request}
 use Rattle.auction_rows.specs.declared.requests.Request.TheVariants.{StoreItem, StoreBid, StoreComment, BuyNow, ViewItem, ViewBids, ViewCategory, ViewUser}
@@ -157,8 +158,8 @@ HasReply items users bids latest (told.BidStored id) = ⊤
 HasReply items users bids latest (told.CommentStored id) = ⊤
 HasReply items users bids latest (told.Bought id) = ⊤
 HasReply items users bids latest (told.ItemSeen place) = place < length items
-HasReply items users bids latest (told.BidsSeen place count) = (count ≤ 10) × (place + count ≤ length bids)
-HasReply items users bids latest (told.CategorySeen place count) = (count ≤ 10) × (place + count ≤ length latest)
+HasReply items users bids latest (told.BidsSeen place count) = (count ≤ MOST_SHOWN) × (place + count ≤ length bids)
+HasReply items users bids latest (told.CategorySeen place count) = (count ≤ MOST_SHOWN) × (place + count ≤ length latest)
 HasReply items users bids latest (told.UserSeen place) = place < length users
 HasReply items users bids latest (told.Refused reason) = ⊤
 

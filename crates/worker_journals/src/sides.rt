@@ -5,15 +5,12 @@ ghost use Rattle.worker_journals.specs.Sides.{HasRoom, SaysReply, SaysRequest, f
 
 use crate::answer::{Answer, Told};
 use crate::heads::{ItemSeen, ShortReply, ShortRequest, UserSeen};
-use auction_rows::{BidShown, Facts, ItemShown, Object, Reply, Request, Ten};
+use auction_rows::{BidShown, Facts, ItemShown, MOST_SHOWN, Object, Reply, Request, Ten};
 use std::alloc::{AllocError, Global};
 use std::marker::Model;
 
 // Past so many commits the places of bids and items are no numbers of 32 bits.
 const MOST: usize = 400_000_000;
-
-// How many bids or items a view shows at most.
-const SHOWN: usize = 10;
 
 /// The facts that the requests of a journal store, and what its views show, with room for those of `left` commits more.
 #[derive(Drop)]
@@ -28,6 +25,7 @@ pub(crate) struct Sides {
 
 impl Model for Sides {
     ghost use Rattle.std.specs.Prelude.{◌*◌, vec_len, vec_capacity};
+    ghost use Rattle.auction_rows.specs.declared.limits.TheConstants.{MOST_SHOWN};
     ghost use Rattle.worker_journals.specs.Sides.{SideLists, HasRoom};
 
     ghost Value = { SideLists };
@@ -37,8 +35,8 @@ impl Model for Sides {
     ghost invariant = { λ s. HasRoom s.left (vec_len s.facts) (vec_capacity s.facts)
         × HasRoom s.left (vec_len s.items) (vec_capacity s.items)
         × HasRoom s.left (vec_len s.users) (vec_capacity s.users)
-        × HasRoom (10 * s.left) (vec_len s.bids) (vec_capacity s.bids)
-        × HasRoom (10 * s.left) (vec_len s.latest) (vec_capacity s.latest) };
+        × HasRoom (MOST_SHOWN * s.left) (vec_len s.bids) (vec_capacity s.bids)
+        × HasRoom (MOST_SHOWN * s.left) (vec_len s.latest) (vec_capacity s.latest) };
 }
 
 impl Sides {
@@ -57,8 +55,8 @@ impl Sides {
             facts: Vec::with_capacity(alloc, room)?,
             items: Vec::with_capacity(alloc, room)?,
             users: Vec::with_capacity(alloc, room)?,
-            bids: Vec::with_capacity(alloc, room * SHOWN)?,
-            latest: Vec::with_capacity(alloc, room * SHOWN)?,
+            bids: Vec::with_capacity(alloc, room * MOST_SHOWN)?,
+            latest: Vec::with_capacity(alloc, room * MOST_SHOWN)?,
             left: room,
         })
     }
@@ -95,15 +93,20 @@ impl Sides {
         ensures reply { SaysReply self.new.items self.new.users self.new.bids self.new.latest result.1 reply.now }
     {
         let short_request = keep_request(&mut self.facts, request);
-        let short_reply = keep_answer(
-            &mut self.items,
-            &mut self.users,
-            &mut self.bids,
-            &mut self.latest,
-            reply,
-        );
         self.left -= 1;
-        (short_request, short_reply)
+        match reply.told {
+            Told::Store(store) => (short_request, ShortReply::of_store(store)),
+            Told::Whole(whole) => {
+                let short_reply = keep_reply(
+                    &mut self.items,
+                    &mut self.users,
+                    &mut self.bids,
+                    &mut self.latest,
+                    whole,
+                );
+                (short_request, short_reply)
+            }
+        }
     }
 
     /// The request of a head of this journal.
@@ -208,7 +211,7 @@ fn keep_one<T>(list: &mut Vec<T>, value: T) -> u32
 
 // Puts the values that a view shows at the end of a list, and gives the place of the first. It takes no memory.
 fn keep_all<T: Copy>(list: &mut Vec<T>, shown: &Ten<T>) -> u32
-    requires { HasRoom 10 (vec_len list.old) (vec_capacity list.old) }
+    requires { HasRoom MOST_SHOWN (vec_len list.old) (vec_capacity list.old) }
     ensures place { result ≡ vec_len list.old }
     ensures kept { list.new.items ≡ list.old.items ++ shown.now }
     ensures capacity { vec_capacity list.new ≡ vec_capacity list.old }
@@ -222,7 +225,7 @@ fn keep_all<T: Copy>(list: &mut Vec<T>, shown: &Ten<T>) -> u32
 
 // The values of a list from a place on, as a view shows them.
 fn part_of<T: Copy>(list: &[T], place: u32, count: u8) -> Ten<T>
-    requires few { count ≤ 10 }
+    requires few { count ≤ MOST_SHOWN }
     requires within { place + count ≤ length list.now }
     ensures { result ≡ take count (drop place list.now) }
 {
@@ -314,8 +317,8 @@ fn keep_reply(
 ) -> ShortReply
     requires items { HasRoom 1 (vec_len items.old) (vec_capacity items.old) }
     requires users { HasRoom 1 (vec_len users.old) (vec_capacity users.old) }
-    requires bids { HasRoom 10 (vec_len bids.old) (vec_capacity bids.old) }
-    requires latest { HasRoom 10 (vec_len latest.old) (vec_capacity latest.old) }
+    requires bids { HasRoom MOST_SHOWN (vec_len bids.old) (vec_capacity bids.old) }
+    requires latest { HasRoom MOST_SHOWN (vec_len latest.old) (vec_capacity latest.old) }
     ensures items { items.new.items ≡ items.old.items ++ items_in reply.now }
     ensures users { users.new.items ≡ users.old.items ++ users_in reply.now }
     ensures bids { bids.new.items ≡ bids.old.items ++ bids_in reply.now }
@@ -341,32 +344,6 @@ fn keep_reply(
             ShortReply::UserSeen(keep_one(users, UserSeen { rating, comments }))
         }
         Reply::Refused(reason) => ShortReply::Refused(reason),
-    }
-}
-
-// The same of the reply that a commit is told of.
-fn keep_answer(
-    items: &mut Vec<ItemSeen>,
-    users: &mut Vec<UserSeen>,
-    bids: &mut Vec<BidShown>,
-    latest: &mut Vec<ItemShown>,
-    reply: &Answer<'_>,
-) -> ShortReply
-    requires items { HasRoom 1 (vec_len items.old) (vec_capacity items.old) }
-    requires users { HasRoom 1 (vec_len users.old) (vec_capacity users.old) }
-    requires bids { HasRoom 10 (vec_len bids.old) (vec_capacity bids.old) }
-    requires latest { HasRoom 10 (vec_len latest.old) (vec_capacity latest.old) }
-    ensures items { items.new.items ≡ items.old.items ++ items_in reply.now }
-    ensures users { users.new.items ≡ users.old.items ++ users_in reply.now }
-    ensures bids { bids.new.items ≡ bids.old.items ++ bids_in reply.now }
-    ensures latest { latest.new.items ≡ latest.old.items ++ latest_in reply.now }
-    ensures says { SaysReply items.new.items users.new.items bids.new.items latest.new.items result reply.now }
-    ensures capacities { (vec_capacity items.new ≡ vec_capacity items.old) × (vec_capacity users.new ≡ vec_capacity users.old)
-        × (vec_capacity bids.new ≡ vec_capacity bids.old) × (vec_capacity latest.new ≡ vec_capacity latest.old) }
-{
-    match reply.told {
-        Told::Store(reply) => ShortReply::of_store(reply),
-        Told::Whole(reply) => keep_reply(items, users, bids, latest, reply),
     }
 }
 

@@ -1,8 +1,9 @@
-//! Histories of whole runs, on threads and in turn, beside the plain program. Worked examples of runs stand in tests/worked.
+//! Histories of whole runs, on threads and in turn, beside the auction of one thread. Worked examples of runs stand in tests/worked.
 use crate::runs::testing::{LOOK, Threaded, buy_one, item, run_of};
 use crate::testing::assert_same;
-use auction_rows::{BuyId, Reply, Request, Row, Stars, reply_to, row_to_add};
+use auction_rows::{BuyId, Reply, Request, Stars, row_of};
 use auction_run::{FreeGate, Gate};
+use item_shards::{Opened, OpeningBook};
 use library_tests::testing::{FIRST, OPENING, bid, item_seen, purchase, put_up, vases};
 use std::alloc::Global;
 use std::sync::Wait;
@@ -21,22 +22,19 @@ fn comment(author: u32, stars: i64) -> Result<Request, Fail> {
     })
 }
 
-// Whether each entry has the reply that the plain program gives from the rows of the entries before it.
+// Whether the rows of a history are those that the auction of one thread stores for its accepted stores, in its order.
 fn is_replayed(alloc: Global, history: &History) -> Result<bool, Fail> {
-    let mut rows: Vec<Row> = Vec::new(alloc);
+    let mut accepted = Vec::new(alloc);
+    let mut rows = Vec::new(alloc);
     for entry in history.iter().map(|entry| entry.to_entry()) {
-        if rows.len() >= 1_000 {
-            return Err(Fail::from("more than 1,000 rows"));
-        }
-        let reply = reply_to(&rows, OPENING, entry.worker, entry.request);
-        if reply != entry.reply {
-            return Ok(false);
-        }
-        if let Some(row) = row_to_add(&rows, OPENING, entry.worker, entry.request) {
+        let (worker, request) = (entry.worker, entry.request);
+        if let Some(row) = row_of(worker, request, entry.reply) {
+            accepted.push(Opened { worker, request })?;
             rows.push(row)?;
         }
     }
-    Ok(true)
+    let book = OpeningBook::new(alloc, OPENING, accepted)?;
+    Ok(book.rows() == rows.as_slice())
 }
 
 // How many entries a run with these quotas has, all of them replayed: None where some are not.
@@ -64,7 +62,7 @@ fn scripts() -> Result<[[Request; 6]; 3], Fail> {
 }
 
 #[test]
-fn histories_replay_on_the_plain_program(rt: HostRuntime) -> Result<(), Fail> {
+fn histories_replay_on_the_auction_of_one_thread(rt: HostRuntime) -> Result<(), Fail> {
     let alloc = rt.alloc();
     let own = scripts()?;
     let scripts = [own[0].as_slice(), own[1].as_slice(), own[2].as_slice()];

@@ -7,7 +7,7 @@ use Rattle.item_shards.proofs.serial.SerialAuction.refusal.Goals as goal
 
 pub returns : goal.returns
 returns c = λ b holds.
-    let request = c.args.request in
+    let request = c.args.request.now in
     let start = opening_of c.args.self.now in
     let id = c.in_ok-item.item in
     let none : number_refusal start request ≡ None = search rules in

@@ -37,7 +37,7 @@ count-requires c =
     let w = worker_of c.args.row.now in
     let old = c.args.self.now.stored in
     let is : get_or old w _ ≡ stored_by b w = get_or_from_slice_get old w (stored_by b w) _ (c.requires.holds.counts w c.requires.worker) in
-    subst AreFew (sym (ap (λ v. get_or old v _) c.worker_of-worker.ensures ∙ is)) (stored_few b w c.requires.not_full)
+    subst AreFew (sym (ap (λ v. get_or old v _) c.worker-worker.ensures ∙ is)) (stored_few b w c.requires.not_full)
 
 pub returns-clause-stored : goal.returns-clause-stored
 returns-clause-stored c = λ b holds not_full.
@@ -49,7 +49,7 @@ returns-clause-stored c = λ b holds not_full.
       records = stands_moved shard c.write.new.self (after_acts (contents shard) (writes_of r)) (b ++ r ∷ []) [] c.write.ensures.same c.in_ok-write.ensures.written
           (stands_after start shard.parts.value.number shard.parts.value.shards (λ id. true) (contents shard) c.args.self.now.has_all b r holds.records);
       counts = λ w within.
-          (λ i. slice_get (set old (c.worker_of-worker.ensures i) ((c.count.ensures ∙ ap (λ v. counted r (get_or old v none)) c.worker_of-worker.ensures) i)) w)
+          (λ i. slice_get (set old (c.worker-worker.ensures i) ((c.count.ensures ∙ ap (λ v. counted r (get_or old v none)) c.worker-worker.ensures) i)) w)
           ∙ counts_next b r old none holds.counts c.requires.worker w within;
       limits = limits_next b r holds.limits not_full c.requires.stars;
     }

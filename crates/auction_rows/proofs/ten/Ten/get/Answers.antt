@@ -1,0 +1,13 @@
+use Rattle.std.proofs.Common.{arith, ◌<◌, ◌≤◌, length}
+use Rattle.auction_rows.proofs.TenPlaces.{get-packed, get-past}
+use Rattle.auction_rows.proofs.ten.Ten.get.Goals as goal
+
+pub returns-then-place-len : goal.returns-then-place-len
+returns-then-place-len g c =
+    let within : c.args.place < length c.args.self.now = omega (arith, c.len.ensures.length, c.if-place-len.true) in
+    get-packed c.self.inside.places c.args.self.now c.args.place c.index-self-place.result c.self.invariant.0 c.self.view_is within
+
+pub returns-else-place-len : goal.returns-else-place-len
+returns-else-place-len g c =
+    let past : length c.args.self.now ≤ c.args.place = omega (arith, c.len.ensures.length, c.if-place-len.false) in
+    get-past c.args.self.now c.args.place past

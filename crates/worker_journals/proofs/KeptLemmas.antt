@@ -1,0 +1,55 @@
+-- Loops that put the values of a list at the end of another one.
+use Rattle.std.proofs.Common.{◌≡◌, ℕ, ◌+◌, ◌-◌, ◌<◌, ◌≤◌, List, [], ◌∷◌, ◌++◌, Some, length, take, take_all, drop, get_or, slice_get, arith, ap, subst, sym, ◌∙◌, append_assoc}
+use Rattle.std.proofs.lemmas.List.{length-take, take_more}
+use Rattle.std.proofs.lemmas.Option.{get_or_from_slice_get}
+use Rattle.auction_rows.specs.declared.replies.BidShown.{BidShown}
+use Rattle.auction_rows.specs.declared.replies.ItemShown.{ItemShown}
+use Rattle.auction_rows.specs.declared.replies.Reply.{Reply}
+use Rattle.worker_journals.specs.declared.heads.ShortReply.{ShortReply}
+use Rattle.worker_journals.specs.declared.heads.ItemSeen.{ItemSeen as SeenItem}
+use Rattle.worker_journals.specs.declared.heads.UserSeen.{UserSeen as SeenUser}
+use Rattle.worker_journals.specs.Sides.{SaysReply}
+
+module _ {X : Type 0} (start shown : List X) (place : ℕ) where
+  -- one more value is at the end
+  pub one_more : (before after : List X) (value : X) → place < length shown → slice_get shown place ≡ Some value →
+      before ≡ start ++ take place shown → after ≡ before ++ value ∷ [] → after ≡ start ++ take (place + 1) shown
+  one_more before after value within there so_far pushed =
+      let more : take (place + 1) shown ≡ take place shown ++ value ∷ [] =
+      take_more shown place value within ∙ ap (λ v. take place shown ++ v ∷ []) (get_or_from_slice_get shown place value value there) in
+      pushed
+      ∙ ap (λ ys. ys ++ value ∷ []) so_far
+      ∙ append_assoc start (take place shown) (value ∷ [])
+      ∙ ap (λ ys. start ++ ys) (sym more)
+
+  -- all values are
+  pub all_there : (list : List X) → length shown ≤ place → list ≡ start ++ take place shown → list ≡ start ++ shown
+  all_there list past so_far = so_far ∙ ap (λ ys. start ++ ys) (take_all place shown past)
+
+-- The same of a loop that begins with an empty list.
+pub one_read : {X : Type 0} (all : List X) (place : ℕ) (before after : List X) (value : X) → place < length all → value ≡ get_or all place value →
+    before ≡ take place all → after ≡ before ++ value ∷ [] → after ≡ take (place + 1) all
+one_read all place before after value within there so_far pushed =
+    pushed
+    ∙ ap (λ ys. ys ++ value ∷ []) so_far
+    ∙ ap (λ v. take place all ++ v ∷ []) there
+    ∙ sym (take_more all place value within)
+
+-- and of the part of a list from a place on
+pub part_read : {X : Type 0} (list : List X) (start count place : ℕ) (read : List X) → (let part = take (start + count - start) (drop start list) in
+    length part ≤ place → read ≡ take place part → read ≡ take count (drop start list))
+part_read list start count place read past so_far =
+    so_far
+    ∙ take_all place (take (start + count - start) (drop start list)) past
+    ∙ ap (λ n. take n (drop start list)) (omega arith)
+
+pub part_left : {X : Type 0} (list : List X) (start count place : ℕ) (read : List X) → (let part = take (start + count - start) (drop start list) in
+    place < length part → read ≡ take place part → count ≤ 10 → length read < 10)
+part_left list start count place read within so_far few =
+    let part = take (start + count - start) (drop start list) in
+    omega (arith, ap length so_far, length-take place part, length-take (start + count - start) (drop start list))
+
+-- What says a reply says an equal one.
+pub said_of : (items : List SeenItem) (users : List SeenUser) (bids : List BidShown) (latest : List ItemShown) (short : ShortReply) (one other : Reply) → one ≡ other →
+    SaysReply items users bids latest short one → SaysReply items users bids latest short other
+said_of items users bids latest short one other same says = subst (λ (reply : Reply). SaysReply items users bids latest short reply) same says
