@@ -1,14 +1,14 @@
 -- The acts of an entry can be done.
-use Rattle.std.proofs.Common.{◌≡◌, ℕ, ◌+◌, ◌-◌, ◌*◌, ◌<◌, ◌≤◌, ◌^◌, ◌==◌, ℤ, ◌+ℤ◌, FitsSigned, Bool, true, false, ◌||◌, cond, List, [], ◌∷◌, ◌++◌, Option, Some, None, IsTrue, option_to_list, length, unsigned_abs, Contains, refl, sym, ap, subst, ◌∙◌, arith}
+use Rattle.std.proofs.Common.{◌≡◌, ℕ, ◌+◌, ◌-◌, ◌*◌, ◌<◌, ◌≤◌, ◌^◌, ◌==◌, ℤ, ◌+ℤ◌, FitsSigned, Bool, true, false, cond, List, [], ◌++◌, Option, Some, None, IsTrue, option_to_list, length, unsigned_abs, Contains, refl, sym, ap, subst, ◌∙◌, arith}
 use Rattle.std.specs.Prelude.{is_some, is_none, option_map, unwrap_or, nat_le, nat_lt, IsSome}
 use Rattle.std.specs.Int.{w64}
 use Rattle.std.specs.List.{AllByRecursion}
-use Rattle.std.specs.Option.{option_or}
-use Rattle.std.proofs.lemmas.Bool.{false≢true, leb-false, ltb-false}
+use Rattle.std.proofs.lemmas.Bool.{false≢true, leb-false, ltb-false, or_parts}
 use Rattle.std.proofs.lemmas.Int.{ints, fits_signed_from_abs}
 use Rattle.std.proofs.lemmas.List.{length-append}
 use Rattle.phase_laws.specs.Replay.{SawInTurn}
 use Rattle.phase_laws.proofs.MemberLemmas.{all-member}
+use Rattle.phase_laws.proofs.ListLemmas.{all-append, all-left, all-right}
 use Rattle.auction_rows.specs.declared.ids.ItemId.{ItemId}
 use Rattle.auction_rows.specs.declared.ids.Object.{Object}
 use Rattle.auction_rows.specs.declared.ids.Object.TheVariants.{Item, User, Category}
@@ -17,17 +17,16 @@ use Rattle.auction_rows.specs.declared.requests.Facts.{Facts}
 use Rattle.auction_rows.specs.declared.requests.Request.{Request}
 use Rattle.auction_rows.specs.declared.requests.Request.TheVariants.{StoreItem, StoreBid, StoreComment, BuyNow, ViewItem, ViewBids, ViewCategory, ViewUser}
 use Rattle.auction_rows.specs.declared.replies.Refusal.{Refusal}
-use Rattle.auction_rows.specs.declared.replies.Refusal.TheVariants.{NoSuchUser, NoSuchCategory}
 use Rattle.auction_rows.specs.declared.replies.Reply.{Reply}
 use Rattle.auction_rows.specs.declared.replies.Reply.TheVariants.{ItemStored, Refused}
 use Rattle.auction_rows.specs.declared.rows.Row.{Row}
 use Rattle.auction_rows.specs.declared.rows.Entry.{Entry}
 use Rattle.auction_rows.specs.Book.{Book, facts_of, left as left_of, bought}
 use Rattle.auction_rows.specs.History.{IsRight, after_entry, row_of_entry}
-use Rattle.auction_rows.specs.Refusals.{of_stored, holds_by_number, number_refusal, item_refusal, refusal, facts_for, left_for}
+use Rattle.auction_rows.specs.Refusals.{of_stored, number_refusal, refusal}
 use Rattle.auction_rows.specs.Replies.{answer, answer_unless, reply, row_of, row_if}
 use Rattle.auction_rows.specs.Requests.{shard_of}
-use Rattle.auction_rows.proofs.RefusalLemmas.{refusal-split, enough}
+use Rattle.auction_rows.proofs.RefusalLemmas.{enough, in_range, not_by_number, is_stored}
 use Rattle.item_shards.specs.declared.acts.Act.{Act}
 use Rattle.item_shards.specs.Values.{Value, value, HasLeft}
 use Rattle.item_shards.specs.Contents.{Contents, after_act}
@@ -38,37 +37,12 @@ use Rattle.item_shards.specs.Limits.{AreStars, HasStars, IsWithinLimits}
 use Rattle.item_shards.proofs.StandingLemmas.{stands_at, lies_here}
 use Rattle.item_shards.proofs.CountLemmas.{bids_at_most, comments_at_most, rating_at_most}
 use Rattle.item_shards.proofs.TurnLemmas.{owed_in_turn}
-
--- what the opening doesn't refuse names users and categories that there are
-no_reason : (a b : Bool) (x y : Refusal) → cond a (Some x) (cond b (Some y) None) ≡ None → (a ≡ false) × (b ≡ false)
-no_reason true b x y e = absurd (cc)
-no_reason false true x y e = absurd (cc)
-no_reason false false x y e = (refl, refl)
-
-by_number : (opening : Opening) (request : Request) → number_refusal opening request ≡ None
-    → (holds_by_number opening request NoSuchUser ≡ false) × (holds_by_number opening request NoSuchCategory ≡ false)
-by_number opening request e = no_reason (holds_by_number opening request NoSuchUser) (holds_by_number opening request NoSuchCategory) NoSuchUser NoSuchCategory e
-
-none_first : (o p : Option Refusal) → option_or o p ≡ None → o ≡ None
-none_first None p e = refl
-none_first (Some reason) p e = absurd (cc)
-
-not_by_number : (opening : Opening) (book : Book) (request : Request) → refusal opening book request ≡ None → number_refusal opening request ≡ None
-not_by_number opening book request e =
-    none_first (number_refusal opening request) (item_refusal request (facts_for book request) (left_for book request)) (sym (refusal-split opening book request) ∙ e)
-
-none_of : (a b : Bool) → (a || b) ≡ false → (a ≡ false) × (b ≡ false)
-none_of true b e = absurd (false≢true (sym e))
-none_of false b e = (refl, e)
+pub use Rattle.phase_laws.proofs.ListLemmas.{all-append as all_both}
 
 below_of : (n m : ℕ) → nat_le n m ≡ false → m < n
 below_of n m e = leb-false n m e
 
--- an item that a request needs and isn't refused for is stored, and as many are left as are bought
-is_stored : (o : Option Facts) → is_none o ≡ false → IsSome o
-is_stored None e = absurd (false≢true (sym e))
-is_stored (Some facts) e = refl
-
+-- where a purchase isn't refused, as many are left as are bought
 enough_left : (book : Book) (item : ItemId) (quantity : ℕ) → is_none (facts_of book item) ≡ false → of_stored (facts_of book item) (λ facts. nat_lt (left_of book item) quantity) ≡ false
     → HasLeft (value book (Item item)) quantity
 enough_left book item quantity stored few = at (facts_of book item) refl stored few where
@@ -84,19 +58,6 @@ enough_left book item quantity stored few = at (facts_of book item) refl stored 
 
 rating_fits : (z stars : ℤ) (n : ℕ) → unsigned_abs z ≤ 5 * n → n ≤ 16000000 → AreStars stars → FitsSigned w64 (z +ℤ stars)
 rating_fits z stars n near few are = fits_signed_from_abs w64 (z +ℤ stars) (omega (arith, ints))
-
--- of the rows of a book within limits
-all_first : {A : Type 0} (P : A → Type 0) (xs ys : List A) → AllByRecursion P (xs ++ ys) → AllByRecursion P xs
-all_first P [] ys h = tt
-all_first P (x ∷ xs) ys h = (h.0, all_first P xs ys h.1)
-
-all_last : {A : Type 0} (P : A → Type 0) (xs ys : List A) → AllByRecursion P (xs ++ ys) → AllByRecursion P ys
-all_last P [] ys h = h
-all_last P (x ∷ xs) ys h = all_last P xs ys h.1
-
-pub all_both : {A : Type 0} (P : A → Type 0) (xs ys : List A) → AllByRecursion P xs → AllByRecursion P ys → AllByRecursion P (xs ++ ys)
-all_both P [] ys h k = k
-all_both P (x ∷ xs) ys h k = (h.0, all_both P xs ys h.1 k)
 
 module _ (opening : Opening) (number shards : ℕ) (rooms : ItemId → Bool) (contents : Contents) (book : Book) (hot : List Object)
     (stands : ContentsStandsFor number shards contents book hot) where
@@ -138,8 +99,8 @@ module _ (opening : Opening) (number shards : ℕ) (rooms : ItemId → Bool) (co
         row_if_can (worker == worker) _ own (λ _. (λ h. (lies (Item _) h, room _ refl (lies (Item _) h)), (λ h. (lies (Category facts.category) h, known), tt))) where
           known : facts.category < opening.categories
           known =
-              let none = by_number opening (StoreItem facts time) (not_by_number opening book (StoreItem facts time) e) in
-              leb-false opening.categories facts.category (none_of (nat_le opening.categories facts.category) false none.1).0
+              let none = in_range opening (StoreItem facts time) (not_by_number opening book (StoreItem facts time) e) in
+              leb-false opening.categories facts.category (or_parts (nat_le opening.categories facts.category) false none.1).0
     accepted_can (StoreBid bidder item amount time) e room own = row_if_can (worker == worker) _ own (λ _. (λ h. (lies (Item item) h, stored h, fits h), tt)) where
       stored : here (Item item) ≡ true → IsSome (contents (Item item)).facts
       stored h = subst (λ (v : Value). IsSome v.facts) (sym (at_object (Item item) h)) (is_stored (facts_of book item) (enough opening book (StoreBid bidder item amount time) e).0)
@@ -150,8 +111,8 @@ module _ (opening : Opening) (number shards : ℕ) (rooms : ItemId → Bool) (co
         row_if_can (worker == worker) _ own (λ are. (λ h. (lies (User about) h, known, rated h are, fits h), tt)) where
           known : about < opening.users
           known =
-              let none = by_number opening (StoreComment author about item given) (not_by_number opening book (StoreComment author about item given) e) in
-              leb-false opening.users about (none_of (nat_le opening.users about) false (none_of (nat_le opening.users author) _ none.0).1).0
+              let none = in_range opening (StoreComment author about item given) (not_by_number opening book (StoreComment author about item given) e) in
+              leb-false opening.users about (or_parts (nat_le opening.users about) false (or_parts (nat_le opening.users author) _ none.0).1).0
 
           rated : here (User about) ≡ true → AreStars given → FitsSigned w64 ((contents (User about)).comments.rating +ℤ given)
           rated h are = subst (λ (v : Value). FitsSigned w64 (v.comments.rating +ℤ given)) (sym (at_object (User about) h))
@@ -189,15 +150,15 @@ module _ (opening : Opening) (number shards : ℕ) (rooms : ItemId → Bool) (co
     pub row_can : AllByRecursion Can (writes_if (row_of_entry entry))
     row_can =
         let few : length book ≤ 16000000 = omega (arith, limits.few, length-append book (option_to_list (row_of entry.worker entry.request (reply opening book entry.worker entry.request)))) in
-        let own = all_last HasStars book _ limits.stars in
+        let own = all-right HasStars book _ limits.stars in
         subst (λ answered. AllByRecursion Can (writes_if (row_of entry.worker entry.request answered))) (sym right)
-        (writes_can few (all_first HasStars book _ limits.stars) entry.worker entry.request (refusal opening book entry.request) refl (λ id e. room id (right ∙ e)) own)
+        (writes_can few (all-left HasStars book _ limits.stars) entry.worker entry.request (refusal opening book entry.request) refl (λ id e. room id (right ∙ e)) own)
 
     pub each_can : (act : Act) → Contains (acts_of opening saw entry) act → is_done_on number shards hot act ≡ true → CanActOn opening number shards rooms contents act
     each_can act member = all-member Can (acts_of opening saw entry) act (at (is_some (number_refusal opening entry.request))) member where
       at : (b : Bool) → AllByRecursion Can (cond b [] (looks_of saw entry.reply entry.request ++ writes_if (row_of_entry entry)))
       at true = tt
-      at false = all_both Can (looks_of saw entry.reply entry.request) (writes_if (row_of_entry entry)) (looks_can saw entry.reply entry.request) row_can
+      at false = all-append Can (looks_of saw entry.reply entry.request) (writes_if (row_of_entry entry)) (looks_can saw entry.reply entry.request) row_can
 
     pub turn_can : SawInTurn (CanActOn opening number shards rooms) after_act contents (acts_owed opening number shards hot saw entry)
     turn_can =

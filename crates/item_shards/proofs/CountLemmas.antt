@@ -19,7 +19,8 @@ filtered p (x ∷ xs) = at (p x) (filtered p xs) where
   at true h = omega arith
   at false h = omega arith
 
-of_kind : {R : Type 0} (kind : Row → Option R) (book : Book) → length (filter_map kind book) ≤ length book
+-- as many rows of a kind as there are rows at most
+pub of_kind : {R : Type 0} (kind : Row → Option R) (book : Book) → length (filter_map kind book) ≤ length book
 of_kind kind [] = omega arith
 of_kind kind (one ∷ book) = at (kind one) (of_kind kind book) where
   at : (o : Option _) → length (filter_map kind book) ≤ length book → length (cons_option o (filter_map kind book)) ≤ length (one ∷ book)

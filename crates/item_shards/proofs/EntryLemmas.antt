@@ -3,7 +3,7 @@ use Rattle.std.proofs.Common.{◌≡◌, ℕ, ◌==◌, Bool, true, false, ◌&&
 use Rattle.std.specs.Prelude.{is_some, is_none}
 use Rattle.std.specs.List.{list_any}
 use Rattle.std.specs.Option.{option_or}
-use Rattle.std.proofs.lemmas.Bool.{false≢true}
+use Rattle.std.proofs.lemmas.Bool.{false≢true, or_parts}
 use Rattle.std.proofs.lemmas.List.Elements.{filter-append}
 use Rattle.auction_rows.specs.declared.ids.Object.{Object}
 use Rattle.auction_rows.specs.declared.ids.Object.TheVariants.{Item, User, Category}
@@ -31,18 +31,15 @@ use Rattle.item_shards.specs.Contents.{Contents, after_acts}
 use Rattle.item_shards.specs.Standing.{ContentsStandsFor}
 use Rattle.item_shards.specs.Writing.{looks_of, writes_of, writes_if, acts_of, is_cold_in, is_done_on, done_on, padded, acts_owed}
 use Rattle.item_shards.proofs.StandingLemmas.{rows_stand}
+use Rattle.item_shards.proofs.Stored.{none_from}
 
 -- the looks at nothing leave the contents
-padded_leaves : (contents : Contents) (acts : List Act) → after_acts contents (padded acts) ≡ after_acts contents acts
+pub padded_leaves : (contents : Contents) (acts : List Act) → after_acts contents (padded acts) ≡ after_acts contents acts
 padded_leaves contents [] = refl
 padded_leaves contents (act ∷ []) = refl
 padded_leaves contents (act ∷ other ∷ acts) = refl
 
 -- where the opening refuses a request the entry adds no row
-is_none_none : {A : Type 0} (o : Option A) → is_some o ≡ false → o ≡ None
-is_none_none None e = refl
-is_none_none (Some x) e = absurd (false≢true (sym e))
-
 and_not : (b : Bool) (reason : Refusal) (o : Option Refusal) → o ≡ Some reason → (b && is_none o) ≡ false
 and_not b reason o e = ap (λ p. b && is_none p) e ∙ at b where
   at : (b : Bool) → (b && false) ≡ false
@@ -52,7 +49,7 @@ and_not b reason o e = ap (λ p. b && is_none p) e ∙ at b where
 pub no_row : (opening : Opening) (book : Book) (worker : ℕ) (request : Request) (reason : Refusal) → number_refusal opening request ≡ Some reason
     → row_of worker request (reply opening book worker request) ≡ None
 no_row opening book worker request reason e =
-    is_none_none (row_of worker request (reply opening book worker request))
+    none_from (row_of worker request (reply opening book worker request))
     (row_made book worker request (refusal opening book request)
     ∙ and_not (not (is_view request)) reason (refusal opening book request)
     (refusal-split opening book request ∙ ap (λ o. option_or o (item_refusal request (facts_for book request) (left_for book request))) e))
@@ -107,10 +104,6 @@ module _ (number shards : ℕ) (hot : List Object) where
     at true e = e
     at false e = ap (λ b. (shard_of o shards == number) || b) e
 
-  none_of : (a b : Bool) → (a || b) ≡ false → (a ≡ false) × (b ≡ false)
-  none_of true b e = absurd (false≢true (sym e))
-  none_of false b e = (refl, e)
-
   one_dropped : (b : Bool) (act : Act) → (b || false) ≡ false → cond b (act ∷ []) [] ≡ []
   one_dropped true act e = absurd (false≢true (sym e))
   one_dropped false act e = refl
@@ -126,7 +119,7 @@ module _ (number shards : ℕ) (hot : List Object) where
     no_looks (StoreItem facts time) answered e = refl
     no_looks (StoreBid bidder item amount time) answered e = one_dropped (is_cold_in number shards hot (Item item)) _ e
     no_looks (StoreComment author about item stars) answered e =
-        one_dropped (is_cold_in number shards hot (Item item)) _ (ap (λ b. b || false) (none_of (is_cold_in number shards hot (Item item)) _ e).0)
+        one_dropped (is_cold_in number shards hot (Item item)) _ (ap (λ b. b || false) (or_parts (is_cold_in number shards hot (Item item)) _ e).0)
     no_looks (BuyNow buyer item quantity time) answered e = one_dropped (is_cold_in number shards hot (Item item)) _ e
     no_looks (ViewItem item) answered e = one_dropped (is_cold_in number shards hot (Item item)) _ e
     no_looks (ViewBids item) answered e = one_dropped (is_cold_in number shards hot (Item item)) _ e
@@ -143,7 +136,7 @@ module _ (number shards : ℕ) (hot : List Object) where
       row_dropped (id.worker == worker) _ (both_dropped (is_cold_in number shards hot (Item id)) (is_cold_in number shards hot (Category facts.category)) _ _ e)
   no_writes worker (StoreBid bidder item amount time) (BidStored id) e = row_dropped (id.worker == worker) _ (one_dropped (is_cold_in number shards hot (Item item)) _ e)
   no_writes worker (StoreComment author about item stars) (CommentStored id) e =
-      row_dropped (id.worker == worker) _ (one_dropped (is_cold_in number shards hot (User about)) _ (none_of (is_cold_in number shards hot (Item item)) _ e).1)
+      row_dropped (id.worker == worker) _ (one_dropped (is_cold_in number shards hot (User about)) _ (or_parts (is_cold_in number shards hot (Item item)) _ e).1)
   no_writes worker (BuyNow buyer item quantity time) (Bought id) e = row_dropped (id.worker == worker) _ (one_dropped (is_cold_in number shards hot (Item item)) _ e)
   no_writes worker request answered e = refl
 

@@ -3,7 +3,7 @@ use Rattle.std.proofs.Common.{◌≡◌, ℕ, ◌+◌, ◌<◌, ◌≤◌, ◌==
 use Rattle.std.specs.Prelude.{option_map, option_and_then, unwrap_or, count_by, slice_get, Result, Ok, Err, OnErr}
 use Rattle.std.specs.List.{AllByRecursion, cons_option}
 use Rattle.std.specs.Option.{option_or}
-use Rattle.std.proofs.Common.{set, get_or, filter_map, take, drop}
+use Rattle.std.proofs.Common.{set, get_or, take, drop}
 use Rattle.std.specs.Prelude.{replicate}
 use Rattle.std.proofs.Math.ListN.{length-set}
 use Rattle.std.proofs.lemmas.Bool.{eqb-true, eq-eqb, false≢true}
@@ -40,9 +40,11 @@ use Rattle.item_shards.specs.Acting.{CanActOn, CanWrite, HasRoomFor}
 use Rattle.item_shards.specs.Counting.{stored_by, worker_of, counted, AreFew}
 use Rattle.item_shards.specs.Limits.{IsWithinLimits, HasStars}
 use Rattle.item_shards.specs.Writing.{writes_of, writes_if, is_done_on, done_on}
-use Rattle.item_shards.proofs.CanActLemmas.{all_both, row_can}
-use Rattle.item_shards.proofs.RowLemmas.{this_kind, other_kind}
+use Rattle.item_shards.proofs.CanActLemmas.{row_can}
+use Rattle.item_shards.proofs.RowLemmas.{this_kind, other_kind, through}
 use Rattle.item_shards.proofs.StandingLemmas.{cold_here, row_stands}
+use Rattle.item_shards.proofs.CountLemmas.{of_kind}
+use Rattle.phase_laws.proofs.ListLemmas.{all-append}
 
 -- ---- refusals
 
@@ -123,7 +125,7 @@ module _ (start : Opening) (number shards : ℕ) (rooms : ItemId → Bool) (cont
 pub limits_next : (b : Book) (r : Row) → IsWithinLimits b → length b < 16000000 → HasStars r → IsWithinLimits (b ++ r ∷ [])
 limits_next b r limits not_full stars = record {
   few = omega (arith, not_full, length-append b (r ∷ []));
-  stars = all_both HasStars b (r ∷ []) limits.stars (stars, tt);
+  stars = all-append HasStars b (r ∷ []) limits.stars (stars, tt);
 }
 
 -- ---- answers
@@ -140,10 +142,6 @@ count_more p rs r = sum_by-append (λ x. cond (p x) 1 0) rs (r ∷ []) ∙ at (p
   at : (b : Bool) → count_by p rs + (0 + cond b 1 0) ≡ cond b (count_by p rs + 1) (count_by p rs)
   at true = refl
   at false = omega arith
-
-through : {A B : Type 0} (f : A → B) (b : Bool) (x y : A) → f (cond b x y) ≡ cond b (f x) (f y)
-through f true x y = refl
-through f false x y = refl
 
 -- one more row is counted among its worker's
 pub stored_next : (b : Book) (r : Row) (worker : ℕ) → stored_by (b ++ r ∷ []) worker ≡ cond (worker_of r == worker) (counted r (stored_by b worker)) (stored_by b worker)
@@ -179,14 +177,6 @@ stored_next b (row.Buy r) worker =
       comments = count_by (λ x. x.id.worker == worker) (other_kind as_comment b one refl i);
       buys = (ap (count_by (λ x. x.id.worker == worker)) (this_kind as_buy b one r refl) ∙ count_more (λ x. x.id.worker == worker) (book.buy_rows b) r) i;
     }) ∙ through (λ (n : ℕ). record (stored_by b worker) { buys = n }) (r.id.worker == worker) _ _
-
--- as many stores of a worker as there are rows at most
-of_kind : {R : Type 0} (kind : Row → Option R) (b : Book) → length (filter_map kind b) ≤ length b
-of_kind kind [] = omega arith
-of_kind kind (one ∷ b) = at (kind one) (of_kind kind b) where
-  at : (o : Option _) → length (filter_map kind b) ≤ length b → length (cons_option o (filter_map kind b)) ≤ length (one ∷ b)
-  at None h = omega arith
-  at (Some r) h = omega arith
 
 pub stored_few : (b : Book) (worker : ℕ) → length b < 16000000 → AreFew (stored_by b worker)
 stored_few b worker few = (

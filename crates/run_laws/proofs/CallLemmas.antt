@@ -5,7 +5,7 @@ use Rattle.std.proofs.lemmas.Bool.{lt-ltb, le-ltb, ne_eqb, cases_lt, cases_eq, c
 use Rattle.phase_laws.specs.Order.{IsOrderedBy}
 use Rattle.phase_laws.proofs.OrderLemmas.{all-filter, all-weaker, ordered-filter}
 use Rattle.run_laws.specs.Turns.{numbered, turn, turns}
-use Rattle.run_laws.proofs.ListLemmas.{all-append, all-left, all-right, all-both, all-any, all-unfilter, all-kept, filter_same, ordered-append, ordered-with}
+use Rattle.phase_laws.proofs.ListLemmas.{all-append, all-left, all-right, all-both, all-any, all-unfilter, all-kept, filter_same, ordered-append, ordered-with}
 use Rattle.run_laws.proofs.CountLemmas.{how_many, count-append, count-filter, count-sum, count-same}
 
 module _ {R : Type 0} where

@@ -12,7 +12,7 @@ use Rattle.auction_rows.specs.Choosing.{choose}
 use Rattle.auction_rows.specs.Phases.{IsNumbered}
 use Rattle.phase_laws.proofs.OrderLemmas.{all-weaker}
 use Rattle.run_laws.specs.Phases.{is_split}
-use Rattle.run_laws.proofs.ListLemmas.{filter_false}
+use Rattle.phase_laws.proofs.ListLemmas.{filter_false}
 use Rattle.run_serving.specs.declared.policy.Policy.{Policy}
 use Rattle.run_serving.specs.Serving.{hot_in, segment_of, AreNumbered}
 use Rattle.run_serving.specs.Run.{HasRun, HasPerformed, AreChosen}

@@ -7,9 +7,8 @@ use Rattle.auction_rows.specs.declared.requests.Request.{Request}
 use Rattle.auction_rows.specs.declared.rows.Entry.{Entry}
 use Rattle.auction_rows.specs.Phases.{is_put_off}
 use Rattle.phase_laws.specs.Order.{IsOrderedBy, part}
-use Rattle.phase_laws.proofs.OrderLemmas.{all-weaker}
+use Rattle.phase_laws.proofs.OrderLemmas.{all-weaker, all-from_map}
 use Rattle.run_laws.proofs.TurnLemmas.{commit_from, commit_until}
-use Rattle.run_laws.proofs.ListLemmas.{all-from_map}
 use Rattle.run_laws.proofs.PartLemmas.{all_of_parts, part-append}
 use Rattle.run_serving.specs.declared.policy.Policy.{Policy}
 use Rattle.run_serving.specs.Serving.{call_of, hot_in, phase_reached, commit_phase}
@@ -21,10 +20,6 @@ ordered_all P S f (x ∷ xs) h = (all-weaker P (S x) (λ y py. f x y h.0 py) xs 
 
 pub calls-append : (w : ℕ) (xs ys : List Entry) → calls_of w (xs ++ ys) ≡ calls_of w xs ++ calls_of w ys
 calls-append w xs ys = ap (map call_of) (part-append (λ e. e.worker) w xs ys) ∙ map-append call_of (part (λ e. e.worker) w xs) (part (λ e. e.worker) w ys)
-
-pub no_length : {X : Type 0} (xs : List X) → length xs ≡ 0 → xs ≡ []
-no_length [] e = refl
-no_length (x ∷ xs) e = absurd (omega arith)
 
 -- what holds of every worker's calls holds of the entries
 pub of_calls : (P : ℕ × Request → Type 0) (entries : List Entry) → ((w : ℕ) → AllByRecursion P (calls_of w entries)) → AllByRecursion (λ e. P (call_of e)) entries

@@ -3,6 +3,7 @@ use Rattle.std.proofs.Common.{◌≡◌, ℕ, suc, ◌+◌, ◌*◌, ◌<◌, �
 use Rattle.std.specs.List.{AllByRecursion, list_any}
 use Rattle.std.specs.Option.{option_map_or}
 use Rattle.std.proofs.lemmas.Bool.{eqb-false, lt-ltb, cases_lt, and_left}
+use Rattle.std.proofs.lemmas.List.{nil_from_length}
 use Rattle.auction_rows.specs.declared.numbers.Opening.{Opening}
 use Rattle.auction_rows.specs.declared.ids.Object.{Object}
 use Rattle.auction_rows.specs.declared.requests.Request.{Request}
@@ -12,18 +13,18 @@ use Rattle.auction_rows.specs.Footprint.{is_hot}
 use Rattle.auction_rows.specs.Phases.{is_put_off}
 use Rattle.phase_laws.specs.Numbers.{greatest_by}
 use Rattle.phase_laws.specs.Order.{IsOrderedBy, part}
-use Rattle.phase_laws.proofs.OrderLemmas.{all-filter, all-weaker, all-map, ordered-weaker, ordered_from_map}
+use Rattle.phase_laws.proofs.OrderLemmas.{all-filter, all-weaker, all-map, ordered-weaker, ordered_from_map, all-from_map}
 use Rattle.run_laws.specs.Turns.{numbered}
 use Rattle.run_laws.proofs.ReachLemmas.{reach_until, reach_rises, reach_most}
 use Rattle.run_laws.proofs.TurnLemmas.{commit_free}
-use Rattle.run_laws.proofs.ListLemmas.{all-both, all-from_map, all-kept, filter_empty, ordered-with, greatest_bounds, greatest_least}
+use Rattle.phase_laws.proofs.ListLemmas.{all-both, all-kept, filter_empty, ordered-with, greatest_bounds, greatest_least}
 use Rattle.run_laws.proofs.PartLemmas.{all_of_parts, ordered_of_parts}
 use Rattle.run_laws.proofs.CountLemmas.{how_many, how_many-is, count-filter, count-map}
 use Rattle.run_laws.proofs.CallLemmas.{numbered_until, all_from_turns, turns_ordered, once_in_turns, requests_in_turns}
 use Rattle.run_serving.specs.declared.policy.Policy.{Policy}
 use Rattle.run_serving.specs.Serving.{call_of, script_of, hot_in, phase_reached, commit_phase, AreNumbered, Serves}
 use Rattle.run_serving.specs.Run.{first_index, HasRun, IsDone}
-use Rattle.run_serving.proofs.CommitLemmas.{no_length, from, until}
+use Rattle.run_serving.proofs.CommitLemmas.{from, until}
 
 module _ (opening : Opening) (policy : Policy) (some : 0 < policy.joined_quota + policy.split_quota) (scripts : List (List Request)) where
   -- THE END
@@ -35,7 +36,7 @@ module _ (opening : Opening) (policy : Policy) (some : 0 < policy.joined_quota +
         (λ call both. in_time call both.0 both.1) (numbered 0 (script_of scripts w))
         (all-both (λ call. call.0 < first_index policy p) (λ call. (nat_lt (phase_reached policy call.0) p && (commit_phase policy hot call == p)) ≡ false) (numbered 0 (script_of scripts w))
         (numbered_until 0 (first_index policy p) (script_of scripts w) (let e : length (script_of scripts w) ≤ first_index policy p = (end w).0 in omega arith))
-        (filter_empty (λ call. nat_lt (phase_reached policy call.0) p && (commit_phase policy hot call == p)) (numbered 0 (script_of scripts w)) (sym (run.stashed w) ∙ no_length (stashes w) (end w).1)))
+        (filter_empty (λ call. nat_lt (phase_reached policy call.0) p && (commit_phase policy hot call == p)) (numbered 0 (script_of scripts w)) (sym (run.stashed w) ∙ nil_from_length (stashes w) (end w).1)))
       where
         in_time : (call : ℕ × Request) → call.0 < first_index policy p → (nat_lt (phase_reached policy call.0) p && (commit_phase policy hot call == p)) ≡ false → commit_phase policy hot call < p
         in_time call less none =

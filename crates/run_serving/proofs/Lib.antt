@@ -1,3 +1,4 @@
+pub mod ScriptLemmas
 pub mod CommitLemmas
 pub mod StepLemmas
 pub mod EndLemmas

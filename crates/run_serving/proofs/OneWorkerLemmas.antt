@@ -16,7 +16,7 @@ use Rattle.phase_laws.specs.Numbers.{greatest_by}
 use Rattle.phase_laws.specs.Order.{Precedes, IsAscending, part}
 use Rattle.phase_laws.proofs.OrderLemmas.{all-filter, all-weaker, all-map, ordered-filter, ordered-map, same_parts}
 use Rattle.run_laws.specs.Phases.{is_split}
-use Rattle.run_laws.proofs.ListLemmas.{all-both, all-kept, filter_false, ordered-with, greatest_bounds}
+use Rattle.phase_laws.proofs.ListLemmas.{all-both, all-kept, filter_false, ordered-with, greatest_bounds}
 use Rattle.run_laws.proofs.CountLemmas.{how_many, how_many-is, count-filter, count-map, count-same}
 use Rattle.run_serving.specs.declared.policy.Policy.{Policy}
 use Rattle.run_serving.specs.Serving.{call_of, script_of, hot_in, segment_of, phase_reached, commit_phase}

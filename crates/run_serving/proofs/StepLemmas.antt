@@ -12,7 +12,7 @@ use Rattle.run_laws.specs.Phases.{is_split}
 use Rattle.run_laws.specs.Turns.{numbered, turn, turns, waiting, reaching}
 use Rattle.run_laws.proofs.ReachLemmas.{reach_from, reach_rises}
 use Rattle.run_laws.proofs.TurnLemmas.{filter_none, split_turn, waiting_next, waiting_none, joined_turn}
-use Rattle.run_laws.proofs.ListLemmas.{all-append, all-both, filter_false, filter_same, all-any, ordered-append}
+use Rattle.phase_laws.proofs.ListLemmas.{all-append, all-both, filter_false, filter_same, all-any, ordered-append}
 use Rattle.run_laws.proofs.CallLemmas.{at_index, turn_commits, turns_alike}
 use Rattle.run_laws.proofs.QuotaLemmas.{given_reaches}
 use Rattle.run_serving.specs.declared.policy.Policy.{Policy}

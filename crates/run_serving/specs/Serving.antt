@@ -1,5 +1,6 @@
 -- What it means that a history serves scripts.
-use Rattle.std.specs.Prelude.{ℕ, suc, ◌<◌, ◌≤◌, ◌≡◌, ◌==◌, ◌&&◌, nat_lt, true, if◌then◌else◌, List, [], length, slice_get, unwrap_or, count_by, Some}
+use Rattle.std.specs.declared.alloc.Global.{Global}
+use Rattle.std.specs.Prelude.{ℕ, suc, ◌<◌, ◌≤◌, ◌≡◌, ◌==◌, ◌&&◌, nat_lt, true, if◌then◌else◌, List, [], length, map, slice_get, unwrap_or, count_by, Some, Vec}
 use Rattle.std.specs.List.{filter, AllByRecursion}
 use Rattle.auction_rows.specs.declared.numbers.Opening.{Opening}
 use Rattle.auction_rows.specs.declared.ids.Object.{Object}
@@ -16,6 +17,10 @@ use Rattle.run_serving.specs.declared.policy.Policy.{Policy}
 -- an entry's call: its index and its request
 abbrev pub call_of : Entry → ℕ × Request
 call_of e = (e.index, e.request)
+
+-- the lists in a list of vectors
+abbrev pub lists : {X : Type 0} → List (Vec X Global) → List (List X)
+lists vectors = map (λ v. v.items) vectors
 
 -- a worker's script, empty for a worker that there isn't
 abbrev pub script_of : List (List Request) → ℕ → List Request

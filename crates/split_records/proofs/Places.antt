@@ -1,33 +1,22 @@
 -- An entry's place in a list, and what a full list keeps.
-use Rattle.std.proofs.Common.{◌≡◌, ℕ, zero, suc, ◌-◌, ◌<◌, ◌≤◌, List, [], ◌∷◌, length, get_or, take, drop, insert, Option, Some, None, refl, sym, ap, subst, ◌∙◌, arith, take-append-drop}
+use Rattle.std.proofs.Common.{◌≡◌, ℕ, zero, suc, ◌-◌, ◌<◌, ◌≤◌, List, [], ◌∷◌, length, get_or, take, drop, insert, Option, Some, None, refl, sym, ap, ◌∙◌, arith, take-append-drop}
 use Rattle.std.specs.Prelude.{slice_get}
-use Rattle.std.specs.List.{AllByRecursion}
 use Rattle.std.specs.Cmp.{IsTotalOrder}
 use Rattle.std.specs.declared.cmp.Ordering.{Ordering}
 use Rattle.std.specs.declared.cmp.Ordering.TheVariants.{Less, Equal, Greater}
 use Rattle.std.specs.FinMap.Entries.{by_order}
-use Rattle.std.proofs.lemmas.Option.{slice_get-get_or}
+use Rattle.std.proofs.lemmas.Option.{slice_get-get_or, none-some, same_Some}
 use Rattle.std.proofs.lemmas.List.{take_all, take_at, length-take}
 use Rattle.std.proofs.lemmas.List.Edits.{length-insert, insert-append_left}
 use Rattle.phase_laws.specs.Placing.{placed}
 use Rattle.phase_laws.specs.Ranking.{IsDescending, top}
 use Rattle.phase_laws.proofs.DescendingLemmas.{greater_from_less, less_from_greater}
 use Rattle.phase_laws.proofs.TopLemmas.{top_past}
+use Rattle.phase_laws.proofs.ListLemmas.{all_at}
 use Rattle.split_records.specs.TopLaws.{IsLeast, IsOwnTop, IsPast}
-
-none_some : {A : Type 0} (a : A) → (let none : Option A = None in none) ≡ Some a → ⊥
-none_some a e = cc
-
-same_some : {A : Type 0} (a b : A) → Some a ≡ Some b → a ≡ b
-same_some a b e = cc
 
 less_equal : Less ≡ Equal → ⊥
 less_equal e = cc
-
-all_at : {E : Type 0} (P : E → Type 0) (xs : List E) (i : ℕ) (y : E) → AllByRecursion P xs → slice_get xs i ≡ Some y → P y
-all_at P [] i y all at = absurd (none_some y at)
-all_at P (x ∷ xs) zero y all at = subst P (same_some x y at) all.0
-all_at P (x ∷ xs) (suc i) y all at = all_at P xs i y all.1 at
 
 -- the entry that is read at i is the one there
 pub found_at : {E : Type 0} (xs : List E) (i : ℕ) (y : E) → i < length xs → y ≡ get_or xs i y → slice_get xs i ≡ Some y
@@ -37,9 +26,9 @@ module _ {E : Type 0} {order : E → E → Ordering} (o : IsTotalOrder order) wh
   -- where the entry at i is greater, and one goes before those after it, it goes there
   pub placed_behind : (x : E) (xs : List E) (i : ℕ) (y : E) → slice_get xs i ≡ Some y → order y x ≡ Greater → IsDescending order xs
       → placed order x (drop (suc i) xs) ≡ x ∷ drop (suc i) xs → placed order x xs ≡ insert xs (suc i) x
-  placed_behind x [] i y at g d after = absurd (none_some y at)
+  placed_behind x [] i y at g d after = absurd (none-some y at)
   placed_behind x (w ∷ ws) zero y at g d after =
-      ap (λ r. by_order r (x ∷ w ∷ ws) (w ∷ ws) (w ∷ placed order x ws)) (ap (λ v. order v x) (same_some w y at) ∙ g) ∙ ap (λ l. w ∷ l) after
+      ap (λ r. by_order r (x ∷ w ∷ ws) (w ∷ ws) (w ∷ placed order x ws)) (ap (λ v. order v x) (same_Some w y at) ∙ g) ∙ ap (λ l. w ∷ l) after
   placed_behind x (w ∷ ws) (suc i) y at g d after =
       let above : order y w ≡ Less = all_at (λ z. order z w ≡ Less) ws i y d.0 at in
       let first : order w x ≡ Greater = greater_from_less o x w (o.trans x y w (less_from_greater o y x g) above) in
@@ -47,8 +36,8 @@ module _ {E : Type 0} {order : E → E → Ordering} (o : IsTotalOrder order) wh
 
   -- where the entry at i ties, nothing changes
   pub placed_at_tie : (x : E) (xs : List E) (i : ℕ) (y : E) → slice_get xs i ≡ Some y → order y x ≡ Equal → IsDescending order xs → placed order x xs ≡ xs
-  placed_at_tie x [] i y at tie d = absurd (none_some y at)
-  placed_at_tie x (w ∷ ws) zero y at tie d = ap (λ r. by_order r (x ∷ w ∷ ws) (w ∷ ws) (w ∷ placed order x ws)) (ap (λ v. order v x) (same_some w y at) ∙ tie)
+  placed_at_tie x [] i y at tie d = absurd (none-some y at)
+  placed_at_tie x (w ∷ ws) zero y at tie d = ap (λ r. by_order r (x ∷ w ∷ ws) (w ∷ ws) (w ∷ placed order x ws)) (ap (λ v. order v x) (same_Some w y at) ∙ tie)
   placed_at_tie x (w ∷ ws) (suc i) y at tie d = by (order w x) refl (placed_at_tie x ws i y at tie d.1) where
     by : (r : Ordering) → order w x ≡ r → placed order x ws ≡ ws → by_order r (x ∷ w ∷ ws) (w ∷ ws) (w ∷ placed order x ws) ≡ w ∷ ws
     by Less e rest = absurd (less_equal (sym (o.trans y w x (all_at (λ z. order z w ≡ Less) ws i y d.0 at) e) ∙ tie))

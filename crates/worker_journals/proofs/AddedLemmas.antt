@@ -3,12 +3,13 @@ use Rattle.std.proofs.Common.{◌≡◌, ℕ, List, [], ◌∷◌, ◌++◌, sym
 use Rattle.std.specs.List.{AllByRecursion}
 use Rattle.std.proofs.Math.Seq.{drop-append_seam}
 use Rattle.phase_laws.specs.Order.{IsAscending, part}
+use Rattle.phase_laws.proofs.ListLemmas.{all-append}
 use Rattle.auction_rows.specs.declared.rows.Entry.{Entry}
 use Rattle.auction_rows.specs.Stars.{GivesStars}
 use Rattle.worker_journals.specs.Journals.{JournalView, entry_number, entry_worker, IsLawful}
 use Rattle.worker_journals.specs.Merged.{merged, entries_of, added, AreByWorker}
 use Rattle.worker_journals.specs.Histories.{HistoryView, with_phase}
-use Rattle.worker_journals.proofs.OrderedLemmas.{all_append, all_in_order}
+use Rattle.worker_journals.proofs.OrderedLemmas.{all_in_order}
 use Rattle.worker_journals.proofs.HistoryLemmas.{closed_merged}
 use Rattle.worker_journals.proofs.MergedLemmas.{all_entries, merged_ascends, merged_parts}
 
@@ -34,7 +35,7 @@ module _ (old new : HistoryView) (journals : List JournalView) (is : new ≡ wit
 
   stars_of_all : (js : List JournalView) → AllByRecursion IsLawful js → AllByRecursion (λ e. GivesStars e.request) (all_entries js)
   stars_of_all [] lawful = tt
-  stars_of_all (j ∷ js) lawful = all_append (λ (e : Entry). GivesStars e.request) j.entries (all_entries js) lawful.0.stars (stars_of_all js lawful.1)
+  stars_of_all (j ∷ js) lawful = all-append (λ (e : Entry). GivesStars e.request) j.entries (all_entries js) lawful.0.stars (stars_of_all js lawful.1)
 
   pub added_stars : AllByRecursion IsLawful journals → AllByRecursion (λ e. GivesStars e.request) (added old.entries new.entries)
   added_stars lawful =

@@ -4,12 +4,13 @@ use Rattle.std.specs.Global.{Vec}
 use Rattle.std.specs.List.{AllByRecursion}
 use Rattle.std.proofs.lemmas.List.{take_more}
 use Rattle.phase_laws.proofs.OrderLemmas.{all-weaker, all_push}
+use Rattle.phase_laws.proofs.ListLemmas.{all-append}
 use Rattle.auction_rows.specs.declared.rows.Entry.{Entry}
 use Rattle.worker_journals.specs.Journals.{JournalView, IsLawful, IsOf}
 use Rattle.worker_journals.specs.Merged.{merged}
 use Rattle.worker_journals.specs.Histories.{ArePhase, entries_in, journals_of}
 use Rattle.worker_journals.proofs.MergedLemmas.{all_entries}
-use Rattle.worker_journals.proofs.OrderedLemmas.{all_append, all_in_order}
+use Rattle.worker_journals.proofs.OrderedLemmas.{all_in_order}
 
 pub one_more : {X : Type 0} (P : X → Type 0) (xs : List X) (i : ℕ) (x : X) → i < length xs → x ≡ get_or xs i x →
     AllByRecursion P (take i xs) → P x → AllByRecursion P (take (i + 1) xs)
@@ -24,7 +25,7 @@ of_journals : (w : ℕ) (journals : List JournalView) → AllByRecursion IsLawfu
     AllByRecursion (λ e. e.worker ≤ w) (all_entries journals)
 of_journals w [] lawful few = tt
 of_journals w (journal ∷ journals) lawful few =
-    all_append (λ (e : Entry). e.worker ≤ w) journal.entries (all_entries journals)
+    all-append (λ (e : Entry). e.worker ≤ w) journal.entries (all_entries journals)
     (all-weaker (IsOf journal.phase journal.worker) (λ (e : Entry). e.worker ≤ w) (λ e is. subst (λ n. n ≤ w) (sym is.1) few.0) journal.entries lawful.0.own)
     (of_journals w journals lawful.1 few.1)
 
@@ -32,6 +33,6 @@ pub none_later : (w : ℕ) (phases : List (List JournalView)) → AllByRecursion
     AllByRecursion (λ e. e.worker ≤ w) (entries_in phases)
 none_later w [] each few = tt
 none_later w (phase ∷ phases) each few =
-    all_append (λ (e : Entry). e.worker ≤ w) (merged phase) (entries_in phases)
+    all-append (λ (e : Entry). e.worker ≤ w) (merged phase) (entries_in phases)
     (all_in_order (λ (e : Entry). e.worker ≤ w) (all_entries phase) (of_journals w phase each.0.lawful few.0))
     (none_later w phases each.1 few.1)

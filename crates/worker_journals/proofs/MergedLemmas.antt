@@ -10,10 +10,11 @@ use Rattle.std.specs.List.Sorted.{IsPermutation}
 use Rattle.phase_laws.specs.Order.{IsOrderedBy, IsAscending, part}
 use Rattle.phase_laws.proofs.MemberLemmas.{Contains-nothing, Contains-cases, all-member}
 use Rattle.phase_laws.proofs.OrderLemmas.{all-weaker, ordered-weaker}
+use Rattle.phase_laws.proofs.ListLemmas.{all-append, ordered-append}
 use Rattle.auction_rows.specs.declared.rows.Entry.{Entry}
 use Rattle.worker_journals.specs.Journals.{JournalView, entry_number, entry_worker, IsOf, IsLawful}
 use Rattle.worker_journals.specs.Merged.{merged, entries_of, AreByWorker, entry_count}
-use Rattle.worker_journals.proofs.OrderedLemmas.{Rises, all_append, in_order_ascends, part_own, part_other, part_in_order, length_in_order, in_order_permutes}
+use Rattle.worker_journals.proofs.OrderedLemmas.{Rises, in_order_ascends, part_own, part_other, part_in_order, length_in_order, in_order_permutes}
 
 abbrev pub all_entries : List JournalView → List Entry
 all_entries = flat_map (λ journal. journal.entries)
@@ -39,18 +40,12 @@ entries_of_own (first ∷ journals) journal up there = elim (Contains-cases firs
 
 -- Of one worker they rise.
 
-ordered_append : {X : Type 0} (R : X → X → Type 0) (xs ys : List X) → IsOrderedBy R xs → IsOrderedBy R ys →
-    AllByRecursion (λ x. AllByRecursion (R x) ys) xs → IsOrderedBy R (xs ++ ys)
-ordered_append R [] ys left right across = right
-ordered_append R (x ∷ xs) ys left right across =
-    (all_append (R x) xs ys left.0 across.0, ordered_append R xs ys left.1 right across.1)
-
 -- the entries of journals of later workers are of later workers
 pub later_workers : (w : ℕ) (journals : List JournalView) → AllByRecursion (λ j. w < j.worker) journals → AllByRecursion IsLawful journals →
     AllByRecursion (λ e. w < e.worker) (all_entries journals)
 later_workers w [] later lawful = tt
 later_workers w (journal ∷ journals) later lawful =
-    all_append (λ (e : Entry). w < e.worker) journal.entries (all_entries journals)
+    all-append (λ (e : Entry). w < e.worker) journal.entries (all_entries journals)
     (all-weaker (IsOf journal.phase journal.worker) (λ e. w < e.worker) (λ e own. omega (arith, own.1, later.0)) journal.entries lawful.0.own)
     (later_workers w journals later.1 lawful.1)
 
@@ -58,7 +53,7 @@ all_rise : (journals : List JournalView) → AreByWorker journals → AllByRecur
 all_rise [] up lawful = tt
 all_rise (journal ∷ journals) up lawful =
     let later = later_workers journal.worker journals up.0 lawful.1 in
-    ordered_append Rises journal.entries (all_entries journals)
+    ordered-append Rises journal.entries (all_entries journals)
     (ordered-weaker (λ (x y : Entry). x.number < y.number) Rises (λ x y less same. less) journal.entries lawful.0.ascending)
     (all_rise journals up.1 lawful.1)
     (all-weaker (IsOf journal.phase journal.worker) (λ e. AllByRecursion (Rises e) (all_entries journals))

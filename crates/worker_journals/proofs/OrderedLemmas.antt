@@ -6,7 +6,7 @@ use Rattle.std.proofs.lemmas.Bool.Decides.{nat_tests}
 use Rattle.std.specs.List.Sorted.{IsPermutation}
 use Rattle.std.proofs.lemmas.List.Sorted.{IsPermutation-refl, IsPermutation-trans, IsPermutation-cons, IsPermutation-middle}
 use Rattle.phase_laws.specs.Order.{IsOrderedBy, Precedes, IsAscending, part}
-use Rattle.phase_laws.proofs.OrderLemmas.{all-weaker}
+use Rattle.phase_laws.proofs.OrderLemmas.{all-weaker, all-cond}
 use Rattle.auction_rows.specs.declared.rows.Entry.{Entry}
 use Rattle.worker_journals.specs.Journals.{entry_number, entry_worker}
 use Rattle.worker_journals.specs.Merged.{comes_before, put_in, in_order}
@@ -27,14 +27,6 @@ pub before_by_number : (x y : Entry) → x.number < y.number → comes_before x 
 before_by_number x y less = grind (arith, nat_tests)
 
 -- Lists.
-
-pub all_append : {X : Type 0} (P : X → Type 0) (xs ys : List X) → AllByRecursion P xs → AllByRecursion P ys → AllByRecursion P (xs ++ ys)
-all_append P [] ys left right = right
-all_append P (x ∷ xs) ys left right = (left.0, all_append P xs ys left.1 right)
-
-all-cond : {X : Type 0} (P : X → Type 0) (b : Bool) (xs ys : List X) → AllByRecursion P xs → AllByRecursion P ys → AllByRecursion P (cond b xs ys)
-all-cond P true xs ys p q = p
-all-cond P false xs ys p q = q
 
 pub all_put : (P : Entry → Type 0) (e : Entry) (xs : List Entry) → P e → AllByRecursion P xs → AllByRecursion P (put_in e xs)
 unfolding put_in

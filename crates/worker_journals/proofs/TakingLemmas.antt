@@ -5,11 +5,12 @@ use Rattle.std.specs.Option.{option_and_then}
 use Rattle.std.specs.List.{AllByRecursion}
 use Rattle.phase_laws.specs.Order.{IsAscendingByNumber}
 use Rattle.phase_laws.proofs.OrderLemmas.{all-weaker}
+use Rattle.phase_laws.proofs.ListLemmas.{all-append}
 use Rattle.auction_rows.specs.declared.rows.Entry.{Entry}
 use Rattle.worker_journals.specs.Journals.{JournalView, entry_number, IsOf, IsLawful}
 use Rattle.worker_journals.specs.Merged.{comes_before, in_order, merged, AreByWorker}
 use Rattle.worker_journals.specs.Places.{first_number, IsLeast}
-use Rattle.worker_journals.proofs.OrderedLemmas.{all_append, not_before, before_by_number, first_in_order, first_among}
+use Rattle.worker_journals.proofs.OrderedLemmas.{not_before, before_by_number, first_in_order, first_among}
 use Rattle.worker_journals.proofs.MergedLemmas.{all_entries}
 
 -- the journals without the first entry of the i-th
@@ -43,7 +44,7 @@ none_later : (e : Entry) (journals : List JournalView) → AllByRecursion (λ j.
     AllByRecursion (λ d. comes_before d e ≡ false) (all_entries journals)
 none_later e [] later lawful least = tt
 none_later e (journal ∷ journals) later lawful least =
-    all_append (λ (d : Entry). comes_before d e ≡ false) journal.entries (all_entries journals)
+    all-append (λ (d : Entry). comes_before d e ≡ false) journal.entries (all_entries journals)
     (both (λ (d : Entry). e.number ≤ d.number) (IsOf journal.phase journal.worker) (λ d. comes_before d e ≡ false)
     (λ d bound own. not_before d e bound (λ tie. omega (arith, own.1, later.0))) journal.entries
     (bounded e.number journal.entries lawful.0.ascending (least 0 (omega arith))) lawful.0.own)
@@ -69,7 +70,7 @@ merged_taken (journal ∷ journals) zero e up lawful is least = taken journal.en
         let own_rest = all-weaker (λ (d : Entry). e.number < d.number) (λ d. comes_before d e ≡ false)
         (λ d less. not_before d e (omega arith) (λ tie. absurd (omega arith))) ds asc.0 in
         ap (λ es. in_order (es ++ all_entries journals)) has'
-        ∙ first_in_order e (ds ++ all_entries journals) (all_append (λ (d : Entry). comes_before d e ≡ false) ds (all_entries journals) own_rest rest)
+        ∙ first_in_order e (ds ++ all_entries journals) (all-append (λ (d : Entry). comes_before d e ≡ false) ds (all_entries journals) own_rest rest)
         ∙ ap (λ es. e ∷ in_order (drop 1 es ++ all_entries journals)) (sym has')
 merged_taken (journal ∷ journals) (suc i) e up lawful is least =
     let before = bounded_strictly e.number journal.entries lawful.0.ascending (least.earlier 0 (omega arith)) in
