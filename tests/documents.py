@@ -1,8 +1,8 @@
 #!/usr/bin/env python3
 """Shows that the documents speak of what there is: a name in backticks stands in the code, a path and a link lead to a file, each block of code of
-docs/TUTORIAL.md stands in the file named above it, each definition that docs/DEFINITIONS.md quotes is, but for layout, that of the file named above it, each
-definition that it or the table of printed lines of docs/FORMATS.md names with a file stands there, each crate and each law has its place, and what bench/run
-wrote has the figures of figures.csv.
+docs/TUTORIAL.md stands in the file named above it, each definition that the pages of definitions (docs/DEFINITIONS.md, docs/ENGINE_DEFINITIONS.md) quote is, but
+for layout, that of the file named above it, each definition that they or the table of printed lines of docs/FORMATS.md name with a file stands there, each
+crate and each law has its place, and what bench/run wrote has the figures of figures.csv.
 
     tests/documents.py
 """
@@ -19,7 +19,7 @@ from program import DOCUMENTS, TESTS, Tally, described, run
 ROOT = TESTS.parent
 CODE = {".rt", ".rs", ".antt", ".py", ".c", ".sh", ".sql", ".txt", ".edit"}
 TUTORIAL = DOCUMENTS / "TUTORIAL.md"
-DEFINITIONS = DOCUMENTS / "DEFINITIONS.md"
+DEFINITIONS = (DOCUMENTS / "DEFINITIONS.md", DOCUMENTS / "ENGINE_DEFINITIONS.md")
 FORMATS = DOCUMENTS / "FORMATS.md"
 PRINTED = "## From a printed line to its definition\n"
 # What that table says in place of a folder.
@@ -149,8 +149,8 @@ def shown_files(tally: Tally) -> None:
 
 
 def quoted_definitions(tally: Tally) -> None:
-    """definitions that docs/DEFINITIONS.md quotes"""
-    for path, block in blocks(DEFINITIONS):
+    """definitions that the pages of definitions quote"""
+    for path, block in (named for page in DEFINITIONS for named in blocks(page)):
         there = parts(without_comments((ROOT / path).read_text()))
         for part in parts(without_comments(block)):
             tally.check(part in there, f"in {path} stands {part!r}")
@@ -167,8 +167,8 @@ def parts(code: str) -> list[str]:
 
 
 def named_definitions(tally: Tally) -> None:
-    """definitions that docs/DEFINITIONS.md names with their file"""
-    for section in re.split(r"(?m)^## ", prose(DEFINITIONS)):
+    """definitions that the pages of definitions name with their file"""
+    for section in re.split(r"(?m)^## ", "\n".join(map(prose, DEFINITIONS))):
         folders = re.findall(r"`(crates/\w+/specs)", section.split("\n", 1)[0])
         for name, file in names_with_files(section):
             places = [ROOT / folder / f"{file}.antt" for folder in folders]
