@@ -1,6 +1,5 @@
-//! Tests of `auction_run`: runs that are refused, what gates and boards are told, and the histories of runs on threads.
+//! Tests of `auction_run`: what gates and boards are told, and the histories of runs on threads.
 mod board_tests;
 mod gate_tests;
 mod replay_tests;
-mod run_tests;
 pub(crate) mod testing;

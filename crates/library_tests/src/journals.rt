@@ -1,4 +1,2 @@
-//! Tests of `worker_journals`: the room of a journal, and histories of several workers.
-mod history_tests;
+//! Tests of `worker_journals`: the room of a journal.
 mod journal_tests;
-mod testing;

@@ -1,6 +1,8 @@
-//! Tests of the libraries below a phase's contexts, a folder for each that has any.
+//! Tests of the libraries below whole runs, a folder for each that has any, and calls for which memory is refused.
 #![tactic(auto)]
 
+#[cfg(test)]
+mod calls;
 #[cfg(test)]
 mod comparing;
 #[cfg(test)]
@@ -15,4 +17,4 @@ pub mod testing;
 #[cfg(test)]
 mod text;
 #[cfg(test)]
-mod windows;
+mod workers;

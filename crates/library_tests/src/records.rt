@@ -1,3 +1,2 @@
-//! Tests of `split_records`: operations in slices, and slices merged.
+//! Tests of `split_records`: slices merged.
 mod split_tests;
-mod top_tests;

@@ -1,3 +1,2 @@
-//! Tests of `item_shards`: rows that no book is opened with, and the end of commit numbers.
-mod opening_tests;
+//! Tests of `item_shards`: the end of commit numbers.
 mod shard_tests;

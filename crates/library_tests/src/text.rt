@@ -1,4 +1,2 @@
-//! Tests of how `auction_text` writes numbers at their ends, and of writers that fail.
-mod history_tests;
-mod testing;
+//! Tests of how `auction_text` writes to writers that fail.
 mod writing_tests;

