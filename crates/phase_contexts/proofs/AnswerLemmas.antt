@@ -68,7 +68,7 @@ bid_written worker bid id own =
     ap (λ b. writes_if (row_if b (row.Bid (record { id = id; item = bid.item; bidder = bid.bidder; amount = bid.amount; time = bid.time })))) (eq-eqb id.worker worker own)
 
 -- it is the book's
-answered_by : (refused : Option Refusal) (answer mine theirs : Reply) → MatchOption refused (answer ≡ mine) (λ reason. answer ≡ Refused reason) → mine ≡ theirs → answer ≡ answer_unless refused theirs
+pub answered_by : (refused : Option Refusal) (answer mine theirs : Reply) → MatchOption refused (answer ≡ mine) (λ reason. answer ≡ Refused reason) → mine ≡ theirs → answer ≡ answer_unless refused theirs
 answered_by None answer mine theirs is same = is ∙ same
 answered_by (Some reason) answer mine theirs is same = is
 

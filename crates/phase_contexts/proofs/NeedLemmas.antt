@@ -25,7 +25,8 @@ use Rattle.phase_contexts.specs.Needing.{only_object, next_bid, next_buy, IsStor
 use Rattle.phase_contexts.specs.Slicing.{objects_of}
 use Rattle.phase_contexts.specs.Txns.{is_put_off}
 
-no_other : (b : Bool) → (b || (false || false)) ≡ false → b ≡ false
+-- a request that is not put off touches no hot object
+pub no_other : (b : Bool) → (b || (false || false)) ≡ false → b ≡ false
 no_other true is = is
 no_other false is = refl
 

@@ -18,12 +18,7 @@ use Rattle.item_shards.specs.Values.{blank, value}
 use Rattle.item_shards.proofs.StandingLemmas.{blank_of_none}
 use Rattle.phase_contexts.specs.declared.slices.Hot.{Hot}
 use Rattle.phase_contexts.specs.Slicing.{objects_of, slice_of, slices_of, stocks_of, stock_of, changed, IsAt, HasAtMost, AreFew}
-
--- what holds of each element holds of the one at a place
-all_at : {X : Type 0} (P : X → Type 0) (xs : List X) (k : ℕ) (x : X) → AllByRecursion P xs → slice_get xs k ≡ Some x → P x
-all_at P [] k x all at = absurd (cc)
-all_at P (y ∷ ys) zero x all at = subst P (cc) all.0
-all_at P (y ∷ ys) (suc k) x all at = all_at P ys k x all.1 at
+use Rattle.phase_laws.proofs.ListLemmas.{all_at}
 
 -- the slices of other objects stay
 others_stay : (object : Object) (change : Slice → Slice) (hots : List (Object × Hot)) → AllByRecursion (λ other. same_object object other ≡ false) (objects_of hots) → changed object change hots ≡ hots
@@ -113,10 +108,6 @@ stocks_stay (hot ∷ hots) (suc place) old new is stays = ap (λ stocks. (hot.0,
 pub stocks_of_rows : (stocks : List (Object × Option (Facts × ℕ))) (rows : Book) → stocks_of (slices_of stocks rows) ≡ stocks
 stocks_of_rows [] rows = refl
 stocks_of_rows (stock ∷ stocks) rows = ap (λ more. stock ∷ more) (stocks_of_rows stocks rows)
-
-pub all_before : {X : Type 0} (P : X → Type 0) (xs ys : List X) → AllByRecursion P (xs ++ ys) → AllByRecursion P xs
-all_before P [] ys all = tt
-all_before P (x ∷ xs) ys all = (all.0, all_before P xs ys all.1)
 
 pub stocks-append : (hots more : List (Object × Hot)) → stocks_of (hots ++ more) ≡ stocks_of hots ++ stocks_of more
 stocks-append [] more = refl

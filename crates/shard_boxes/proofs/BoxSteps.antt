@@ -1,6 +1,7 @@
 -- Each step keeps the rule of a box.
 use Rattle.std.proofs.Common.{◌≡◌, ◌≢◌, ℕ, zero, suc, ◌+◌, ◌<◌, Bool, true, false, true≢false, ◌⊎◌, inl, inr, ⊎_elim, List, [], ◌∷◌, ◌++◌, length, set, get_or, replicate, Option, sym, refl, ap, ◌∙◌, subst, append_assoc, arith}
 use Rattle.std.proofs.lemmas.List.{append-nil, length-replicate}
+use Rattle.std.proofs.lemmas.Bool.{false_from_ne_true}
 use mathlib.Core.Option.{some, some-injective, some-ne-none}
 use lib.ListN.{get_elem?}
 use Rattle.crossbeam_queue.specs.Fifo.{Pushes, Pops, Learns}
@@ -32,10 +33,6 @@ at_snoc_index (x ∷ xs) a b (suc j) e = ⊎_elim (λ h. inl h) (λ h. inr (ap s
 only : (m v : View) (pass : ℕ) → get_elem? (m ∷ []) pass ≡ some v → (pass ≡ 0) × (m ≡ v)
 only m v zero e = (refl, some-injective m v e)
 only m v (suc pass) e = absurd (some-ne-none v (sym e))
-
-not_true : (b : Bool) → (b ≡ true → ⊥) → b ≡ false
-not_true true h = absurd (h refl)
-not_true false h = refl
 
 pub both_ways : (b : Bool) → b ≡ true → b ≡ false → ⊥
 both_ways b t f = true≢false (sym t ∙ f)
@@ -168,7 +165,7 @@ opens opening workers n pass v x is kept stands items views room h at =
           x,
           ap (λ l. l ++ x ∷ []) empty,
           stands ∙ ap (after (state_at opening (shard_number x))) (sym no_list),
-          each_set (λ j u. u.holds ≡ false) views pass w refl (λ j u other e. not_true u.holds (λ t. other (((h.6 j u e).5 t).0 ∙ sym held.0))),
+          each_set (λ j u. u.holds ≡ false) views pass w refl (λ j u other e. false_from_ne_true u.holds (λ t. other (((h.6 j u e).5 t).0 ∙ sym held.0))),
         ),
         each_set (Fits workers (shard_number x) h.1 h.2 h.3) views pass w
             ((λ _. refl), mine.1, mine.2, mine.3, mine.4, λ t. absurd (true≢false (sym t)))
@@ -257,7 +254,7 @@ puts opening workers n pass v x line holds_now well may items views room h at =
           x,
           ap (λ l. l ++ x ∷ []) was_out,
           kept.1,
-          each_set (λ j u. u.holds ≡ false) views pass w refl (λ j u other e. not_true u.holds (λ t. other (((h.6 j u e).5 t).0 ∙ sym held.0))),
+          each_set (λ j u. u.holds ≡ false) views pass w refl (λ j u other e. false_from_ne_true u.holds (λ t. other (((h.6 j u e).5 t).0 ∙ sym held.0))),
         ),
         each_set (Fits workers h.0 list h.2 h.3) views pass w (
           (λ _. number_is),

@@ -15,9 +15,6 @@ use Rattle.shard_boxes.specs.Lines.{lines_of, StartsWith}
 use Rattle.shard_boxes.specs.Rule.{Speaks, Fits, IsIn, IsOut, BoxRule, head_of, tail_of, first_of, rest_of, longer, joined, spent}
 use Rattle.shard_boxes.proofs.BoxSteps.{Each, at_snoc_index, both_ways, each_set, tail_at, length-tail, length-head, head_at, plus_zero}
 
-pub same_number : (n : ℕ) → (n == n) ≡ true
-same_number n = eq-eqb n n refl
-
 pub other_number : (n m : ℕ) → n ≢ m → (n == m) ≡ false
 other_number n m ne = ne_eqb n m ne
 
@@ -53,7 +50,7 @@ forks opening workers pass v speaks free items views h at =
     let middle : List View = set views pass left in
     let fresh : ℕ = length middle in
     let seat : ℕ → ℕ = λ n. cond (n == v.first) fresh (h.3 n) in
-    let seat_first : seat v.first ≡ fresh = ap (λ t. cond t fresh (h.3 v.first)) (same_number v.first) in
+    let seat_first : seat v.first ≡ fresh = ap (λ t. cond t fresh (h.3 v.first)) (eq-eqb v.first v.first refl) in
     let seat_else : (n : ℕ) → n ≢ v.first → seat n ≡ h.3 n = (λ n ne. ap (λ t. cond t fresh (h.3 n)) (other_number n v.first ne)) in
     let one_less : suc (length (tail_of v.own)) ≡ length v.own = length-tail v.own speaks in
     let was_first : h.3 (v.first + 0) ≡ pass = mine.3 0 speaks in
@@ -114,7 +111,7 @@ merges opening workers pass v other u speaks free free' next items views h at tw
     let mine = h.6 pass v at in
     let theirs = h.6 other u was in
     let seat : ℕ → ℕ = λ n. cond (h.3 n == other) pass (h.3 n) in
-    let seat_there : (n : ℕ) → h.3 n ≡ other → seat n ≡ pass = (λ n e. ap (λ t. cond t pass (h.3 n)) (ap (λ m. m == other) e ∙ same_number other)) in
+    let seat_there : (n : ℕ) → h.3 n ≡ other → seat n ≡ pass = (λ n e. ap (λ t. cond t pass (h.3 n)) (ap (λ m. m == other) e ∙ eq-eqb other other refl)) in
     let seat_else : (n : ℕ) → h.3 n ≢ other → seat n ≡ h.3 n = (λ n ne. ap (λ t. cond t pass (h.3 n)) (other_number (h.3 n) other ne)) in
     let long : length (v.own ++ u.own) ≡ length v.own + length u.own = length-append v.own u.own in
     let F : ℕ → View → Type 0 = Fits workers h.0 h.1 h.2 seat in
