@@ -39,7 +39,7 @@ commits_text options book history =
     else if options.history then history_text history
     else replies_text history
 
--- and after it the report, where they ask for it
+-- what is added to that: the report, where the options ask for it
 abbrev pub added_text : Options → Book → List Entry → List (List Object) → List ℕ
 added_text options book history hot =
     if options.report then report_of (opening_of options) (book_after (opening_of options) book history) history hot else []
@@ -55,19 +55,25 @@ IsAllowed policy book scripts = HaveWorkers book scripts × (HasShards policy ×
 
 -- Two texts answer an input: what the options ask for of a run of its scripts, from the book of its rows, and what is added.
 pub record IsAnsweredBy (options : Options) (input : List ℕ) (text added : List ℕ) : Type 0 where
+  -- what the input asks for
   pub rows : List Opened
   pub scripts : List (List Request)
+  -- a run of that
   pub history : List Entry
   pub hot : List (List Object)
+  -- the input has no fault
   pub asks : AsksFor options input rows scripts
   -- neither the rows nor the run are past a limit
   pub few : ¬ IsTooLong rows
   pub allowed : IsAllowed (policy_of options) (opening_rows (opening_of options) rows) scripts
+  -- the run answers the scripts, from the book of the rows
   pub runs : IsAnswer (opening_of options) (opening_rows (opening_of options) rows) (policy_of options) scripts hot history
+  -- the first text is what the options ask for
   pub text_is : text ≡ commits_text options (opening_rows (opening_of options) rows) history
+  -- the second is the report, or nothing
   pub added_is : added ≡ added_text options (opening_rows (opening_of options) rows) history hot
 
--- This holds of two texts that answer the input.
+-- Two texts answer the input, and this holds of them.
 pub record Answers (options : Options) (input : List ℕ) (Holds : List ℕ → List ℕ → Type 0) : Type 0 where
   pub text : List ℕ
   pub added : List ℕ

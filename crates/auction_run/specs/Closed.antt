@@ -16,9 +16,13 @@ use Rattle.auction_run.specs.Phases.{waiting_in}
 -- The next phase of a state was performed, with these stashes and hot objects, and has closed with these entries.
 pub record HasClosedPhase (policy : Policy) (scripts : List (List Request)) (state : JoinedState) (stashes : List StashState)
     (hot : List Object) (entries : List Entry) (closed : Closed) : Type 0 where
+  -- each worker has performed what it was given, and what waits is in the stashes left
   pub performed : HasPerformed policy scripts state.phase hot (waiting_in stashes) (waiting_in closed.stashes.items) entries
+  -- the entries are numbered
   pub numbered : IsNumbered state.opening policy.shards hot entries
+  -- they replay from each book for which the state stood
   pub replays : ReplaysOn state.opening entries (StandsFor state) (StandsFor closed.state)
+  -- what is left is the next phase's
   pub phase_is : closed.state.phase ≡ suc state.phase
   pub opening_is : closed.state.opening ≡ state.opening
   pub shards_are : length closed.state.shards ≡ length state.shards

@@ -19,10 +19,15 @@ use Rattle.auction_run.specs.declared.running.Running.{Running}
 -- What a run from an opening book knows before a phase.
 pub record IsRunning (opening : Opening) (rows : Book) (policy : Policy) (scripts : List (List Request)) (phase : ℕ)
     (running : Running) : Type 0 where
+  -- the phases before this one are done
   pub run : HasRun policy scripts phase (hot_sets running.hot.items) running.history.entries (waiting_in running.stashes.items)
+  -- their hot sets are the chosen ones
   pub chosen : AreChosen policy (hot_sets running.hot.items) running.history.entries
+  -- the entries of each are numbered
   pub numbers : AreNumbered opening policy (hot_sets running.hot.items) running.history.entries
+  -- the history replays, and the state stands for the book at its end
   pub replayed : HasReplayed opening rows running.history.entries (StandsFor running.state)
+  -- state and stashes are this run's
   pub opening_is : running.state.opening ≡ opening
   pub phase_is : running.state.phase ≡ phase
   pub shards_are : length running.state.shards ≡ policy.shards

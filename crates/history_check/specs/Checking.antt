@@ -28,12 +28,16 @@ pub record GoWell (opening : Opening) (start : Book) (scripts : List (List Reque
   pub requests : AllByRecursion (λ e. request_at scripts e.worker e.index ≡ Some e.request) history
   -- and a place that can be written
   pub fits : AllByRecursion (λ e. Fits (place_of e)) history
+  -- none stands twice
   pub at_most_once : (worker index : ℕ) → count_by (is_of worker index) history ≤ 1
+  -- they stand in the order that is asked for
   pub in_order : IsOrderedBy (MayPrecede order) history
+  -- each reply is the one that is due
   pub replays : ReplaysFrom opening start history
 
 -- The text is that of a history that replays from a book and has each request of each script once, in the order that is asked for.
 pub record IsAccepted (opening : Opening) (start : Book) (scripts : List (List Request)) (order : Order) (text : List ℕ) : Type 0 where
+  -- the entries whose lines these are
   pub history : List Entry
   pub lines_are : history_lines history ≡ lines_of text
   pub go_well : GoWell opening start scripts order history
@@ -61,21 +65,30 @@ IsWrong opening start scripts order before line (Due due) = OfLine line (λ plac
 -- The line with this number, from 1, is the first that is wrong.
 pub record IsFirstWrong (opening : Opening) (start : Book) (scripts : List (List Request)) (order : Order) (text : List ℕ)
     (number : ℕ) (why : Wrong) : Type 0 where
+  -- the entries whose lines stand before it
   pub before : List Entry
+  -- the line
   pub line : List ℕ
+  -- the lines after it
   pub rest : List (List ℕ)
   pub split : lines_of text ≡ history_lines before ++ line ∷ rest
+  -- counted from 1
   pub number_is : number ≡ length before + 1
+  -- nothing is wrong before it
   pub go_well : GoWell opening start scripts order before
+  -- why it is wrong
   pub wrong : IsWrong opening start scripts order before line why
 
 -- No line is wrong, and none is of this request.
 pub record IsLacking (opening : Opening) (start : Book) (scripts : List (List Request)) (order : Order) (text : List ℕ)
     (worker index : ℕ) : Type 0 where
+  -- the entries whose lines these are
   pub history : List Entry
   pub lines_are : history_lines history ≡ lines_of text
   pub go_well : GoWell opening start scripts order history
+  -- there is the request
   pub has_request : index < length (script_of scripts worker)
+  -- and no entry is of it
   pub in_no_line : count_by (is_of worker index) history ≡ 0
 
 -- what is found of a text

@@ -31,7 +31,7 @@ pub record HasTaken (opening : Opening) (start : Book) (scripts : List (List Req
       count_by (is_of worker index) history ≡ (if is_marked replay.marks.rows.items worker index then 1 else 0)
   pub turns : (worker : ℕ) → worker < MOST_WORKERS → get_or replay.turns.next worker 0 ≡ turn_after worker history
 
--- it has performed some entries, from some book on
+-- a replay has performed some entries, from some book on
 pub record CanTake (scripts : List (List Request)) (replay : Replay) : Type 0 where
   pub opening : Opening
   pub start : Book
@@ -43,13 +43,13 @@ pub record CanTake (scripts : List (List Request)) (replay : Replay) : Type 0 wh
 abbrev pub AreMarked : List (List Request) → List (List Bool) → Type 0
 AreMarked scripts rows = (worker index : ℕ) → index < length (script_of scripts worker) → is_marked rows worker index ≡ true
 
--- the request with this index of this worker's script has none
+-- the request with this index of this worker's script has no mark
 pub record IsUnmarked (scripts : List (List Request)) (rows : List (List Bool)) (worker index : ℕ) : Type 0 where
   pub has_request : index < length (script_of scripts worker)
   pub worker_below : worker < MOST_WORKERS
   pub no_mark : is_marked rows worker index ≡ false
 
--- It has performed the entries whose lines were read of a text, so many, where the text is known.
+-- A replay has performed the entries whose lines were read of a text, so many, where the text is known.
 pub record IsReading (opening : Opening) (start : Book) (scripts : List (List Request)) (order : Order) (first now : Option (List ℕ))
     (replay : Replay) (number : ℕ) : Type 0 where
   pub history : List Entry

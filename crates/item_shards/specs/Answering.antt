@@ -59,13 +59,22 @@ acts_of item stock refused write = Look (shown.Left item stock) ∷ unless refus
 -- A bid or a purchase was answered on the shard of its item, at 1 + the greater of the worker's clock and the shard's: what it
 -- writes is done where the item, as it was found, does not refuse it.
 pub record HasAnswered (old new : Shard) (own : ℕ) (request : Request) (item : ItemId) (write : Act) (answered : Answered) : Type 0 where
+  -- the clock that was found
   pub before : answered.before ≡ clock_of old
+  -- 1 + the greater of it and the worker's
   pub numbered : answered.number ≡ suc (max own answered.before)
+  -- it is not past the last number
   pub within : answered.number ≤ last_number
+  -- what the shard has of the item
   pub stock : answered.stock ≡ stock_of (contents_of old (Item item))
+  -- the first reason by that, if any
   pub refused : answered.refused ≡ refusal_with answered.stock request
+  -- a look at the item, and what is written unless it is refused
   pub acts : answered.acts ≡ acts_of item answered.stock answered.refused write
+  -- these are done
   pub contents : contents_of new ≡ after_acts (contents_of old) answered.acts
+  -- and the number is the clock
   pub clock : clock_of new ≡ answered.number
+  -- all else is as before
   pub rooms : rooms_of new ≡ rooms_of old
   pub same : IsSameShard old new

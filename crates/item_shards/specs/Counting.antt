@@ -23,6 +23,6 @@ counted (row.Bid r) counts = record counts { bids = counts.bids + 1 }
 counted (row.Comment r) counts = record counts { comments = counts.comments + 1 }
 counted (row.Buy r) counts = record counts { buys = counts.buys + 1 }
 
--- so few that one more fits
+-- counts so small that one more fits
 abbrev pub AreFew : StoreCounts → Type 0
 AreFew counts = (counts.items < MOST_ROWS) × (counts.bids < MOST_ROWS) × (counts.comments < MOST_ROWS) × (counts.buys < MOST_ROWS)

@@ -16,8 +16,11 @@ opening_of auction = opening auction.shard
 
 -- the auction's records are those of a book within limits, and its counts are those of the stores of each of 16 workers in it
 pub record HoldsBook (auction : SerialAuction) (book : Book) : Type 0 where
+  -- its shard stands for the book, with nothing hot
   pub records : StandsFor auction.shard book []
+  -- its counts are those of each worker's stores
   pub counts : (worker : ℕ) → worker < MOST_WORKERS → slice_get auction.stored worker ≡ Some (stored_by book worker)
+  -- the book is within limits
   pub limits : IsWithinLimits book
 
 -- a book of fewer rows than an auction may have

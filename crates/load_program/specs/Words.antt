@@ -51,14 +51,14 @@ pub record SayCounts (text : List ℕ → Option (List ℕ)) (counts : Counts) :
   pub users : SaysNumber 1 1000000 (text (codes "users")) counts.users
   pub categories : SaysNumber 1 1000000 (text (codes "categories")) counts.categories
 
--- They say this mix.
+-- The texts of options say this mix.
 pub record SayMix (text : List ℕ → Option (List ℕ)) (mix : Mix) : Type 0 where
   pub views : SaysNumber 0 100 (text (codes "views")) mix.views
   pub comments : SaysNumber 0 100 (text (codes "comments")) mix.comments
   pub purchases : SaysNumber 0 100 (text (codes "purchases")) mix.purchases
   pub new_items : SaysNumber 0 100 (text (codes "new-items")) mix.new_items
 
--- They say this plan.
+-- The texts of options say this plan.
 pub record SayPlan (text : List ℕ → Option (List ℕ)) (plan : Plan) : Type 0 where
   pub counts : SayCounts text plan.counts
   pub mix : SayMix text plan.mix
@@ -69,7 +69,7 @@ pub record SayPlan (text : List ℕ → Option (List ℕ)) (plan : Plan) : Type 
 abbrev pub Fits : Counts → Type 0
 Fits counts = div_ceil counts.items counts.workers + div_ceil counts.requests counts.workers ≤ MOST_OF_A_WORKER
 
--- They say shares of more than a hundred percent.
+-- The texts of options say shares of more than a hundred percent.
 pub record SayTooMuch (text : List ℕ → Option (List ℕ)) : Type 0 where
   pub views : ℕ
   pub comments : ℕ
@@ -81,7 +81,7 @@ pub record SayTooMuch (text : List ℕ → Option (List ℕ)) : Type 0 where
   pub said_new_items : SaysNumber 0 100 (text (codes "new-items")) new_items
   pub over : 100 < views + comments + purchases + new_items
 
--- They say counts by which the first worker has more rows and requests than the auction takes.
+-- The texts of options say counts by which the first worker has more rows and requests than the auction takes.
 pub record SayTooLong (text : List ℕ → Option (List ℕ)) : Type 0 where
   pub counts : Counts
   pub said : SayCounts text counts

@@ -24,11 +24,17 @@ use Rattle.phase_closing.specs.Standing.{counters_at}
 -- its setting; the shards and each worker's counters as it began; each worker's receipt; the shards that the boxes gave back,
 -- and the entries of all journals
 pub record Phase : Type 0 where
+  -- what the phase is run with
   pub setting : Setting
+  -- the shards as it began
   pub opening : List ShardState
+  -- each worker's counters as it began
   pub counters : List Counters
+  -- each worker's receipt
   pub receipts : List PermitState
+  -- the shards that the boxes gave back
   pub given : List ShardState
+  -- the entries of all journals
   pub entries : List Entry
 
 -- of a worker that is none of the phase's: it has done nothing
@@ -68,21 +74,31 @@ IsReadFrom states (Category category, fixed) = ⊤
 -- how a phase begins: it has shards, no object is hot twice, and what is fixed of hot items, which are stored, was read from
 -- the shards
 pub record IsBegun (p : Phase) : Type 0 where
+  -- it has a shard
   pub some : 0 < length p.opening
+  -- it has as many as its setting says
   pub shards : p.setting.shards ≡ length p.opening
+  -- each worker has counters and a receipt
   pub workers : length p.counters ≡ length p.receipts
+  -- no object is hot twice
   pub distinct : IsDistinct same_object (hot_in p.setting)
+  -- of hot items something is fixed
   pub stocked : AllByRecursion IsStocked p.setting.stocks
+  -- and that is what the shards showed
   pub read : AllByRecursion (IsReadFrom p.opening) p.setting.stocks
 
 -- a worker's receipt, in a phase that it began with these counters and with clock 0
 pub record IsReceiptOf (z : Setting) (worker : ℕ) (opened : Counters) (receipt : PermitState) : Type 0 where
+  -- its transactions explain it
   pub explained : IsExplained z.shards receipt.split receipt.key
+  -- it is the worker's
   pub worker_is : receipt.key.worker ≡ worker
+  -- it is of this phase
   pub setting : setting_of receipt.split z.shards ≡ z
+  -- it began with these counters, at clock 0
   pub begun : first_of receipt.split.context.begun ≡ (opened, 0)
 
--- one such receipt for each worker, in order
+-- a receipt of each worker, in order
 abbrev pub AreReceipts : Phase → Type 0
 AreReceipts p = (w : ℕ) → w < length p.receipts → IsReceiptOf p.setting w (counters_at p.counters w) (receipt_at p.receipts w)
 
@@ -93,7 +109,11 @@ pub record AreMerged (p : Phase) : Type 0 where
 
 -- What permits, boxes and journals tell of a phase that has closed.
 pub record HasClosed (p : Phase) : Type 0 where
+  -- how it began
   pub begun : IsBegun p
+  -- what permits tell
   pub receipts : AreReceipts p
+  -- what boxes tell
   pub boxes : AreClosed p.opening (length p.receipts) (map key_of p.receipts) p.given
+  -- what journals tell
   pub merged : AreMerged p

@@ -15,14 +15,23 @@ use Rattle.phase_contexts.specs.Txns.{Txn, counted}
 -- the users and categories; with which counters and which clock the worker began; its counters, journal and stash; how many
 -- requests of its quota are left, and how often it tried; its clock; and the transactions behind its journal
 pub record ContextState : Type 0 where
+  -- the users and categories
   pub opening : Opening
+  -- the counters and the clock with which the worker began: a list of one
   pub begun : List (Counters × ℕ)
+  -- what the worker has stored of each kind, and committed
   pub counters : Counters
+  -- what it has committed in this phase
   pub journal : JournalView
+  -- what waits
   pub stash : StashState
+  -- how many requests of its quota are left
   pub left : ℕ
+  -- how often it tried
   pub tries : ℕ
+  -- the greatest number that it has seen
   pub clock : ℕ
+  -- the transactions behind its journal
   pub txns : List Txn
 
 -- no more stores of a kind than commits

@@ -9,10 +9,10 @@ use Rattle.phase_contexts.specs.Contexts.{ContextState}
 abbrev pub item_request : NewItem → Request
 item_request item = StoreItem item.facts item.time
 
--- its id is the worker's next
+-- the id of a new item: the worker's next
 abbrev pub next_item : ContextState → ItemId
 next_item context = record { worker = context.journal.worker; serial = context.counters.items }
 
--- its entry in the list of its category
+-- a new item's entry in the list of its category
 abbrev pub listed_as : NewItem → ItemId → ItemEntry
 listed_as item id = record { time = item.time; id = id }

@@ -17,8 +17,11 @@ use Rattle.phase_contexts.specs.Slicing.{objects_of, stocks_of, stock_of, after_
 use Rattle.phase_contexts.specs.Txns.{Setting, Txn, IsAnswered}
 use Rattle.phase_contexts.specs.Contexts.{ContextState, next_entry, after_commit, with_one_less}
 
+-- a worker's context, and its slices of what is hot
 pub record SplitState : Type 0 where
+  -- what both kinds of permits have
   pub context : ContextState
+  -- of what is hot: none in a joined phase
   pub slices : List (Object × Hot)
 
 -- there is room in the stash for what is left of the quota, where something is hot: elsewhere nothing is put off
@@ -61,8 +64,12 @@ HasStocks book hots = (item : ItemId) → is_hot (objects_of hots) (Item item) �
 -- there are: its reply is the answer by what is fixed and by the counters, and so the reply of every book in which the hot items
 -- have what is fixed and which the counters count. Its number is 1 + the clock, and the slice of what it writes has its operation.
 pub record HasStored (old new : SplitState) (request : Request) (index : ℕ) (answer : Reply) : Type 0 where
+  -- the entry is added, at 1 + the clock
   pub context : new.context ≡ with_one_less (after_commit old.context (suc old.context.clock) index request answer nothing)
+  -- the slice of what it writes has its operation
   pub slices : new.slices ≡ after_acts old.slices (writes_if (row_of old.context.journal.worker request answer))
+  -- the reply is the answer by what is fixed and by the counters
   pub answered : (shards : ℕ) → IsAnswered (setting_of old shards) old.context.counters (hot_txn old request index answer)
+  -- so it is the reply of each book that has these stocks and counts
   pub right : (book : Book) → CountsOf book old.context.journal.worker old.context.counters → HasStocks book old.slices →
       answer ≡ reply old.context.opening book old.context.journal.worker request

@@ -25,8 +25,11 @@ use Rattle.phase_contexts.specs.Slicing.{objects_of, stock_of}
 
 -- what a phase is run with: the users and categories, how many shards there are, and of each hot object what is fixed
 pub record Setting : Type 0 where
+  -- the users and categories
   pub opening : Opening
+  -- how many shards there are
   pub shards : ℕ
+  -- of each hot object what is fixed
   pub stocks : List (Object × Option (Facts × ℕ))
 
 -- the hot objects: none in a joined phase
@@ -125,7 +128,9 @@ reason_seen z txn = if is_view txn.0.request then number_refusal z.opening txn.0
 
 -- A transaction's reply is the answer by what it saw and by its worker's counters, and it was not to be put off.
 pub record IsAnswered (z : Setting) (counters : Counters) (txn : Txn) : Type 0 where
+  -- the reply is the refusal by what was seen, or else the answer
   pub answered : MatchOption (reason_seen z txn) (Answers counters txn.0.worker txn.0.request txn.0.reply) (λ reason. txn.0.reply ≡ Refused reason)
+  -- the request was not to wait
   pub not_put_off : is_put_off (hot_in z) txn.0.request ≡ false
 
 -- the counters after a commit with this reply

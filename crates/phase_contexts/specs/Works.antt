@@ -16,25 +16,39 @@ use Rattle.phase_contexts.specs.Txns.{Setting, Txn, entry_of, number_of, greates
 -- what a worker has done: with which counters and which clock it began, its journal, the lines of its key by shard, its
 -- clock, its counters, the slices of the hot objects, and the transactions behind all that
 pub record Work : Type 0 where
+  -- the counters and the clock with which it began
   pub opened : Counters
   pub start : ℕ
+  -- its journal
   pub entries : List Entry
+  -- the lines of its key, by shard
   pub lines : ℕ → List Line
+  -- its clock and its counters as they are
   pub clock : ℕ
   pub counters : Counters
+  -- its slices of the hot objects
   pub slices : List (Object × Hot)
+  -- the transactions behind all that
   pub txns : List Txn
 
 -- What a permit and its receipt keep: from the counters and the clock with which the worker began, its transactions give all
 -- the rest.
 pub record IsWorkOf (z : Setting) (worker : ℕ) (work : Work) : Type 0 where
+  -- the transactions are this worker's
   pub own : AllByRecursion (λ txn. (entry_of txn).worker ≡ worker) work.txns
+  -- their entries are the journal
   pub entries : work.entries ≡ map entry_of work.txns
+  -- the key has the lines that they owe on each shard
   pub lines : (shard : ℕ) → work.lines shard ≡ lines_owed z shard work.txns
+  -- the clock is the number of the last one
   pub clocked : work.clock ≡ last_by number_of work.start work.txns
+  -- the counters have counted each
   pub counts : work.counters ≡ fold after_txn work.opened work.txns
+  -- each number is 1 + the greatest of the one before and of the clocks found
   pub numbered : IsNumberedFrom number_of (greatest_clock z) work.start work.txns
+  -- each is answered by what it saw and by the counters before it
   pub answered : SawInTurn (IsAnswered z) after_txn work.opened work.txns
+  -- the slices are those of the rows that they add
   pub sliced : work.slices ≡ slices_of z.stocks (rows_of work.entries)
 
 -- What a commit owes: its number is 1 + the greatest of the worker's clock and the clocks found, and its reply is the

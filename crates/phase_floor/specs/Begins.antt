@@ -47,7 +47,7 @@ start_of key opening counters journal stash slices quota = record {
   key = key;
 }
 
--- Its key and its journal are new and its own, nothing is applied to its slices, there is room for what waits and for its quota, and no
+-- A worker can start: its key and its journal are new and its own, nothing is applied to its slices, there is room for what waits and for its quota, and no
 -- hot item is one that the worker has still to store.
 pub record CanStart (start : PermitState) : Type 0 where
   pub key : IsUnused start.key

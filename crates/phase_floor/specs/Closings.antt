@@ -28,11 +28,17 @@ use Rattle.phase_floor.specs.States.{JoinedState, states_of, StandsFor}
 
 -- the worker's receipt of the phase: its key is to the phase's boxes, and it began with the floor's counters, at clock 0
 pub record IsReceipt (floor : FloorState) (worker : ℕ) (receipt : PermitState) : Type 0 where
+  -- its key is to the phase's boxes
   pub boxes_are : receipt.key.boxes ≡ floor.boxes
+  -- it is the worker's
   pub worker_is : receipt.key.worker ≡ worker
+  -- it is of the same auction
   pub opening_is : receipt.split.context.opening ≡ floor.opening
+  -- it is of this phase
   pub phase_is : receipt.split.context.journal.phase ≡ floor.phase
+  -- of the same hot objects
   pub stocks_are : stocks_of receipt.split.slices ≡ floor.stocks
+  -- it began with the floor's counters, at clock 0
   pub begun : receipt.split.context.begun ≡ (counters_at floor.counters worker, 0) ∷ []
 
 -- each worker's receipt of the phase, in order
@@ -40,7 +46,7 @@ abbrev pub AreReceiptsOf : FloorState → List PermitState → Type 0
 AreReceiptsOf floor receipts =
     (length receipts ≡ length floor.counters) × ((w : ℕ) → w < length floor.counters → IsReceipt floor w (receipt_at receipts w))
 
--- The receipt is of a worker who has ended: its transactions explain it, and there are few of each kind of its parts.
+-- The receipt is of a worker who has ended: its transactions explain it, and its commits, and the operations in a slice, are at most 1,000,000.
 pub record IsFinished (shards : ℕ) (receipt : PermitState) : Type 0 where
   pub explained : IsExplained shards receipt.split receipt.key
   pub limit : (counters_of receipt).commits ≤ MOST_OF_A_WORKER
@@ -95,15 +101,21 @@ pub record HasClosedLawfully (opening : List ShardState) (floor : FloorState) (r
 -- state after it stands for the book with their rows.
 pub record Leaves (opening : List ShardState) (floor : FloorState) (receipts : List PermitState) (entries : List Entry)
     (state : JoinedState) (stashes : List StashState) : Type 0 where
+  -- it is the next phase of the same auction
   pub opening_is : state.opening ≡ floor.opening
   pub phase_is : state.phase ≡ floor.phase + 1
+  -- counters and stashes are those of the receipts
   pub counters_are : state.counters ≡ map counters_of receipts
   pub stashes_are : stashes ≡ map stash_of receipts
+  -- the phase closed lawfully
   pub lawful : HasClosedLawfully opening floor receipts (states_of state) entries
+  -- each worker's commits grow by its journal
   pub commits : (w : ℕ) → w < length receipts →
       (counters_at state.counters w).commits
       ≡ (counters_at floor.counters w).commits + length (journal_of (receipt_at receipts w)).entries
+  -- the entries replay from each book for which the state before stood
   pub replays : (book : Book) → StandFor opening floor.counters book [] → ReplaysFrom floor.opening book entries
+  -- and the state after stands for the book after them
   pub stands : (book : Book) → StandFor opening floor.counters book [] → StandsFor state (book_after floor.opening book entries)
 
 -- the users and categories of shards

@@ -20,10 +20,15 @@ use Rattle.phase_floor.specs.States.{DoAllExist, IsKept}
 -- the users and categories, the phase's number, the counters with which each worker begins, what is fixed of each hot object
 -- (there is none in a joined phase), and the boxes
 pub record FloorState : Type 0 where
+  -- the users and categories
   pub opening : Opening
+  -- the phase's number
   pub phase : ℕ
+  -- the counters with which each worker begins
   pub counters : List Counters
+  -- what is fixed of each hot object: there is none in a joined phase
   pub stocks : List (Object × Option (Facts × ℕ))
+  -- a box for each shard
   pub boxes : List BoxId
 
 -- the hot objects exist, none is named twice, and what is fixed of each is what the shards show
@@ -35,10 +40,15 @@ pub record AreStocksOf (opening : Opening) (states : List ShardState) (stocks : 
 
 -- an open phase keeps what was kept before it, and has a box for each shard
 pub record IsOpen (states : List ShardState) (workers : ℕ) (floor : FloorState) : Type 0 where
+  -- it has what a phase needs to begin
   pub kept : IsKept floor.opening states floor.counters
+  -- there is a box for each shard
   pub boxes_are : length floor.boxes ≡ length states
+  -- and counters for each worker
   pub workers_are : length floor.counters ≡ workers
+  -- what is fixed of the hot objects is what the shards show
   pub stocks_are : AreStocksOf floor.opening states floor.stocks
+  -- there is a number for the next phase
   pub not_last : floor.phase + 1 < 2 ^ 64
 
 -- the permit of a worker who has done nothing in the phase, with this quota, stash and key

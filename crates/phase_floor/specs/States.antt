@@ -18,9 +18,13 @@ use Rattle.phase_closing.specs.Standing.{StandFor, AreOfWorkers, counters_at, st
 
 -- the users and categories, the number of the next phase, the shards, and the counters of each worker
 pub record JoinedState : Type 0 where
+  -- the users and categories
   pub opening : Opening
+  -- the number of the next phase
   pub phase : ℕ
+  -- the shards
   pub shards : List Shard
+  -- each worker's counters
   pub counters : List Counters
 
 abbrev pub joined_of : Opening → ℕ → List Shard → List Counters → JoinedState
@@ -59,11 +63,17 @@ AreOfABook opening states counters =
 -- what is kept between phases: 1 to 64 shards with which a phase may open, 1 to 16 workers within limits, and that they are of
 -- a book
 pub record IsKept (opening : Opening) (states : List ShardState) (counters : List Counters) : Type 0 where
+  -- there are 1 to 64 shards
   pub some_shards : 0 < length states
   pub few_shards : length states ≤ MOST_SHARDS
+  -- there are 1 to 16 workers
   pub some_workers : 0 < length counters
   pub few_workers : length counters ≤ MOST_WORKERS
+  -- a phase may open with the shards
   pub opened : AreOpened states
+  -- they are of the opening
   pub opening_is : HaveOpening states opening
+  -- nobody has more than 1,000,000 commits
   pub limits : AreWithinLimit counters
+  -- it is not so that they stand for no book of their workers' rows
   pub of_a_book : AreOfABook opening states counters

@@ -70,17 +70,26 @@ IsCause opening split key request NumberFull = last_number ≤ greatest_seen ope
 -- The request was not performed, for its cause, and was not to be put off: nothing has changed but what the key has seen of the
 -- shards of the footprint, which goes on from what it had seen (`lines`), and it holds no shard.
 pub record HasFailed (opening : List ShardState) (old new : PermitState) (request : Request) (fault : PermitFault) : Type 0 where
+  -- context and slices are as before
   pub split : new.split ≡ old.split
+  -- so are the key's lines, and what it has seen goes on
   pub lines : HasSameLines old.key new.key
+  -- of shards that are not asked for it has seen nothing more
   pub others : (shard : ℕ) → asks (length opening) old.split request shard ≡ false → seat_at new.key shard ≡ seat_at old.key shard
+  -- it holds none
   pub idle : IsIdle new.key
+  -- the request was not to wait
   pub not_put_off : is_put_off (objects_of old.split.slices) request ≡ false
+  -- the fault comes for its cause
   pub cause : IsCause opening old.split new.key request fault
 
 -- The request waits for the next joined phase: the stash gains it, one of the quota is used, and all else stays.
 pub record HasPutOff (old new : PermitState) (request : Request) (index : ℕ) : Type 0 where
+  -- it is stashable, and touches what is hot
   pub put_off : is_put_off (objects_of old.split.slices) request ≡ true
+  -- it waits in the stash, and one of the quota is used
   pub context : new.split.context ≡ after_putting_off old.split.context index request
+  -- all else is as before
   pub slices : new.split.slices ≡ old.split.slices
   pub key : new.key ≡ old.key
 

@@ -19,7 +19,9 @@ use Rattle.phase_transactions.specs.Putting.{KeepsSeen, HasPut}
 
 -- a split permit, or its receipt: the context with the slices, and the key
 pub record PermitState : Type 0 where
+  -- the context, and the slices of what is hot: none in a joined phase
   pub split : SplitState
+  -- the right to take shards
   pub key : KeyState
 
 -- a context with slices, and a key
@@ -62,8 +64,11 @@ IsUnused key = (shard : ℕ) → (holds_at key shard ≡ false) × (lines_at key
 -- a permit, or its receipt, is explained by its transactions in a phase with so many shards: its journal is the key's worker's, the key is
 -- idle, and the journal, the key's lines, the clock, the counters and the slices are those of one list of transactions
 pub record IsExplained (shards : ℕ) (split : SplitState) (key : KeyState) : Type 0 where
+  -- the journal is of the key's worker
   pub worker : split.context.journal.worker ≡ key.worker
+  -- the key holds no shard
   pub idle : IsIdle key
+  -- its transactions give all the rest
   pub work : IsWorkOf (setting_of split shards) key.worker (work_of split key)
 
 -- The transaction of a commit at this number that found this.
@@ -79,22 +84,34 @@ done_at context index request done = with_one_less (after_commit context done.nu
 -- the key has seen of each shard goes on, the slices of what it writes have its operation, and its reply is the answer by what was
 -- seen and by the counters.
 pub record HasCommitted (opening : List ShardState) (old new : PermitState) (request : Request) (index : ℕ) (answer : Reply) : Type 0 where
+  -- its number, and what its transaction found
   pub number : ℕ
   pub found : ReadSet
+  -- 1 + the greatest of the worker's clock and the clocks found on the shards that it takes
   pub numbered : let z = setting_of old.split (length opening) in
       number ≡ suc (max old.split.context.clock (greatest_clock z (txn_of old.split number request index answer found)))
+  -- it is not past the last number
   pub within : number ≤ last_number
+  -- one of the quota is used, and the journal gains the entry
   pub context : new.split.context ≡ with_one_less (after_commit old.split.context number index request answer found)
+  -- the slices of what it writes have its operation
   pub slices : new.split.slices ≡ after_acts old.split.slices (writes_if (row_of old.split.context.journal.worker request answer))
+  -- the key has its line on each shard that it took
   pub lines : (shard : ℕ) → let z = setting_of old.split (length opening) in let txn = txn_of old.split number request index answer found in
       lines_at new.key shard ≡ (if takes z shard txn then lines_at old.key shard ++ line_on z shard txn ∷ [] else lines_at old.key shard)
+  -- each of these was taken as some list of lines left it, and put back with that line
   pub puts : (shard : ℕ) → let z = setting_of old.split (length opening) in let txn = txn_of old.split number request index answer found in
       takes z shard txn ≡ true → HasPut opening old.key new.key shard (line_on z shard txn)
+  -- no other seat of the key has changed
   pub others : (shard : ℕ) → let z = setting_of old.split (length opening) in let txn = txn_of old.split number request index answer found in
       takes z shard txn ≡ false → seat_at new.key shard ≡ seat_at old.key shard
+  -- what the key has seen of each shard goes on
   pub seen : KeepsSeen old.key new.key
+  -- it holds none
   pub idle : IsIdle new.key
+  -- it is the same worker's key to the same boxes
   pub worker : new.key.worker ≡ old.key.worker
   pub boxes : new.key.boxes ≡ old.key.boxes
   pub seats : length new.key.seats ≡ length old.key.seats
+  -- the reply is the answer by what was seen and by the counters
   pub answered : IsAnswered (setting_of old.split (length opening)) old.split.context.counters (txn_of old.split number request index answer found)

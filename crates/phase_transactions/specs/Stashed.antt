@@ -19,14 +19,20 @@ IsFirst permit index request = slice_get permit.split.context.stash.requests 0 �
 -- The first stashed request was committed as one of the quota, into which it was called: the stash is without it, and as many of
 -- the quota are left as before.
 pub record HasPerformedFirst (opening : List ShardState) (old new : PermitState) (answer : Reply) : Type 0 where
+  -- the request that waits longest
   pub index : ℕ
   pub request : Request
+  -- it stood first in the stash
   pub first : IsFirst old index request
+  -- it is committed as one of the quota
   pub committed : HasCommitted opening (with_first_called old) new request index answer
 
 -- The first stashed request was not performed, for its cause: it waits as before, and nothing has changed but what the key has seen.
 pub record HasFailedFirst (opening : List ShardState) (old new : PermitState) (fault : PermitFault) : Type 0 where
+  -- the request that waits longest
   pub index : ℕ
   pub request : Request
+  -- it stands first in the stash
   pub first : IsFirst old index request
+  -- it was not performed, for its cause
   pub failed : HasFailed opening old new request fault

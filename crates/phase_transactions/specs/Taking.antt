@@ -21,11 +21,16 @@ pub record IsReady (opening : List ShardState) (boxes : List BoxId) (key : KeySt
 
 -- The key has taken the shard, for which it has a seat.
 pub record HasTaken (opening : List ShardState) (workers : ℕ) (old new : KeyState) (shard : ℕ) (held : HeldState) : Type 0 where
+  -- it has a seat for the shard
   pub known : shard < length old.seats
+  -- it holds the shard now
   pub key : new ≡ taking old shard (seen_at new shard)
+  -- what it has seen of the shard goes on
   pub later : StartsWith (seen_at new shard) (seen_at old shard)
+  -- what is held is that shard
   pub number : held.number ≡ shard
   pub holds : holds_at new held.number ≡ true
+  -- it is as the lines that were seen left it
   pub history : IsAsTaken opening workers new held
 
 -- the shard's clock, and the number of a commit there: 1 + the greater of it and the worker's own

@@ -37,25 +37,30 @@ tasks (permit ∷ permits) (script ∷ scripts) first = task permit script first
 abbrev pub calls_for : Task → List (ℕ × Request)
 calls_for t = calls_from t.first t.permit.split.context.left t.script
 
--- it can be done in a phase that began with these shards, with these boxes
+-- a task can be done in a phase that began with these shards, with these boxes
 pub record CanBeDone (opening : List ShardState) (boxes : List BoxId) (t : Task) : Type 0 where
+  -- its permit is to these boxes
   pub boxes_are : t.permit.key.boxes ≡ boxes
+  -- and of the same auction
   pub opening_is : HaveOpening opening t.permit.split.context.opening
+  -- its script is short
   pub short : length t.script ≤ MOST_OF_A_WORKER
+  -- what it is given stands in the script
   pub given : t.permit.split.context.left ≤ length t.script - t.first
+  -- its tries suffice
   pub tries : t.permit.split.context.tries + length (stashed t.permit) + t.permit.split.context.left ≤ MOST_TRIES
 
 -- what it has to do: the calls that are taken of its stash, and then those that it is given
 abbrev pub to_do : Bool → Task → List (ℕ × Request)
 to_do takes t = taken takes t.permit ++ calls_for t
 
--- it was done: of what it had to do, what is not put off is committed, in this order, and what is waits behind what was not taken
+-- a task was done: of what it had to do, what is not put off is committed, in this order, and what is waits behind what was not taken
 pub record IsDone (takes : Bool) (t : Task) (receipt : PermitState) : Type 0 where
   pub same : IsSamePermit t.permit receipt
   pub calls : committed receipt ≡ committed t.permit ++ not_put_off (hot_for t.permit) (to_do takes t)
   pub stash : stashed receipt ≡ kept takes t.permit ++ put_off (hot_for t.permit) (to_do takes t)
 
--- it was not: it stopped at a call of these, by this fault
+-- a task was not done: it stopped at a call of these, by this fault
 abbrev pub HasMetFault : Bool → List ShardState → Task → PermitState → PermitFault → Type 0
 HasMetFault takes opening t = HasStopped takes opening (to_do takes t) t.permit
 

@@ -28,7 +28,7 @@ stashed permit = permit.split.context.stash.requests
 abbrev pub taken : Bool → PermitState → List (ℕ × Request)
 taken takes permit = cond takes (stashed permit) []
 
--- and what of it waits on
+-- what of its stash is not performed in a phase
 abbrev pub kept : Bool → PermitState → List (ℕ × Request)
 kept takes permit = cond takes [] (stashed permit)
 
@@ -40,11 +40,11 @@ hot_for permit = objects_of permit.split.slices
 abbrev pub put_off : List Object → List (ℕ × Request) → List (ℕ × Request)
 put_off hot calls = filter (λ call. is_put_off hot call.1) calls
 
--- and the others
+-- of these calls the ones that are not put off
 abbrev pub not_put_off : List Object → List (ℕ × Request) → List (ℕ × Request)
 not_put_off hot calls = filter (λ call. not (is_put_off hot call.1)) calls
 
--- it is of this phase and this worker
+-- the permit is of this phase and this worker
 pub record IsPermitOf (phase worker : ℕ) (permit : PermitState) : Type 0 where
   pub phase_is : permit.split.context.journal.phase ≡ phase
   pub worker_is : permit.key.worker ≡ worker
@@ -54,7 +54,7 @@ abbrev pub ArePermitsOf : ℕ → ℕ → List PermitState → Type 0
 ArePermitsOf phase worker [] = ⊤
 ArePermitsOf phase worker (permit ∷ more) = IsPermitOf phase worker permit × ArePermitsOf phase (suc worker) more
 
--- its entries are of its journal's phase
+-- a permit's entries are of its journal's phase
 abbrev pub AreOfPhase : PermitState → Type 0
 AreOfPhase permit = AllByRecursion (λ e. e.phase ≡ permit.split.context.journal.phase) permit.split.context.journal.entries
 
@@ -91,10 +91,16 @@ pub record HasDealtWithNext (call : ℕ × Request) (old new : PermitState) : Ty
 -- A permit has stopped at one of these calls, of which the first are those that are taken of its stash, by its fault: of those before
 -- it, the ones that are not put off are committed, and the others wait behind what it did not take of the stash or did not reach.
 pub record HasStopped (takes : Bool) (opening : List ShardState) (calls : List (ℕ × Request)) (old new : PermitState) (fault : PermitFault) : Type 0 where
+  -- the calls that were dealt with
   pub before : List (ℕ × Request)
+  -- the one at which it stopped
   pub call : ℕ × Request
+  -- those after it
   pub left : List (ℕ × Request)
   pub calls_are : calls ≡ before ++ call ∷ left
+  -- of those before, what is not put off is committed
   pub done : committed new ≡ committed old ++ not_put_off (hot_for old) before
+  -- in the stash waits what was not taken of it or not reached, and then what is put off
   pub waits : stashed new ≡ kept takes old ++ drop (length before) (taken takes old) ++ put_off (hot_for old) before
+  -- the fault has its cause at the call
   pub cause : IsCause opening new.split new.key call.1 fault

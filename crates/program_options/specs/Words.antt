@@ -20,10 +20,15 @@ text_in program words id = one_of id (matches_of program words)
 
 -- The option takes one number of a range, and has a usual one.
 pub record IsNumberRule (id : List ℕ) (least greatest : ℕ) (rule : Rule) : Type 0 where
+  -- the rule is the option's
   pub own : rule.id ≡ id
+  -- it takes one word
   pub simple : rule.is_simple ≡ true
+  -- and sets it
   pub action : rule.action ≡ Some Set
+  -- which is a number of the range
   pub parser : rule.parser ≡ Some (Signed (pos least) (pos greatest))
+  -- it has a usual one
   pub usual : 0 < length rule.defaults
 
 -- these rules are of one option alone, and it is such a one

@@ -26,7 +26,7 @@ commits_in reach puts_off call =
 abbrev pub turn : {R : Type 0} → (ℕ × R → ℕ) → ℕ → List R → List (ℕ × R)
 turn commit phase script = filter (λ call. commit call == phase) (numbered 0 script)
 
--- its turns in the first phases, one after the other
+-- a worker's turns in the first phases, one after the other
 abbrev pub turns : {R : Type 0} → (ℕ × R → ℕ) → ℕ → List R → List (ℕ × R)
 turns commit zero script = []
 turns commit (suc phase) script = turns commit phase script ++ turn commit phase script

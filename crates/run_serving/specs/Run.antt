@@ -27,11 +27,13 @@ calls_given policy phase script = given policy.joined_quota policy.split_quota p
 -- The phases before this one are done.
 pub record HasRun (policy : Policy) (scripts : List (List Request)) (phase : ℕ)
     (hot : List (List Object)) (history : List Entry) (stashes : ℕ → List (ℕ × Request)) : Type 0 where
+  -- there is a hot set for each
   pub phase_count : length hot ≡ phase
   -- each worker's calls so far are its script's calls of those phases, phase by phase
   pub done : (worker : ℕ) → calls_of worker history ≡ turns (commit_phase policy hot) phase (script_of scripts worker)
   -- its stash is what was put off to this phase
   pub stashed : (worker : ℕ) → stashes worker ≡ waiting (phase_reached policy) (commit_phase policy hot) phase (script_of scripts worker)
+  -- each entry is in its phase, all are before this one, and phases don't fall
   pub phases : AllByRecursion (λ e. e.phase ≡ commit_phase policy hot (call_of e)) history
   pub phases_before : AllByRecursion (λ e. e.phase < phase) history
   pub phases_rise : IsOrderedBy (λ d e. d.phase ≤ e.phase) history
@@ -42,6 +44,7 @@ pub record HasRun (policy : Policy) (scripts : List (List Request)) (phase : ℕ
 -- A closed phase: which calls each worker's entries are, and what its stash is after it.
 pub record HasPerformed (policy : Policy) (scripts : List (List Request)) (phase : ℕ)
     (hot : List Object) (stashes after : ℕ → List (ℕ × Request)) (segment : List Entry) : Type 0 where
+  -- the entries are of this phase
   pub phases : AllByRecursion (λ e. e.phase ≡ phase) segment
   -- a joined phase performs the stash, then what is given
   pub joined_calls : is_split phase ≡ false → (worker : ℕ) →
@@ -58,7 +61,7 @@ abbrev pub HasLeft : Policy → List (List Request) → ℕ → (ℕ → List (�
 HasLeft policy scripts phase stashes worker =
     (first_index policy phase < length (script_of scripts worker)) ⊎ (0 < length (stashes worker))
 
--- nobody has
+-- nobody has anything left
 abbrev pub IsDone : Policy → List (List Request) → ℕ → (ℕ → List (ℕ × Request)) → Type 0
 IsDone policy scripts phase stashes = (worker : ℕ) →
     (length (script_of scripts worker) ≤ first_index policy phase) × (length (stashes worker) ≡ 0)

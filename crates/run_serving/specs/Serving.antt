@@ -64,4 +64,5 @@ pub record Serves (opening : Opening) (policy : Policy) (scripts : List (List Re
   pub stores_first : IsOrderedBy (λ d e. d.worker ≡ e.worker → is_splittable e.request ≡ true → d.index < e.index) history
   -- there is one phase more than the greatest phase of an entry, and none without entries
   pub phase_count : length hot ≡ greatest_by (λ e. suc e.phase) history
+  -- each number is 1 + the greatest earlier one of its phase with which it shares something
   pub numbers : AreNumbered opening policy hot history

@@ -11,7 +11,7 @@ pub record IsSpent (boxes : List BoxId) (worker : ℕ) (key : KeyState) : Type 0
   pub worker_is : key.worker ≡ worker
   pub idle : (s : ℕ) → holds_at key s ≡ false
 
--- one such key for each worker, in order
+-- a key of each worker that may be given back, in order
 abbrev pub AreSpent : List BoxId → ℕ → List KeyState → Type 0
 AreSpent boxes workers keys = (length keys ≡ workers) × ((w : ℕ) → w < workers → IsSpent boxes w (key_at keys w))
 

@@ -8,7 +8,7 @@ use Rattle.shard_boxes.specs.States.{ShardState, state_at}
 use Rattle.shard_boxes.specs.Lines.{after, after_line, MayFollow}
 use Rattle.shard_boxes.specs.Keys.{KeyState, seen_at}
 
--- its number, and the shard as it is
+-- a held shard: its number, and the shard as it is
 pub record HeldState : Type 0 where
   pub number : ℕ
   pub shard : Shard

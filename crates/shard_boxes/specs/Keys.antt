@@ -9,14 +9,20 @@ BoxId = TableId
 
 -- what a key shows of one shard: whether it holds it, its worker's lines, and the list that it has seen
 pub record SeatState : Type 0 where
+  -- whether the key has the shard
   pub holds : Bool
+  -- the lines that its worker put
   pub lines : List Line
+  -- all workers' lines that it has seen
   pub seen : List (ℕ × Line)
 
 -- the boxes that the key is for, its worker, and a seat for each shard
 pub record KeyState : Type 0 where
+  -- the boxes that it is for
   pub boxes : List BoxId
+  -- whose it is
   pub worker : ℕ
+  -- a seat for each shard
   pub seats : List SeatState
 
 abbrev pub no_seat : SeatState

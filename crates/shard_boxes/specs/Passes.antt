@@ -4,6 +4,7 @@ use Rattle.item_shards.specs.declared.shard.Shard.{Shard}
 use Rattle.shard_boxes.specs.declared.rule.View.{View}
 use Rattle.shard_boxes.specs.Keys.{BoxId}
 
+-- a leave: the box that it is for, and what its pass knows
 pub record LeaveState : Type 0 where
   pub place : BoxId
   pub knows : View

@@ -11,10 +11,15 @@ use Rattle.item_shards.specs.ShardContents.{shard_number, shard_count, opening a
 
 -- which shard it is, of how many, the users and categories of its auction, its clock, and the value of each object
 pub record ShardState : Type 0 where
+  -- which shard it is
   pub number : ℕ
+  -- of how many
   pub shards : ℕ
+  -- the users and categories of the auction
   pub opening : Opening
+  -- the greatest commit number that it has seen
   pub clock : ℕ
+  -- the value of each object
   pub contents : Contents
 
 abbrev pub state_of : Shard → ShardState

@@ -9,7 +9,9 @@ use Rattle.worker_journals.specs.Merged.{merged, AreByWorker}
 
 -- a history: the entries of its phases, one phase after the other, and the journals of the last phase
 pub record HistoryView : Type 0 where
+  -- those of all phases, one phase after the other
   pub entries : List Entry
+  -- the journals of the last one
   pub last : List JournalView
 
 -- a history before the first phase

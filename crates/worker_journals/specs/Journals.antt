@@ -10,9 +10,12 @@ use Rattle.auction_rows.specs.Stars.{GivesStars}
 
 -- a journal: whose commits of which phase it holds, for how many entries in all a place was asked, and its entries
 pub record JournalView : Type 0 where
+  -- whose commits of which phase it holds
   pub phase : ℕ
   pub worker : ℕ
+  -- for how many entries in all a place was asked
   pub room : ℕ
+  -- its entries, in the order of their numbers
   pub entries : List Entry
 
 -- an entry's number, and its worker

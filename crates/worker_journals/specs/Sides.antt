@@ -18,11 +18,14 @@ use Rattle.worker_journals.specs.declared.heads.UserSeen.{UserSeen as SeenUser}
 -- the side lists of a journal: the facts that its requests store, and what its views show;
 -- and for how many commits more there is room
 pub record SideLists : Type 0 where
+  -- what requests store
   pub facts : List Facts
+  -- what views show
   pub items : List SeenItem
   pub users : List SeenUser
   pub bids : List BidShown
   pub latest : List ItemShown
+  -- for how many commits more there is room
   pub left : ℕ
 
 -- side lists before the first commit
