@@ -6,7 +6,7 @@ use std::alloc::{AllocError, AllocFailed};
 use thiserror::Error;
 
 /// The order in which the entries of each worker are to stand.
-#[derive(Clone, Copy, PartialEq, Eq, Debug)]
+#[derive(Clone, Copy)]
 pub enum Order {
     /// In any.
     Any,
@@ -17,7 +17,7 @@ pub enum Order {
 }
 
 /// Why a line is wrong after the lines before it.
-#[derive(Clone, Copy, PartialEq, Eq, Debug)]
+#[derive(Clone, Copy)]
 pub enum Wrong {
     /// It doesn't begin with four numbers that have a space after each, or has no line feed at its end.
     Unreadable,
@@ -32,7 +32,7 @@ pub enum Wrong {
 }
 
 /// What is found of the text of a history.
-#[derive(Clone, Copy, PartialEq, Eq, Debug)]
+#[derive(Clone, Copy)]
 pub enum Verdict {
     /// It replays, and each request of each script stands in one line.
     Replays,
@@ -43,7 +43,7 @@ pub enum Verdict {
 }
 
 /// Why nothing is found.
-#[derive(Clone, Copy, Debug, PartialEq, Eq, Drop, Error)]
+#[derive(Clone, Copy, Debug, Drop, Error)]
 pub enum CheckFault {
     /// The rows and the lines are more than `MOST_ROWS`.
     #[error("more than 16000000 rows and lines")]

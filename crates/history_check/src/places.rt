@@ -7,7 +7,7 @@ ghost use Rattle.history_check.specs.Places.{is_space, placed, Fits, IsLineOf};
 use auction_text::read_u64;
 
 /// Where a commit stands: its phase and number, its worker and the index of its request.
-#[derive(Clone, Copy, PartialEq, Eq, Debug)]
+#[derive(Clone, Copy)]
 pub struct Place {
     pub phase: u64,
     pub number: u64,
