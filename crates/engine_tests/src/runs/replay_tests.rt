@@ -27,9 +27,12 @@ fn is_replayed(alloc: Global, history: &History) -> Result<bool, Fail> {
     let mut accepted = Vec::new(alloc);
     let mut rows = Vec::new(alloc);
     for entry in history.iter().map(|entry| entry.to_entry()) {
-        let (worker, request) = (entry.worker, entry.request);
-        if let Some(row) = row_of(worker, request, entry.reply) {
-            accepted.push(Opened { worker, request })?;
+        let (worker, request) = (entry.worker, &entry.request);
+        if let Some(row) = row_of(worker, *request, entry.reply) {
+            accepted.push(Opened {
+                worker,
+                request: *request,
+            })?;
             rows.push(row)?;
         }
     }
