@@ -1,5 +1,5 @@
 -- One view more.
-use Rattle.std.proofs.Common.{◌≡◌, ℕ, length, zero, suc, ◌+◌, List, [], ◌∷◌, ◌++◌, Option, Some, None, Result, Ok, Err, IfOk, IfSome, map, ap, sym, subst, ◌∙◌, arith}
+use Rattle.std.proofs.Common.{◌≡◌, ℕ, length, zero, suc, ◌+◌, List, [], ◌∷◌, ◌++◌, Option, Some, Result, Ok, Err, IfOk, IfSome, map, ap, sym, subst, ◌∙◌, arith}
 use base.Growing.{prefix_trans}
 use mathlib.Core.List.{IsPrefix}
 use Rattle.std.specs.List.{range_with_len}
@@ -55,11 +55,6 @@ module _ (opening : Opening) (rows : Book) (old all : List (List Row)) (state : 
   shown_at_end request answered seen some shows =
       subst (λ o. IfSome o (λ r. (b : Book) (worker : ℕ) → StandsFor state b → r ≡ reply state.opening b worker request)) some shows book 0 end.stands
       ∙ ap (λ o. reply o book 0 request) end.opening_is
-
--- what follows of a value that there is
-pub if_some : {T : Type 0} (o : Option T) (P Q : T → Type 0) → ((x : T) → P x → Q x) → IfSome o P → IfSome o Q
-if_some None P Q follows holds = tt
-if_some (Some x) P Q follows holds = follows x holds
 
 -- what follows of what was answered, where something was
 pub if_ok_some : {T E : Type 0} (r : Result T E) (o : Option T) (P Q R : T → Type 0) → o ≡ result_ok r → IfOk r P → IfOk r Q → ((x : T) → P x → Q x → R x) → IfSome o R

@@ -17,7 +17,7 @@ use program_options::{
 use std::alloc::{AllocError, Global};
 
 /// What the program is asked to do: how the auction is run, how many users and categories it has, and what is written.
-#[derive(Clone, Copy, Debug, PartialEq, Eq)]
+#[derive(Clone, Copy)]
 pub struct Options {
     /// How many workers there are, 1 to 16.
     pub workers: u32,

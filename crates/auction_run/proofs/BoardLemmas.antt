@@ -9,34 +9,33 @@ use Rattle.auction_rows.specs.declared.numbers.Opening.{Opening}
 use Rattle.auction_rows.specs.declared.requests.Request.{Request}
 use Rattle.auction_rows.specs.declared.rows.Row.{Row}
 use Rattle.auction_rows.specs.declared.rows.Entry.{Entry}
-use Rattle.auction_rows.specs.Book.{Book}
+use Rattle.auction_rows.specs.Book.{Book, worker_of}
 use Rattle.auction_rows.specs.History.{IsBook, ReplaysFrom, after_entry, row_of_entry, rows_of}
 use Rattle.auction_rows.specs.Replies.{row_of}
 use Rattle.auction_rows.proofs.HistoryLemmas.{longer_book, rows_go_on}
 use Rattle.auction_window.specs.Published.{book_of}
 use Rattle.auction_window.proofs.Growing.{book_of-snoc}
-use Rattle.item_shards.specs.Counting.{worker_of}
 use Rattle.item_shards.specs.OpeningRows.{rows_by}
 use Rattle.item_shards.specs.Serial.{CanFollow}
 use Rattle.item_shards.proofs.SerialLemmas.{worker_of_added}
 use Rattle.phase_laws.specs.Order.{part}
-use Rattle.phase_laws.proofs.OrderLemmas.{all-weaker}
+use Rattle.phase_laws.proofs.OrderLemmas.{all-weaker, all-from_map}
 use Rattle.run_laws.specs.Turns.{numbered, turn, turns}
 use Rattle.run_laws.proofs.CallLemmas.{requests_in_turns}
 use Rattle.run_laws.proofs.CountLemmas.{how_many, how_many-is, count-append, count-map}
-use Rattle.run_laws.proofs.ListLemmas.{all-append, all-both, all-from_map, all-kept, all-right, filter_false}
+use Rattle.phase_laws.proofs.ListLemmas.{all-append, all-both, all-kept, all-right, filter_false}
 use Rattle.run_laws.proofs.PartLemmas.{all_of_parts}
 use Rattle.run_laws.proofs.TurnLemmas.{length-numbered}
 use Rattle.worker_journals.specs.Merged.{merged}
 use Rattle.run_serving.specs.declared.policy.Policy.{Policy}
 use Rattle.run_serving.specs.Run.{calls_of}
 use Rattle.run_serving.specs.Serving.{script_of, segment_of, call_of, commit_phase}
+use Rattle.run_serving.proofs.ScriptLemmas.{past_end}
 use Rattle.auction_run.specs.declared.running.Running.{Running}
 use Rattle.auction_run.specs.Beginning.{AreShort}
 use Rattle.auction_run.specs.Boards.{CanShow, HasShown, phase_rows}
 use Rattle.auction_run.specs.Phases.{hot_sets}
 use Rattle.auction_run.specs.Running.{IsRunning}
-use Rattle.auction_run.proofs.ScriptLemmas.{past_end}
 
 -- ---- numbers, counted one by one
 

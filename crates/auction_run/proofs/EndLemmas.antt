@@ -9,7 +9,7 @@ use Rattle.phase_transactions.specs.declared.fault.PermitFault.TheVariants as pe
 use Rattle.phase_transactions.specs.Performing.{IsCause}
 use Rattle.phase_transactions.specs.Permits.{PermitState}
 use Rattle.run_laws.specs.Turns.{numbered}
-use Rattle.run_laws.proofs.ListLemmas.{all-append, all-left, all-right}
+use Rattle.phase_laws.proofs.ListLemmas.{all-append, all-left, all-right}
 use Rattle.run_serving.specs.Serving.{script_of}
 use Rattle.shard_boxes.specs.Keys.{BoxId}
 use Rattle.shard_boxes.specs.States.{ShardState}

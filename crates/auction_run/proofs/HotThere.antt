@@ -1,6 +1,6 @@
 -- What accepted stores write is there, in the book after them and on the shards that stand for it.
-use Rattle.std.proofs.Common.{◌≡◌, ℕ, zero, suc, ◌-◌, ◌<◌, ◌%◌, ◌&&◌, ◌||◌, Bool, true, false, cond, List, [], ◌∷◌, ◌++◌, drop, length, find, Option, Some, None, option_map, Contains, refl, sym, ap, ◌∙◌, subst, arith}
-use Rattle.std.specs.Prelude.{IsSome, is_some, is_none, nat_le}
+use Rattle.std.proofs.Common.{◌≡◌, ℕ, zero, suc, ◌-◌, ◌<◌, ◌%◌, ◌&&◌, true, false, cond, List, [], ◌∷◌, ◌++◌, drop, length, find, Option, Some, None, option_map, refl, sym, ap, ◌∙◌, subst, arith}
+use Rattle.std.specs.Prelude.{IsSome, is_some, nat_le}
 use Rattle.std.specs.List.{AllByRecursion, cons_option}
 use Rattle.std.specs.Option.{option_or}
 use Rattle.std.proofs.lemmas.Bool.{false≢true, leb-false, or_parts}
@@ -13,7 +13,6 @@ use Rattle.auction_rows.specs.declared.ids.Object.{Object}
 use Rattle.auction_rows.specs.declared.ids.Object.TheVariants.{Item, User, Category}
 use Rattle.auction_rows.specs.declared.numbers.Opening.{Opening}
 use Rattle.auction_rows.specs.declared.replies.Refusal.{Refusal}
-use Rattle.auction_rows.specs.declared.replies.Refusal.TheVariants.{NoSuchUser, NoSuchCategory}
 use Rattle.auction_rows.specs.declared.requests.Facts.{Facts}
 use Rattle.auction_rows.specs.declared.requests.Request.{Request}
 use Rattle.auction_rows.specs.declared.requests.Request.TheVariants.{StoreItem, StoreBid, StoreComment, BuyNow, ViewItem, ViewBids, ViewCategory, ViewUser}
@@ -22,12 +21,12 @@ use Rattle.auction_rows.specs.declared.rows.ItemRow.{ItemRow}
 use Rattle.auction_rows.specs.Book.{Book, as_item, same_item, item_in, item_rows, facts_of, bought}
 use Rattle.auction_rows.specs.Choosing.{written_by, objects_written, heat, choose}
 use Rattle.auction_rows.specs.History.{IsRight, after_entry, ReplaysFrom, book_after, rows_of}
-use Rattle.auction_rows.specs.Refusals.{holds_by_number, number_refusal, item_refusal, refusal, facts_for, left_for}
+use Rattle.auction_rows.specs.Refusals.{refusal}
 use Rattle.auction_rows.specs.Replies.{answer, answer_unless, row_of}
 use Rattle.auction_rows.specs.Requests.{writes, is_splittable, number_of, shard_of}
 use Rattle.auction_rows.proofs.HistoryLemmas.{book_after-replays}
 use Rattle.auction_rows.proofs.OrderLemmas.{heat_total, heat_same}
-use Rattle.auction_rows.proofs.RefusalLemmas.{refusal-split, enough}
+use Rattle.auction_rows.proofs.RefusalLemmas.{enough, in_range, not_by_number, is_stored}
 use Rattle.auction_rows.proofs.RequestLemmas.{row_made}
 use Rattle.item_shards.specs.Values.{value, stock}
 use Rattle.phase_closing.specs.Phases.{value_on}
@@ -56,25 +55,6 @@ stays opening book rows (Category category) h = h
 
 -- ---- what isn't refused names what is there
 
-none_first : (o p : Option Refusal) → option_or o p ≡ None → o ≡ None
-none_first None p e = refl
-none_first (Some reason) p e = absurd (cc)
-
-no_reason : (a b : Bool) (x y : Refusal) → cond a (Some x) (cond b (Some y) None) ≡ None → (a ≡ false) × (b ≡ false)
-no_reason true b x y e = absurd (cc)
-no_reason false true x y e = absurd (cc)
-no_reason false false x y e = (refl, refl)
-
-in_range : (opening : Opening) (book : Book) (request : Request) → refusal opening book request ≡ None →
-    (holds_by_number opening request NoSuchUser ≡ false) × (holds_by_number opening request NoSuchCategory ≡ false)
-in_range opening book request e =
-    no_reason (holds_by_number opening request NoSuchUser) (holds_by_number opening request NoSuchCategory) NoSuchUser NoSuchCategory
-    (none_first (number_refusal opening request) (item_refusal request (facts_for book request) (left_for book request)) (sym (refusal-split opening book request) ∙ e))
-
-is_stored : (o : Option Facts) → is_none o ≡ false → IsSome o
-is_stored None e = absurd (false≢true (sym e))
-is_stored (Some facts) e = refl
-
 module _ (opening : Opening) (book : Book) (worker : ℕ) where
   abbrev Written : Request → Option Refusal → Option Object
   Written request refused = cond (is_splittable request && is_some (row_of worker request (answer_unless refused (answer book worker request)))) (writes request) None
@@ -87,7 +67,7 @@ module _ (opening : Opening) (book : Book) (worker : ℕ) where
   written : (request : Request) (refused : Option Refusal) → refusal opening book request ≡ refused → (object : Object) → Written request refused ≡ Some object → IsThere opening book object
   written (StoreItem facts time) None e object is =
       subst (IsThere opening book) (accepted (StoreItem facts time) object (Category facts.category) (row_made book worker (StoreItem facts time) None) is)
-      (leb-false opening.categories facts.category (or_parts (nat_le opening.categories facts.category) false (in_range opening book (StoreItem facts time) e).1).0)
+      (leb-false opening.categories facts.category (or_parts (nat_le opening.categories facts.category) false (in_range opening (StoreItem facts time) (not_by_number opening book (StoreItem facts time) e)).1).0)
   written (StoreItem facts time) (Some reason) e object is = absurd (cc)
   written (StoreBid bidder item amount time) None e object is =
       subst (IsThere opening book) (accepted (StoreBid bidder item amount time) object (Item item) (row_made book worker (StoreBid bidder item amount time) None) is)
@@ -95,7 +75,7 @@ module _ (opening : Opening) (book : Book) (worker : ℕ) where
   written (StoreBid bidder item amount time) (Some reason) e object is = absurd (cc)
   written (StoreComment author about item stars) None e object is =
       subst (IsThere opening book) (accepted (StoreComment author about item stars) object (User about) (row_made book worker (StoreComment author about item stars) None) is)
-      (leb-false opening.users about (or_parts (nat_le opening.users about) false (or_parts (nat_le opening.users author) _ (in_range opening book (StoreComment author about item stars) e).0).1).0)
+      (leb-false opening.users about (or_parts (nat_le opening.users about) false (or_parts (nat_le opening.users author) _ (in_range opening (StoreComment author about item stars) (not_by_number opening book (StoreComment author about item stars) e)).0).1).0)
   written (StoreComment author about item stars) (Some reason) e object is = absurd (cc)
   written (BuyNow buyer item quantity time) refused e object is = absurd (cc)
   written (ViewItem item) refused e object is = absurd (cc)

@@ -21,6 +21,7 @@ use Rattle.run_laws.proofs.PartLemmas.{all_of_parts}
 use Rattle.run_serving.specs.declared.policy.Policy.{Policy}
 use Rattle.run_serving.specs.Run.{first_index, calls_of, calls_given, HasPerformed}
 use Rattle.run_serving.specs.Serving.{call_of, script_of}
+use Rattle.run_serving.proofs.ScriptLemmas.{lists_length, past_end}
 use Rattle.shard_boxes.specs.Keys.{BoxId}
 use Rattle.shard_boxes.specs.States.{ShardState, state_of}
 use Rattle.phase_contexts.specs.Slicing.{objects_of, stocks_of, slices_of}
@@ -34,16 +35,16 @@ use Rattle.phase_floor.specs.declared.fault.BeginFault.{BeginFault}
 use Rattle.phase_floor.specs.declared.fault.BeginFault.TheVariants.{UnknownHot, TooLong, Memory}
 use Rattle.phase_floor.specs.Begins.{IsTooLong, empty_stash}
 use Rattle.phase_floor.specs.Closings.{AreReceiptsOf, HasClosedLawfully, stash_of}
-use Rattle.phase_floor.specs.Floors.{FloorState, IsBegun, AreBegun, stash_at}
+use Rattle.phase_floor.specs.Floors.{FloorState, IsBegun, stash_at}
 use Rattle.phase_floor.specs.States.{JoinedState, states_of, StandsFor}
 use Rattle.auction_run.specs.declared.phase.Closed.{Closed}
 use Rattle.auction_run.specs.Closed.{HasClosedPhase}
 use Rattle.auction_run.specs.Phases.{lists, IsCallOf, MayPerform, waiting_in, quota_of}
-use Rattle.auction_run.specs.Serving.{AreReady}
+use Rattle.auction_run.specs.Serving.{AreReady, HasBegun}
 use Rattle.phase_workers.specs.Tasks.{Task, task, tasks, to_do, calls_for, CanBeDone, IsDone}
 use Rattle.phase_workers.specs.Working.{committed, stashed, taken, kept, hot_for, put_off, not_put_off, AreOfPhase, IsSamePermit, IsPermitOf, ArePermitsOf}
 use Rattle.phase_workers.proofs.WorkLemmas.{cold_kept, cold_off}
-use Rattle.auction_run.proofs.ScriptLemmas.{lists_length, past_end, past_stashes}
+use Rattle.auction_run.proofs.ScriptLemmas.{past_stashes}
 
 -- ---- tasks, by worker
 
@@ -141,40 +142,18 @@ of_workers phase n (p ∷ ps) each =
           subst (λ m. IsPermitOf phase m (receipt_at ps w)) next (each (suc w) (omega (arith, less)))),
     )
 
--- The next phase of a state has begun: each worker's permit is a new one, for its quota, with what waits in its stash.
-pub record HasBegun (policy : Policy) (scripts : List (List Request)) (state : JoinedState) (stashes : List StashState) (floor : FloorState) (permits : List PermitState) : Type 0 where
-  pub opening_is : floor.opening ≡ state.opening
-  pub phase_is : floor.phase ≡ state.phase
-  pub counters_are : floor.counters ≡ state.counters
-  pub quotas : List ℕ
-  pub quotas_are : (w : ℕ) → w < length scripts → slice_index quotas w ≡ quota_of policy state.phase (script_of scripts w)
-  pub handed : List StashState
-  pub handed_are : (w : ℕ) → (stash_at handed w).requests ≡ waiting_in stashes w
-  pub new : AreBegun floor quotas handed permits
-
 -- permits show themselves
-pub has_begun : (policy : Policy) (scripts : List (List Request)) (state : JoinedState) (stashes handed : List StashState) (quotas : List ℕ) (floor : FloorState) (permits : List PermitState) →
-    ((w : ℕ) → w < length scripts → slice_index quotas w ≡ quota_of policy state.phase (script_of scripts w)) → ((w : ℕ) → (stash_at handed w).requests ≡ waiting_in stashes w) →
-    floor.opening ≡ state.opening → floor.phase ≡ state.phase → floor.counters ≡ state.counters → AreBegun floor quotas handed permits →
-    HasBegun policy scripts state stashes floor (map (λ permit. permit) permits)
-has_begun policy scripts state stashes handed quotas floor permits quotas_are handed_are opening phase counters new = record {
-  opening_is = opening;
-  phase_is = phase;
-  counters_are = counters;
-  quotas = quotas;
-  quotas_are = quotas_are;
-  handed = handed;
-  handed_are = handed_are;
-  new = subst (AreBegun floor quotas handed) (sym (map-id permits)) new;
-}
+pub shown : (policy : Policy) (scripts : List (List Request)) (state : JoinedState) (stashes : List StashState) (hot : List Object) (floor : FloorState) (permits : List PermitState) →
+    HasBegun policy scripts state stashes hot floor permits → HasBegun policy scripts state stashes hot floor (map (λ permit. permit) permits)
+shown policy scripts state stashes hot floor permits begun = subst (HasBegun policy scripts state stashes hot floor) (sym (map-id permits)) begun
 
 module _ (policy : Policy) (scripts : List (List Request)) (state : JoinedState) (stashes : List StashState) (hot : List Object) (first : ℕ)
     (first_is : first ≡ first_index policy state.phase) (may : MayPerform policy scripts state stashes hot)
-    (floor : FloorState) (permits : List PermitState) (begun : HasBegun policy scripts state stashes floor permits) where
+    (floor : FloorState) (permits : List PermitState) (begun : HasBegun policy scripts state stashes hot floor permits) where
   workers_are : length floor.counters ≡ length scripts
   workers_are = ap length begun.counters_are ∙ sym may.scripts_are
 
-  as_many : length permits ≡ length scripts
+  pub as_many : length permits ≡ length scripts
   as_many = begun.new.0 ∙ workers_are
 
   begins : (w : ℕ) → w < length scripts → IsBegun floor w (slice_index begun.quotas w) (stash_at begun.handed w) (receipt_at permits w)
@@ -276,14 +255,14 @@ module _ (policy : Policy) (scripts : List (List Request)) (state : JoinedState)
       waits_after : (w : ℕ) → waiting_in (map stash_of receipts) w ≡ stashed (receipt_at receipts w)
       waits_after w = ap (λ (s : StashState). s.requests) (get_or-map stash_of receipts w no_receipt)
 
-      module _ (takes : Bool) (none : (w : ℕ) → takes ≡ false → waiting_in stashes w ≡ []) (hot_are : objects_of floor.stocks ≡ hot)
+      module _ (takes : Bool) (none : (w : ℕ) → takes ≡ false → waiting_in stashes w ≡ [])
           (done : (w : ℕ) → w < length scripts → IsDone takes (task (receipt_at permits w) (script_of scripts w) first) (receipt_at receipts w)) where
         -- what waited and what is given
         abbrev asked : ℕ → List (ℕ × Request)
         asked w = waiting_in stashes w ++ calls_given policy state.phase (script_of scripts w)
 
         hot_is : (w : ℕ) → w < length scripts → hot_for (receipt_at permits w) ≡ hot
-        hot_is w less = ap (λ (p : PermitState). hot_for p) (begins w less).new ∙ objects_back floor.stocks ∙ hot_are
+        hot_is w less = ap (λ (p : PermitState). hot_for p) (begins w less).new ∙ objects_back floor.stocks ∙ begun.hot_are
 
         asked_is : (w : ℕ) → w < length scripts → to_do takes (task (receipt_at permits w) (script_of scripts w) first) ≡ asked w
         asked_is w less =
@@ -347,19 +326,19 @@ module _ (policy : Policy) (scripts : List (List Request)) (state : JoinedState)
     receipts_are = are_receipts receipts count same
 
     -- all that a run knows of the phase, once it is closed
-    pub closed_phase : (opening : List ShardState) → states_of state ≡ opening → ((w : ℕ) → takes ≡ false → waiting_in stashes w ≡ []) → objects_of floor.stocks ≡ hot → (after : Closed) (entries : List Entry) →
+    pub closed_phase : (opening : List ShardState) → states_of state ≡ opening → ((w : ℕ) → takes ≡ false → waiting_in stashes w ≡ []) → (after : Closed) (entries : List Entry) →
         after.state.opening ≡ floor.opening → after.state.phase ≡ floor.phase + 1 → after.state.counters ≡ map counters_of receipts → after.stashes.items ≡ map stash_of receipts →
         HasClosedLawfully opening floor receipts (states_of after.state) entries →
         ((w : ℕ) → w < length receipts → (counters_at after.state.counters w).commits ≡ (counters_at floor.counters w).commits + length (journal_of (receipt_at receipts w)).entries) →
         ((book : Book) → StandFor opening floor.counters book [] → ReplaysFrom floor.opening book entries) →
         ((book : Book) → StandFor opening floor.counters book [] → StandsFor after.state (book_after floor.opening book entries)) →
         HasClosedPhase policy scripts state stashes hot entries after
-    closed_phase opening named none hot_are after entries opened counted counts waits closed commits replays stands =
+    closed_phase opening named none after entries opened counted counts waits closed commits replays stands =
         let law = closed.lawful in
         let shards : length opening ≡ policy.shards = sym (ap length named) ∙ length-map state.shards state_of ∙ may.shards_are in record {
           performed = subst (λ ss. HasPerformed policy scripts state.phase hot (waiting_in stashes) (waiting_in ss) entries) (sym waits)
-              (performed receipts count same entries law.parts takes none hot_are done);
-          numbered = subst (λ h. IsNumbered state.opening policy.shards h entries) hot_are
+              (performed receipts count same entries law.parts takes none done);
+          numbered = subst (λ h. IsNumbered state.opening policy.shards h entries) begun.hot_are
               (subst (λ n. IsNumbered state.opening n (objects_of floor.stocks) entries) shards
               (subst (λ o. IsNumbered o (length opening) (objects_of floor.stocks) entries) begun.opening_is law.numbers));
           replays = λ book is here.

@@ -1,5 +1,5 @@
 -- Where a run begins, one phase more, and its end.
-use Rattle.std.proofs.Common.{◌≡◌, ℕ, zero, suc, ◌+◌, ◌-◌, ◌<◌, ◌≤◌, ◌^◌, ◌⊎◌, not, min, Bool, true, false, cond, List, [], ◌∷◌, ◌++◌, length, drop, refl, subst, sym, ap, ◌∙◌, inl, inr, arith}
+use Rattle.std.proofs.Common.{◌≡◌, ℕ, zero, suc, ◌+◌, ◌-◌, ◌<◌, ◌≤◌, ◌^◌, ◌⊎◌, not, min, true, false, cond, List, [], ◌∷◌, ◌++◌, length, drop, refl, subst, sym, ap, ◌∙◌, inl, inr, arith}
 use Rattle.std.specs.List.{filter, AllByRecursion}
 use Rattle.std.proofs.lemmas.Bool.{cases_Bool, cases_lt, false≢true}
 use Rattle.std.proofs.Math.Seq.{drop-append_seam}
@@ -31,6 +31,7 @@ use Rattle.run_serving.proofs.BookLemmas.{phase_replayed}
 use Rattle.run_serving.proofs.ClosedLemmas.{none_chosen, none_numbered, phase_chosen, phase_numbered, segment_now}
 use Rattle.run_serving.proofs.EndLemmas.{run_serves, few_phases}
 use Rattle.run_serving.proofs.StepLemmas.{run_begins, phase_runs}
+use Rattle.run_serving.proofs.ScriptLemmas.{past_end}
 use Rattle.auction_run.specs.declared.running.Running.{Running}
 use Rattle.auction_run.specs.Beginning.{AreShort}
 use Rattle.auction_run.specs.Outcomes.{IsOutcome}
@@ -39,7 +40,6 @@ use Rattle.auction_run.specs.Running.{IsRunning, CanGoOn}
 use Rattle.auction_run.specs.Phases.{IsCallOf}
 use Rattle.auction_run.proofs.EndLemmas.{own_calls}
 use Rattle.auction_run.proofs.HotThere.{chosen_exist}
-use Rattle.auction_run.proofs.ScriptLemmas.{past_end}
 
 -- ---- what a worker committed, and what waits, after one phase more
 

@@ -1,26 +1,17 @@
 -- The scripts and stashes of workers.
 use Rattle.std.specs.declared.alloc.Global.{Global}
 use Rattle.std.proofs.Common.{Vec, ◌≡◌, ℕ, zero, suc, ◌+◌, ◌-◌, ◌<◌, ◌≤◌, ◌⊎◌, List, [], ◌∷◌, ◌++◌, length, get_or, refl, subst, sym, ap, ◌∙◌, inl, inr, arith}
-use Rattle.std.specs.Prelude.{unwrap_or}
 use Rattle.std.proofs.lemmas.Bool.{cases_lt}
-use Rattle.std.proofs.lemmas.List.{length-map, get_or_default, get_or_past}
-use Rattle.std.proofs.lemmas.Option.{slice_get_past}
+use Rattle.std.proofs.lemmas.List.{get_or_default, get_or_past}
 use Rattle.auction_rows.specs.declared.requests.Request.{Request}
 use Rattle.auction_rows.specs.Book.{Book}
 use Rattle.item_shards.specs.OpeningRows.{rows_by}
 use Rattle.phase_contexts.specs.Stashes.{StashState}
 use Rattle.phase_floor.specs.Floors.{no_stash}
 use Rattle.run_serving.specs.Serving.{script_of}
+use Rattle.run_serving.proofs.ScriptLemmas.{script_at, past_end, lists_length}
 use Rattle.auction_run.specs.Beginning.{AreShort}
 use Rattle.auction_run.specs.Phases.{lists, waiting_in}
-
-pub script_at : (scripts : List (Vec Request Global)) (i : ℕ) (d : Vec Request Global) → i < length scripts → script_of (lists scripts) i ≡ (get_or scripts i d).items
-script_at [] i d less = absurd (omega arith)
-script_at (x ∷ xs) zero d less = refl
-script_at (x ∷ xs) (suc i) d less = script_at xs i d (omega arith)
-
-pub past_end : (scripts : List (List Request)) (i : ℕ) → length scripts ≤ i → script_of scripts i ≡ []
-past_end scripts i over = ap (λ script. unwrap_or script []) (slice_get_past scripts i over)
 
 pub past_stashes : (stashes : List StashState) (i : ℕ) → length stashes ≤ i → waiting_in stashes i ≡ []
 past_stashes stashes i over = ap (λ (s : StashState). s.requests) (get_or_past stashes i no_stash over)
@@ -40,9 +31,6 @@ one_worker_more P i before here w less = go (cases_lt w i)
     go : (w < i) ⊎ (i ≤ w) → P w
     go (inl earlier) = before w earlier
     go (inr later) = let same : i ≡ w = omega arith in subst P same here
-
-pub lists_length : (scripts : List (Vec Request Global)) → length (lists scripts) ≡ length scripts
-lists_length scripts = length-map scripts (λ script. script.items)
 
 -- where neither a request nor a stash is left, nothing is
 pub neither : (first len waits : ℕ) → ((first < len) ⊎ (0 < waits) → ⊥) → (len ≤ first) × (waits ≡ 0)

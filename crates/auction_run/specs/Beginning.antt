@@ -2,8 +2,7 @@
 use Rattle.std.specs.Prelude.{ℕ, ◌+◌, ◌<◌, ◌≤◌, ◌↔◌, List, All, Result, Ok, Err, length, OnOk, IsErrOf}
 use Rattle.auction_rows.specs.declared.limits.TheConstants.{MOST_HOT, MOST_OF_A_WORKER, MOST_SHARDS, MOST_WORKERS}
 use Rattle.auction_rows.specs.declared.requests.Request.{Request}
-use Rattle.auction_rows.specs.Book.{Book}
-use Rattle.item_shards.specs.Counting.{worker_of}
+use Rattle.auction_rows.specs.Book.{Book, worker_of}
 use Rattle.item_shards.specs.OpeningRows.{rows_by}
 use Rattle.run_serving.specs.declared.policy.Policy.{Policy}
 use Rattle.run_serving.specs.Serving.{script_of}

@@ -20,7 +20,7 @@ use Rattle.phase_workers.specs.declared.fault.ServingFault.{ServingFault}
 use Rattle.phase_workers.specs.declared.fault.ServingFault.TheVariants as serving
 use Rattle.shard_boxes.specs.States.{ShardState}
 use Rattle.auction_run.specs.declared.plan.Plan.{Plan}
-pub use Rattle.phase_workers.specs.Tasks.{lists}
+pub use Rattle.run_serving.specs.Serving.{lists}
 use Rattle.auction_run.specs.declared.fault.RunFault.{RunFault}
 use Rattle.auction_run.specs.declared.fault.RunFault.TheVariants.{Workers, Shards, Quota, TooLong, Spawn, Memory, NumberFull}
 

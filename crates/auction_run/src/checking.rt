@@ -1,6 +1,5 @@
 //! What is checked before a run begins.
 ghost use Rattle.std.specs.Prelude.{◌≡◌, ◌↔◌, ◌<◌, ◌≤◌, ℕ, length, slice_index, IsTrue};
-ghost use Rattle.item_shards.specs.Counting.{worker_of};
 ghost use Rattle.item_shards.specs.OpeningBooks.{rows_of};
 ghost use Rattle.item_shards.specs.OpeningRows.{rows_by};
 ghost use Rattle.auction_run.specs.Beginning.{HaveWorkers, HasShards, HasQuotas, AreShort, IsFirstToFail};
@@ -43,7 +42,7 @@ fn have_workers(rows: &[Row], scripts: &[Vec<Request>]) -> bool
     if workers == 0 || workers > MOST_WORKERS {
         return false;
     }
-    rows.iter().all(|row| (worker_of(row) as usize) < workers)
+    rows.iter().all(|row| (row.worker() as usize) < workers)
 }
 
 // Whether there are 1 to 64 shards.
@@ -83,22 +82,10 @@ fn rows_by_each(rows: &[Row]) -> [usize; MOST_WORKERS]
 {
     let mut counts = [0; MOST_WORKERS];
     for row in rows {
-        let worker = worker_of(row) as usize;
+        let worker = row.worker() as usize;
         if worker < MOST_WORKERS {
             counts[worker] += 1;
         }
     }
     counts
-}
-
-// The worker whose store a row is.
-fn worker_of(row: &Row) -> u32
-    ensures { result ≡ worker_of row.now }
-{
-    match row {
-        Row::Item(row) => row.id.worker,
-        Row::Bid(row) => row.id.worker,
-        Row::Comment(row) => row.id.worker,
-        Row::Buy(row) => row.id.worker,
-    }
 }

@@ -3,15 +3,18 @@ ghost use Rattle.std.specs.Prelude.{◌≡◌, ◌++◌, [], false, length, IfOk
 ghost use Rattle.phase_floor.specs.States.{states_of};
 ghost use Rattle.run_laws.specs.Phases.{is_split};
 ghost use Rattle.worker_journals.specs.Merged.{added, merged};
+ghost use Rattle.run_serving.specs.Run.{first_index};
+ghost use Rattle.auction_run.specs.declared.fault.RunFault.TheVariants.{Memory};
 ghost use Rattle.auction_run.specs.Closed.{HasClosedPhase};
 ghost use Rattle.auction_run.specs.Phases.{lists, IsRoundOf, MayPerform, IsMet};
+ghost use Rattle.auction_run.specs.Serving.{HasBegun};
 
 use crate::fault::RunFault;
 use crate::phase::{Closed, begin_fault, serve};
 use crate::plan::Plan;
 use crate::quotas::quotas;
-use phase_floor::Joined;
-use phase_transactions::Stash;
+use phase_floor::{Joined, JoinedFloor};
+use phase_transactions::{JoinedPermit, Stash};
 use phase_workers::Gate;
 use shard_boxes::PhaseName;
 use std::alloc::Global;
@@ -43,12 +46,35 @@ where
         (added history.old.entries history.new.entries)) }
     ensures fault { IfErr result (IsMet (lists round.entry.scripts.now)) }
 {
-    let quotas = quotas(alloc, round.scripts, round.policy.joined_quota, round.first)?;
-    let (floor, permits) = match state.begin_joined::<N, R>(rt, alloc, &quotas, stashes) {
-        Ok(begun) => begun,
-        Err((_state, _stashes, fault)) => return Err(begin_fault(fault)),
-    };
+    let (floor, permits) = begin::<N, R, G>(rt, alloc, state, stashes, &round)?;
     let receipts = serve(rt, alloc, floor.boxes(), permits, round)?;
     let (state, stashes) = floor.close(rt, alloc, history, receipts)?;
     Ok(Closed { state, stashes })
+}
+
+// Begins a joined phase: each worker is given its quota, and what waits in its stash.
+fn begin<N, R, G>(
+    rt: &R,
+    alloc: Global,
+    state: Joined,
+    stashes: Vec<Stash>,
+    round: &Plan<'_, G>,
+) -> Result<(JoinedFloor<N>, Vec<JoinedPermit<N>>), RunFault>
+where
+    N: PhaseName,
+    R: Wait,
+    requires shards { states_of state ≡ N.opening }
+    requires workers { length state.counters ≡ N.workers }
+    requires joined { is_split state.phase ≡ false }
+    requires first { round.now.first ≡ first_index round.now.policy state.phase }
+    requires may { MayPerform round.now.policy (lists round.now.scripts.now) state stashes.items [] }
+    ensures begun { IfOk result (λ begun.
+        HasBegun round.entry.now.policy (lists round.entry.now.scripts.now) state stashes.items [] begun.0 begun.1.items) }
+    ensures fault { IfErr result (λ fault. fault ≡ Memory) }
+{
+    let quotas = quotas(alloc, round.scripts, round.policy.joined_quota, round.first)?;
+    match state.begin_joined::<N, R>(rt, alloc, &quotas, stashes) {
+        Ok(begun) => Ok(begun),
+        Err((_state, _stashes, fault)) => Err(begin_fault(fault)),
+    }
 }

@@ -3,8 +3,11 @@ ghost use Rattle.std.specs.Prelude.{◌≡◌, ◌++◌, ℕ, [], true, length, 
 ghost use Rattle.phase_floor.specs.States.{states_of};
 ghost use Rattle.run_laws.specs.Phases.{is_split};
 ghost use Rattle.worker_journals.specs.Merged.{added, merged};
+ghost use Rattle.run_serving.specs.Run.{first_index};
+ghost use Rattle.auction_run.specs.declared.fault.RunFault.TheVariants.{Memory};
 ghost use Rattle.auction_run.specs.Closed.{HasClosedPhase};
 ghost use Rattle.auction_run.specs.Phases.{lists, waiting_in, IsRoundOf, MayPerform, IsMet};
+ghost use Rattle.auction_run.specs.Serving.{HasBegun};
 
 use crate::fault::RunFault;
 use crate::phase::{Closed, begin_fault, serve};
@@ -12,8 +15,8 @@ use crate::plan::Plan;
 use crate::quotas::quotas;
 use auction_rows::Object;
 use indexmap::IndexSet;
-use phase_floor::Joined;
-use phase_transactions::Stash;
+use phase_floor::{Joined, SplitFloor};
+use phase_transactions::{SplitPermit, Stash};
 use phase_workers::Gate;
 use shard_boxes::PhaseName;
 use std::alloc::Global;
@@ -46,15 +49,39 @@ where
         (added history.old.entries history.new.entries)) }
     ensures fault { IfErr result (IsMet (lists round.entry.scripts.now)) }
 {
-    let_go(stashes);
-    let quotas = quotas(alloc, round.scripts, round.policy.split_quota, round.first)?;
-    let (floor, permits) = match state.begin_split::<N, R>(rt, alloc, &quotas, hot) {
-        Ok(begun) => begun,
-        Err((_state, fault)) => return Err(begin_fault(fault)),
-    };
+    let (floor, permits) = begin::<N, R, G>(rt, alloc, state, hot, stashes, &round)?;
     let receipts = serve(rt, alloc, floor.boxes(), permits, round)?;
     let (state, stashes) = floor.close(rt, alloc, history, receipts)?;
     Ok(Closed { state, stashes })
+}
+
+// Begins a split phase: each worker is given its quota, and an empty stash in place of its own, in which nothing waits.
+fn begin<N, R, G>(
+    rt: &R,
+    alloc: Global,
+    state: Joined,
+    hot: &IndexSet<Object>,
+    stashes: Vec<Stash>,
+    round: &Plan<'_, G>,
+) -> Result<(SplitFloor<N>, Vec<SplitPermit<N>>), RunFault>
+where
+    N: PhaseName,
+    R: Wait,
+    requires shards { states_of state ≡ N.opening }
+    requires workers { length state.counters ≡ N.workers }
+    requires split { is_split state.phase ≡ true }
+    requires first { round.now.first ≡ first_index round.now.policy state.phase }
+    requires may { MayPerform round.now.policy (lists round.now.scripts.now) state stashes.items hot.now.keys }
+    ensures begun { IfOk result (λ begun.
+        HasBegun round.entry.now.policy (lists round.entry.now.scripts.now) state stashes.items hot.now.keys begun.0 begun.1.items) }
+    ensures fault { IfErr result (λ fault. fault ≡ Memory) }
+{
+    let_go(stashes);
+    let quotas = quotas(alloc, round.scripts, round.policy.split_quota, round.first)?;
+    match state.begin_split::<N, R>(rt, alloc, &quotas, hot) {
+        Ok(begun) => Ok(begun),
+        Err((_state, fault)) => Err(begin_fault(fault)),
+    }
 }
 
 // Lets stashes go in which nothing waits.

@@ -1,7 +1,7 @@
 -- What the records that were read ask for, and the records that are left.
 use Rattle.std.proofs.Common.{◌≡◌, ◌<◌, ◌≤◌, ◌+◌, ◌∷◌, ◌∙◌, ◌++◌, ◌||◌, not, ℕ, Bool, true, false, List, [], Option, Some, None, Result, Ok, Err, length, map, IfSome, refl, sym, ap, arith, ◌==◌, nat_lt, get_or, append_assoc, ◌≢◌, inl, inr, get_or-set_other, get_or-set_same}
 use Rattle.std.proofs.lemmas.Grind.{common_steps}
-use Rattle.std.proofs.lemmas.Bool.{cases_Bool, eqb-true}
+use Rattle.std.proofs.lemmas.Bool.{cases_Bool, eqb-true, eq-eqb, false≢true}
 use Rattle.std.proofs.lemmas.List.{append-nil, ext_get_or, get_or-replicate, length-replicate, length-set}
 use Rattle.std.proofs.lemmas.List.Elements.{filter_map-append}
 use Rattle.std.proofs.lemmas.List.FromFn.{get_or-map-range_with_len, length-map-range_with_len}
@@ -48,9 +48,6 @@ so_far_none workers all = record {
 not_past : (m n : ℕ) → n ≤ m → nat_lt m n ≡ false
 not_past m n h = grind (arith, common_steps)
 
-same_number : (n : ℕ) → (n == n) ≡ true
-same_number n = grind (arith, common_steps)
-
 -- one more record adds its row
 rows_more : (said : List Record) (first : Record) (asked : Asked) → rows said ≡ asked.rows → rows (said ++ (first ∷ [])) ≡ (with_record first asked).rows
 rows_more said first asked are = elim (cases_Bool first.is_row) [
@@ -68,7 +65,7 @@ script_more said first asked w within are = elim (cases_Bool first.is_row) [
         let at : first.worker ≡ w = eqb-true first.worker w same in
         rw (filter_map-append (request_by w) said (first ∷ []), request, same, are, ← at, get_or-set_same asked.scripts first.worker (get_or asked.scripts first.worker [] ++ (first.request ∷ [])) [] within) refl
     | inr other ↦
-        let not_at : w ≢ first.worker = λ e. absurd (cc (same_number w)) in
+        let not_at : w ≢ first.worker = λ e. false≢true (sym other ∙ eq-eqb first.worker w (sym e)) in
         rw (filter_map-append (request_by w) said (first ∷ []), request, other, are, append-nil (get_or asked.scripts w []), get_or-set_other asked.scripts first.worker w (get_or asked.scripts first.worker [] ++ (first.request ∷ [])) [] not_at) refl
   ]
 ]

@@ -3,22 +3,14 @@ use Rattle.std.proofs.Common.{◌≡◌, ◌∷◌, ◌∙◌, ◌<◌, ◌≤�
 use Rattle.std.specs.Cmp.{IsStrictWeakOrder}
 use Rattle.std.specs.List.{AllByRecursion, filter}
 use Rattle.std.specs.List.Sorted.{IsPermutation, IsSortedBy, IsStableBy, ties}
-use Rattle.std.proofs.lemmas.Bool.{cases_Bool, and_parts}
+use Rattle.std.proofs.lemmas.Bool.{cases_Bool, and_parts, false_from_ne_true, false≢true}
 use Rattle.std.proofs.lemmas.List.Sorted.{IsPermutation-cons, IsPermutation-middle, IsPermutation-refl, IsPermutation-trans, sorted_far}
 use Rattle.auction_text.specs.Order.{put_in, sorted}
-
-not_true : (b : Bool) → (b ≡ true → b ≡ false) → b ≡ false
-not_true true f = f refl
-not_true false f = refl
+use Rattle.phase_laws.proofs.OrderLemmas.{all-cond}
 
 pub not_false : (b : Bool) → not b ≡ true → b ≡ false
 not_false true e = sym e
 not_false false e = refl
-
--- a choice of two lists has what both have
-all-cond : {X : Type 0} (P : X → Type 0) (b : Bool) (xs ys : List X) → AllByRecursion P xs → AllByRecursion P ys → AllByRecursion P (cond b xs ys)
-all-cond P true xs ys p q = p
-all-cond P false xs ys p q = q
 
 -- the first that a filter keeps is one of the list
 first_if : {X : Type 0} (P : X → Type 0) (b : Bool) (y x : X) (kept rest : List X) → P y → (kept ≡ x ∷ rest → P x) → cond b (y ∷ kept) kept ≡ x ∷ rest → P x
@@ -51,7 +43,7 @@ module _ {X : Type 0} (lt : X → X → Bool) (order : IsStrictWeakOrder lt) whe
   IsUp (x ∷ xs) = NoneBefore x xs × IsUp xs
 
   itself : (x : X) → lt x x ≡ false
-  itself x = not_true (lt x x) (order.one_way x x)
+  itself x = false_from_ne_true (lt x x) (λ e. false≢true (sym (order.one_way x x e) ∙ e))
 
   ties_itself : (x : X) → ties lt x x ≡ true
   ties_itself x = rw (itself x) refl

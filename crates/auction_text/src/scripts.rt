@@ -17,7 +17,7 @@ use std::io::Read;
 pub const MOST_RECORDS: u32 = 16_000_000;
 
 /// What an input asks for: the rows that the auction is opened with, and each worker's script.
-#[derive(Debug, Drop)]
+#[derive(Drop)]
 pub struct Input {
     /// The rows, in their order.
     pub rows: Vec<Opened>,
@@ -116,6 +116,30 @@ fn read_all<R: Read>(
     Ok(())
 }
 
+// Reads what a reader gives, and adds each record to what was asked, which is nothing yet. The reader of records is let go at
+// one place, by which this is proved sooner.
+fn read_input<R: Read + Drop>(
+    alloc: Global,
+    reader: R,
+    workers: u32,
+    input: &mut Input,
+) -> Result<(), ReadFault>
+    requires empty { asked_by input.old ≡ nothing_asked workers }
+    requires count { vec_len input.old.scripts ≡ workers }
+    ensures input { OnOk result (IfSome (R.remaining reader) (λ bytes.
+        input_of workers bytes ≡ Ok (asked_by input.new))) }
+    ensures count { OnOk result (vec_len input.new.scripts ≡ workers) }
+    ensures fault { IfErr result (λ fault. IsInputFault fault →
+        IfSome (R.remaining reader) (λ bytes. input_of workers bytes ≡ Err fault)) }
+{
+    let mut records = ReaderBuilder::new()
+        .has_headers(false)
+        .flexible(true)
+        .from_reader(alloc, reader);
+    let mut fields = ByteRecord::new(alloc);
+    read_all(&mut records, &mut fields, workers, input)
+}
+
 /// Reads to its end what a reader gives: rows to open with, and after them the scripts of so many
 /// workers, whose requests may stand among one another.
 ///
@@ -135,11 +159,6 @@ pub fn read_scripts<R: Read + Drop>(
         IfSome (R.remaining reader) (λ bytes. input_of workers bytes ≡ Err fault)) }
 {
     let mut input = empty_input(alloc, workers)?;
-    let mut records = ReaderBuilder::new()
-        .has_headers(false)
-        .flexible(true)
-        .from_reader(alloc, reader);
-    let mut fields = ByteRecord::new(alloc);
-    read_all(&mut records, &mut fields, workers, &mut input)?;
+    read_input(alloc, reader, workers, &mut input)?;
     Ok(input)
 }

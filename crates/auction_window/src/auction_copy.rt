@@ -2,7 +2,7 @@
 ghost use Rattle.std.specs.Prelude.{◌≡◌, ◌++◌, ◌∷◌, [], List, IfOk, IfSome};
 ghost use mathlib.Core.List.{IsPrefix};
 ghost use Rattle.auction_rows.specs.Replies.{reply};
-ghost use Rattle.item_shards.specs.OpeningBooks.{opening_of, rows_of as opening_rows};
+ghost use Rattle.item_shards.specs.OpeningBooks.{opening_of, rows_of};
 ghost use Rattle.auction_window.specs.Published.{book_of, IsLastPhase};
 
 use crate::name::WindowName;
@@ -42,7 +42,8 @@ impl<J: WindowName> AddPhase<J> {
 }
 
 /// One of the two copies of the auction, with the phases whose rows it has. Contracts see these phases. Where memory was
-/// refused for a phase the auction is gone: such a copy takes in nothing more, and `left_right` never shows it.
+/// refused for a phase the auction is gone, and such a copy takes in nothing more. `left_right` shows a copy only once it
+/// has absorbed all.
 #[derive(Drop)]
 pub struct AuctionCopy<J: WindowName> {
     auction: Option<SerialAuction>,
@@ -69,7 +70,7 @@ impl<J: WindowName> AuctionCopy<J> {
         phases: Prefix<J>,
     ) -> Result<AuctionCopy<J>, AllocError>
         requires opening { opening_of book.now ≡ J.opening }
-        requires rows { opening_rows book.now ≡ J.rows }
+        requires rows { rows_of book.now ≡ J.rows }
         requires phases { phases ≡ [] }
         ensures { IfOk result (λ copy. copy ≡ []) }
     {
@@ -108,7 +109,7 @@ impl<J: WindowName> Absorb<AddPhase<J>> for AuctionCopy<J> {
         added: &AddPhase<J>,
         _other: &AuctionCopy<J>,
     ) -> Result<(), AllocError> {
-        // Unreachable: a writer applies each phase once, in order.
+        // The count is always the next one: a writer applies each phase once, in order.
         let count = added.phases.len();
         if count == 0 || count - 1 != self.phases.len() {
             return Err(AllocError);

@@ -6,7 +6,7 @@ ghost use Rattle.auction_window.specs.PhaseRule.{head_of};
 use crate::name::WindowName;
 use crate::prefix::Prefix;
 use auction_rows::Row;
-use logbook::{Gain, Play, Rule, Seen, Start, Word};
+use logbook::{Gain, Play, Rule, Seen as Reached, Start, Word};
 use std::marker::{Model, PhantomData};
 
 // The rows of a phase. A clause reads an array as a list of any length, and no value of this type is made.
@@ -55,7 +55,7 @@ impl Play<Rows, u64> for Add {
 #[derive(Drop)]
 pub struct PhaseLog {
     head: Word<Rows, u64, PhaseRule>,
-    seen: Seen<Rows, u64, PhaseRule>,
+    seen: Reached<Rows, u64, PhaseRule>,
 }
 
 impl Model for PhaseLog {
@@ -76,7 +76,7 @@ impl Model for PhaseLog {
 impl PhaseLog {
     /// A new list. It takes no memory.
     pub fn new() -> PhaseLog {
-        let (seen, mut first, _second) = Seen::open(Start::alone(), 0, 0);
+        let (seen, mut first, _second) = Reached::open(Start::alone(), 0, 0);
         PhaseLog {
             head: Word::tracked(0, &mut first),
             seen,

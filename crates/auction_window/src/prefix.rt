@@ -5,7 +5,7 @@ ghost use mathlib.Core.List.{IsPrefix};
 use crate::name::WindowName;
 use crate::phase_log::{Add, NoGain, PhaseCount, PhaseRule, Rows};
 use auction_rows::Row;
-use logbook::{Offer, Plain, Seen};
+use logbook::{Offer, Plain, Seen as Reached};
 use std::marker::{Model, PhantomData};
 
 // What the step that adds a phase asks for: its rows.
@@ -21,7 +21,7 @@ impl Plain<Vec<Row>, Rows, u64> for Add {
 #[derive(Drop)]
 pub struct Prefix<J: WindowName> {
     count: u64,
-    seen: Seen<Rows, u64, PhaseRule>,
+    seen: Reached<Rows, u64, PhaseRule>,
     name: PhantomData<J>,
 }
 
@@ -38,7 +38,7 @@ impl<J: WindowName> Model for Prefix<J> {
 
 impl<J: WindowName> Prefix<J> {
     // The prefix without a phase.
-    pub(crate) fn empty(seen: Seen<Rows, u64, PhaseRule>) -> Prefix<J>
+    pub(crate) fn empty(seen: Reached<Rows, u64, PhaseRule>) -> Prefix<J>
         requires empty { seen.log ≡ [] }
         requires name { seen.book ≡ J.log }
         ensures { result ≡ [] }

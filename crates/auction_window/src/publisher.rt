@@ -1,6 +1,6 @@
 //! What publishes the rows of phases.
 ghost use Rattle.std.specs.Prelude.{◌≡◌, ◌++◌, ◌∷◌, ◌<◌, ◌≤◌, [], true, false, length, All, alloc_error, Err, IfOk, OnOk, OnErr};
-ghost use Rattle.item_shards.specs.OpeningBooks.{opening_of, rows_of as opening_rows};
+ghost use Rattle.item_shards.specs.OpeningBooks.{opening_of, rows_of};
 ghost use Rattle.item_shards.specs.Serial.{CanFollow};
 ghost use Rattle.auction_window.specs.Published.{book_of, AreComparable};
 
@@ -23,7 +23,7 @@ use thiserror::Error;
 type CopyWriter<J> = Writer<AuctionCopy<J>, AddPhase<J>, (), Unruled>;
 
 /// Why no publisher was made.
-#[derive(Clone, Copy, Debug, PartialEq, Eq, Drop, Error)]
+#[derive(Clone, Copy, Debug, Drop, Error)]
 pub enum MakeFault {
     /// No memory was left.
     #[error("no memory")]
@@ -85,7 +85,7 @@ impl<J: WindowName> Publisher<J> {
     ) -> Result<(Publisher<J>, Vec<Window<J>>), MakeFault>
         requires log { log ≡ J.log }
         requires opening { opening_of book.now ≡ J.opening }
-        requires rows { opening_rows book.now ≡ J.rows }
+        requires rows { rows_of book.now ≡ J.rows }
         requires count { (0 < windows) × (windows ≤ MOST_WORKERS) }
         ensures publisher { IfOk result (λ made. made.0 ≡ record { phases = []; failed = false }) }
         ensures windows { IfOk result (λ made. length made.1.items ≡ windows) }
@@ -160,7 +160,7 @@ impl<J: WindowName> Publisher<J> {
     pub fn agrees(&self, window: &Window<J>)
         ensures { AreComparable window.now self.now.phases }
     {
-        let _longer = window.phases().longer(&self.phases);
+        let _longer = window.known().longer(&self.phases);
     }
 
     /// Ends it: from now on windows answer `NoGuard`. It waits until each view that is under way is done, and takes no

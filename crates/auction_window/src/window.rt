@@ -18,7 +18,7 @@ use thiserror::Error;
 type CopyReader<J> = Reader<AuctionCopy<J>, (), Unruled>;
 
 /// A view was refused, since the publisher has ended.
-#[derive(Clone, Copy, PartialEq, Eq, Debug, Error)]
+#[derive(Clone, Copy, Debug, Error)]
 #[error("the publisher has ended")]
 pub struct NoGuard;
 
@@ -79,7 +79,7 @@ impl<J: WindowName> Window<J> {
     }
 
     // The phases that it has shown or was told of.
-    pub(crate) fn phases(&self) -> &Prefix<J>
+    pub(crate) fn known(&self) -> &Prefix<J>
         ensures { result.now ≡ self.now }
     {
         &self.phases

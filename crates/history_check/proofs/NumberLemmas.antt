@@ -10,6 +10,7 @@ use Rattle.std.proofs.lemmas.List.Quantifiers.{position-Some}
 use Rattle.std.proofs.Math.Seq.{take-length}
 use Rattle.std.proofs.lemmas.Fmt.{digits_decimal, digits_value-decimal, decimal-digits_value, decimal_nonempty, first_decimal, decimal_digit}
 use Rattle.std.proofs.lemmas.Str.Parse.{IsNumeralModel, numerals_by_value}
+use Rattle.std.proofs.lemmas.Option.{same_Some}
 use Rattle.auction_text.specs.Fields.{is_numeral, is_empty, number}
 use Rattle.history_check.specs.Places.{is_space}
 
@@ -105,11 +106,8 @@ space_after ds rest digits =
 pub space_there : (n : ℕ) (rest : List ℕ) → n < 2 ^ 64 → position is_space (decimal n ++ 32 ∷ rest) ≡ Some (length (decimal n))
 space_there n rest fits = space_after (decimal n) rest (digits_decimal own n fits)
 
-some_inj : {X : Type 0} (x y : X) → Some x ≡ Some y → x ≡ y
-some_inj x y e = cc e
-
 pub space_is : (bytes : List ℕ) (n : ℕ) (rest : List ℕ) (space : ℕ) → n < 2 ^ 64 → bytes ≡ decimal n ++ 32 ∷ rest → Some space ≡ position is_space bytes → space ≡ length (decimal n)
-space_is bytes n rest space fits is e = some_inj space (length (decimal n)) (e ∙ ap (position is_space) is ∙ space_there n rest fits)
+space_is bytes n rest space fits is e = same_Some space (length (decimal n)) (e ∙ ap (position is_space) is ∙ space_there n rest fits)
 
 pub take_front : (xs ys : List ℕ) → take (length xs) (xs ++ ys) ≡ xs
 take_front [] ys = refl
@@ -152,7 +150,7 @@ pub no_space : (bytes : List ℕ) (n : ℕ) (rest : List ℕ) → n < 2 ^ 64 →
 no_space bytes n rest fits is e = (let none : None ≡ Some (length (decimal n)) = e ∙ ap (position is_space) is ∙ space_there n rest fits in absurd (cc none))
 
 pub number_is : (n m : ℕ) → n < 2 ^ 64 → Some m ≡ number 64 (decimal n) → m ≡ n
-number_is n m fits e = some_inj m n (e ∙ text_number n fits)
+number_is n m fits e = same_Some m n (e ∙ text_number n fits)
 
 pub no_number : (n : ℕ) → n < 2 ^ 64 → None ≡ number 64 (decimal n) → ⊥
 no_number n fits e = (let none : None ≡ Some n = e ∙ text_number n fits in absurd (cc none))

@@ -4,23 +4,13 @@ use Rattle.std.proofs.Common.{Vec, ◌≡◌, ℕ, zero, suc, ◌+◌, ◌<◌, 
 use Rattle.std.specs.Prelude.{replicate}
 use Rattle.std.proofs.Math.ListN.{length-set}
 use Rattle.std.proofs.lemmas.Bool.{cases_lt, eqb-true, eq-eqb, false≢true, and_left, and_right}
-use Rattle.std.proofs.lemmas.List.{get_or_default, get_or_past, get_or-set_same, get_or-set_other, length-map}
-use Rattle.std.proofs.lemmas.Option.{slice_get_within, unwrap_or-slice_get}
+use Rattle.std.proofs.lemmas.List.{get_or_default, get_or-set_same, get_or-set_other}
+use Rattle.std.proofs.lemmas.Option.{slice_get_within}
 use Rattle.auction_rows.specs.declared.requests.Request.{Request}
 use Rattle.run_serving.specs.Serving.{script_of}
+use Rattle.run_serving.proofs.ScriptLemmas.{script_at, past_end, lists_length}
 use Rattle.history_check.specs.Scripts.{lists, request_at}
 use Rattle.history_check.specs.Marks.{is_marked, AreWide, HasPlaces}
-
-pub script_at : (scripts : List (Vec Request Global)) (i : ℕ) (d : Vec Request Global) → i < length scripts → script_of (lists scripts) i ≡ (get_or scripts i d).items
-script_at [] i d less = absurd (omega arith)
-script_at (x ∷ xs) zero d less = refl
-script_at (x ∷ xs) (suc i) d less = script_at xs i d (omega arith)
-
-pub past_end : (scripts : List (List Request)) (i : ℕ) → length scripts ≤ i → script_of scripts i ≡ []
-past_end scripts i over = unwrap_or-slice_get scripts i [] ∙ get_or_past scripts i [] over
-
-pub lists_length : (scripts : List (Vec Request Global)) → length (lists scripts) ≡ length scripts
-lists_length scripts = length-map scripts (λ v. v.items)
 
 -- a request that there is, is of a worker and at an index that there is
 pub index_within : (scripts : List (List Request)) (worker index : ℕ) (request : Request) → request_at scripts worker index ≡ Some request → index < length (script_of scripts worker)

@@ -5,7 +5,7 @@ use Rattle.std.specs.List.{AllByRecursion}
 use Rattle.std.proofs.lemmas.Bool.{eqb-true, eq-eqb, false≢true, and_parts, and_from, ltb-true, ltb-false}
 use Rattle.phase_laws.specs.Numbers.{greatest_by}
 use Rattle.phase_laws.specs.Order.{IsOrderedBy}
-use Rattle.run_laws.proofs.ListLemmas.{greatest_bounds, greatest_least}
+use Rattle.phase_laws.proofs.ListLemmas.{greatest_bounds, greatest_least}
 use Rattle.auction_rows.specs.declared.rows.Entry.{Entry}
 use Rattle.history_check.specs.declared.lines.Order.{Order}
 use Rattle.history_check.specs.Orders.{is_bound, is_late, MayPrecede, turn, turn_after}

@@ -4,7 +4,7 @@ use Rattle.std.specs.Prelude.{count_by, nat_lt}
 use Rattle.std.specs.List.{AllByRecursion}
 use Rattle.std.proofs.lemmas.Bool.{ltb-true, ltb-false, lt-ltb}
 use Rattle.std.proofs.lemmas.List.Sums.{sum_by-append, sum_by-cons}
-use Rattle.std.proofs.lemmas.Option.{slice_get_within}
+use Rattle.std.proofs.lemmas.Option.{slice_get_within, none-some, same_Some}
 use Rattle.auction_rows.specs.declared.numbers.Opening.{Opening}
 use Rattle.auction_rows.specs.declared.replies.Reply.{Reply}
 use Rattle.auction_rows.specs.declared.requests.Request.{Request}
@@ -29,21 +29,10 @@ use Rattle.history_check.specs.Checking.{GoWell, IsAccepted, OfLine, OfRequest, 
 use Rattle.history_check.proofs.EntryLemmas.{same_request, own_request}
 use Rattle.history_check.proofs.LineLemmas.{append_nil, entry_line, line_apart}
 use Rattle.history_check.proofs.TurnLemmas.{ordered_before}
-
-none_is_some : {X : Type 0} (x : X) → None ≡ Some x → ⊥
-none_is_some x e = absurd (cc e)
-
-some_inj : {X : Type 0} (x y : X) → Some x ≡ Some y → x ≡ y
-some_inj x y e = cc e
+use Rattle.phase_laws.proofs.OrderLemmas.{cons-first, cons-rest}
 
 no_first : {X : Type 0} (x : X) (xs : List X) → [] ≡ x ∷ xs → ⊥
 no_first x xs e = absurd (cc e)
-
-first_is : {X : Type 0} (x y : X) (xs ys : List X) → x ∷ xs ≡ y ∷ ys → x ≡ y
-first_is x y xs ys e = cc e
-
-rest_is : {X : Type 0} (x y : X) (xs ys : List X) → x ∷ xs ≡ y ∷ ys → xs ≡ ys
-rest_is x y xs ys e = cc e
 
 counts : (w i : ℕ) (e : Entry) (history : List Entry) → count_by (is_of w i) (e ∷ history) ≡ cond (is_of w i e) 1 0 + count_by (is_of w i) history
 counts w i e history = sum_by-cons (λ (one : Entry). cond (is_of w i one) 1 0) e history
@@ -70,7 +59,7 @@ module _ (opening : Opening) (scripts : List (List Request)) where
       → x.reply ≡ reply opening start x.worker x.request → y.reply ≡ reply opening start y.worker y.request → history_line x ≡ history_line y → x ≡ y
   same_entry start x y has_x has_y fits_x fits_y right_x right_y lines =
       let place = (line_apart (place_of x) (place_of y) (reply_text x.reply) (reply_text y.reply) fits_x fits_y (sym (entry_line x) ∙ lines ∙ entry_line y)).0 in
-      let request : x.request ≡ y.request = some_inj x.request y.request (sym has_x ∙ (λ k. request_at scripts (place k).worker (place k).index) ∙ has_y) in
+      let request : x.request ≡ y.request = same_Some x.request y.request (sym has_x ∙ (λ k. request_at scripts (place k).worker (place k).index) ∙ has_y) in
       let answer : x.reply ≡ y.reply = right_x ∙ (λ k. reply opening start (place k).worker (request k)) ∙ sym right_y in
       (λ k. entry_at (place k) (request k) (answer k))
 
@@ -83,10 +72,10 @@ module _ (opening : Opening) (scripts : List (List Request)) where
   front start [] (y ∷ ys) tail has_x has_y fits_x fits_y right_x right_y lines = absurd (no_first (history_line y) (history_lines ys ++ tail) lines)
   front start (x ∷ xs) (y ∷ ys) tail has_x has_y fits_x fits_y right_x right_y lines =
       let same = same_entry start x y has_x.0 has_y.0 fits_x.0 fits_y.0 right_x.0 right_y.0
-      (first_is (history_line x) (history_line y) (history_lines xs) (history_lines ys ++ tail) lines) in
+      (cons-first (history_line x) (history_line y) (history_lines xs) (history_lines ys ++ tail) lines) in
       let more = front (after_entry opening start y) xs ys tail has_x.1 has_y.1 fits_x.1 fits_y.1
       (subst (λ e. ReplaysFrom opening (after_entry opening start e) xs) same right_x.1) right_y.1
-      (rest_is (history_line x) (history_line y) (history_lines xs) (history_lines ys ++ tail) lines) in
+      (cons-rest (history_line x) (history_line y) (history_lines xs) (history_lines ys ++ tail) lines) in
       (more.0, λ k. same k ∷ more.1 k, more.2)
 
   -- what no script has stands in no entry
@@ -137,7 +126,7 @@ module _ (opening : Opening) (start : Book) (scripts : List (List Request)) (ord
 
     at : (why : Wrong) → IsWrong opening start scripts order before line why → ⊥
     at Unreadable wrong = wrong (place_of e) (reply_text e.reply) (record { line_is = sym is ∙ entry_line e; fits = fits })
-    at NoRequest wrong = none_is_some e.request (sym (of_entry line e (λ place text. request_at scripts place.worker place.index ≡ None) wrong is fits) ∙ has)
+    at NoRequest wrong = none-some e.request (sym (of_entry line e (λ place text. request_at scripts place.worker place.index ≡ None) wrong is fits) ∙ has)
     at Again wrong =
         let here = of_entry line e (λ place text. count_by (is_of place.worker place.index) before ≡ 1) wrong is fits in
         let w = e.worker in
@@ -152,13 +141,13 @@ module _ (opening : Opening) (start : Book) (scripts : List (List Request)) (ord
     at Late wrong =
         let here = of_entry line e (λ place text. OfRequest scripts place (λ request.
         (reply : Reply) → ¬ AllByRecursion (λ d. MayPrecede order d (entry_at place request reply)) before)) wrong is fits in
-        let same : e.request ≡ here.0 = some_inj e.request here.0 (sym has ∙ here.1) in
+        let same : e.request ≡ here.0 = same_Some e.request here.0 (sym has ∙ here.1) in
         here.2 e.reply (subst (λ request. AllByRecursion (λ d. MayPrecede order d (entry_at (place_of e) request e.reply)) before) same
         (ordered_before (MayPrecede order) before e after well.in_order))
     at (Due due) wrong =
         let here = of_entry line e (λ place text. OfRequest scripts place (λ request.
         (due ≡ reply opening (book_after opening start before) place.worker request) × ¬ (text ≡ reply_text due))) wrong is fits in
-        let same : e.request ≡ here.0 = some_inj e.request here.0 (sym has ∙ here.1) in
+        let same : e.request ≡ here.0 = same_Some e.request here.0 (sym has ∙ here.1) in
         here.2.1 (ap reply_text (right ∙ ap (reply opening (book_after opening start before) e.worker) same ∙ sym here.2.0))
 
   begins : (before : List Entry) (tail : List (List ℕ)) → GoWell opening start scripts order before → lines_of text ≡ history_lines before ++ tail
@@ -171,7 +160,7 @@ module _ (opening : Opening) (start : Book) (scripts : List (List Request)) (ord
   found (WrongAt number why) is = (let more = begins is.before (is.line ∷ is.rest) is.go_well is.split in absurd (at more.0 more.1 more.2)) where
     at : (after : List Entry) → ok.history ≡ is.before ++ after → history_lines after ≡ is.line ∷ is.rest → ⊥
     at [] split lines = no_first is.line is.rest lines
-    at (e ∷ after) split lines = not_wrong is.before e after is.line why split (first_is (history_line e) is.line (history_lines after) is.rest lines) is.wrong
+    at (e ∷ after) split lines = not_wrong is.before e after is.line why split (cons-first (history_line e) is.line (history_lines after) is.rest lines) is.wrong
   found (Lacks worker index) is =
       (let more = begins is.history [] is.go_well (sym is.lines_are ∙ sym (append_nil (history_lines is.history))) in absurd (at more.0 more.1 more.2)) where
         at : (after : List Entry) → ok.history ≡ is.history ++ after → history_lines after ≡ [] → ⊥

@@ -1,13 +1,9 @@
 -- The requests of scripts, and the entries of a history that are of one.
-use Rattle.std.specs.declared.alloc.Global.{Global}
-use Rattle.std.specs.Prelude.{ℕ, ◌==◌, ◌&&◌, Bool, List, Option, map, slice_get, Vec}
+use Rattle.std.specs.Prelude.{ℕ, ◌==◌, ◌&&◌, Bool, List, Option, slice_get}
 use Rattle.auction_rows.specs.declared.requests.Request.{Request}
 use Rattle.auction_rows.specs.declared.rows.Entry.{Entry}
 use Rattle.run_serving.specs.Serving.{script_of}
-
--- the lists in a list of vectors
-abbrev pub lists : {X : Type 0} → List (Vec X Global) → List (List X)
-lists vectors = map (λ v. v.items) vectors
+pub use Rattle.run_serving.specs.Serving.{lists}
 
 -- the request with an index in a worker's script, if there is one
 abbrev pub request_at : List (List Request) → ℕ → ℕ → Option Request

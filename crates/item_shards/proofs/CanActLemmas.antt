@@ -37,7 +37,6 @@ use Rattle.item_shards.specs.Limits.{AreStars, HasStars, IsWithinLimits}
 use Rattle.item_shards.proofs.StandingLemmas.{stands_at, lies_here}
 use Rattle.item_shards.proofs.CountLemmas.{bids_at_most, comments_at_most, rating_at_most}
 use Rattle.item_shards.proofs.TurnLemmas.{owed_in_turn}
-pub use Rattle.phase_laws.proofs.ListLemmas.{all-append as all_both}
 
 below_of : (n m : ℕ) → nat_le n m ≡ false → m < n
 below_of n m e = leb-false n m e

@@ -54,20 +54,29 @@ impl Shard {
     ghost use Rattle.auction_rows.specs.Book.{same_item};
     ghost use Rattle.item_shards.specs.ShardContents.{HasRoom, IsPlaceOf};
 
+    // The place that is noted for an item, and its record, where the item lies there.
+    fn find_noted(&self, item: ItemId) -> Option<(usize, &ItemRecord)>
+        ensures record { IfSome result (λ found. get same_item self.now.parts.value.items item ≡ Some found.1.now) }
+        ensures place { IfSome result (λ found. IsPlaceOf self.now.parts.value.items item found.0) }
+    {
+        let place = self.parts.places.noted(item, self.parts.shards)?;
+        let (id, record) = self.parts.items.get_index(place)?;
+        if *id == item {
+            Some((place, record))
+        } else {
+            None
+        }
+    }
+
     /// The place of an item, and its record, where there is room for it.
     pub(crate) fn find(&self, item: ItemId) -> Option<(usize, &ItemRecord)>
         ensures record { option_map (λ found. found.1.now) result ≡ get same_item self.now.parts.value.items item }
         ensures place { IfSome result (λ found. IsPlaceOf self.now.parts.value.items item found.0) }
     {
-        let items = &self.parts.items;
-        if let Some(place) = self.parts.places.noted(item, self.parts.shards) {
-            if let Some((id, record)) = items.get_index(place) {
-                if *id == item {
-                    return Some((place, record));
-                }
-            }
+        if let Some(found) = self.find_noted(item) {
+            return Some(found);
         }
-        let (place, _, record) = items.get_full(&item)?;
+        let (place, _, record) = self.parts.items.get_full(&item)?;
         Some((place, record))
     }
 

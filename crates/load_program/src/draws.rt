@@ -6,7 +6,7 @@ ghost use Rattle.load_program.specs.Stored.{HasShare, IsLineAt, IsRowAt, IsStore
 use crate::lines::Line;
 use crate::plan::{Counts, Plan};
 use crate::popularity::Popularity;
-use auction_rows::{Facts, ItemId, ItemRow, Name, Quantity, Request, Row, Stars};
+use auction_rows::{Facts, ItemId, ItemRow, MOST_QUANTITY, Name, Quantity, Request, Row, Stars};
 use rand::RngExt;
 use rand_xoshiro::Xoshiro256PlusPlus;
 use std::alloc::{AllocError, Global};
@@ -20,10 +20,10 @@ const MOST_AMOUNT: u64 = 1_000_000;
 const CLOSES: u64 = 100_000_000;
 
 // How many of an item are put up.
-const STOCK: u64 = 1_000_000;
+const STOCK: u64 = MOST_QUANTITY as u64;
 
 /// What draws go by: a plan, and how popular its items are.
-#[derive(Debug, Drop)]
+#[derive(Drop)]
 pub struct Market {
     pub plan: Plan,
     popularity: Popularity,

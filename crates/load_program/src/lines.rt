@@ -13,7 +13,7 @@ use std::alloc::{AllocError, Global};
 const ROOM_OF_A_LINE: usize = 40;
 
 /// A request and the worker whose script it is in.
-#[derive(Clone, Copy, PartialEq, Eq, Debug)]
+#[derive(Clone, Copy)]
 pub struct Line {
     /// The worker.
     pub worker: u32,

@@ -4,7 +4,7 @@ ghost use Rattle.auction_rows.specs.declared.limits.TheConstants.{MOST_WORKERS};
 ghost use Rattle.auction_text.specs.declared.scripts.TheConstants.{MOST_RECORDS};
 
 /// The shares of the kinds of requests in percent, at most 100 together. The rest are bids.
-#[derive(Clone, Copy, PartialEq, Eq, Debug)]
+#[derive(Clone, Copy)]
 pub struct Mix {
     /// The views, of the four kinds alike.
     pub views: u32,
@@ -42,7 +42,7 @@ impl Mix {
 }
 
 /// How many there are of each thing.
-#[derive(Clone, Copy, PartialEq, Eq, Debug)]
+#[derive(Clone, Copy)]
 pub struct Counts {
     /// The requests, 0 to 16,000,000.
     pub requests: u32,
@@ -80,7 +80,7 @@ impl Counts {
 }
 
 /// What is written: how much of what, and by which draws.
-#[derive(Clone, Copy, PartialEq, Eq, Debug)]
+#[derive(Clone, Copy)]
 pub struct Plan {
     /// How many there are of each thing.
     pub counts: Counts,

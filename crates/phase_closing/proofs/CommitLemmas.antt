@@ -1,5 +1,5 @@
 -- A phase leaves a book, and a worker's commits grow by the entries of its journal.
-use Rattle.std.proofs.Common.{◌≡◌, ℕ, ◌+◌, ◌<◌, ◌≤◌, List, [], ◌∷◌, fold, length, refl, sym, ap, subst, ◌∙◌, arith}
+use Rattle.std.proofs.Common.{◌≡◌, ℕ, ◌+◌, ◌<◌, ◌≤◌, List, [], ◌∷◌, fold, length, sym, ap, subst, ◌∙◌, arith}
 use Rattle.std.proofs.lemmas.List.{length-map}
 use Rattle.auction_rows.specs.declared.replies.Reply.{Reply}
 use Rattle.auction_rows.specs.declared.replies.Reply.TheVariants.{ItemStored, BidStored, CommentStored, Bought, ItemSeen, BidsSeen, CategorySeen, UserSeen, Refused}
@@ -9,15 +9,16 @@ use Rattle.auction_rows.specs.History.{IsBook, book_after, rows_of}
 use Rattle.auction_rows.proofs.HistoryLemmas.{book_after-replays, rows_go_on, longer_book}
 use Rattle.phase_contexts.specs.declared.counters.Counters.{Counters}
 use Rattle.phase_contexts.specs.Txns.{Txn, entry_of, counted, after_txn}
+use Rattle.phase_contexts.proofs.ContextLemmas.{one_commit_more}
 use Rattle.phase_closing.specs.Phases.{Phase, HasClosed, counters_of, journal_of, receipt_at}
 use Rattle.phase_closing.specs.Standing.{StandFor, AreOfWorkers, counters_at, stores}
 use Rattle.phase_closing.proofs.WorkerLemmas.{rows_below, rows_star}
 use Rattle.item_shards.specs.Counting.{worker_of}
 use Rattle.item_shards.specs.Limits.{GivesStars, HasStars}
-use Rattle.item_shards.proofs.CanActLemmas.{all_both}
 use Rattle.std.specs.List.{AllByRecursion}
 use Rattle.phase_closing.proofs.ReceiptLemmas.{txns_by, counts, journal_entries}
 use Rattle.phase_closing.proofs.ReplayLemmas.{entries_replay}
+use Rattle.phase_laws.proofs.ListLemmas.{all-append}
 
 pub book_left : (p : Phase) (closed : HasClosed p) (book : Book) → StandFor p.opening p.counters book [] → IsBook p.setting.opening book
     → IsBook p.setting.opening (book_after p.setting.opening book p.entries)
@@ -26,21 +27,10 @@ book_left p closed book opens is =
     subst (IsBook p.setting.opening) (sym (book_after-replays p.setting.opening book p.entries replays))
     (longer_book p.setting.opening book (rows_of p.entries) is (rows_go_on p.setting.opening book p.entries replays))
 
-one_commit : (counters : Counters) (reply : Reply) → (counted counters reply).commits ≡ counters.commits + 1
-one_commit counters (ItemStored id) = refl
-one_commit counters (BidStored id) = refl
-one_commit counters (CommentStored id) = refl
-one_commit counters (Bought id) = refl
-one_commit counters (ItemSeen seller category name start closes highest bidder bids left) = refl
-one_commit counters (BidsSeen bids) = refl
-one_commit counters (CategorySeen items) = refl
-one_commit counters (UserSeen rating comments) = refl
-one_commit counters (Refused reason) = refl
-
 commits_after : (counters : Counters) (txns : List Txn) → (fold after_txn counters txns).commits ≡ counters.commits + length txns
 commits_after counters [] = omega arith
 commits_after counters (txn ∷ txns) =
-    let one = one_commit counters txn.0.reply in
+    let one = one_commit_more counters txn.0.reply in
     omega (arith, one, commits_after (after_txn counters txn) txns)
 
 pub commits_grow : (p : Phase) (closed : HasClosed p) (w : ℕ) → w < length p.receipts
@@ -66,7 +56,7 @@ one_store counters (Refused reason) = omega arith
 stores_after : (counters : Counters) (txns : List Txn) → stores counters ≤ counters.commits → stores (fold after_txn counters txns) ≤ (fold after_txn counters txns).commits
 stores_after counters [] few = few
 stores_after counters (txn ∷ txns) few =
-    stores_after (after_txn counters txn) txns (omega (arith, few, one_store counters txn.0.reply, one_commit counters txn.0.reply))
+    stores_after (after_txn counters txn) txns (omega (arith, few, one_store counters txn.0.reply, one_commit_more counters txn.0.reply))
 
 pub stores_few : (p : Phase) (closed : HasClosed p) (w : ℕ) → w < length p.receipts
     → (let after = counters_of (receipt_at p.receipts w) in stores (counters_at p.counters w) ≤ (counters_at p.counters w).commits → stores after ≤ after.commits)
@@ -78,10 +68,10 @@ pub workers_go_on : (p : Phase) (closed : HasClosed p) (book : Book) → StandFo
     → AreOfWorkers (length p.receipts) (book_after p.setting.opening book p.entries)
 workers_go_on p closed book opens own =
     subst (AreOfWorkers (length p.receipts)) (sym (book_after-replays p.setting.opening book p.entries (entries_replay p closed book opens)))
-    (all_both (λ row. worker_of row < length p.receipts) book (rows_of p.entries) (subst (λ n. AreOfWorkers n book) closed.begun.workers own) (rows_below p closed))
+    (all-append (λ row. worker_of row < length p.receipts) book (rows_of p.entries) (subst (λ n. AreOfWorkers n book) closed.begun.workers own) (rows_below p closed))
 
 pub stars_go_on : (p : Phase) (closed : HasClosed p) (book : Book) → StandFor p.opening p.counters book [] → AllByRecursion HasStars book
     → AllByRecursion (λ entry. GivesStars entry.request) p.entries → AllByRecursion HasStars (book_after p.setting.opening book p.entries)
 stars_go_on p closed book opens stars given =
     subst (AllByRecursion HasStars) (sym (book_after-replays p.setting.opening book p.entries (entries_replay p closed book opens)))
-    (all_both HasStars book (rows_of p.entries) stars (rows_star p.entries given))
+    (all-append HasStars book (rows_of p.entries) stars (rows_star p.entries given))

@@ -5,30 +5,30 @@ use Rattle.std.specs.Int.{w64}
 use Rattle.std.specs.List.{AllByRecursion, IsDistinct}
 use Rattle.std.specs.List.Sorted.{IsPermutation}
 use Rattle.std.proofs.Math.ListN.{length-set}
-use Rattle.std.proofs.lemmas.Bool.{false≢true, or_left, or_right}
+use Rattle.std.proofs.lemmas.Bool.{false≢true, or_left, or_parts, or_right}
 use Rattle.std.proofs.lemmas.Int.{ints, fits_signed_from_abs}
 use Rattle.std.proofs.lemmas.List.Elements.{All-from_recursion, recursion_from_All}
 use Rattle.std.proofs.lemmas.List.Sorted.{All-permutation, sum_by-IsPermutation}
 use Rattle.std.proofs.lemmas.List.Sums.{sum_by-append, sum_by-cons}
 use Rattle.phase_laws.specs.Replay.{SawInTurn}
+use Rattle.phase_laws.proofs.ListLemmas.{all-append}
 use Rattle.auction_rows.specs.declared.ids.Object.{Object}
 use Rattle.auction_rows.specs.declared.ids.Object.TheVariants.{Item, User, Category}
 use Rattle.auction_rows.specs.declared.requests.Facts.{Facts}
 use Rattle.auction_rows.specs.Book.{Book}
 use Rattle.auction_rows.specs.Footprint.{is_hot}
 use Rattle.auction_rows.specs.Requests.{same_object, shard_of}
-use Rattle.auction_rows.proofs.RequestLemmas.{same_object-true, same_objects}
+use Rattle.auction_rows.proofs.RequestLemmas.{same_object-true, same_object-own}
 use Rattle.item_shards.specs.declared.slices.Slice.{Slice}
 use Rattle.item_shards.specs.declared.slices.Slice.TheVariants as slice
 use Rattle.item_shards.specs.Values.{Value, value}
-use Rattle.item_shards.proofs.CanActLemmas.{all_both}
 use Rattle.shard_boxes.specs.States.{ShardState, state_at}
 use Rattle.phase_transactions.specs.Permits.{PermitState}
 use Rattle.phase_contexts.specs.Slicing.{objects_of, slices_in, slices_of, slice_of, HasAtMost, AreFew}
 use Rattle.phase_closing.specs.Phases.{value_on}
 use Rattle.phase_closing.specs.Merging.{merged_with, with_slice, after_merge, slices_left, CanMerge}
 use Rattle.phase_closing.proofs.MergeLemmas.{value_merged}
-use Rattle.phase_closing.proofs.SliceLemmas.{or_parts, apart_of}
+use Rattle.phase_closing.proofs.SliceLemmas.{apart_of}
 
 -- A slice is of its object's kind.
 abbrev pub IsOfKind : Object → Slice → Type 0
@@ -102,9 +102,6 @@ one_counts object pair pairs is = sum_by-cons (λ p. cond (is_of object p) 1 0) 
 other_counts : (object : Object) (pair : Object × Slice) (pairs : List (Object × Slice)) → same_object pair.0 object ≡ false → how_many object (pair ∷ pairs) ≡ how_many object pairs
 other_counts object pair pairs is = sum_by-cons (λ p. cond (is_of object p) 1 0) pair pairs ∙ first_counts_not (same_object pair.0 object) (how_many object pairs) is
 
-own : (object : Object) → same_object object object ≡ true
-own object = (same_objects object object).1 refl
-
 room_next : (object : Object) (pair : Object × Slice) (pairs : List (Object × Slice)) (v : Value) (b : Bool) → same_object pair.0 object ≡ b → IsOfKind pair.0 pair.1 → HasAtMost 1000000 pair.1
     → HasRoomFor object v (how_many object (pair ∷ pairs)) → HasRoomFor object (cond b (merged_with pair.1 v) v) (how_many object pairs)
 room_next object pair pairs v true same kind few room =
@@ -117,7 +114,7 @@ in_turn : (hot : List Object) (pairs : List (Object × Slice)) (states : List Sh
 in_turn hot [] states some good room = tt
 in_turn hot (pair ∷ pairs) states some good room = (
   can_merge states pair.0 pair.1 (how_many pair.0 pairs) good.0.kind good.0.few
-      (room_kept pair.0 (value_on states pair.0) _ _ (one_counts pair.0 pair pairs (own pair.0)) (room pair.0 good.0.is_hot)),
+      (room_kept pair.0 (value_on states pair.0) _ _ (one_counts pair.0 pair pairs (same_object-own pair.0)) (room pair.0 good.0.is_hot)),
   in_turn hot pairs (after_merge states pair)
       (subst (λ n. 0 < n) (sym (length-set states (shard_of pair.0 (length states)) (with_slice (state_at states (shard_of pair.0 (length states))) pair))) some) good.1
       (λ object is. subst (λ (v : Value). HasRoomFor object v (how_many object pairs)) (sym (value_merged states object pair some))
@@ -153,7 +150,7 @@ good_from : (hot : List Object) (stocks : List (Object × Option (Facts × ℕ))
 good_from hot [] rows among few = tt
 good_from hot (stock ∷ stocks) rows among few = (
   record {
-    is_hot = among stock.0 (or_left (same_object stock.0 stock.0) (is_hot (objects_of stocks) stock.0) (own stock.0));
+    is_hot = among stock.0 (or_left (same_object stock.0 stock.0) (is_hot (objects_of stocks) stock.0) (same_object-own stock.0));
     kind = kind_of stock.0 (value rows stock.0);
     few = few.0;
   },
@@ -177,7 +174,7 @@ module _ (stocks : List (Object × Option (Facts × ℕ))) (rows_by : PermitStat
       → AllByRecursion (λ receipt. AreFew 1000000 receipt.split.slices) receipts → AllByRecursion (IsGood (objects_of stocks)) (slices_left receipts)
   all_good [] sliced few = tt
   all_good (receipt ∷ receipts) sliced few =
-      all_both (IsGood (objects_of stocks)) (slices_in receipt.split.slices) (slices_left receipts)
+      all-append (IsGood (objects_of stocks)) (slices_in receipt.split.slices) (slices_left receipts)
       (subst (λ slices. AllByRecursion (IsGood (objects_of stocks)) (slices_in slices)) (sym sliced.0)
       (good_from (objects_of stocks) stocks (rows_by receipt) (λ object is. is) (subst (AreFew 1000000) sliced.0 few.0)))
       (all_good receipts sliced.1 few.1)

@@ -22,8 +22,8 @@ use Rattle.item_shards.specs.Writing.{writes_of}
 use Rattle.item_shards.proofs.RowLemmas.{value_next}
 use Rattle.phase_contexts.specs.Txns.{Setting, hot_in, is_put_off}
 use Rattle.phase_contexts.specs.Slicing.{stock_of}
+use Rattle.phase_contexts.proofs.NeedLemmas.{no_other}
 use Rattle.phase_transactions.specs.Replying.{HasFixed}
-use Rattle.phase_transactions.proofs.RightLemmas.{cold_of}
 
 -- a row is no purchase of an item
 abbrev IsNoPurchase : ItemId → Row → Type 0
@@ -93,7 +93,7 @@ no_purchase hot item is worker (StoreItem facts time) (ItemStored id) goes = no_
 no_purchase hot item is worker (StoreBid bidder on amount time) (BidStored id) goes = no_purchase_if item (id.worker == worker) _ tt
 no_purchase hot item is worker (StoreComment author about on stars) (CommentStored id) goes = no_purchase_if item (id.worker == worker) _ tt
 no_purchase hot item is worker (BuyNow buyer of quantity time) (Bought id) goes =
-    no_purchase_if item (id.worker == worker) _ (another_item hot of item (cold_of (is_hot hot (Item of)) goes) is)
+    no_purchase_if item (id.worker == worker) _ (another_item hot of item (no_other (is_hot hot (Item of)) goes) is)
 no_purchase hot item is worker request given goes = tt
 
 -- the hot items have in a book these facts, and so many are bought

@@ -12,7 +12,8 @@ use Rattle.item_shards.specs.declared.acts.Act.{Act}
 use Rattle.item_shards.specs.declared.acts.Act.TheVariants.{AddItem, ListItem, Bid, Comment, Buy, Look}
 use Rattle.item_shards.specs.Contents.{Contents, changed, target, after_act, after_acts, with_facts, item_listed, bid_on, comment_about, bought_of}
 use Rattle.item_shards.specs.Values.{Value}
-use Rattle.item_shards.specs.Writing.{acts_of, is_cold_in, is_done_on, padded}
+use Rattle.item_shards.specs.Writing.{acts_of, is_cold_in, is_done_on}
+use Rattle.item_shards.proofs.EntryLemmas.{padded_leaves}
 use Rattle.shard_boxes.specs.Lines.{after, after_line}
 use Rattle.shard_boxes.specs.States.{ShardState, state_at}
 use Rattle.phase_contexts.specs.Txns.{Setting, Txn, hot_in, takes, line_on}
@@ -44,11 +45,6 @@ module _ (here : Object → Bool) (object : Object) (away : here object ≡ fals
     at true is rest = rest (after_act contents act) ∙ act_alone contents act is
     at false is rest = rest contents
 
-padded_same : (contents : Contents) (acts : List Act) → after_acts contents (padded acts) ≡ after_acts contents acts
-padded_same contents [] = refl
-padded_same contents (act ∷ []) = refl
-padded_same contents (act ∷ other ∷ acts) = refl
-
 -- so a hot object has on a shard what it had, after any transactions
 pub hot_alone : (z : Setting) (s : ℕ) (object : Object) → is_hot (hot_in z) object ≡ true → (txns : List Txn) (contents : Contents)
     → fold (λ t txn. after_acts t (line_on z s txn).acts) contents txns object ≡ contents object
@@ -56,7 +52,7 @@ hot_alone z s object hot [] contents = refl
 hot_alone z s object hot (txn ∷ txns) contents =
     let all = acts_of z.opening txn.1.stock txn.0 in
     hot_alone z s object hot txns (after_acts contents (line_on z s txn).acts)
-    ∙ ap (λ (t : Contents). t object) (padded_same contents (filter (is_done_on s z.shards (hot_in z)) all))
+    ∙ ap (λ (t : Contents). t object) (padded_leaves contents (filter (is_done_on s z.shards (hot_in z)) all))
     ∙ acts_alone (is_cold_in s z.shards (hot_in z)) object (ap (λ b. not b && (shard_of object z.shards == s)) hot) all contents
 
 -- of a shard after the lines of transactions, its contents

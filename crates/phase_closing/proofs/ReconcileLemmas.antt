@@ -1,8 +1,9 @@
 -- The shards into which all slices are merged stand for the book after the entries.
-use Rattle.std.proofs.Common.{◌≡◌, ℕ, suc, ◌+◌, ◌<◌, ◌==◌, Bool, true, false, List, [], ◌∷◌, ◌++◌, map, fold, length, get_or, refl, sym, ap, subst, ◌∙◌, arith}
+use Rattle.std.proofs.Common.{◌≡◌, ℕ, ◌+◌, ◌<◌, ◌==◌, Bool, true, false, List, [], ◌∷◌, ◌++◌, map, fold, length, refl, sym, ap, subst, ◌∙◌, arith}
 use Rattle.std.specs.List.{list_any, AllByRecursion}
 use Rattle.phase_laws.specs.Order.{part, up_from}
 use Rattle.phase_laws.proofs.WorkerLemmas.{up_from_ordered, up_from_has, map-up_from}
+use Rattle.phase_laws.proofs.ListLemmas.{every_from}
 use Rattle.auction_rows.specs.declared.ids.ItemId.{ItemId}
 use Rattle.auction_rows.specs.declared.ids.Object.{Object}
 use Rattle.auction_rows.specs.declared.ids.Object.TheVariants.{Item, User, Category}
@@ -34,11 +35,6 @@ use Rattle.phase_closing.proofs.ReceiptLemmas.{sliced}
 use Rattle.phase_closing.proofs.WorkerLemmas.{part_is, entries_below}
 use Rattle.phase_closing.proofs.ReplayLemmas.{opening_value, entries_replay, end, end_is, given_stands, items_kept, replays_and_stands}
 use Rattle.phase_closing.proofs.SliceLemmas.{merge_at, merge_at-commutes, all_cold, all_hot}
-
--- what holds of each place of a list holds of all
-all_places : {X : Type 0} (P : X → Type 0) (xs : List X) (d : X) → ((i : ℕ) → i < length xs → P (get_or xs i d)) → AllByRecursion P xs
-all_places P [] d each = tt
-all_places P (x ∷ xs) d each = (each 0 (omega arith), all_places P xs d (λ i less. each (suc i) (omega (arith, less))))
 
 -- entries of the first so many workers are of some of these
 all_present : (n : ℕ) (entries : List Entry) → AllByRecursion (λ entry. entry_worker entry < n) entries
@@ -79,7 +75,7 @@ module _ (p : Phase) (closed : HasClosed p) where
   present = all_present (length p.receipts) p.entries (entries_below p closed)
 
   pub all_sliced : AllByRecursion (λ receipt. receipt.split.slices ≡ slices_of z.stocks (rows_by receipt)) p.receipts
-  all_sliced = all_places (λ receipt. receipt.split.slices ≡ slices_of z.stocks (rows_by receipt)) p.receipts no_receipt (sliced p closed)
+  all_sliced = every_from (λ receipt. receipt.split.slices ≡ slices_of z.stocks (rows_by receipt)) p.receipts no_receipt (sliced p closed)
 
   -- what is made of each worker's journal is what is made of its part of the entries
   by_parts : {R : Type 0} (f : Book → R) → map (λ receipt. f (rows_by receipt)) p.receipts ≡ map (λ w. f (rows_of (part entry_worker w p.entries))) workers

@@ -1,7 +1,7 @@
 -- The slices of the workers merged into one value.
 use Rattle.std.proofs.Common.{◌≡◌, ℕ, Bool, true, false, cond, ◌||◌, List, [], ◌∷◌, fold, Option, refl, sym, ap, subst, ◌∙◌}
 use Rattle.std.specs.List.{AllByRecursion, IsDistinct}
-use Rattle.std.proofs.lemmas.Bool.{false≢true}
+use Rattle.std.proofs.lemmas.Bool.{false≢true, or_parts}
 use Rattle.std.proofs.lemmas.List.Sums.{fold-append}
 use Rattle.phase_laws.specs.Merging.{SliceLaws}
 use Rattle.auction_rows.specs.declared.ids.Object.{Object}
@@ -56,10 +56,6 @@ merge_at-commutes object v x y = either_commutes (same_object x.0 object) (same_
 first_if : (b : Bool) (v : Value) (x : Slice) → b ≡ false → cond b (merged_with x v) v ≡ v
 first_if true v x is = absurd (false≢true (sym is))
 first_if false v x is = refl
-
-pub or_parts : (b c : Bool) → (b || c) ≡ false → (b ≡ false) × (c ≡ false)
-or_parts true c is = absurd (false≢true (sym is))
-or_parts false c is = (refl, is)
 
 pub cold_slices : (stocks : List (Object × Option (Facts × ℕ))) (rows : Book) (object : Object) (v : Value) → is_hot (objects_of stocks) object ≡ false
     → fold (merge_at object) v (slices_in (slices_of stocks rows)) ≡ v

@@ -20,9 +20,9 @@ use Rattle.phase_floor.specs.declared.fault.BeginFault.TheVariants.{UnknownHot, 
 use Rattle.phase_floor.specs.declared.kits.Kit.{Kit}
 use Rattle.phase_floor.specs.Begins.{IsTooLong, asked_in_all, empty_stash, IsKit, AreKits, start_of, CanStart, HasNoSlices, HasOwnStash}
 use Rattle.phase_floor.specs.Floors.{FloorState, IsOpen, IsBegun, AreBegun, no_stash, stash_at}
-use Rattle.phase_floor.proofs.Every.{every_from}
 use Rattle.phase_floor.proofs.HotItems.{objects_of_slices, hot_is_stored}
 use Rattle.phase_floor.proofs.StoredItems.{stored_before}
+use Rattle.phase_laws.proofs.ListLemmas.{every_from}
 
 -- what is made of the next key, kit and stash is begun
 pub begun_next : (floor : FloorState) (workers w : ℕ) (quotas : List ℕ) (keys keys_left : List KeyState) (kits kits_left : List Kit) (stashes stashes_left : List StashState)

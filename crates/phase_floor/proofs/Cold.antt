@@ -14,7 +14,7 @@ use Rattle.phase_closing.specs.Merging.{after_merge, slices_left}
 use Rattle.phase_closing.specs.Phases.{no_receipt}
 use Rattle.phase_floor.specs.Closings.{AreReceiptsOf, HasSettled, HasReconciled, at_start}
 use Rattle.phase_floor.specs.Floors.{FloorState}
-use Rattle.phase_floor.proofs.Every.{every_from}
+use Rattle.phase_laws.proofs.ListLemmas.{every_from}
 
 none_held : (slices : List (Object × Hot)) → stocks_of slices ≡ [] → slices_in slices ≡ []
 none_held [] none = refl

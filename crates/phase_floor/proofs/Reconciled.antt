@@ -5,6 +5,7 @@ use Rattle.std.specs.List.Sorted.{IsPermutation}
 use Rattle.std.proofs.lemmas.List.Elements.{All-from_recursion, recursion_from_All}
 use Rattle.std.proofs.lemmas.List.Sorted.{All-permutation, IsPermutation-refl, IsPermutation-append, IsPermutation-reverse}
 use Rattle.phase_laws.specs.Replay.{SawInTurn}
+use Rattle.phase_laws.proofs.ListLemmas.{all-append, every_from}
 use Rattle.auction_rows.specs.declared.ids.Object.{Object}
 use Rattle.auction_rows.specs.declared.ids.Object.TheVariants.{Item, User, Category}
 use Rattle.auction_rows.specs.declared.numbers.Opening.{Opening}
@@ -13,7 +14,6 @@ use Rattle.auction_rows.specs.declared.rows.Entry.{Entry}
 use Rattle.auction_rows.specs.Book.{Book}
 use Rattle.auction_rows.specs.History.{book_after}
 use Rattle.item_shards.specs.declared.slices.Slice.{Slice}
-use Rattle.item_shards.proofs.CanActLemmas.{all_both}
 use Rattle.shard_boxes.specs.States.{ShardState, state_at}
 use Rattle.phase_contexts.specs.declared.slices.Hot.{Hot}
 use Rattle.phase_contexts.specs.Slicing.{objects_of, stocks_of, slices_in, AreFew}
@@ -28,7 +28,6 @@ use Rattle.phase_floor.specs.Closings.{AreReceiptsOf, AreOfOne, AreKnown, IsKnow
 use Rattle.phase_floor.specs.Floors.{FloorState, IsOpen}
 use Rattle.phase_floor.specs.Resuming.{AreReady}
 use Rattle.phase_floor.specs.States.{DoesExist, DoAllExist}
-use Rattle.phase_floor.proofs.Every.{every_from}
 use Rattle.phase_floor.proofs.Started.{same_length, started, start_stands}
 use Rattle.phase_floor.proofs.Turns.{one_after, opening_after}
 
@@ -59,7 +58,7 @@ all_numbered : (opening : Opening) (states : List ShardState) (stocks : List (Ob
     → (receipts : List PermitState) → AllByRecursion (λ receipt. stocks_of receipt.split.slices ≡ stocks) receipts → AllByRecursion (λ pair. IsKnown opening pair.0) (slices_left receipts)
 all_numbered opening states stocks exist [] are = tt
 all_numbered opening states stocks exist (receipt ∷ receipts) are =
-    all_both (λ (pair : Object × Slice). IsKnown opening pair.0) (slices_in receipt.split.slices) (slices_left receipts)
+    all-append (λ (pair : Object × Slice). IsKnown opening pair.0) (slices_in receipt.split.slices) (slices_left receipts)
     (slices_numbered opening states receipt.split.slices (subst (λ s. DoAllExist opening states (objects_of s)) (sym are.0) exist))
     (all_numbered opening states stocks exist receipts are.1)
 

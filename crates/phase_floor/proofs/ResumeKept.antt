@@ -3,10 +3,9 @@ use Rattle.std.proofs.Common.{◌≡◌, ℕ, ◌+◌, ◌<◌, ◌≤◌, ◌==
 use Rattle.std.proofs.lemmas.List.{length-map}
 use Rattle.std.proofs.lemmas.List.Sums.{sum_by-append}
 use Rattle.auction_rows.specs.declared.numbers.Opening.{Opening}
-use Rattle.auction_rows.specs.Book.{Book}
+use Rattle.auction_rows.specs.Book.{Book, worker_of}
 use Rattle.auction_rows.specs.History.{IsBook}
 use Rattle.item_shards.specs.declared.shard.Shard.{Shard}
-use Rattle.item_shards.specs.Counting.{worker_of}
 use Rattle.item_shards.specs.Limits.{IsWithinLimits}
 use Rattle.item_shards.specs.OpeningRows.{rows_by}
 use Rattle.shard_boxes.specs.States.{state_of}

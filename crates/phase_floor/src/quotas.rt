@@ -1,7 +1,6 @@
 //! How many requests a phase may perform.
-ghost use Rattle.std.specs.Prelude.{◌≡◌, ◌+◌, ◌<◌, ◌≤◌, length, IsTrue, ◌↔◌};
-ghost use Rattle.phase_floor.specs.Begins.{IsTooLong, asked_in_all};
-ghost use Rattle.phase_floor.specs.Floors.{stash_at};
+ghost use Rattle.std.specs.Prelude.{◌≡◌, ◌+◌, ◌<◌, length, IsTrue, ◌↔◌};
+ghost use Rattle.phase_floor.specs.Begins.{IsTooLong};
 
 use auction_rows::MOST_OF_A_WORKER;
 use phase_transactions::{Counters, Stash};

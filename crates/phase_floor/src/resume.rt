@@ -3,7 +3,7 @@ ghost use Rattle.std.specs.Prelude.{◌≡◌, ℕ, ◌<◌, ◌≤◌, ◌∷�
 ghost use Rattle.auction_rows.specs.declared.rows.Row.TheVariants.{Item};
 ghost use Rattle.auction_rows.specs.History.{IsBook};
 ghost use Rattle.item_shards.specs.Contents.{target};
-ghost use Rattle.item_shards.specs.Counting.{worker_of};
+ghost use Rattle.auction_rows.specs.Book.{worker_of};
 ghost use Rattle.item_shards.specs.Limits.{IsWithinLimits};
 ghost use Rattle.item_shards.specs.OpeningBooks.{opening_of, rows_of};
 ghost use Rattle.item_shards.specs.Writing.{writes_of};
@@ -64,22 +64,10 @@ fn count_rows(alloc: Global, workers: u32, rows: &[Row]) -> Result<Vec<Counters>
 {
     let mut counters = nothing_counted(alloc, workers)?;
     for row in rows {
-        let worker = worker_of(row) as usize;
+        let worker = row.worker() as usize;
         count_row(&mut counters[worker], row);
     }
     Ok(counters)
-}
-
-// The worker whose store a row is.
-pub(crate) fn worker_of(row: &Row) -> u32
-    ensures { result ≡ worker_of row.now }
-{
-    match row {
-        Row::Item(row) => row.id.worker,
-        Row::Bid(row) => row.id.worker,
-        Row::Comment(row) => row.id.worker,
-        Row::Buy(row) => row.id.worker,
-    }
 }
 
 // Counts a row, which was one commit.

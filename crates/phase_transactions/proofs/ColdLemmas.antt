@@ -1,6 +1,5 @@
 -- What is done on cold objects is a commit in any phase, whatever its slices are.
 use Rattle.std.proofs.Common.{◌≡◌, ℕ, false, List, [], ◌∷◌, ◌++◌, length, Option, Some, None, unwrap_or, refl, sym, ap, subst, ◌∙◌}
-use Rattle.std.specs.Prelude.{IfSome}
 use Rattle.auction_rows.specs.declared.ids.Object.{Object}
 use Rattle.auction_rows.specs.declared.ids.Object.TheVariants.{Item, User, Category}
 use Rattle.auction_rows.specs.declared.replies.Reply.{Reply}
@@ -33,11 +32,6 @@ use Rattle.phase_transactions.specs.Taking.{HasStayed}
 use Rattle.phase_transactions.proofs.FailLemmas.{not_memory, one_asked, two_asked, fails_over_one, fails_over_both}
 use Rattle.phase_transactions.proofs.PairLemmas.{cold_kept, cold_setting}
 use Rattle.phase_transactions.proofs.SingleLemmas.{AreAbout, acts_about, not_put_off, done_commits}
-
--- what holds of a result, if there is one
-pub if_some : {A : Type 0} → (o : Option A) (P Q : A → Type 0) → ((a : A) → P a → Q a) → IfSome o P → IfSome o Q
-if_some None P Q so is = is
-if_some (Some a) P Q so is = so a is
 
 -- what is done to a cold object changes no slice
 cold_act : (hots : List (Object × Hot)) (object : Object) (act : Act) → is_hot (objects_of hots) object ≡ false → target act ≡ Some object → after_act hots act ≡ hots

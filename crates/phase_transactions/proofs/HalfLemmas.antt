@@ -30,7 +30,6 @@ use Rattle.phase_contexts.specs.Txns.{Setting, Txn, hot_in, refusal_by, IsAnswer
 use Rattle.phase_contexts.specs.Contexts.{ContextState, after_commit, with_one_less}
 use Rattle.phase_contexts.specs.Slicing.{objects_of, stocks_of, stock_of, after_acts}
 use Rattle.phase_contexts.specs.Splits.{SplitState, IsHot, HasStored, setting_of, nothing}
-use Rattle.phase_contexts.proofs.AnswerLemmas.{same_objects_of}
 use Rattle.phase_transactions.specs.declared.commit.Commit.{Commit}
 use Rattle.phase_transactions.specs.declared.fault.PermitFault.TheVariants.{NumberFull}
 use Rattle.phase_transactions.specs.Halves.{HasCommentedUser, HasLooked}
@@ -39,7 +38,7 @@ use Rattle.phase_transactions.specs.Performing.{HasFailed, entry_asked, shards_a
 use Rattle.phase_transactions.specs.Permits.{PermitState, IsIdle, permit, done_at, HasCommitted, txn_of}
 use Rattle.phase_transactions.specs.Taking.{HasStayed}
 use Rattle.phase_transactions.proofs.CommitLemmas.{over_its_shard}
-use Rattle.phase_transactions.proofs.Hots.{stored_commits, had_number, bid_hot_commits}
+use Rattle.phase_transactions.proofs.Hots.{stored_commits, had_number, hot_in_setting, bid_hot_commits}
 use Rattle.phase_transactions.proofs.FailLemmas.{fails_over_one, not_memory}
 use Rattle.phase_transactions.proofs.PairLemmas.{its, Writes, written, replied, cold_acts, cold_written, cold_setting}
 
@@ -137,9 +136,6 @@ module _ (shards : ℕ) (split : SplitState) (comment : Comment) (reply : Reply)
     not_put_off = refl;
   }
 
-hot_setting : (hots : List (Object × Hot)) (object : Object) → is_hot (objects_of hots) object ≡ true → is_hot (objects_of (stocks_of hots)) object ≡ true
-hot_setting hots object hot = ap (λ objects. is_hot objects object) (same_objects_of hots) ∙ hot
-
 -- what a reply does to the user
 act_by : (refused : Option Refusal) (reply stored : Reply) (one : Act) → MatchOption refused (reply ≡ stored) (λ reason. reply ≡ Refused reason)
     → (act : Act) × MatchOption refused ((reply ≡ stored) × (act ≡ one)) (λ reason. (reply ≡ Refused reason) × (act ≡ Look shown.Nothing))
@@ -161,7 +157,7 @@ module _ (opening : List ShardState) (split : SplitState) (key back : KeyState) 
       let shards = length opening in
       let stock = stock_of (stocks_of split.slices) (Item comment.item) in
       let its = subst (λ (d : ContextState). HasCommentedUser opening d key back comment stock index done) same over in
-      let item = hot_setting split.slices (Item comment.item) hot_item in
+      let item = hot_in_setting split.slices (Item comment.item) hot_item in
       let user = cold_setting split.slices (User comment.about) cold_user in
       over_its_shard opening split new key back (comment_request comment) index done.reply done.number done.found committed
       (sliced ∙ cold_acts split.slices comment.about comment.stars (writes_if (row_of split.context.journal.worker (comment_request comment) done.reply)) cold_user
@@ -176,7 +172,7 @@ module _ (opening : List ShardState) (split : SplitState) (key back : KeyState) 
   pub user_asked : shards_asked (length opening) split (comment_request comment) ≡ for_user ∷ []
   user_asked =
       comment_prints (length opening) split comment (entry_asked split (comment_request comment)).reply 0 0 nothing allowed true false
-      (hot_setting split.slices (Item comment.item) hot_item) (cold_setting split.slices (User comment.about) cold_user)
+      (hot_in_setting split.slices (Item comment.item) hot_item) (cold_setting split.slices (User comment.about) cold_user)
 
   pub user_fails : (n : ℕ) → n ≡ for_user → HasStayed opening context.clock key back n n NumberFull → HasFailed opening (permit split key) (permit split back) (comment_request comment) NumberFull
   user_fails n is stayed =
@@ -200,7 +196,7 @@ module _ (opening : List ShardState) (split : SplitState) (key back : KeyState) 
       let shards = length opening in
       let stored = CommentStored (record { worker = split.context.journal.worker; serial = split.context.counters.comments }) in
       let item = cold_setting split.slices (Item comment.item) cold_item in
-      let user = hot_setting split.slices (User comment.about) hot_user in
+      let user = hot_in_setting split.slices (User comment.about) hot_user in
       let acted = act_by (refusal_by split.context.opening found.stock (comment_request comment)) reply stored (CommentOn comment.about comment.stars) answer in
       over_its_shard opening split new key back (comment_request comment) index reply number found committed sliced
       (answered_by shards split comment reply number index found allowed false item answer)
@@ -213,7 +209,7 @@ module _ (opening : List ShardState) (split : SplitState) (key back : KeyState) 
   pub item_asked : shards_asked (length opening) split (comment_request comment) ≡ for_item ∷ []
   item_asked =
       comment_prints (length opening) split comment (entry_asked split (comment_request comment)).reply 0 0 nothing allowed false true
-      (cold_setting split.slices (Item comment.item) cold_item) (hot_setting split.slices (User comment.about) hot_user)
+      (cold_setting split.slices (Item comment.item) cold_item) (hot_in_setting split.slices (User comment.about) hot_user)
 
   pub item_fails : (n : ℕ) → n ≡ for_item → HasStayed opening context.clock key back n n NumberFull → HasFailed opening (permit split key) (permit split back) (comment_request comment) NumberFull
   item_fails n is stayed =

@@ -119,7 +119,7 @@ pub had_number : (clock : ℕ) (reply : Reply) → IsNone (Some reply) ↔ (last
 had_number clock reply none = lt_of_not-le (λ full. true≢false (none.1 full))
 
 -- so it is with a bid, and with a comment
-hot_in_setting : (hots : List (Object × Hot)) (object : Object) → is_hot (objects_of hots) object ≡ true → is_hot (objects_of (stocks_of hots)) object ≡ true
+pub hot_in_setting : (hots : List (Object × Hot)) (object : Object) → is_hot (objects_of hots) object ≡ true → is_hot (objects_of (stocks_of hots)) object ≡ true
 hot_in_setting hots object hot = ap (λ objects. is_hot objects object) (same_objects_of hots) ∙ hot
 
 pub bid_takes_none : (split : SplitState) (bidder : ℕ) (item : ItemId) (amount time index : ℕ) (answer : Reply) → IsHot split (Item item)

@@ -48,7 +48,7 @@ use Rattle.phase_transactions.specs.Putting.{CanDo, IsOverOne}
 use Rattle.phase_transactions.specs.Taking.{HasStayed}
 use Rattle.phase_transactions.proofs.CommitLemmas.{found_by, over_one_commits, over_both_commit}
 use Rattle.phase_transactions.proofs.FailLemmas.{fails_over_one, fails_over_both}
-use Rattle.phase_transactions.proofs.PairLemmas.{on_shard, equal_numbers, cold_kept}
+use Rattle.phase_transactions.proofs.PairLemmas.{on_shard, cold_kept}
 use Rattle.phase_transactions.proofs.TakeLemmas.{stayed_as, over_one_as, over_both_as}
 
 -- a shard that was prepared shows what it showed
@@ -179,10 +179,10 @@ module _ (opening : List ShardState) (split : SplitState) (item : NewItem) (hot 
         → ((t : ℕ) → (home == t) ≡ false → lists_on t ≡ false) → on_shard (adds item id) (lists item id) true (lists_on home) ≡ adds item id ∷ second ∷ []
         → IsIdle key → HasCommitted opening (permit split key) (permit new back) (item_request item) index (ItemStored id)
     one_commits second over alone second_is idle =
-        let owes = owed found index number home true (lists_on home) (equal_numbers home) refl ∙ second_is in
+        let owes = owed found index number home true (lists_on home) (eq-eqb home home refl) refl ∙ second_is in
         let there = λ (t : ℕ). found_by opening split new key back (item_request item) index (ItemStored id) number found committed sliced (item_answered found index number)
         home (adds item id ∷ second ∷ []) over owes idle t in
-        let at_home : clock_found home (txn found index number) ≡ over.before = there home ∙ ap (λ c. cond c over.before 0) (equal_numbers home) in
+        let at_home : clock_found home (txn found index number) ≡ over.before = there home ∙ ap (λ c. cond c over.before 0) (eq-eqb home home refl) in
         over_one_commits opening split new key back (item_request item) index (ItemStored id) number found committed sliced (item_answered found index number)
         home (adds item id ∷ second ∷ []) over owes idle
         (λ t. taken_by found index number t ∙ or_alone (home == t) (lists_on t) (alone t))
@@ -196,8 +196,8 @@ module _ (opening : List ShardState) (split : SplitState) (item : NewItem) (hot 
         let on_listed = λ (t : ℕ). ap (λ h. not h && (listed == t)) cold in
         over_both_commit opening split new key back (item_request item) index (ItemStored id) number found committed sliced (item_answered found index number)
         home listed (adds item id ∷ nothing_else ∷ []) (lists item id ∷ nothing_else ∷ []) apart over
-        (owed found index number home true false (equal_numbers home) (on_listed home ∙ ne_eqb listed home (λ e. apart (sym e))))
-        (owed found index number listed false true (ne_eqb home listed apart) (on_listed listed ∙ equal_numbers listed))
+        (owed found index number home true false (eq-eqb home home refl) (on_listed home ∙ ne_eqb listed home (λ e. apart (sym e))))
+        (owed found index number listed false true (ne_eqb home listed apart) (on_listed listed ∙ eq-eqb listed listed refl))
         (λ t. taken_by found index number t ∙ ap (λ b. (home == t) || b) (on_listed t))
         (greatest_is found index number ∙ ap (λ h. max (clock_found home (txn found index number)) (cond h 0 (clock_found listed (txn found index number)))) cold)
 

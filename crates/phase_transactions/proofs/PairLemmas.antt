@@ -44,8 +44,7 @@ use Rattle.phase_transactions.proofs.SingleLemmas.{lies_taken}
 use Rattle.phase_transactions.proofs.CommitLemmas.{over_one_commits, over_both_commit}
 use Rattle.std.specs.Prelude.{nat_le}
 use Rattle.auction_rows.specs.declared.numbers.Opening.{Opening}
-use Rattle.auction_rows.specs.declared.replies.Refusal.TheVariants.{NoSuchUser, NoSuchCategory}
-use Rattle.auction_rows.specs.Refusals.{holds_by_number}
+use Rattle.auction_rows.proofs.RefusalLemmas.{in_range}
 use Rattle.item_shards.specs.declared.shard.Shard.{Shard}
 use Rattle.item_shards.specs.Acting.{CanAct}
 use Rattle.item_shards.specs.CommitNumbers.{last_number}
@@ -164,15 +163,10 @@ module _ (shards : ℕ) (split : SplitState) (comment : Comment) (found : ReadSe
   }
 
 -- a comment that the opening does not refuse is about a user that there is
-no_reason : (a b : Bool) (x y : Refusal) → cond a (Some x) (cond b (Some y) None) ≡ None → (a ≡ false) × (b ≡ false)
-no_reason true b x y e = absurd (cc)
-no_reason false true x y e = absurd (cc)
-no_reason false false x y e = (refl, refl)
-
 about_known : (opening : Opening) (comment : Comment) → number_refusal opening (comment_request comment) ≡ None → comment.about < opening.users
 about_known opening comment allowed =
     let request = comment_request comment in
-    let none = no_reason (holds_by_number opening request NoSuchUser) (holds_by_number opening request NoSuchCategory) NoSuchUser NoSuchCategory allowed in
+    let none = in_range opening request allowed in
     leb-false opening.users comment.about (or_parts (nat_le opening.users comment.about) false (or_parts (nat_le opening.users comment.author) _ none.0).1).0
 
 -- and what it does to the user can be done on the user's shard
@@ -192,9 +186,6 @@ can_comment opening workers key held context comment stock number reply act take
     let known = subst (λ (o : Opening). comment.about < o.users) (sym opened) (about_known context.opening comment allowed) in
     let fits = (two_fit (state_of shard) (CommentOn comment.about comment.stars) (Look shown.Nothing) taken.within (omega (arith, later, within)) given tt).0 in
     can_act shard comment.about comment.stars (refusal_by context.opening stock (comment_request comment)) reply _ act lies known fits answer
-
-pub equal_numbers : (n : ℕ) → (n == n) ≡ true
-equal_numbers n = eq-eqb n n refl
 
 -- what is written of a cold object changes no slice
 
@@ -257,8 +248,8 @@ module _ (opening : List ShardState) (context : ContextState) (key back : KeySta
       over_both_commit opening split new key back (comment_request comment) index done.reply done.number done.found refl (unwritten slices is.act user is.answer)
       (comment_answered shards split comment done.found index done.number done.reply is.act allowed cold_item cold_user is.answer)
       its_item its_user (its_look ∷ Look shown.Nothing ∷ []) (is.act ∷ Look shown.Nothing ∷ []) is.apart is.over
-      (owed shards split comment done.found index done.number done.reply is.act allowed cold_item cold_user is.answer its_item true false (equal_numbers its_item) turned)
-      (owed shards split comment done.found index done.number done.reply is.act allowed cold_item cold_user is.answer its_user false true (ne_eqb its_item its_user is.apart) (equal_numbers its_user))
+      (owed shards split comment done.found index done.number done.reply is.act allowed cold_item cold_user is.answer its_item true false (eq-eqb its_item its_item refl) turned)
+      (owed shards split comment done.found index done.number done.reply is.act allowed cold_item cold_user is.answer its_user false true (ne_eqb its_item its_user is.apart) (eq-eqb its_user its_user refl))
       (λ t. taken_by shards split comment done.found index done.number done.reply is.act allowed cold_item cold_user is.answer t ∙ ap (λ b. (its_item == t) || b) (or-false (its_user == t)))
       (greatest_two shards split comment done.found index done.number done.reply is.act allowed cold_item cold_user is.answer ∙ greatest_both _ _)
 
@@ -274,7 +265,7 @@ module _ (opening : List ShardState) (context : ContextState) (key back : KeySta
       over_one_commits opening split new key back (comment_request comment) index done.reply done.number done.found refl (unwritten slices is.act user is.answer)
       (comment_answered shards split comment done.found index done.number done.reply is.act allowed cold_item cold_user is.answer)
       its_item (its_look ∷ is.act ∷ []) is.over
-      (owed shards split comment done.found index done.number done.reply is.act allowed cold_item cold_user is.answer its_item true true (equal_numbers its_item) (eq-eqb its_user its_item (sym is.together)))
+      (owed shards split comment done.found index done.number done.reply is.act allowed cold_item cold_user is.answer its_item true true (eq-eqb its_item its_item refl) (eq-eqb its_user its_item (sym is.together)))
       idle
       (λ t. taken_by shards split comment done.found index done.number done.reply is.act allowed cold_item cold_user is.answer t
       ∙ ap (λ n. (its_item == t) || ((n == t) || false)) (sym is.together) ∙ or_same (its_item == t))

@@ -3,7 +3,6 @@ use Rattle.std.proofs.Common.{◌≡◌, ℕ, ◌-◌, ◌==◌, Bool, true, fal
 use Rattle.std.specs.Prelude.{ℤ}
 use Rattle.std.specs.List.{list_any}
 use Rattle.std.specs.Option.{option_or}
-use Rattle.std.proofs.lemmas.Bool.{false≢true}
 use Rattle.std.proofs.Math.Seq.{take-append_seam}
 use Rattle.std.proofs.lemmas.List.{ext_get_or}
 use Rattle.auction_rows.specs.declared.ids.ItemId.{ItemId}
@@ -45,7 +44,8 @@ use Rattle.phase_transactions.specs.declared.fault.PermitFault.{PermitFault}
 use Rattle.phase_transactions.specs.Performing.{HasFailed, shards_asked}
 use Rattle.phase_transactions.specs.Permits.{PermitState, HasCommitted, txn_of}
 use Rattle.phase_contexts.specs.Splits.{SplitState, CountsOf, HasStocks, setting_of}
-use Rattle.phase_contexts.proofs.AnswerLemmas.{same_objects_of}
+use Rattle.phase_contexts.proofs.AnswerLemmas.{answered_by, same_objects_of}
+use Rattle.phase_contexts.proofs.NeedLemmas.{no_other}
 use Rattle.phase_transactions.specs.Replying.{SawTrue, StoodFor, HasFixed, StoodAsTaken}
 use Rattle.phase_transactions.proofs.LookLemmas.{look_true, value_there}
 
@@ -72,10 +72,6 @@ or_same : (refused : Option Refusal) (first second : Option Refusal) → (refuse
 or_same None first second same = same refl
 or_same (Some reason) first second same = refl
 
-answered_by : (refused : Option Refusal) (given mine theirs : Reply) → MatchOption refused (given ≡ mine) (λ reason. given ≡ Refused reason) → mine ≡ theirs → given ≡ answer_unless refused theirs
-answered_by None given mine theirs is same = is ∙ same
-answered_by (Some reason) given mine theirs is same = is
-
 viewed_by : (A : Type 0) (refused : Option Refusal) (given theirs : Reply) → MatchOption refused A (λ reason. given ≡ Refused reason) → (refused ≡ None → given ≡ theirs) → given ≡ answer_unless refused theirs
 viewed_by A None given theirs is same = same refl
 viewed_by A (Some reason) given theirs is same = is
@@ -89,11 +85,6 @@ comment_by_facts author about item stars (Some facts) m n = refl
 facts_in : (facts : Option Facts) (n : ℕ) → option_map (λ (s : Facts × ℕ). s.0) (option_map {U = Facts × ℕ} (λ f. (f, n)) facts) ≡ facts
 facts_in None n = refl
 facts_in (Some facts) n = refl
-
--- a request that was not put off touches no hot object
-pub cold_of : (hot : Bool) → (hot || (false || false)) ≡ false → hot ≡ false
-cold_of true is = absurd (false≢true (sym is))
-cold_of false is = refl
 
 -- a reply that is a view of its object is the view that the request asks for
 item_like : (given : Reply) (item : ItemId) (v : Value) → SuitsItem given → given ≡ view_like given (Item item) v → given ≡ item_view v
@@ -239,26 +230,26 @@ module _ (z : Setting) (taken : ℕ → Contents) (book : Book) (fixed : HasFixe
     view_item_right : (item : ItemId) → IsRightFor (ViewItem item)
     view_item_right item given saw stood is =
         item_like given item (value book (Item item)) is.answered
-        (view_right (txn_with (ViewItem item) given) (Item item) [] refl refl refl (cold_of (is_hot (hot_in z) (Item item)) is.not_put_off) saw stood)
+        (view_right (txn_with (ViewItem item) given) (Item item) [] refl refl refl (no_other (is_hot (hot_in z) (Item item)) is.not_put_off) saw stood)
         ∙ item_reply z.opening book worker item
 
     view_bids_right : (item : ItemId) → IsRightFor (ViewBids item)
     view_bids_right item given saw stood is =
         bids_like given item (value book (Item item)) is.answered
-        (view_right (txn_with (ViewBids item) given) (Item item) [] refl refl refl (cold_of (is_hot (hot_in z) (Item item)) is.not_put_off) saw stood)
+        (view_right (txn_with (ViewBids item) given) (Item item) [] refl refl refl (no_other (is_hot (hot_in z) (Item item)) is.not_put_off) saw stood)
         ∙ bids_reply z.opening book worker item
 
     view_category_right : (category : ℕ) → IsRightFor (ViewCategory category)
     view_category_right category given saw stood is =
         viewed_by Unit (number_refusal z.opening (ViewCategory category)) given (category_view (value book (Category category))) is.answered
-        (λ accepted. view_right (txn_with (ViewCategory category) given) (Category category) [] accepted refl refl (cold_of (is_hot (hot_in z) (Category category)) is.not_put_off) saw stood
+        (λ accepted. view_right (txn_with (ViewCategory category) given) (Category category) [] accepted refl refl (no_other (is_hot (hot_in z) (Category category)) is.not_put_off) saw stood
         ∙ category_like given category (value book (Category category)))
         ∙ category_reply_is z.opening book worker category
 
     view_user_right : (user : ℕ) → IsRightFor (ViewUser user)
     view_user_right user given saw stood is =
         viewed_by Unit (number_refusal z.opening (ViewUser user)) given (user_view (value book (User user))) is.answered
-        (λ accepted. view_right (txn_with (ViewUser user) given) (User user) [] accepted refl refl (cold_of (is_hot (hot_in z) (User user)) is.not_put_off) saw stood
+        (λ accepted. view_right (txn_with (ViewUser user) given) (User user) [] accepted refl refl (no_other (is_hot (hot_in z) (User user)) is.not_put_off) saw stood
         ∙ user_like given user (value book (User user)))
         ∙ user_reply_is z.opening book worker user
 

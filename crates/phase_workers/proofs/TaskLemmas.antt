@@ -8,7 +8,7 @@ use Rattle.std.proofs.lemmas.Slice.Zip.{AllZip-long}
 use Rattle.auction_rows.specs.declared.requests.Request.{Request}
 use Rattle.phase_transactions.specs.declared.fault.PermitFault.{PermitFault}
 use Rattle.phase_transactions.specs.Permits.{PermitState}
-use Rattle.run_laws.proofs.ListLemmas.{all-append}
+use Rattle.phase_laws.proofs.ListLemmas.{all-append}
 use Rattle.shard_boxes.specs.States.{ShardState}
 use Rattle.phase_workers.specs.declared.fault.ServingFault.{ServingFault}
 use Rattle.phase_workers.specs.declared.fault.ServingFault.TheVariants.{Worker, Spawn, Memory}

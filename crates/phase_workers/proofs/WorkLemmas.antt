@@ -25,7 +25,7 @@ use Rattle.phase_transactions.specs.declared.fault.PermitFault.{PermitFault}
 use Rattle.phase_transactions.specs.Performing.{HasDealtWith, HasFailed, IsCause, with_try}
 use Rattle.phase_transactions.specs.Permits.{PermitState, HasCommitted}
 use Rattle.phase_transactions.specs.Stashed.{with_first_called, HasPerformedFirst, HasFailedFirst}
-use Rattle.run_laws.proofs.ListLemmas.{all-append}
+use Rattle.phase_laws.proofs.ListLemmas.{all-append}
 use Rattle.run_serving.specs.Serving.{call_of}
 use Rattle.shard_boxes.specs.States.{ShardState}
 use Rattle.worker_journals.specs.Journals.{JournalView, commit_in}

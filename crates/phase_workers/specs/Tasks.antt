@@ -1,6 +1,5 @@
 -- What the workers of a phase have to do, and what they have done.
-use Rattle.std.specs.declared.alloc.Global.{Global}
-use Rattle.std.specs.Prelude.{◌≡◌, ℕ, ◌+◌, ◌-◌, ◌<◌, ◌≤◌, ◌⊎◌, Bool, List, [], ◌∷◌, ◌++◌, length, Result, Ok, Err, Option, Some, None, Vec, map, ⊤}
+use Rattle.std.specs.Prelude.{◌≡◌, ℕ, ◌+◌, ◌-◌, ◌<◌, ◌≤◌, ◌⊎◌, Bool, List, [], ◌∷◌, ◌++◌, length, Result, Ok, Err, Option, Some, None, ⊤}
 use Rattle.auction_rows.specs.declared.limits.TheConstants.{MOST_TRIES}
 use Rattle.auction_rows.specs.declared.limits.TheConstants.{MOST_OF_A_WORKER}
 use Rattle.auction_rows.specs.declared.requests.Request.{Request}
@@ -9,14 +8,11 @@ use Rattle.shard_boxes.specs.States.{ShardState}
 use Rattle.phase_transactions.specs.declared.fault.PermitFault.{PermitFault}
 use Rattle.phase_transactions.specs.Permits.{PermitState}
 use Rattle.phase_transactions.specs.Single.{HaveOpening}
+pub use Rattle.run_serving.specs.Serving.{lists}
 use Rattle.phase_workers.specs.declared.fault.ServingFault.{ServingFault}
 use Rattle.phase_workers.specs.declared.fault.ServingFault.TheVariants.{Worker, Spawn, Memory}
 use Rattle.phase_workers.specs.declared.serving.WorkerAnswer.{WorkerAnswer}
 use Rattle.phase_workers.specs.Working.{calls_from, committed, stashed, taken, kept, hot_for, put_off, not_put_off, IsSamePermit, HasStopped}
-
--- the lists in a list of vectors
-abbrev pub lists : {X : Type 0} → List (Vec X Global) → List (List X)
-lists vectors = map (λ v. v.items) vectors
 
 -- a worker's permit as the phase begins, its script, and the index from which on it is given requests
 pub record Task : Type 0 where

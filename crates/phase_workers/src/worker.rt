@@ -1,5 +1,5 @@
 //! What a worker does in a phase of a run.
-ghost use Rattle.std.specs.Prelude.{◌≡◌, ◌+◌, ◌-◌, ◌≤◌, ◌<◌, ◌++◌, true, false, [], length, OnOk, IfErr};
+ghost use Rattle.std.specs.Prelude.{◌≡◌, ◌+◌, ◌-◌, ◌≤◌, ◌<◌, ◌++◌, false, [], length, OnOk, IfErr};
 ghost use Rattle.phase_transactions.specs.Performing.{HasFailed, with_try};
 ghost use Rattle.phase_transactions.specs.Single.{HaveOpening};
 ghost use Rattle.phase_transactions.specs.Stashed.{HasFailedFirst};

@@ -9,7 +9,7 @@ use clap::{Arg, ArgAction, ArgMatches};
 use std::alloc::Global;
 
 /// The least and the greatest number that an option takes.
-#[derive(Clone, Copy, Debug)]
+#[derive(Clone, Copy)]
 pub struct NumberRange {
     /// The least one.
     pub least: u32,

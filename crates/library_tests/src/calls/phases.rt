@@ -1,5 +1,5 @@
 //! A joined phase of one worker, in whose stash a view waits, and a split phase in which the vases are hot.
-ghost use Rattle.std.specs.Prelude.{◌≡◌, vec_len, IfOk};
+ghost use Rattle.std.specs.Prelude.{◌≡◌, length, vec_len, IfOk};
 
 use crate::calls::joined::joined_phase;
 use crate::calls::printing::print_state;
@@ -33,8 +33,29 @@ fn hot_item(alloc: Global) -> Result<IndexSet<Object>, AllocError> {
     }
 }
 
+// Performs a joined and a split phase: the state after both.
+fn two_phases<R: Wait + Print>(
+    rt: &R,
+    alloc: Global,
+    state: Joined,
+    stashes: Vec<Stash>,
+    hot: &IndexSet<Object>,
+    store: &Request,
+    history: &mut History,
+) -> Result<Joined, Fail>
+    requires one { length state.counters ≡ 1 }
+    requires first { state.phase ≡ 0 }
+    requires stashes { vec_len stashes ≡ 1 }
+{
+    let state = joined_phase::<Brand, R>(rt, alloc, state, stashes, store, history)?;
+    print_state(rt, &state);
+    let state = split_phase::<Brand, R>(rt, alloc, state, hot, store, history)?;
+    print_state(rt, &state);
+    Ok(state)
+}
+
 /// Makes the calls: the state after both phases.
-pub(crate) fn two_phases<R: Wait + Print>(
+pub(crate) fn phases_by_hand<R: Wait + Print>(
     rt: &R,
     alloc: Global,
     history: &mut History,
@@ -44,9 +65,5 @@ pub(crate) fn two_phases<R: Wait + Print>(
     let hot = hot_item(alloc)?;
     let state = Joined::new(alloc, OPENING, 1, 4)?;
     let _ = println!(rt; "phases ready: a state, a stash and a hot item");
-    let state = joined_phase::<Brand, R>(rt, alloc, state, stashes, &store, history)?;
-    print_state(rt, &state);
-    let state = split_phase::<Brand, R>(rt, alloc, state, &hot, &store, history)?;
-    print_state(rt, &state);
-    Ok(state)
+    two_phases(rt, alloc, state, stashes, &hot, &store, history)
 }

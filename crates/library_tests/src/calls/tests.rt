@@ -1,5 +1,5 @@
 //! The calls, and what came of them where memory was there. What each answers stands in `tests/library_calls.txt`.
-use crate::calls::phases::two_phases;
+use crate::calls::phases::phases_by_hand;
 use crate::calls::printing::{VIEW, print_history};
 use crate::calls::windows::two_publishes;
 use crate::comparing::assert_same;
@@ -10,7 +10,7 @@ use worker_journals::History;
 #[test]
 fn phases(rt: HostRuntime) -> Result<(), Fail> {
     let mut history = History::new(rt.alloc());
-    let ended = two_phases(&rt, rt.alloc(), &mut history);
+    let ended = phases_by_hand(&rt, rt.alloc(), &mut history);
     print_history(&rt, &history);
     let shown = ended?.view(&VIEW);
     let wanted = item_seen(&vases(2)?, Some((30, 2)), 2, 2);

@@ -1,7 +1,9 @@
 //! What the workers of a phase answer where one meets the end of commit numbers: no run is so long.
-ghost use Rattle.std.specs.Prelude.{◌≡◌, length, map};
+ghost use Rattle.std.specs.Prelude.{◌≡◌, ◌∷◌, [], length, map};
 ghost use Rattle.shard_boxes.specs.States.{state_of, AreOpened};
+ghost use Rattle.phase_transactions.specs.Permits.{IsUnused};
 ghost use Rattle.phase_transactions.specs.Single.{HaveOpening};
+ghost use Rattle.phase_workers.specs.Tasks.{lists};
 
 use crate::comparing::assert_same;
 use crate::testing::OPENING;
@@ -10,7 +12,7 @@ use auction_rows::Request;
 use item_shards::Shard;
 use phase_transactions::{Counters, JoinedPermit, PermitFault, Stash};
 use phase_workers::{FreeGate, Round, ServingFault, serve_all};
-use shard_boxes::PhaseName;
+use shard_boxes::{Boxes, Key, PhaseName};
 use std::alloc::Global;
 use std::marker::Brand;
 use std::sync::Wait;
@@ -18,16 +20,42 @@ use std::test::Fail;
 use std::thread::Threads;
 use worker_journals::Journal;
 
-const LOOK: Request = Request::ViewUser { user: 0 };
-
-// The fault of a joined phase of one worker, whose clock is at this number and who has this script.
-fn fault_at<N, R>(
+// The fault of a joined phase of one worker, who has no script, whose clock is at the end of numbers and in whose stash a view waits.
+fn fault_at_the_end<N, R>(
     rt: &R,
     alloc: Global,
-    shards: Vec<Shard>,
-    clock: u64,
-    script: Vec<Request>,
+    boxes: &Boxes<N>,
+    key: Key<N>,
+    scripts: &[Vec<Request>],
 ) -> Result<Option<ServingFault>, Fail>
+where
+    N: PhaseName + Send + Sync,
+    R: Threads + Wait + Sync,
+    requires of { key.boxes ≡ boxes.now }
+    requires worker { key.worker ≡ 0 }
+    requires unused { IsUnused key }
+    requires one { length scripts.now ≡ 1 }
+    requires scripts { lists scripts.now ≡ [] ∷ [] }
+    requires users { HaveOpening N.opening (record { users = 10; categories = 2 }) }
+{
+    let journal = Journal::with_room(alloc, 0, 0, 1)?;
+    let mut stash = Stash::with_room(alloc, 1)?;
+    stash.push(0, Request::ViewUser { user: 0 });
+    let mut permits = Vec::with_capacity(alloc, 1)?;
+    let counters = Counters::default();
+    let permit = JoinedPermit::new(key, OPENING, counters, journal, stash, 0, u64::MAX);
+    permits.push_reserved(permit);
+    let round = Round {
+        scripts,
+        first: 0,
+        phase: 0,
+        gate: &FreeGate,
+    };
+    Ok(serve_all(rt, alloc, boxes, permits, round).err())
+}
+
+// The same, over these shards.
+fn fault_over<N, R>(rt: &R, alloc: Global, shards: Vec<Shard>) -> Result<Option<ServingFault>, Fail>
 where
     N: PhaseName + Send + Sync,
     R: Threads + Wait + Sync,
@@ -36,30 +64,16 @@ where
     requires opened { AreOpened N.opening }
     requires users { HaveOpening N.opening (record { users = 10; categories = 2 }) }
     requires workers { 1 ≡ N.workers }
-    requires script { length script.items ≡ 2 }
 {
     let (boxes, key) = boxes_of_one::<N, R>(rt, alloc, shards)?;
-    let journal = Journal::with_room(alloc, 0, 0, 2)?;
-    let stash = Stash::with_room(alloc, 0)?;
-    let counters = Counters::default();
-    let scripts = vec![in alloc; script]?;
-    let mut permits = Vec::with_capacity(alloc, 1)?;
-    let permit = JoinedPermit::new(key, OPENING, counters, journal, stash, 2, clock);
-    permits.push_reserved(permit);
-    let round = Round {
-        scripts: scripts.as_slice(),
-        first: 0,
-        phase: 0,
-        gate: &FreeGate,
-    };
-    Ok(serve_all(rt, alloc, &boxes, permits, round).err())
+    let scripts = [Vec::new(alloc)];
+    fault_at_the_end(rt, alloc, &boxes, key, &scripts)
 }
 
 #[test]
 fn workers_tell_the_end_of_numbers(rt: HostRuntime) -> Result<(), Fail> {
     let shards = four(rt.alloc())?;
-    let script = Vec::from_slice(rt.alloc(), &[LOOK; 2])?;
-    let fault = fault_at::<Brand, HostRuntime>(&rt, rt.alloc(), shards, u64::MAX, script)?;
+    let fault = fault_over::<Brand, HostRuntime>(&rt, rt.alloc(), shards)?;
     let wanted = Some(ServingFault::Worker(PermitFault::NumberFull));
     assert_same(&rt, &fault, &wanted);
     Ok(())

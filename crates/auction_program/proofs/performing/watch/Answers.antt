@@ -1,4 +1,5 @@
 use Rattle.std.proofs.Common.{◌≡◌, ◌∙◌, [], List, length, ap, sym, subst, MatchOption}
+use Rattle.std.proofs.lemmas.Option.{IfSome_then}
 use base.Growing.{prefix_refl}
 use Rattle.auction_rows.specs.declared.rows.Row.{Row}
 use Rattle.auction_rows.specs.Book.{Book}
@@ -15,7 +16,6 @@ use Rattle.auction_program.specs.Options.{opening_of, policy_of}
 use Rattle.auction_program.specs.Report.{AreViews, IsEnd}
 use Rattle.auction_program.specs.declared.faults.Fault.TheVariants.{Run}
 use Rattle.auction_program.proofs.Answering.{error_is, not_run}
-use Rattle.auction_program.proofs.ViewLemmas.{if_some}
 use Rattle.auction_program.proofs.performing.watch.Goals as goal
 
 pub returns-clause-lines : goal.returns-clause-lines
@@ -38,7 +38,8 @@ returns-clause-lines g c =
       stands = subst (λ o. StandsFor outcome.state (book_after o rows history)) c.requires.options answers.outcome.stands;
     } in
     let told = subst (λ o. MatchOption o (all ≡ []) (λ last. last ≡ all)) (sym c.take-told.ensures.value) shown.has_them.told_last in
-    if_some c.last_lines-lines.result _ _ (λ lines holds. subst (λ o. AreViews o book lines.categories.items lines.users.items) (sym c.requires.opening ∙ c.requires.options) (holds all book told end)) c.last_lines-lines.ensures
+    IfSome_then c.last_lines-lines.result c.last_lines-lines.ensures
+    (λ lines holds. subst (λ o. AreViews o book lines.categories.items lines.users.items) (sym c.requires.opening ∙ c.requires.options) (holds all book told end))
 
 pub returns-in_err-outcome-clause-cause : goal.returns-in_err-outcome-clause-cause
 returns-in_err-outcome-clause-cause g c =

@@ -5,8 +5,8 @@ use Rattle.worker_journals.specs.Merged.{merged}
 use Rattle.worker_journals.proofs.HistoryLemmas.{merged_nothing}
 use Rattle.auction_run.specs.Phases.{lists}
 use Rattle.auction_run.proofs.RunLemmas.{begun}
-use Rattle.auction_run.proofs.ScriptLemmas.{lists_length}
 use Rattle.auction_run.proofs.running.begin.Goals as goal
+use Rattle.run_serving.proofs.ScriptLemmas.{lists_length}
 
 pub returns : goal.returns
 returns c =

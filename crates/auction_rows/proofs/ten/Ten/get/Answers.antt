@@ -11,3 +11,6 @@ pub returns-else-place-len : goal.returns-else-place-len
 returns-else-place-len g c =
     let past : length c.args.self.now ≤ c.args.place = omega (arith, c.len.ensures.length, c.if-place-len.false) in
     get-past c.args.self.now c.args.place past
+
+pub bounds-self-inside-place : goal.bounds-self-inside-place
+bounds-self-inside-place g c = omega (arith, c.len.ensures.at_most_ten, c.if-place-len.true)

@@ -1,7 +1,7 @@
 use Rattle.std.proofs.Common.{◌≡◌, ℕ, ◌<◌, [], map, sym, subst, ◌∙◌, arith}
 use Rattle.std.proofs.lemmas.List.Elements.{recursion_from_All}
 use Rattle.auction_rows.specs.History.{IsBook}
-use Rattle.item_shards.specs.Counting.{worker_of}
+use Rattle.auction_rows.specs.Book.{worker_of}
 use Rattle.item_shards.specs.OpeningBooks.{rows_of}
 use Rattle.shard_boxes.specs.States.{state_of}
 use Rattle.phase_closing.specs.Standing.{ShardsStandFor, counters_at}
