@@ -3,7 +3,7 @@
 
     tests/library_calls.py [TESTS]
 
-The tests `calls` of the crate library_tests make the calls and print a line `CALL: ANSWER` for each; tests/library_calls.txt has their lines with ample
+The tests `calls` of the crate engine_tests make the calls and print a line `CALL: ANSWER` for each; tests/library_calls.txt has their lines with ample
 memory. Each of their allocations is refused in turn, alone and with all that come after it. A begin and a store that were refused are asked once more,
 and go on with memory as if they had not been. Any other call that is refused ends its test, which tells the fault. A refused close leaves the history
 of the phases before. A refused publish is refused for good, and the window shows what it showed. Between two looks for memory a view of an unknown
@@ -182,7 +182,7 @@ def try_each(program: Path, tally: Tally) -> None:
 
 def main() -> None:
     words = argparse.ArgumentParser(description=__doc__, formatter_class=argparse.RawDescriptionHelpFormatter)
-    words.add_argument("tests", nargs="?", type=Path, default=built_tests("library_tests"))
+    words.add_argument("tests", nargs="?", type=Path, default=built_tests("engine_tests"))
     program = words.parse_args().tests.resolve()
     tally = Tally()
     try_each(program, tally)

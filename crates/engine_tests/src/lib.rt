@@ -1,9 +1,25 @@
-//! Tests of runs and of the program's parts, a folder for each.
+//! Tests of the libraries by their public calls, a folder for each that has any, and calls for which memory is refused.
 #![tactic(auto)]
 
 #[cfg(test)]
+mod calls;
+#[cfg(test)]
+mod comparing;
+#[cfg(test)]
+mod journals;
+#[cfg(test)]
 mod program;
+#[cfg(test)]
+mod records;
+#[cfg(test)]
+mod rows;
 #[cfg(test)]
 mod runs;
 #[cfg(test)]
+mod shards;
+#[cfg(test)]
 mod testing;
+#[cfg(test)]
+mod text;
+#[cfg(test)]
+mod workers;

@@ -1,10 +1,10 @@
 //! What a board is given after it has refused a phase: nothing.
+use crate::comparing::assert_same;
 use crate::runs::testing::{LOOK, item};
-use crate::testing::assert_same;
+use crate::testing::{OPENING, bid};
 use auction_rows::Row;
 use auction_run::{Board, FreeGate, Policy, RunFault, run_shown};
 use item_shards::OpeningBook;
-use library_tests::testing::{OPENING, bid};
 use std::alloc::AllocError;
 use std::sync::Wait;
 use std::test::Fail;

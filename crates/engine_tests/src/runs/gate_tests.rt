@@ -1,9 +1,9 @@
 //! What a gate is told of a run, and how it holds requests back.
+use crate::comparing::assert_same;
 use crate::runs::testing::{LOOK, Threaded, bid_on, bid_stored, buy_one, item, run_of};
-use crate::testing::assert_same;
+use crate::testing::bid;
 use auction_rows::{BuyId, Refusal, Reply};
 use auction_run::{FreeGate, Gate};
-use library_tests::testing::bid;
 use std::sync::atomic::{AtomicU64, Ordering};
 use std::test::Fail;
 use worker_journals::History;

@@ -1,10 +1,10 @@
 //! Histories of whole runs, on threads and in turn, beside the auction of one thread. Worked examples of runs stand in tests/worked.
+use crate::comparing::assert_same;
 use crate::runs::testing::{LOOK, Threaded, buy_one, item, run_of};
-use crate::testing::assert_same;
+use crate::testing::{FIRST, OPENING, bid, item_seen, purchase, put_up, vases};
 use auction_rows::{BuyId, Reply, Request, Stars, row_of};
 use auction_run::{FreeGate, Gate};
 use item_shards::{Opened, OpeningBook};
-use library_tests::testing::{FIRST, OPENING, bid, item_seen, purchase, put_up, vases};
 use std::alloc::Global;
 use std::sync::Wait;
 use std::test::Fail;

@@ -1,8 +1,8 @@
 //! Whole runs, and their requests.
+use crate::testing::{OPENING, purchase, put_up, vases};
 use auction_rows::{BidId, ItemId, Reply, Request};
 use auction_run::{Gate, Outcome, Policy, run};
 use item_shards::OpeningBook;
-use library_tests::testing::{OPENING, purchase, put_up, vases};
 use std::alloc::Global;
 use std::sync::Wait;
 use std::test::Fail;

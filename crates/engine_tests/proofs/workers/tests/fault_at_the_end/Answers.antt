@@ -1,0 +1,71 @@
+use Rattle.std.proofs.Common.{◌≡◌, ℕ, ◌+◌, ◌-◌, ◌≤◌, List, [], ◌∷◌, ◌++◌, length, map, sym, ap, subst, ◌∙◌, arith}
+use Rattle.std.specs.List.{AllByRecursion}
+use Rattle.auction_rows.specs.declared.requests.Request.{Request}
+use Rattle.shard_boxes.specs.Keys.{BoxId}
+use Rattle.shard_boxes.specs.States.{ShardState}
+use Rattle.worker_journals.specs.Journals.{JournalView}
+use Rattle.phase_transactions.specs.Permits.{PermitState}
+use Rattle.phase_transactions.specs.Single.{HaveOpening}
+use Rattle.phase_workers.specs.Tasks.{task, tasks, CanBeDone}
+use Rattle.phase_workers.specs.Working.{stashed, ArePermitsOf, IsPermitOf}
+use Rattle.engine_tests.proofs.workers.tests.fault_at_the_end.Goals as goal
+
+-- the task of one worker, who has no script
+alone : (opening : List ShardState) (boxes : List BoxId) (permit : PermitState) (permits : List PermitState) (scripts : List (List Request))
+    → permits ≡ permit ∷ [] → scripts ≡ [] ∷ [] → CanBeDone opening boxes (task permit [] 0)
+    → AllByRecursion (CanBeDone opening boxes) (tasks permits scripts 0)
+alone opening boxes permit permits scripts is are can =
+    subst (λ (ps : List PermitState). AllByRecursion (CanBeDone opening boxes) (tasks ps scripts 0)) (sym is)
+    (subst (λ (ss : List (List Request)). AllByRecursion (CanBeDone opening boxes) (tasks (permit ∷ []) ss 0)) (sym are) (can, tt))
+
+of_one : (permit : PermitState) (permits : List PermitState) → permits ≡ permit ∷ [] → IsPermitOf 0 0 permit → ArePermitsOf 0 0 permits
+of_one permit permits is of = subst (λ (ps : List PermitState). ArePermitsOf 0 0 ps) (sym is) (of, tt)
+
+none_is_short : 0 ≤ 1000000
+none_is_short = omega arith
+
+given_none : (left : ℕ) → left ≡ 0 → left ≤ 0 - 0
+given_none left none = omega (arith, none)
+
+one_waits : (before waiting : List (ℕ × Request)) (call : ℕ × Request) → before ≡ [] → waiting ≡ before ++ call ∷ [] → length waiting ≡ 1
+one_waits before waiting call none is = ap length is ∙ ap (λ (calls : List (ℕ × Request)). length (calls ++ call ∷ [])) none
+
+few_tries : (tries waiting left : ℕ) → tries ≡ 0 → waiting ≡ 1 → left ≡ 0 → tries + waiting + left ≤ 1000000000
+few_tries tries waiting left none one empty = omega (arith, none, one, empty)
+
+pub serve_all-requires-clause-can : goal.serve_all-requires-clause-can
+serve_all-requires-clause-can g c = λ lifetimes within.
+    let permit = c.new-permit.result in
+    let made = c.new-permit.ensures in
+    let left = ap (λ (p : PermitState). p.split.context.left) made in
+    alone g.N.PhaseName.opening c.args.boxes.now permit _ _
+    (ap (map (λ p. p)) c.push_reserved.ensures.items ∙ ap (λ l. map (λ p. p) (l ++ permit ∷ [])) c.in_ok-permits.ensures.items)
+    c.requires.scripts
+    (record {
+      boxes_are = ap (λ (p : PermitState). p.key.boxes) made ∙ c.requires.of;
+      opening_is = subst (HaveOpening g.N.PhaseName.opening) (sym (ap (λ (p : PermitState). p.split.context.opening) made)) c.requires.users;
+      short = none_is_short;
+      given = given_none permit.split.context.left left;
+      tries = few_tries permit.split.context.tries (length (stashed permit)) permit.split.context.left
+          (ap (λ (p : PermitState). p.split.context.tries) made)
+          (ap (λ (p : PermitState). length (stashed p)) made ∙ one_waits _ _ _ c.in_ok-stash.ensures.empty c.push.ensures.added) left;
+    })
+
+pub serve_all-requires-clause-of : goal.serve_all-requires-clause-of
+serve_all-requires-clause-of g c = λ lifetimes within.
+    let permit = c.new-permit.result in
+    let made = c.new-permit.ensures in
+    of_one permit _
+    (ap (map (λ p. p)) c.push_reserved.ensures.items ∙ ap (λ l. map (λ p. p) (l ++ permit ∷ [])) c.in_ok-permits.ensures.items)
+    (record {
+      phase_is = ap (λ (p : PermitState). p.split.context.journal.phase) made ∙ ap (λ (j : JournalView). j.phase) c.in_ok-journal.ensures;
+      worker_is = ap (λ (p : PermitState). p.key.worker) made ∙ c.requires.worker;
+    })
+
+pub new-permit-requires-clause-room : goal.new-permit-requires-clause-room
+new-permit-requires-clause-room g c =
+    omega (arith, one_waits _ _ _ c.in_ok-stash.ensures.empty c.push.ensures.added, ap (λ (j : JournalView). j.room) c.in_ok-journal.ensures)
+
+pub new-permit-requires-clause-limit : goal.new-permit-requires-clause-limit
+new-permit-requires-clause-limit g c =
+    omega (arith, one_waits _ _ _ c.in_ok-stash.ensures.empty c.push.ensures.added, ap (λ n. n.commits) c.default-counters.ensures)
