@@ -1,5 +1,5 @@
 -- What a parse of a program's words found.
-use Rattle.std.proofs.Common.{◌≡◌, ◌∙◌, ◌⊎◌, ℕ, Bool, true, false, List, [], ◌∷◌, map, ap, subst, inl, inr}
+use Rattle.std.proofs.Common.{◌≡◌, ◌∙◌, ◌⊎◌, ℕ, Bool, true, false, List, [], ◌∷◌, map, ap, sym, subst, inl, inr}
 use Rattle.std.specs.List.{filter}
 use Rattle.std.specs.Str.{bytes_eq}
 use Rattle.clap.specs.Built.{BuildsOrBreaks, is_broken}
@@ -36,13 +36,20 @@ module _ (program : App) (free : is_simple_and_free program ≡ true) where
   built_plain = (both (built program).top.is_plain _ (both _ _ (both _ _ (both _ _ simple).1).0).0).0
 
   -- the texts that were found are those that the words give
-  pub texts_found : (words : List Text) (m : ArgMatches) → HasMatchesOf program words m → (id : Text) → one_text (found_of m) id ≡ text_in program words id
-  texts_found words m matches id = one_text-rows (found_of m) id ∙ ap (one_of id) (matches simple).0
+  pub texts_found : (words given : List Text) (m : ArgMatches) → HasMatchesOf program given m → given ≡ words → (id : Text)
+      → one_text (found_of m) id ≡ text_in program words id
+  texts_found words given m matches same id =
+      one_text-rows (found_of m) id ∙ ap (one_of id) (matches simple).0 ∙ ap (λ ws. text_in program ws id) same
 
   -- words that are taken fail for want of memory alone
-  pub only_memory : (words : List Text) (error : Error) → HasKind (fault_of program words) error → AreTaken program words → kind_of error ≡ OutOfMemory
-  only_memory words error (inl memory) taken = memory
-  only_memory words error (inr other) taken = absurd (subst (IsAmong (kind_of error)) taken other)
+  pub only_memory : (words given : List Text) (error : Error) → HasKind (fault_of program given) error → given ≡ words → AreTaken program words
+      → kind_of error ≡ OutOfMemory
+  only_memory words given error (inl memory) same taken = memory
+  only_memory words given error (inr other) same taken = absurd (subst (IsAmong (kind_of error)) (ap (fault_of program) same ∙ taken) other)
+
+  -- words in which no fault is found are taken
+  pub no_fault : (words given : List Text) → fault_of program given ≡ [] → given ≡ words → AreTaken program words
+  no_fault words given none same = sym (ap (fault_of program) same) ∙ none
 
   -- a parse that succeeds leaves the command as it was, or built
   built_or_not : (old new : Command) → (is_broken new ≡ true → ⊥) → BuildsOrBreaks old new → app_of old ≡ program

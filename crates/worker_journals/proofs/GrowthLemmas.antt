@@ -19,7 +19,7 @@ use Rattle.worker_journals.specs.declared.heads.ShortReply.{ShortReply}
 use Rattle.worker_journals.specs.declared.heads.ShortReply.TheVariants as told
 use Rattle.worker_journals.specs.declared.heads.ItemSeen.{ItemSeen as SeenItem}
 use Rattle.worker_journals.specs.declared.heads.UserSeen.{UserSeen as SeenUser}
-use Rattle.worker_journals.specs.Journals.{JournalView, ComesAfter, IsLawful, seen, with_commit}
+use Rattle.worker_journals.specs.Journals.{JournalView, ComesAfter, IsLawful, closed_journal, seen, with_commit}
 use Rattle.worker_journals.specs.Sides.{SideLists, request_from, reply_from, HasRequest, HasReply, SaysRequest, SaysReply, with_commit_of, item_reply, user_reply}
 use Rattle.worker_journals.specs.Entries.{entry_from, HasHead, shown, IsKept}
 use Rattle.worker_journals.proofs.JournalLemmas.{lawful_after}
@@ -159,3 +159,22 @@ pub some_left : (phase worker : ℕ) (heads : List Head) (sides : SideLists) (jo
 some_left phase worker heads sides journal is room =
     let here = subst (λ (j : JournalView). length j.entries < j.room) (sym is) room in
     omega (arith, here, length-map heads (entry_from phase worker sides))
+
+-- the last commit: the heads stay, and no room is left
+module _ (phase worker : ℕ) (heads new : List Head) (sides sides' : SideLists) (same : new ≡ heads) (closed : sides' ≡ record sides { left = 0 }) where
+  pub closed_shown : (journal : JournalView) → shown phase worker heads sides ≡ journal → shown phase worker new sides' ≡ closed_journal journal
+  closed_shown journal is =
+      ap (λ hs. shown phase worker hs sides') same
+      ∙ ap (shown phase worker heads) closed
+      ∙ ap (λ n. seen phase worker n (map (entry_from phase worker sides) heads)) (omega (arith, length-map heads (entry_from phase worker sides)))
+      ∙ ap closed_journal is
+
+  pub closed_kept : (capacity capacity' : ℕ) → IsKept phase worker heads capacity sides → length new ≤ capacity' → IsKept phase worker new capacity' sides'
+  closed_kept capacity capacity' kept fits =
+      let here : IsKept phase worker heads capacity' (record sides { left = 0 }) = record {
+        lawful = record { own = kept.lawful.own; ascending = kept.lawful.ascending; stars = kept.lawful.stars };
+        within = kept.within;
+        room = omega (arith, fits, ap length same);
+      } in
+      subst (λ hs. IsKept phase worker hs capacity' sides') (sym same)
+      (subst (λ s. IsKept phase worker heads capacity' s) (sym closed) here)

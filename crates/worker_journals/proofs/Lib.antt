@@ -7,6 +7,7 @@ pub mod OrderedLemmas
 pub mod MergedLemmas
 pub mod TakingLemmas
 pub mod LeastLemmas
+pub mod SaidLemmas
 pub mod StepLemmas
 pub mod HistoryLemmas
 pub mod PlaceLemmas

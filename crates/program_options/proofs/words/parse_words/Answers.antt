@@ -1,15 +1,23 @@
 use Rattle.std.proofs.Common.{map, refl, string_bytes}
 use Rattle.clap.specs.Matches.{has_subcommand}
 use Rattle.clap.specs.Simple.{app_of}
-use Rattle.program_options.proofs.WordLemmas.{numbers_parsed, texts_found}
+use Rattle.program_options.proofs.WordLemmas.{no_fault, numbers_parsed, only_memory, texts_found}
 use Rattle.program_options.proofs.words.parse_words.Goals as goal
 
 pub returns-in-Ok-clause-texts : goal.returns-in-Ok-clause-texts
 returns-in-Ok-clause-texts c = λ free.
-    texts_found (app_of c.args.command) free (map string_bytes c.args.words.now) c.in-Ok.matches c.in-Ok.ensures.ok.2
+    texts_found (app_of c.args.command) free (map string_bytes c.args.words.now) _ c.in-Ok.matches c.in-Ok.ensures.ok.2 refl
 
 pub returns-in-Ok-clause-numbers : goal.returns-in-Ok-clause-numbers
 returns-in-Ok-clause-numbers c = λ free.
     let old = c.args.command in
     let new = c.try_get_matches_from_mut.new.self in
     numbers_parsed (app_of old) free old new c.in-Ok.matches (has_subcommand c.in-Ok.matches) c.in-Ok.ensures.ok.1 c.in-Ok.ensures.fails c.in-Ok.ensures.after refl
+
+pub returns-in-Ok-clause-taken : goal.returns-in-Ok-clause-taken
+returns-in-Ok-clause-taken c = λ free.
+    no_fault (app_of c.args.command) free (map string_bytes c.args.words.now) _ (c.in-Ok.ensures.kinds free) refl
+
+pub returns-clause-memory : goal.returns-clause-memory
+returns-clause-memory c = λ free taken. c.parse_fault.ensures
+    (only_memory (app_of c.args.command) free (map string_bytes c.args.words.now) _ c.in-Err.error (c.in-Err.ensures.kinds free) refl taken)

@@ -8,6 +8,11 @@ use Rattle.worker_journals.specs.Histories.{ArePhase, IsHistory, journals_of}
 use Rattle.worker_journals.proofs.HistoryLemmas.{history_after, kept_after}
 use Rattle.worker_journals.proofs.history.History.add_phase.Goals as goal
 
+pub invariant_of-self : goal.invariant_of-self
+invariant_of-self c =
+    let h = c.self.inside in
+    subst (λ phases. IsHistory phases h.len) (sym (ap journals_of c.in_err-push.ensures.items)) c.self.invariant
+
 pub invariant_of-self-2 : goal.invariant_of-self-2
 invariant_of-self-2 c =
     let h = c.self.inside in

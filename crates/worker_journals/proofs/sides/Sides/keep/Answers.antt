@@ -1,10 +1,40 @@
-use Rattle.std.proofs.Common.{◌≡◌, ◌∙◌, ap, sym}
+use Rattle.std.proofs.Common.{◌≡◌, ◌<◌, ◌∙◌, ap, sym, arith}
 use Rattle.auction_rows.specs.StoreReplies.{reply_of}
 use Rattle.worker_journals.specs.Answers.{reply_told}
+use Rattle.worker_journals.specs.Sides.{SideLists}
 use Rattle.worker_journals.proofs.KeptLemmas.{said_of}
 use Rattle.worker_journals.proofs.sides.Sides.keep.Goals as goal
+
+pub keep_request-short_request-requires : goal.keep_request-short_request-requires
+keep_request-short_request-requires c =
+    let some : 0 < c.self.inside.left = omega (arith, c.requires, ap (λ (s : SideLists). s.left) c.self.view_is) in
+    (omega (arith, some, c.self.invariant.0.0), omega (arith, some, c.self.invariant.0.1))
+
+pub keep_reply-short_reply-requires-clause-items : goal.keep_reply-short_reply-requires-clause-items
+keep_reply-short_reply-requires-clause-items c =
+    let some : 0 < c.self.inside.left = omega (arith, c.requires, ap (λ (s : SideLists). s.left) c.self.view_is) in
+    (omega (arith, some, c.self.invariant.1.0), omega (arith, some, c.self.invariant.1.1))
+
+pub keep_reply-short_reply-requires-clause-users : goal.keep_reply-short_reply-requires-clause-users
+keep_reply-short_reply-requires-clause-users c =
+    let some : 0 < c.self.inside.left = omega (arith, c.requires, ap (λ (s : SideLists). s.left) c.self.view_is) in
+    (omega (arith, some, c.self.invariant.2.0), omega (arith, some, c.self.invariant.2.1))
+
+pub keep_reply-short_reply-requires-clause-bids : goal.keep_reply-short_reply-requires-clause-bids
+keep_reply-short_reply-requires-clause-bids c =
+    let some : 0 < c.self.inside.left = omega (arith, c.requires, ap (λ (s : SideLists). s.left) c.self.view_is) in
+    (omega (arith, some, c.self.invariant.3.0), omega (arith, some, c.self.invariant.3.1))
+
+pub keep_reply-short_reply-requires-clause-latest : goal.keep_reply-short_reply-requires-clause-latest
+keep_reply-short_reply-requires-clause-latest c =
+    let some : 0 < c.self.inside.left = omega (arith, c.requires, ap (λ (s : SideLists). s.left) c.self.view_is) in
+    (omega (arith, some, c.self.invariant.4.0), omega (arith, some, c.self.invariant.4.1))
 
 pub returns-in-Store-clause-reply : goal.returns-in-Store-clause-reply
 returns-in-Store-clause-reply c =
     let told : reply_of c.in-Store.store ≡ c.args.reply.now = ap reply_told (sym c.in-Store.is) ∙ c.reply.view_is in
     said_of _ _ _ _ _ _ _ told (c.of_store.ensures _ _ _ _)
+
+pub returns-in-Whole-clause-reply : goal.returns-in-Whole-clause-reply
+returns-in-Whole-clause-reply c =
+    said_of _ _ _ _ _ _ _ (ap reply_told (sym c.in-Whole.is) ∙ c.reply.view_is) c.keep_reply-short_reply.ensures.says

@@ -1,0 +1,71 @@
+-- What a short request and a short reply say of values at the end of the side lists.
+use Rattle.std.proofs.Common.{◌≡◌, ◌≤◌, ℕ, List, [], ◌∷◌, ◌++◌, length, take, take_all, drop, sym, ap, ◌∙◌, arith, append-nil, length-append}
+use Rattle.std.proofs.lemmas.List.{get_or_push}
+use Rattle.std.proofs.lemmas.List.Prefix.{front_rest}
+use Rattle.auction_rows.specs.declared.limits.TheConstants.{MOST_SHOWN}
+use Rattle.auction_rows.specs.declared.requests.Facts.{Facts}
+use Rattle.auction_rows.specs.declared.requests.Request.{Request}
+use Rattle.auction_rows.specs.declared.requests.Request.TheVariants.{StoreItem}
+use Rattle.auction_rows.specs.declared.replies.BidShown.{BidShown}
+use Rattle.auction_rows.specs.declared.replies.ItemShown.{ItemShown}
+use Rattle.auction_rows.specs.declared.replies.Reply.{Reply}
+use Rattle.auction_rows.specs.declared.replies.Reply.TheVariants.{ItemStored, BidStored, CommentStored, Bought, ItemSeen, BidsSeen, CategorySeen, UserSeen, Refused}
+use Rattle.worker_journals.specs.declared.heads.ShortRequest.TheVariants as ask
+use Rattle.worker_journals.specs.declared.heads.ShortReply.TheVariants as told
+use Rattle.worker_journals.specs.declared.heads.ItemSeen.{ItemSeen as SeenItem}
+use Rattle.worker_journals.specs.declared.heads.UserSeen.{UserSeen as SeenUser}
+use Rattle.worker_journals.specs.Sides.{SaysReply, SaysRequest, facts_at, items_in, item_at, item_reply}
+
+pub says_facts : (all old : List Facts) (facts : Facts) (place time : ℕ) (request : Request) → all ≡ old ++ facts ∷ [] → place ≡ length old →
+    StoreItem facts time ≡ request → SaysRequest all (ask.StoreItem place time) request
+says_facts all old facts place time request kept at is = record {
+  within = omega (arith, at, ap length kept, length-append old (facts ∷ []));
+  is = ap (λ f. StoreItem f time) (ap (λ fs. facts_at fs place) kept ∙ get_or_push old facts _ place (sym at)) ∙ is;
+}
+
+-- where a reply shows an item, it is that item's
+pub only_item : (reply : Reply) (seen : SeenItem) → seen ∷ [] ≡ items_in reply → item_reply seen ≡ reply
+only_item (ItemStored id) seen e = absurd (cc)
+only_item (BidStored id) seen e = absurd (cc)
+only_item (CommentStored id) seen e = absurd (cc)
+only_item (Bought id) seen e = absurd (cc)
+only_item (ItemSeen seller category name start closes highest bidder bids left) seen e =
+    let same : seen ≡ record { seller = seller; category = category; name = name; left = left; start = start; closes = closes; bids = bids; highest = highest; bidder = bidder } = cc in
+    ap item_reply same
+only_item (BidsSeen bids) seen e = absurd (cc)
+only_item (CategorySeen items) seen e = absurd (cc)
+only_item (UserSeen rating comments) seen e = absurd (cc)
+only_item (Refused reason) seen e = absurd (cc)
+
+-- no value more
+pub none_more : {X : Type 0} (xs more : List X) → [] ≡ more → xs ≡ xs ++ more
+none_more xs more none = sym (append-nil xs) ∙ ap (λ m. xs ++ m) none
+
+part_at_end : {X : Type 0} (list old shown : List X) (place count : ℕ) → list ≡ old ++ shown → place ≡ length old → count ≡ length shown →
+    take count (drop place list) ≡ shown
+part_at_end list old shown place count kept at all =
+    ap (λ n. take count (drop n list)) at
+    ∙ ap (take count) (front_rest list old shown kept)
+    ∙ take_all count shown (omega (arith, all))
+
+module _ (items : List SeenItem) (users : List SeenUser) (bids : List BidShown) (latest : List ItemShown) (reply : Reply) (place : ℕ) where
+  pub says_item : (old : List SeenItem) (seen : SeenItem) → items ≡ old ++ seen ∷ [] → place ≡ length old → item_reply seen ≡ reply →
+      SaysReply items users bids latest (told.ItemSeen place) reply
+  says_item old seen kept at is = record {
+    within = omega (arith, at, ap length kept, length-append old (seen ∷ []));
+    is = ap item_reply (ap (λ xs. item_at xs place) kept ∙ get_or_push old seen _ place (sym at)) ∙ is;
+  }
+
+  pub says_bids : (old shown : List BidShown) (count : ℕ) → bids ≡ old ++ shown → place ≡ length old → count ≡ length shown → count ≤ MOST_SHOWN →
+      BidsSeen shown ≡ reply → SaysReply items users bids latest (told.BidsSeen place count) reply
+  says_bids old shown count kept at all few is = record {
+    within = (few, omega (arith, at, all, ap length kept, length-append old shown));
+    is = ap BidsSeen (part_at_end bids old shown place count kept at all) ∙ is;
+  }
+
+  pub says_latest : (old shown : List ItemShown) (count : ℕ) → latest ≡ old ++ shown → place ≡ length old → count ≡ length shown → count ≤ MOST_SHOWN →
+      CategorySeen shown ≡ reply → SaysReply items users bids latest (told.CategorySeen place count) reply
+  says_latest old shown count kept at all few is = record {
+    within = (few, omega (arith, at, all, ap length kept, length-append old shown));
+    is = ap CategorySeen (part_at_end latest old shown place count kept at all) ∙ is;
+  }

@@ -1,0 +1,16 @@
+use Rattle.std.proofs.Common.{arith, sym, ap, ◌++◌, ◌∙◌}
+use Rattle.worker_journals.specs.Sides.{facts_in}
+use Rattle.worker_journals.proofs.SaidLemmas.{says_facts}
+use Rattle.worker_journals.proofs.sides.keep_request.Goals as goal
+
+pub keep_one-requires : goal.keep_one-requires
+keep_one-requires c = c.requires
+
+pub returns-in-StoreItem-clause-kept : goal.returns-in-StoreItem-clause-kept
+returns-in-StoreItem-clause-kept c =
+    c.keep_one.ensures.kept ∙ ap (λ more. c.args.all.now.items ++ more) (ap facts_in (sym c.in-StoreItem.is))
+
+pub returns-in-StoreItem-clause-says : goal.returns-in-StoreItem-clause-says
+returns-in-StoreItem-clause-says c =
+    says_facts _ c.args.all.now.items c.in-StoreItem.facts _ _ _ c.keep_one.ensures.kept (omega (arith, c.keep_one.ensures.place, c.args.all.now.ok.0))
+    (sym c.in-StoreItem.is)
