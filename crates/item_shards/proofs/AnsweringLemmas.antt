@@ -1,5 +1,5 @@
 -- A bid or a purchase that its item does not refuse can be done there.
-use Rattle.std.proofs.Common.{◌≡◌, ℕ, ◌-◌, Bool, true, false, cond, Option, Some, None, option_map, unwrap_or, refl, sym, ap, subst, ◌∙◌}
+use Rattle.std.proofs.Common.{◌≡◌, ℕ, ◌-◌, Bool, true, false, cond, Option, Some, None, option_map, refl, sym, ap, subst, ◌∙◌}
 use Rattle.std.specs.Prelude.{nat_lt, nat_le, IsSome, IfSome}
 use Rattle.std.proofs.lemmas.Bool.{ltb-false, false≢true}
 use Rattle.auction_rows.specs.declared.ids.ItemId.{ItemId}

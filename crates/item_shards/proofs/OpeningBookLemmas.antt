@@ -1,6 +1,6 @@
 -- The rows that an auction is opened with: what many requests leave.
 use Rattle.std.proofs.Common.{◌≡◌, ℕ, zero, suc, ◌+◌, ◌*◌, ◌<◌, ◌≤◌, ◌==◌, Bool, true, false, cond, not, ◌&&◌, List, [], ◌∷◌, ◌++◌, All, map, Option, Some, None, option_to_list, is_some, is_none, length, take, drop, fold, get_or, refl, sym, ap, subst, ◌∙◌, arith, append_assoc}
-use Rattle.std.specs.Prelude.{◌↔◌, Result, Ok, Err, IsErrOf, IsErrAnd, IsTrue}
+use Rattle.std.specs.Prelude.{◌↔◌, Result, Ok, Err, IfOk, OnOk, IsOkUnless, IsErrOf, IsErrAnd, IsTrue}
 use Rattle.std.specs.List.{AllByRecursion, cons_option}
 use Rattle.std.proofs.lemmas.Bool.{eqb-true, eq-eqb, false≢true}
 use Rattle.std.proofs.lemmas.List.{length-append, take-append-drop, length-take-le, append-nil}
@@ -259,9 +259,28 @@ fault_in (Err fault) = fault
 pub same_number : {T : Type 0} (n m : ℕ) → IsErrOf {T = T} (Err (BadRow n)) (BadRow m) → n ≡ m
 same_number n m e = ap (λ result. number_of (fault_in result)) e
 
--- want of memory is no length
-not_long : TooLong ≡ Memory → ⊥
-not_long e = absurd cc
+-- want of memory: there is no value, and no other error
+abbrev WantsMemory : {T : Type 0} → Result T ResumeFault → Type 0
+WantsMemory result = IsErrAnd result (λ fault. fault ≡ Memory)
 
-pub memory_alone : {T : Type 0} (result : Result T ResumeFault) → IsErrAnd result (λ fault. fault ≡ Memory) → ¬ IsErrOf result TooLong
-memory_alone result memory e = not_long (subst (λ r. IsErrAnd r (λ fault. fault ≡ Memory)) e memory)
+no_value : {T : Type 0} (result : Result T ResumeFault) (P : T → Type 0) → WantsMemory result → IfOk result P
+no_value (Ok x) P memory = absurd memory
+no_value (Err fault) P memory = tt
+
+memory_said : {T : Type 0} (result : Result T ResumeFault) → WantsMemory result → IsOkUnless result Memory
+memory_said (Ok x) memory = tt
+memory_said (Err fault) memory = memory
+
+no_other : {T : Type 0} (result : Result T ResumeFault) (fault : ResumeFault) → WantsMemory result → IsErrOf result fault → fault ≡ Memory
+no_other result fault memory e = subst WantsMemory e memory
+
+pub for_memory : {T : Type 0} (result : Result T ResumeFault) (all : List Opened) (P Q : T → Type 0) (A B : Type 0) (C : ℕ → Type 0) → WantsMemory result → ¬ IsTooLong all
+    → record { rows : IfOk result P; opening : IfOk result Q; accepted : OnOk result A; ok : B → ¬ IsTooLong all → IsOkUnless result Memory; too_long : IsErrOf result TooLong ↔ IsTooLong all; bad_row : (n : ℕ) → IsErrOf result (BadRow n) → C n }
+for_memory result all P Q A B C memory fits = record {
+  rows = no_value result P memory;
+  opening = no_value result Q memory;
+  accepted = no_value result (λ _. A) memory;
+  ok = λ _ _. memory_said result memory;
+  too_long = neither (λ e. absurd (cc (no_other result TooLong memory e))) fits;
+  bad_row = λ n e. absurd (cc (no_other result (BadRow n) memory e));
+}

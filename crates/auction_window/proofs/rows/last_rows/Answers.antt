@@ -1,4 +1,4 @@
-use Rattle.std.proofs.Common.{◌≡◌, ◌∙◌, ◌++◌, ◌∷◌, [], List, Option, Some, None, ap, sym, append_assoc}
+use Rattle.std.proofs.Common.{◌≡◌, ◌∙◌, ◌++◌, ◌∷◌, [], List, Option, Some, None, ap, sym, append_assoc, rules}
 use Rattle.std.specs.List.{cons_option}
 use Rattle.std.proofs.lemmas.List.{append-nil}
 use Rattle.auction_rows.specs.declared.rows.Entry.{Entry}
@@ -11,6 +11,9 @@ gone_by : (rows : List Row) (e : Entry) (rest left : List Entry) (row : Option R
     rows ++ cons_option row (rows_of rest) ≡ rows ++ rows_of left
 gone_by rows e rest left row first is =
     ap (λ (o : Option Row). rows ++ cons_option o (rows_of rest)) (sym is) ∙ ap (λ (es : List Entry). rows ++ rows_of es) (sym first)
+
+pub loop-entry-init : goal.loop-entry-init
+loop-entry-init c = search rules
 
 pub loop-entry-preserved-in-Continue-1 : goal.loop-entry-preserved-in-Continue-1
 loop-entry-preserved-in-Continue-1 c =

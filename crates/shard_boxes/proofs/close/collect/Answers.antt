@@ -1,4 +1,4 @@
-use Rattle.std.proofs.Common.{◌≡◌, ◌+◌, ◌<◌, [], ◌∷◌, ◌++◌, length, refl, sym, ap, ◌∙◌, subst, arith}
+use Rattle.std.proofs.Common.{◌≡◌, ℕ, ◌+◌, ◌<◌, [], ◌∷◌, ◌++◌, length, refl, sym, ap, ◌∙◌, subst, arith}
 use Rattle.std.specs.Vec.Iter.{into_iter_items}
 use Rattle.shard_boxes.specs.declared.rule.View.{View}
 use Rattle.shard_boxes.specs.Passes.{LeaveState}
@@ -10,6 +10,16 @@ use Rattle.shard_boxes.proofs.KeySteps.{same_places}
 use Rattle.shard_boxes.proofs.Leaves.{place_is, as_many, joined_free}
 use Rattle.shard_boxes.proofs.close.collect.Goals as goal
 
+pub loop-other-init : goal.loop-other-init
+loop-other-init g c =
+    let places = c.args.places.now in let others = c.args.others.items in
+    let gives = c.into_iter-other-iterator.ensures.into_iter_gives in let mine = c.leaves-leaves.ensures in (
+      omega (arith, gives.1, c.args.others.ok.0, as_many others places c.requires.others.0, c.requires.places),
+      gives.0,
+      mine.free.0 ∙ c.requires.of,
+      ((λ k d low. absurd (omega arith)), λ k d from low. (mine.free.1 k d low, mine.own k d low)),
+    )
+
 pub collect-requires-clause-place : goal.collect-requires-clause-place
 collect-requires-clause-place g c =
     let places = c.args.places.now in let others = c.args.others.items in
@@ -20,6 +30,27 @@ collect-requires-clause-place g c =
     let below' : s < length others = omega (arith, low, as_many others places c.requires.others.0) in (
       place_is leaves places s c.index_mut.result.now c.index-places-s.result was.2 below c.index_mut.ensures.value c.index-places-s.is,
       place_is others places s other c.index-places-s.result c.requires.others.0 below' (sym (at_head others s other (into_iter_items c.next.new.self) other (sym step.0 ∙ was.1))) c.index-places-s.is,
+    )
+
+pub collect-requires-clause-speaks : goal.collect-requires-clause-speaks
+collect-requires-clause-speaks g c =
+    let places = c.args.places.now in let was = c.loop-other.invariant in let step = c.in-Some.ensures.steps in
+    let s = c.loop-other.s in let leaves = c.loop-other.leaves.items in let leave = c.index_mut.result.now in
+    let below : s < length leaves = omega (arith, step.1, was.0, c.requires.places, as_many leaves places was.2) in
+    let one : length leave.knows.own ≡ 1 = ap (λ (l : LeaveState). length l.knows.own) c.index_mut.ensures.value ∙ ap length (was.3.1 s leave (omega arith) below).1 in
+    omega (arith, one)
+
+pub collect-requires-clause-free : goal.collect-requires-clause-free
+collect-requires-clause-free g c =
+    let places = c.args.places.now in let others = c.args.others.items in
+    let was = c.loop-other.invariant in let step = c.in-Some.ensures.steps in
+    let s = c.loop-other.s in let leaves = c.loop-other.leaves.items in let other = c.in-Some.other in let leave = c.index_mut.result.now in
+    let low : s < length places = omega (arith, step.1, was.0, c.requires.places) in
+    let below : s < length leaves = omega (arith, low, as_many leaves places was.2) in
+    let below' : s < length others = omega (arith, low, as_many others places c.requires.others.0) in
+    let head = at_head others s other (into_iter_items c.next.new.self) other (sym step.0 ∙ was.1) in (
+      ap (λ (l : LeaveState). l.knows.holds) c.index_mut.ensures.value ∙ (was.3.1 s leave (omega arith) below).0.free,
+      ap (λ (l : LeaveState). l.knows.holds) (sym head) ∙ (c.requires.others.1 s other below').free,
     )
 
 pub collect-requires-clause-next : goal.collect-requires-clause-next
@@ -59,3 +90,12 @@ loop-other-preserved g c =
             λ e. ap (λ (v : View). v.own) new ∙ (λ i. mine.1 i ++ sym (head e) i),
           ) refl,
     )
+
+pub returns : goal.returns
+returns g c =
+    let was = c.loop-other.invariant in let leaves = c.loop-other.leaves.items in
+    let swept : (s : ℕ) → s < length leaves → s < c.loop-other.s = λ s low. omega (arith, was.0, c.in-None.ensures.steps.0, as_many leaves c.args.places.now was.2, c.requires.places, low) in
+    record {
+      free = (was.2, λ s d low. (was.3.0 s d (swept s low)).0);
+      own = λ s d low. (was.3.0 s d (swept s low)).1 d;
+    }

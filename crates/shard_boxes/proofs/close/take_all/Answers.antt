@@ -17,6 +17,23 @@ take_last-shard-requires-clause-place g c =
     place_is leaves places s c.in-Some.leave p c.requires.free.0 below (sym (at_head leaves s c.in-Some.leave (into_iter_items c.next.new.self) c.in-Some.leave (sym step.0 ∙ was.1)))
     (c.index-places-len.is ∙ ap (λ m. slice_index_or places m p) c.len.ensures)
 
+pub take_last-shard-requires-clause-all : goal.take_last-shard-requires-clause-all
+take_last-shard-requires-clause-all g c =
+    let leaves = c.args.leaves.items in let leave = c.in-Some.leave in
+    let was = c.loop-leave.invariant in let step = c.in-Some.ensures.steps in let s = vec_len c.loop-leave.answer in
+    let below : s < length leaves = omega (arith, step.1, was.0, c.requires.places, as_many leaves c.args.places.now c.requires.free.0) in
+    let head = at_head leaves s leave (into_iter_items c.next.new.self) leave (sym step.0 ∙ was.1) in (
+      ap (λ (l : LeaveState). l.knows.first) (sym head) ∙ (c.requires.free.1 s leave below).from,
+      ap (λ (l : LeaveState). length l.knows.own) (sym head) ∙ c.requires.own s leave below,
+    )
+
+pub take_last-shard-requires-clause-free : goal.take_last-shard-requires-clause-free
+take_last-shard-requires-clause-free g c =
+    let leaves = c.args.leaves.items in let leave = c.in-Some.leave in
+    let was = c.loop-leave.invariant in let step = c.in-Some.ensures.steps in let s = vec_len c.loop-leave.answer in
+    let below : s < length leaves = omega (arith, step.1, was.0, c.requires.places, as_many leaves c.args.places.now c.requires.free.0) in
+    ap (λ (l : LeaveState). l.knows.holds) (sym (at_head leaves s leave (into_iter_items c.next.new.self) leave (sym step.0 ∙ was.1))) ∙ (c.requires.free.1 s leave below).free
+
 pub loop-leave-preserved : goal.loop-leave-preserved
 loop-leave-preserved g c =
     let opening = g.N.PhaseName.opening in let workers = g.N.PhaseName.workers in

@@ -1,11 +1,27 @@
-use Rattle.std.proofs.Common.{◌≡◌, ◌+◌, ◌-◌, ◌<◌, suc, length, refl, ap, ◌∙◌, arith}
+use Rattle.std.proofs.Common.{◌≡◌, ◌+◌, ◌-◌, ◌<◌, suc, length, refl, sym, ap, ◌∙◌, subst, arith}
+use Rattle.shard_boxes.specs.declared.rule.View.{View}
 use Rattle.shard_boxes.specs.Passes.{LeaveState}
+use Rattle.shard_boxes.specs.Rule.{Speaks}
 use Rattle.shard_boxes.specs.Leaves.{ready}
 use Rattle.shard_boxes.proofs.Each.{each_push}
 use Rattle.shard_boxes.proofs.Sweeps.{swept_more}
 use Rattle.shard_boxes.proofs.KeySteps.{same_places}
 use Rattle.shard_boxes.proofs.Leaves.{rest_ready, first_ready, places_more, place_is, new_key, as_many, take_whole}
 use Rattle.shard_boxes.proofs.open.deal.Goals as goal
+
+pub deal-requires : goal.deal-requires
+deal-requires g c =
+    let workers = g.N.PhaseName.workers in let worker = c.args.worker in let places = c.args.places.now in
+    let was = c.loop-s.invariant in let s = c.loop-s.s in let leaves = c.loop-s.leaves.items in
+    let leave = c.index_mut.result.now in let at = c.index_mut.ensures.value in
+    let below : s < length leaves = omega (arith, c.loop-s-test.true, as_many leaves places was.4) in
+    let knows = ap (λ (l : LeaveState). l.knows) at ∙ was.5.1 s leave (omega arith) below in
+    let fewer : workers - worker ≡ suc (workers - (worker + 1)) = omega (arith, c.requires.worker) in
+    record {
+      place = place_is leaves places s leave c.index-places-s.result was.4 below at c.index-places-s.is;
+      speaks = subst Speaks (sym (knows ∙ ap (ready s worker) fewer)) (omega arith);
+      free = ap (λ (v : View). v.holds) knows;
+    }
 
 pub loop-s-preserved : goal.loop-s-preserved
 loop-s-preserved g c =
@@ -34,3 +50,8 @@ returns-clause-key g c =
     let room = c.loop-s.room.items in
     let long : length room ≡ c.loop-s.s = omega (arith, was.0, c.loop-s.room.ok.0) in
     new_key c.args.worker room c.args.places.now (was.2 ∙ take_whole c.args.places.now c.loop-s.s (omega (arith, c.loop-s-test.false))) (λ k d low. was.3 k d (omega (arith, low, long)))
+
+pub returns-clause-leaves : goal.returns-clause-leaves
+returns-clause-leaves g c =
+    let was = c.loop-s.invariant in let leaves = c.loop-s.leaves.items in
+    (was.4, λ s d low. was.5.0 s d (omega (arith, c.loop-s-test.false, as_many leaves c.args.places.now was.4, low)))

@@ -9,7 +9,7 @@ use Rattle.shard_boxes.specs.Leaves.{ready}
 use Rattle.shard_boxes.proofs.Each.{drop_next, at_head}
 use Rattle.shard_boxes.proofs.Sweeps.{swept_more}
 use Rattle.shard_boxes.proofs.KeySteps.{same_places}
-use Rattle.shard_boxes.proofs.Leaves.{makers_places, makers_know, opened_ready, as_many, as_many_states, state_is, kept_open}
+use Rattle.shard_boxes.proofs.Leaves.{makers_places, makers_know, opened_ready, place_is, as_many, as_many_states, state_is, kept_open}
 use Rattle.shard_boxes.proofs.open.open_all.Goals as goal
 
 pub loop-shard-init : goal.loop-shard-init
@@ -25,6 +25,20 @@ loop-shard-init g c =
         λ k d from low. ap (λ (ls : List LeaveState). (slice_index_or ls k d).knows) is ∙ makers_know workers c.args.places.now k d (subst (λ (ls : List LeaveState). k < length ls) is low),
       ),
     )
+
+pub open-requires-clause-place : goal.open-requires-clause-place
+open-requires-clause-place g c =
+    let places = c.args.places.now in let was = c.loop-shard.invariant in let step = c.in-Some.ensures.steps in
+    let s = c.loop-shard.s in let leaves = c.loop-shard.leaves.items in let leave = c.index_mut.result.now in
+    let below : s < length leaves = omega (arith, step.1, was.0, as_many leaves places was.2, c.requires.places) in
+    place_is leaves places s leave c.index-places-s.result was.2 below c.index_mut.ensures.value c.index-places-s.is
+
+pub open-requires-clause-maker : goal.open-requires-clause-maker
+open-requires-clause-maker g c =
+    let was = c.loop-shard.invariant in let step = c.in-Some.ensures.steps in
+    let s = c.loop-shard.s in let leaves = c.loop-shard.leaves.items in let leave = c.index_mut.result.now in
+    let below : s < length leaves = omega (arith, step.1, was.0, as_many leaves c.args.places.now was.2, c.requires.places) in
+    ap (λ (l : LeaveState). l.knows) c.index_mut.ensures.value ∙ was.3.1 s leave (omega arith) below
 
 pub open-requires-clause-opening : goal.open-requires-clause-opening
 open-requires-clause-opening g c =
@@ -65,3 +79,8 @@ loop-shard-preserved g c =
       swept_more (λ k (x : LeaveState). x.knows ≡ ready k 0 workers) (λ k (x : LeaveState). x.knows ≡ maker workers) leaves s (s + 1) c.open.new.leave below was.3
           (ap (λ (l : LeaveState). l.knows) c.open.ensures ∙ opened_ready workers s leave.knows shard knows number) refl,
     )
+
+pub returns : goal.returns
+returns g c =
+    let was = c.loop-shard.invariant in let leaves = c.loop-shard.leaves.items in
+    (was.2, λ s d low. was.3.0 s d (omega (arith, was.0, c.in-None.ensures.steps.0, as_many leaves c.args.places.now was.2, c.requires.places, low)))

@@ -1,4 +1,5 @@
-use Rattle.std.proofs.Common.{◌≡◌, ◌∙◌, suc, length, arith, sym, subst, Some}
+use Rattle.std.proofs.Common.{◌≡◌, ◌∙◌, suc, length, arith, sym, subst}
+use Rattle.item_shards.specs.Serial.{CanAdd}
 use Rattle.auction_window.specs.Published.{HasPhases}
 use Rattle.auction_window.proofs.Growing.{can_add, has_next}
 use Rattle.auction_window.proofs.auction_copy.AuctionCopyAbsorbAddPhase.absorb_first.Goals as goal
@@ -10,7 +11,7 @@ add_rows-requires g c =
     let long : length c.added.inside.phases ≡ suc (length old) = omega (arith, c.len-count.ensures, c.len.ensures) in
     let held = subst (λ auction. HasPhases W.opening W.rows auction old) (sym c.take.ensures.value ∙ c.in-Some.is) c.self.invariant in
     let both = c.longer-longer.ensures in
-    rw c.deref.ensures.value (can_add c.added.invariant old c.longer-longer.result both.this both.that long c.in-Some.auction held)
+    subst (CanAdd c.in-Some.auction) (sym c.deref.ensures.value) (can_add c.added.invariant old c.longer-longer.result both.this both.that long c.in-Some.auction held)
 
 pub invariant_of-self-2 : goal.invariant_of-self-2
 invariant_of-self-2 g c =

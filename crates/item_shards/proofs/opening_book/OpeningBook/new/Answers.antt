@@ -1,11 +1,11 @@
-use Rattle.std.proofs.Common.{◌≡◌, ◌+◌, ◌<◌, ◌∷◌, [], ◌++◌, sym, ap, subst, ◌∙◌, arith, length, take, ℕ, ◌≤◌, All}
+use Rattle.std.proofs.Common.{◌≡◌, ◌+◌, ◌<◌, ◌∷◌, [], ◌++◌, refl, sym, ap, subst, ◌∙◌, arith, length, take, ℕ, ◌≤◌, All}
 use Rattle.std.proofs.Math.Seq.{take-length}
 use Rattle.auction_rows.specs.Book.{Book}
 use Rattle.auction_rows.specs.History.{IsBook}
 use Rattle.item_shards.specs.Counting.{worker_of}
-use Rattle.item_shards.specs.OpeningRows.{rows_by, opening_rows, with_opened, IsRow, AreRows, IsFirstBad}
+use Rattle.item_shards.specs.OpeningRows.{rows_by, opening_rows, with_opened, IsRow, AreRows, IsFirstBad, IsTooLong}
 use Rattle.item_shards.specs.Serial.{opening_of, HoldsBook}
-use Rattle.item_shards.proofs.OpeningBookLemmas.{not_full, not_last, rows_more, book_more, first_bad, is_book, has_workers, has_few, row_moved, row_there, fits_in, neither, memory_alone, same_number}
+use Rattle.item_shards.proofs.OpeningBookLemmas.{not_full, not_last, rows_more, book_more, first_bad, is_book, has_workers, has_few, row_moved, row_there, fits_in, neither, for_memory, same_number}
 use Rattle.item_shards.proofs.opening_book.OpeningBook.new.Goals as goal
 
 pub add_opened-requires : goal.add_opened-requires
@@ -20,25 +20,58 @@ add_opened-requires c = λ below.
       not_full = subst (λ b. length b < 16000000) (sym before.rows_are) (not_full c.args.opening all fits i c.opened-item.result c.loop-index-test.true c.opened-item.is before.accepted below);
     }
 
-pub returns-in_err-row-clause-too_long : goal.returns-in_err-row-clause-too_long
-returns-in_err-row-clause-too_long c =
-    neither (memory_alone c.from_residual-in_err-row.result c.from_residual-in_err-row.ensures.1)
+pub returns-in_err-auction : goal.returns-in_err-auction
+returns-in_err-auction c = for_memory c.from_residual.result c.args.rows.items _ _ _ _ _ c.from_residual.ensures.1
     (fits_in c.is_too_long.result c.deref.result.now c.args.rows.items c.if-is_too_long.false c.is_too_long.ensures c.deref.ensures.value)
 
-pub returns-in_err-push-in-Some-clause-too_long : goal.returns-in_err-push-in-Some-clause-too_long
-returns-in_err-push-in-Some-clause-too_long c =
-    neither (memory_alone c.from_residual-in_err-push-in-Some.result c.from_residual-in_err-push-in-Some.ensures.1)
+pub returns-in_err-row : goal.returns-in_err-row
+returns-in_err-row c = for_memory c.from_residual-in_err-row.result c.args.rows.items _ _ _ _ _ c.from_residual-in_err-row.ensures.1
     (fits_in c.is_too_long.result c.deref.result.now c.args.rows.items c.if-is_too_long.false c.is_too_long.ensures c.deref.ensures.value)
+
+pub returns-in_err-push-in-Some : goal.returns-in_err-push-in-Some
+returns-in_err-push-in-Some c = for_memory c.from_residual-in_err-push-in-Some.result c.args.rows.items _ _ _ _ _ c.from_residual-in_err-push-in-Some.ensures.1
+    (fits_in c.is_too_long.result c.deref.result.now c.args.rows.items c.if-is_too_long.false c.is_too_long.ensures c.deref.ensures.value)
+
+pub returns-in-None-clause-rows : goal.returns-in-None-clause-rows
+returns-in-None-clause-rows c = tt
+
+pub returns-in-None-clause-opening : goal.returns-in-None-clause-opening
+returns-in-None-clause-opening c = tt
+
+pub returns-in-None-clause-accepted : goal.returns-in-None-clause-accepted
+returns-in-None-clause-accepted c = tt
 
 pub returns-in-None-clause-too_long : goal.returns-in-None-clause-too_long
 returns-in-None-clause-too_long c =
     neither (λ e. absurd cc)
     (fits_in c.is_too_long.result c.deref.result.now c.args.rows.items c.if-is_too_long.false c.is_too_long.ensures c.deref.ensures.value)
 
-pub returns-clause-too_long : goal.returns-clause-too_long
-returns-clause-too_long c =
-    neither (λ e. absurd cc)
-    (fits_in c.is_too_long.result c.deref.result.now c.args.rows.items c.if-is_too_long.false c.is_too_long.ensures c.deref.ensures.value)
+pub returns-then-is_too_long : goal.returns-then-is_too_long
+returns-then-is_too_long c =
+    let long : IsTooLong c.args.rows.items = subst IsTooLong c.deref.ensures.value (c.is_too_long.ensures.0 c.if-is_too_long.true) in
+    record {
+      rows = tt;
+      opening = tt;
+      accepted = tt;
+      ok = λ are fits. absurd (fits long);
+      too_long = (λ e. long, λ known. refl);
+      bad_row = λ n e. absurd cc;
+    }
+
+pub returns : goal.returns
+returns c =
+    let all = c.deref-opened-items.result.now in
+    let before = c.loop-index.invariant in
+    let start = c.args.opening in
+    let whole : take c.loop-index.index all ≡ all = ap (λ n. take n all) (omega (arith, c.loop-index-test.false, c.loop-index.auto.index-end)) ∙ take-length all in
+    record {
+      rows = before.rows_are ∙ ap (opening_rows start) (whole ∙ c.deref-opened-items.ensures.value);
+      opening = refl;
+      accepted = subst (AreRows start) (whole ∙ c.deref-opened-items.ensures.value) before.accepted;
+      ok = λ are fits. tt;
+      too_long = neither (λ e. absurd cc) (fits_in c.is_too_long.result c.deref.result.now c.args.rows.items c.if-is_too_long.false c.is_too_long.ensures c.deref.ensures.value);
+      bad_row = λ n e. absurd cc;
+    }
 
 pub returns-in-None-clause-bad_row : goal.returns-in-None-clause-bad_row
 returns-in-None-clause-bad_row c = λ n e.

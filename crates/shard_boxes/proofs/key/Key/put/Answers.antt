@@ -1,11 +1,33 @@
-use Rattle.std.proofs.Common.{◌<◌, ap, ◌∙◌, arith, length}
-use Rattle.shard_boxes.specs.Keys.{KeyState, seat_at, with_seat, put_seat}
+use Rattle.std.proofs.Common.{ℕ, ◌<◌, List, refl, sym, ap, ◌∙◌, subst, arith, length}
+use Rattle.shard_boxes.specs.declared.line.Line.{Line}
+use Rattle.shard_boxes.specs.States.{state_of, state_at}
+use Rattle.shard_boxes.specs.Lines.{after}
+use Rattle.shard_boxes.specs.Keys.{SeatState, KeyState, seat_at, with_seat, put_seat}
+use Rattle.shard_boxes.specs.Helds.{MayPut}
 use Rattle.shard_boxes.specs.Passes.{LeaveState}
 use Rattle.shard_boxes.specs.Seats.{IsFor}
-use Rattle.shard_boxes.proofs.KeySteps.{key_after, put_seat_is}
+use Rattle.shard_boxes.proofs.KeySteps.{read, key_after, put_seat_is}
+use Rattle.shard_boxes.proofs.Leaves.{place_is}
 use Rattle.shard_boxes.proofs.Sweeps.{each_set}
 use Rattle.shard_boxes.proofs.BoxSteps.{length-with_first}
 use Rattle.shard_boxes.proofs.key.Key.put.Goals as goal
+
+pub put-requires : goal.put-requires
+put-requires g c =
+    let inside = c.self.inside in
+    let leaves = inside.leaves.items in
+    let leave = c.index_mut-leave.result.now in
+    let below : c.args.s < length leaves = omega (arith, inside.leaves.ok.0, c.self.invariant.1, c.requires.known) in
+    let at = c.index_mut-leave.ensures.value in
+    let number = ap (λ (l : LeaveState). l.knows.number) at ∙ (c.self.invariant.2 c.args.s leave below).numbered in
+    let seat = read inside.worker leaves c.args.s leave c.args.self.now c.self.view_is below at in
+    record {
+      place = place_is leaves c.args.self.now.boxes c.args.s leave c.args.place.now (ap (λ (x : KeyState). x.boxes) c.self.view_is) below at c.requires.place;
+      line = refl;
+      holds = ap (λ (t : SeatState). t.holds) (sym seat) ∙ c.requires.holds;
+      stars = c.requires.stars;
+      may = subst (λ (y : ℕ × List (ℕ × Line)). MayPut (after (state_at g.N.PhaseName.opening y.0) y.1) (state_of c.args.shard) c.args.line.now) (λ i. (sym number i, (seat i).seen)) c.requires.may;
+    }
 
 pub returns : goal.returns
 returns g c =
