@@ -7,6 +7,9 @@ use Rattle.phase_transactions.proofs.StoreLemmas.{store_only}
 use Rattle.phase_transactions.proofs.TakeLemmas.{if_none}
 use Rattle.phase_transactions.proofs.dispatch.store_cold.Goals as goal
 
+pub store_on-requires-clause-ready : goal.store_on-requires-clause-ready
+store_on-requires-clause-ready g c = c.requires.ready
+
 pub returns-in_err-done-clause-full : goal.returns-in_err-done-clause-full
 returns-in_err-done-clause-full g c =
     let opening = g.N.PhaseName.opening in

@@ -1,4 +1,4 @@
-use Rattle.std.proofs.Common.{sym, subst}
+use Rattle.std.proofs.Common.{refl, sym, subst}
 use Rattle.std.specs.Prelude.{IsTrue, Bool}
 use Rattle.auction_rows.specs.declared.ids.ItemId.{ItemId}
 use Rattle.item_shards.specs.ShardContents.{rooms as rooms_of}
@@ -13,3 +13,6 @@ returns-in-Ok-clause-room g c = subst (λ (rooms : ItemId → Bool). IsTrue (roo
 
 pub returns-in-Err-clause-state : goal.returns-in-Err-clause-state
 returns-in-Err-clause-state g c = same_state c.args.held.now.shard _ c.prepare_item.new.self c.shard_mut.ensures.value c.in-Err.ensures.same c.in-Err.ensures.contents c.in-Err.ensures.clock
+
+pub returns-in-Err-clause-refused : goal.returns-in-Err-clause-refused
+returns-in-Err-clause-refused g c = refl

@@ -1,11 +1,21 @@
-use Rattle.std.proofs.Common.{ℕ, Bool, false, List, ap}
+use Rattle.std.proofs.Common.{ℕ, ◌+◌, ◌≤◌, Bool, true, false, cond, List, [], length, ap, arith}
 use Rattle.std.proofs.lemmas.Result.{IfErr-weaker}
+use Rattle.auction_rows.specs.declared.limits.TheConstants.{MOST_TRIES}
 use Rattle.auction_rows.specs.declared.requests.Request.{Request}
 use Rattle.phase_transactions.specs.Permits.{PermitState}
 use Rattle.phase_workers.specs.Tasks.{task, HasMetFault}
-use Rattle.phase_workers.specs.Working.{calls_from, taken, HasStopped}
+use Rattle.phase_workers.specs.Working.{calls_from, stashed, taken, HasStopped}
 use Rattle.phase_workers.proofs.WorkLemmas.{on_ok3, task_done, err_as, stopped_early, stopped_late}
 use Rattle.phase_workers.proofs.worker.perform_task.Goals as goal
+
+room_for_taken : (takes : Bool) (calls : List (ℕ × Request)) (tries left : ℕ) → tries + length calls + left ≤ MOST_TRIES → tries + length (cond takes calls []) ≤ MOST_TRIES
+room_for_taken true calls tries left is = omega arith
+room_for_taken false calls tries left is = omega arith
+
+pub perform_stash-requires-clause-tries : goal.perform_stash-requires-clause-tries
+perform_stash-requires-clause-tries g c =
+    let old : PermitState = g.P.Permit.shows c.args.permit.now in
+    room_for_taken g.P.Permit.takes_stash (stashed old) old.split.context.tries old.split.context.left c.requires.can.tries
 
 pub returns-in_err-perform_stash-clause-stopped : goal.returns-in_err-perform_stash-clause-stopped
 returns-in_err-perform_stash-clause-stopped g c =

@@ -1,4 +1,4 @@
-use Rattle.std.proofs.Common.{◌≡◌, Some, false, sym, subst, ◌∙◌}
+use Rattle.std.proofs.Common.{◌≡◌, [], Some, false, refl, sym, subst, ◌∙◌, arith}
 use Rattle.auction_rows.specs.declared.replies.Reply.{Reply}
 use Rattle.auction_rows.specs.Refusals.{number_refusal}
 use Rattle.phase_contexts.specs.Slicing.{objects_of}
@@ -6,6 +6,8 @@ use Rattle.phase_contexts.specs.Txns.{is_put_off}
 use Rattle.phase_contexts.specs.Contexts.{after_commit, with_one_less}
 use Rattle.phase_contexts.specs.Splits.{SplitState, HasStored}
 use Rattle.phase_contexts.proofs.ContextLemmas.{next_of_own}
+use Rattle.phase_contexts.proofs.FewLemmas.{few_more}
+use Rattle.phase_contexts.proofs.StoredLemmas.{commit_keeps_split}
 use Rattle.phase_contexts.proofs.AnswerLemmas.{nothing_written, refusal_right, refusal_answered}
 use Rattle.phase_contexts.proofs.split.SplitContext.refuse.Goals as goal
 
@@ -25,3 +27,11 @@ returns-clause-stored c =
       answered = refusal_answered split request reason c.args.index refused goes;
       right = λ book counts stocks. refusal_right split.context.opening book split.context.journal.worker request reason refused;
     }))
+
+pub invariant_of-self : goal.invariant_of-self
+invariant_of-self c =
+    let context = c.self.inside.context in
+    let hots = c.self.inside.slices in
+    let kept = c.self.invariant in
+    commit_keeps_split context c.commit.new.self hots hots c.in_ok-number.number c.args.index c.args.request.now c.store-reply.result c.nothing.result [] c.commit.ensures
+    refl (few_more context.counters.commits _ hots (omega arith) kept.0) kept.1 kept.2
