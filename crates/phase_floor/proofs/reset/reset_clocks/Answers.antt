@@ -1,9 +1,12 @@
-use Rattle.std.proofs.Common.{◌≡◌, ◌<◌, map, length, set, sym, ap, ◌∙◌, arith}
+use Rattle.std.proofs.Common.{◌≡◌, ◌<◌, map, length, set, refl, sym, ap, ◌∙◌, arith}
 use Rattle.std.proofs.lemmas.List.{length-map, get_or-map, map-set}
 use Rattle.std.proofs.lemmas.List.Edits.{map_over_more}
 use Rattle.shard_boxes.specs.States.{state_of}
 use Rattle.phase_floor.specs.Closings.{at_start}
 use Rattle.phase_floor.proofs.reset.reset_clocks.Goals as goal
+
+pub loop-s-init : goal.loop-s-init
+loop-s-init c = (refl, refl)
 
 pub loop-s-preserved : goal.loop-s-preserved
 loop-s-preserved c =
