@@ -6,7 +6,6 @@ use Rattle.std.proofs.lemmas.List.{take-append-le, take_min}
 use Rattle.std.specs.Io.KnownBytes.{Appends}
 use Rattle.auction_rows.specs.declared.ids.Object.{Object}
 use Rattle.auction_rows.specs.declared.numbers.Opening.{Opening}
-use Rattle.auction_rows.specs.declared.replies.Reply.{Reply}
 use Rattle.auction_rows.specs.declared.rows.Entry.{Entry}
 use Rattle.auction_rows.specs.Book.{Book}
 use Rattle.auction_text.specs.Report.{report_text}

@@ -1,7 +1,9 @@
+pub mod KindLemmas
 pub mod ListedLemmas
 pub mod NameLemmas
 pub mod NumberLemmas
 pub mod NumberedLemmas
+pub mod NumeralLemmas
 pub mod PartLemmas
 pub mod RecordsLeft
 pub mod ReplyOrder

@@ -1,10 +1,20 @@
 -- A text that lists the elements of a list.
-use Rattle.std.proofs.Common.{◌≡◌, ◌++◌, ◌+◌, ◌<◌, ℕ, List, [], ◌∷◌, Option, Some, None, option_to_list, take, get_or, slice_get, length, append_assoc, refl, sym, ap, ◌∙◌}
+use Rattle.std.proofs.Common.{◌≡◌, ◌++◌, ◌+◌, ◌<◌, ◌≤◌, ℕ, List, [], ◌∷◌, Option, Some, None, option_to_list, take, get_or, slice_get, length, append_assoc, refl, sym, ap, ◌∙◌}
 use Rattle.std.specs.List.{filter_map, flat_map}
 use Rattle.std.proofs.lemmas.Grind.{flat_map-append}
-use Rattle.std.proofs.lemmas.List.{append-nil, take_more}
+use Rattle.std.proofs.lemmas.List.{append-nil, take_all, take_more}
 use Rattle.std.proofs.lemmas.List.Elements.{filter_map-append}
 use Rattle.std.proofs.lemmas.Option.{slice_get-get_or, slice_get_within}
+
+-- a text to which the first elements of a list were added, and the next one
+pub one_listed : {X : Type 0} (f : X → List ℕ) (text now more : List ℕ) (xs : List X) (i : ℕ) (x : X) → i < length xs → x ≡ get_or xs i x
+    → now ≡ text ++ flat_map f (take i xs) → more ≡ now ++ f x → more ≡ text ++ flat_map f (take (i + 1) xs)
+one_listed f text now more xs i x within here listed added =
+    rw (take_more xs i x within, sym here, flat_map-append f (take i xs) (x ∷ []), append-nil (f x), added, listed, append_assoc) refl
+
+-- a text to which all were added
+pub all_listed : {X : Type 0} (f : X → List ℕ) (text now : List ℕ) (xs : List X) (i : ℕ) → length xs ≤ i → now ≡ text ++ flat_map f (take i xs) → now ≡ text ++ flat_map f xs
+all_listed f text now xs i over listed = listed ∙ ap (λ (all : List _). text ++ flat_map f all) (take_all i xs over)
 
 -- what stands before a list, its first elements and the next one
 pub listed_more : {X : Type 0} (f : X → List ℕ) (text word : List ℕ) (xs : List X) (i : ℕ) (x : X) → slice_get xs i ≡ Some x

@@ -12,6 +12,24 @@ request k = record { is_row = false; request = k }
 abbrev pub row : RequestKind → Kind
 row k = record { is_row = true; request = k }
 
+-- the kind of store that a word names
+abbrev pub store_of : List ℕ → Option RequestKind
+store_of word =
+    if bytes_eq word (codes "item") then Some kind.Item
+    else if bytes_eq word (codes "bid") then Some kind.Bid
+    else if bytes_eq word (codes "comment") then Some kind.Comment
+    else if bytes_eq word (codes "buynow") then Some kind.BuyNow
+    else None
+
+-- the kind of view that a word names
+abbrev pub view_of : List ℕ → Option RequestKind
+view_of word =
+    if bytes_eq word (codes "viewitem") then Some kind.ViewItem
+    else if bytes_eq word (codes "viewbids") then Some kind.ViewBids
+    else if bytes_eq word (codes "viewcategory") then Some kind.ViewCategory
+    else if bytes_eq word (codes "viewuser") then Some kind.ViewUser
+    else None
+
 -- the kind that a word names
 abbrev pub kind_of : List ℕ → Option Kind
 kind_of word =

@@ -1,6 +1,6 @@
 //! The kinds of records.
 ghost use Rattle.std.specs.Prelude.{◌≡◌};
-ghost use Rattle.auction_text.specs.Kinds.{has_count, kind_of, request, row};
+ghost use Rattle.auction_text.specs.Kinds.{has_count, kind_of, request, row, store_of, view_of};
 
 /// What a request asks for.
 #[derive(Clone, Copy)]
@@ -52,36 +52,50 @@ impl Kind {
     }
 }
 
-/// The kind that a record's second field names.
+// The kind of store that a word names.
+fn store_named(word: &[u8]) -> Option<RequestKind>
+    ensures { result ≡ store_of word.now }
+{
+    if word == b"item".as_slice() {
+        Some(RequestKind::Item)
+    } else if word == b"bid".as_slice() {
+        Some(RequestKind::Bid)
+    } else if word == b"comment".as_slice() {
+        Some(RequestKind::Comment)
+    } else if word == b"buynow".as_slice() {
+        Some(RequestKind::BuyNow)
+    } else {
+        None
+    }
+}
+
+// The kind of view that a word names.
+fn view_named(word: &[u8]) -> Option<RequestKind>
+    ensures { result ≡ view_of word.now }
+{
+    if word == b"viewitem".as_slice() {
+        Some(RequestKind::ViewItem)
+    } else if word == b"viewbids".as_slice() {
+        Some(RequestKind::ViewBids)
+    } else if word == b"viewcategory".as_slice() {
+        Some(RequestKind::ViewCategory)
+    } else if word == b"viewuser".as_slice() {
+        Some(RequestKind::ViewUser)
+    } else {
+        None
+    }
+}
+
+/// The kind that a record's second field names. A row's is the word of its store after a plus.
 pub fn kind_named(word: &[u8]) -> Option<Kind>
     ensures { result ≡ kind_of word.now }
 {
-    if word == b"item".as_slice() {
-        Some(Kind::request(RequestKind::Item))
-    } else if word == b"bid".as_slice() {
-        Some(Kind::request(RequestKind::Bid))
-    } else if word == b"comment".as_slice() {
-        Some(Kind::request(RequestKind::Comment))
-    } else if word == b"buynow".as_slice() {
-        Some(Kind::request(RequestKind::BuyNow))
-    } else if word == b"viewitem".as_slice() {
-        Some(Kind::request(RequestKind::ViewItem))
-    } else if word == b"viewbids".as_slice() {
-        Some(Kind::request(RequestKind::ViewBids))
-    } else if word == b"viewcategory".as_slice() {
-        Some(Kind::request(RequestKind::ViewCategory))
-    } else if word == b"viewuser".as_slice() {
-        Some(Kind::request(RequestKind::ViewUser))
-    } else if word == b"+item".as_slice() {
-        Some(Kind::row(RequestKind::Item))
-    } else if word == b"+bid".as_slice() {
-        Some(Kind::row(RequestKind::Bid))
-    } else if word == b"+comment".as_slice() {
-        Some(Kind::row(RequestKind::Comment))
-    } else if word == b"+buynow".as_slice() {
-        Some(Kind::row(RequestKind::BuyNow))
-    } else {
-        None
+    if let [b'+', stored @ ..] = word {
+        return Some(Kind::row(store_named(stored)?));
+    }
+    match store_named(word) {
+        Some(kind) => Some(Kind::request(kind)),
+        None => Some(Kind::request(view_named(word)?)),
     }
 }
 

@@ -12,7 +12,7 @@ use Rattle.auction_window.specs.Published.{book_of}
 use Rattle.item_shards.specs.OpeningBooks as opened
 use Rattle.phase_floor.specs.States.{StandsFor}
 use Rattle.auction_program.specs.Execution.{IsNotPerformed, IsNotRun}
-use Rattle.auction_program.specs.Options.{opening_of, policy_of}
+use Rattle.auction_program.specs.Options.{opening_of}
 use Rattle.auction_program.specs.Report.{AreViews, IsEnd}
 use Rattle.auction_program.specs.declared.faults.Fault.TheVariants.{Run}
 use Rattle.auction_program.proofs.Answering.{error_is, not_run}

@@ -1,4 +1,4 @@
-use Rattle.std.proofs.Common.{◌≡◌, refl, ap, ◌∙◌, arith}
+use Rattle.std.proofs.Common.{◌≡◌, ap, ◌∙◌, arith}
 use base.Growing.{prefix_refl, prefix_trans}
 use Rattle.auction_rows.specs.Replies.{reply}
 use Rattle.auction_program.specs.Report.{view_of, views}

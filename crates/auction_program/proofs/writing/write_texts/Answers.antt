@@ -1,12 +1,13 @@
-use Rattle.std.proofs.Common.{◌≡◌, ap, subst}
+use Rattle.std.proofs.Common.{◌≡◌, [], if◌then◌else◌, ap, inr, subst, sym}
 use Rattle.std.specs.Io.KnownBytes.{Appends}
 use Rattle.auction_rows.specs.History.{book_after}
 use Rattle.auction_text.specs.Writing.{IsPartWritten}
 use Rattle.auction_text.specs.declared.faults.WriteFault.{WriteFault}
-use Rattle.auction_program.specs.Execution.{added_text, commits_text, ArePartWritten, AreWritten}
+use Rattle.auction_program.specs.Execution.{added_text, commits_text, ArePartWritten, AreWritten, IsOneWritten}
 use Rattle.auction_program.specs.Options.{opening_of}
+use Rattle.auction_program.specs.Report.{report_of}
 use Rattle.auction_run.specs.Phases.{hot_sets}
-use Rattle.auction_program.proofs.WrittenLemmas.{both_written, if_err, on_ok, part_of_added, report_added}
+use Rattle.auction_program.proofs.WrittenLemmas.{both_written, if_err, nothing_added, on_ok, part_of_added, report_added}
 use Rattle.auction_program.proofs.writing.write_texts.Goals as goal
 
 pub returns-in-Some-clause-whole : goal.returns-in-Some-clause-whole
@@ -42,3 +43,29 @@ returns-in-Some-clause-part g c =
     if_err c.write_report.result _ (λ fault. fault ≡ WriteFault.Write → ArePartWritten old new text added)
     (λ fault part is. part_of_added old mid new text added c.in_ok-write_commits.ensures.whole (subst (IsPartWritten mid new) report_is (part is)))
     c.write_report.ensures.part
+
+pub returns-in-Some-clause-memory : goal.returns-in-Some-clause-memory
+returns-in-Some-clause-memory g c =
+    let old = g.W.Write.contents c.args.writer.now in
+    let options = c.args.options.now in
+    let rows = c.args.rows.now in
+    let history = c.args.outcome.now.history.entries in
+    let text = commits_text options rows history in
+    let added = added_text options rows history (hot_sets c.args.outcome.now.hot.items) in
+    if_err c.write_report.result _ (λ fault. fault ≡ WriteFault.Memory → IsOneWritten options old (g.W.Write.contents c.write_report.new.writer) text added)
+    (λ fault kept is. inr (c.if-not-options.false, subst (λ w. Appends old (g.W.Write.contents w) text) (sym (kept is)) c.in_ok-write_commits.ensures.whole))
+    c.write_report.ensures.memory
+
+pub returns-in-None-clause-memory : goal.returns-in-None-clause-memory
+returns-in-None-clause-memory g c = λ _. inr (c.if-not-options.false, c.in_ok-write_commits.ensures.whole)
+
+pub returns-then-not-options-clause-whole : goal.returns-then-not-options-clause-whole
+returns-then-not-options-clause-whole g c =
+    let options = c.args.options.now in
+    let rows = c.args.rows.now in
+    let history = c.args.outcome.now.history.entries in
+    let hot = hot_sets c.args.outcome.now.hot.items in
+    let new = g.W.Write.contents c.write_commits.new.writer in
+    nothing_added (g.W.Write.contents c.args.writer.now) new new (commits_text options rows history) (added_text options rows history hot)
+    (ap (λ b. if b then report_of (opening_of options) (book_after (opening_of options) rows history) history hot else []) c.if-not-options.true)
+    c.in_ok-write_commits.ensures.whole

@@ -1,4 +1,4 @@
-use Rattle.std.proofs.Common.{rules, ◌≡◌, ◌+◌, ◌∙◌, ◌++◌, ℕ, List, [], true, ap, arith, drop, sym, append_assoc}
+use Rattle.std.proofs.Common.{rules, ◌≡◌, ◌+◌, ◌∙◌, ◌++◌, ℕ, List, [], ap, arith, drop, sym, append_assoc}
 use Rattle.std.proofs.lemmas.List.{append-nil, drop_all}
 use Rattle.auction_rows.specs.declared.rows.Entry.{Entry}
 use Rattle.auction_text.specs.Order.{comes_before}
@@ -12,8 +12,8 @@ loop-next-preserved c =
     let inv = c.loop-next.invariant in
     let within = c.in-Some.ensures.lookup.3.0 in
     let at = drop_next c.args.entries.now c.loop-next.place c.in-Some.next.now within c.in-Some.ensures.lookup.1 in
-    let less : comes_before c.in-Some.next.now c.args.entry.now ≡ true = search rules in
-    let pushed : c.push_reply_line.new.text.items ≡ c.loop-next.text.items ++ reply_line c.in-Some.next.now = search rules in
+    let less = sym c.comes_before.ensures ∙ c.if-not-comes_before.false in
+    let pushed = c.in_ok-push_reply_line.ensures in
     let others = drop (c.loop-next.place + 1) c.args.entries.now in
     record {
       within = omega (arith, within);
@@ -30,7 +30,7 @@ pub returns-then-not-comes_before-clause-rest : goal.returns-then-not-comes_befo
 returns-then-not-comes_before-clause-rest c =
     let at = drop_next c.args.entries.now c.loop-next.place c.in-Some.next.now c.in-Some.ensures.lookup.3.0 c.in-Some.ensures.lookup.1 in
     let others = drop (c.loop-next.place + 1) c.args.entries.now in
-    at ∙ sym (ap (rest comes_before c.args.entry.now) at ∙ rest-end comes_before c.args.entry.now c.in-Some.next.now others (search rules))
+    at ∙ sym (ap (rest comes_before c.args.entry.now) at ∙ rest-end comes_before c.args.entry.now c.in-Some.next.now others (sym c.comes_before.ensures ∙ c.if-not-comes_before.true))
     ∙ c.loop-next.invariant.left
 
 pub returns-then-not-comes_before-clause-lines : goal.returns-then-not-comes_before-clause-lines
@@ -38,7 +38,7 @@ returns-then-not-comes_before-clause-lines c =
     let at = drop_next c.args.entries.now c.loop-next.place c.in-Some.next.now c.in-Some.ensures.lookup.3.0 c.in-Some.ensures.lookup.1 in
     let others = drop (c.loop-next.place + 1) c.args.entries.now in
     let none : front comes_before c.args.entry.now (drop c.loop-next.place c.args.entries.now) ≡ [] =
-    ap (front comes_before c.args.entry.now) at ∙ front-end comes_before c.args.entry.now c.in-Some.next.now others (search rules) in
+    ap (front comes_before c.args.entry.now) at ∙ front-end comes_before c.args.entry.now c.in-Some.next.now others (sym c.comes_before.ensures ∙ c.if-not-comes_before.true) in
     sym (append-nil c.loop-next.text.items)
     ∙ ap (λ (es : List Entry). c.loop-next.text.items ++ lines reply_line es) (sym none)
     ∙ c.loop-next.invariant.told

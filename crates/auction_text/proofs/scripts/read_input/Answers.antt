@@ -1,4 +1,3 @@
-use Rattle.std.proofs.Common.{◌≡◌}
 use Rattle.std.proofs.lemmas.Result.{IfErr-weaker, on_ok_weaker}
 use Rattle.auction_text.proofs.SoFar.{known_all}
 use Rattle.auction_text.proofs.scripts.read_input.Goals as goal

@@ -105,3 +105,6 @@ returns-clause-right c = λ opening start order history taken.
         turns = λ w less. turns_more history entry w _ _ (taken.turns w less) (c.pass.ensures w less);
       },
     )
+
+pub returns-then-has-clause-right : goal.returns-then-has-clause-right
+returns-then-has-clause-right c = tt
