@@ -68,4 +68,4 @@ new-permit-requires-clause-room g c =
 
 pub new-permit-requires-clause-limit : goal.new-permit-requires-clause-limit
 new-permit-requires-clause-limit g c =
-    omega (arith, one_waits _ _ _ c.in_ok-stash.ensures.empty c.push.ensures.added, ap (λ n. n.commits) c.default-counters.ensures)
+    omega (arith, one_waits _ _ _ c.in_ok-stash.ensures.empty c.push.ensures.added, c.default-counters.ensures.1.1.1.1)
