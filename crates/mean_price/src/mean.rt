@@ -21,7 +21,7 @@ impl Model for MeanRec {
 impl MeanRec {
     /// The mean, rounded down, or none before the first number.
     pub fn value(&self) -> Option<u64>
-        ensures { MatchOption result (self.now.numbers ≡ 0) (λ mean. mean ≡ self.now.total / self.now.numbers) }
+        ensures { MatchOption result (self.now.numbers ≡ 0) (λ mean. (0 < self.now.numbers) × (mean ≡ self.now.total / self.now.numbers)) }
     {
         self.sum.checked_div(self.count)
     }
