@@ -11,9 +11,7 @@ use Rattle.auction_rows.specs.declared.requests.Request.{Request}
 use Rattle.auction_rows.specs.declared.requests.Request.TheVariants.{StoreItem, StoreBid, StoreComment, BuyNow, ViewItem, ViewBids, ViewCategory, ViewUser}
 use Rattle.item_shards.specs.declared.acts.Act.{Act}
 use Rattle.item_shards.specs.declared.shard.Shard.{Shard}
-use Rattle.item_shards.specs.declared.acts.Act.TheVariants.{AddItem, ListItem, Bid, Comment, Buy, Look}
 use Rattle.item_shards.specs.Answering.{IsStoreOn, CanActAt, HasBidsLeft, refusal_with, unless}
-use Rattle.item_shards.specs.Contents.{after_act}
 use Rattle.item_shards.specs.ShardContents.{contents, LiesIn, IsPlaceIn}
 use Rattle.item_shards.specs.Values.{Value, stock, HasLeft}
 
@@ -87,12 +85,3 @@ can_act_at shard item place request write seen refused here count store placed s
     unless_refused shard item place write refused (λ free.
     can_write shard item place request write here count (of_some seen (IsPlaceIn shard item place) (store_stored item request write seen store (free ∙ refused_is)) placed) store
     (free ∙ refused_is ∙ ap (λ s. refusal_with s request) seen_is))
-
--- what is done at no place changes nothing
-pub stays : (shard : Shard) (item : ItemId) (act : Act) → CanActAt shard item None act → contents shard ≡ after_act (contents shard) act
-stays shard item (AddItem id facts) can = absurd can
-stays shard item (ListItem category entry) can = absurd can
-stays shard item (Bid id entry) can = absurd can.1
-stays shard item (Comment user stars) can = absurd can
-stays shard item (Buy id quantity) can = absurd can.1
-stays shard item (Look look) can = refl

@@ -38,9 +38,6 @@ use Rattle.item_shards.proofs.StandingLemmas.{stands_at, lies_here}
 use Rattle.item_shards.proofs.CountLemmas.{bids_at_most, comments_at_most, rating_at_most}
 use Rattle.item_shards.proofs.TurnLemmas.{owed_in_turn}
 
-below_of : (n m : ℕ) → nat_le n m ≡ false → m < n
-below_of n m e = leb-false n m e
-
 -- where a purchase isn't refused, as many are left as are bought
 enough_left : (book : Book) (item : ItemId) (quantity : ℕ) → is_none (facts_of book item) ≡ false → of_stored (facts_of book item) (λ facts. nat_lt (left_of book item) quantity) ≡ false
     → HasLeft (value book (Item item)) quantity

@@ -179,16 +179,13 @@ module _ (start : Opening) (all : List Opened) (fits : ¬ IsTooLong all) (i : �
 
 -- ---- the whole book
 
--- what are rows are so at each place
-row_from : (start : Opening) (book : Book) (all : List Opened) (i : ℕ) (d : Opened) → i < length all → AreRowsFrom start book all
-    → IsRow start (after_all start book (take i all)) (get_or all i d)
-row_from start book [] i d within are = absurd (omega (arith, within))
-row_from start book (opened ∷ all) zero d within are = are.0
-row_from start book (opened ∷ all) (suc i) d within are = row_from start (with_opened start book opened) all i d (omega (arith, within)) are.1
+row_after : (start : Opening) (book : Book) (good : List Opened) (opened : Opened) (rest : List Opened) → AreRowsFrom start book (good ++ opened ∷ rest) → IsRow start (after_all start book good) opened
+row_after start book [] opened rest are = are.0
+row_after start book (first ∷ good) opened rest are = row_after start (with_opened start book first) good opened rest are.1
 
-pub row_there : (start : Opening) (all : List Opened) (i : ℕ) (opened : Opened) → i < length all → opened ≡ get_or all i opened → AreRows start all
-    → IsRow start (opening_rows start (take i all)) opened
-row_there start all i opened within is are = subst (IsRow start (opening_rows start (take i all))) (sym is) (row_from start [] all i opened within are)
+-- where one is no row, they are not rows
+pub not_rows : (start : Opening) (all : List Opened) (n : ℕ) → IsFirstBad start all n → ¬ AreRows start all
+not_rows start all n first are = first.no_row (row_after start [] first.good first.bad first.rest (subst (AreRows start) first.split are))
 
 module _ (start : Opening) (all : List Opened) (are : AreRows start all) where
   pub is_book : IsBook start (opening_rows start all)

@@ -32,7 +32,7 @@ use Rattle.item_shards.specs.declared.acts.Act.TheVariants.{AddItem, ListItem}
 use Rattle.item_shards.specs.declared.shard.Shard.{Shard}
 use Rattle.auction_rows.specs.declared.replies.Reply.{Reply}
 use Rattle.item_shards.specs.declared.serial.SerialAuction.{SerialAuction}
-use Rattle.item_shards.specs.Serial.{HoldsBook}
+use Rattle.item_shards.specs.Serial.{HoldsBook, opening_of}
 use Rattle.item_shards.specs.ShardContents.{contents as contents_of, opening, shard_count, shard_number, with_room, LiesIn, IsSameShard}
 use Rattle.item_shards.specs.Contents.{Contents, after_acts}
 use Rattle.item_shards.specs.Standing.{ContentsStandsFor}
@@ -236,13 +236,16 @@ abbrev pub none_counted : StoreCounts
 none_counted = record { items = 0; bids = 0; comments = 0; buys = 0 }
 
 -- a worker's counts are those of the book
-pub counted_in : (auction : SerialAuction) (b : Book) (worker : ℕ) → HoldsBook auction b → worker < 16 → get_or auction.stored worker none_counted ≡ stored_by b worker
+counted_in : (auction : SerialAuction) (b : Book) (worker : ℕ) → HoldsBook auction b → worker < 16 → get_or auction.stored worker none_counted ≡ stored_by b worker
 counted_in auction b worker holds below = get_or_from_slice_get auction.stored worker (stored_by b worker) none_counted (holds.counts worker below)
 
--- the reply, where the answer is the book's
-pub reply_is : (start : Opening) (b : Book) (worker : ℕ) (request : Request) (told result : Reply) → result ≡ answer_unless (refusal start b request) told
-    → told ≡ answer b worker request → result ≡ reply start b worker request
-reply_is start b worker request told result is same = is ∙ ap (answer_unless (refusal start b request)) same
+-- a store that is not refused is answered by the count of its worker's stores of its kind
+pub stored_reply : (auction : SerialAuction) (worker : ℕ) (request : Request) (answered : StoreCounts → Reply) (result : Reply) → worker < 16
+    → ((b : Book) → HoldsBook auction b → result ≡ answer_unless (refusal (opening_of auction) b request) (answered (get_or auction.stored worker none_counted)))
+    → ((b : Book) → answer b worker request ≡ answered (stored_by b worker))
+    → (b : Book) → HoldsBook auction b → result ≡ reply (opening_of auction) b worker request
+stored_reply auction worker request answered result below is told b holds =
+    is b holds ∙ ap (answer_unless (refusal (opening_of auction) b request)) (ap answered (counted_in auction b worker holds below) ∙ sym (told b))
 
 -- ---- the empty book
 

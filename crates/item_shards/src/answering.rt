@@ -91,18 +91,9 @@ impl Shard {
         ensures rooms { rooms self.new ≡ rooms self.old }
         ensures same { IsSameShard self.old self.new }
     {
-        if let Some(place) = place {
-            self.write_at(place, item, act);
-        }
-    }
-
-    fn write_at(&mut self, place: usize, item: ItemId, act: &Act)
-        requires { CanActAt self.old item (Some place) act.now }
-        ensures contents { contents self.new ≡ after_act (contents self.old) act.now }
-        ensures clock { clock self.new ≡ clock self.old }
-        ensures rooms { rooms self.new ≡ rooms self.old }
-        ensures same { IsSameShard self.old self.new }
-    {
+        let Some(place) = place else {
+            return;
+        };
         match act {
             Act::Bid(_, bid) => self.bid_at(place, item, *bid),
             Act::Buy(_, quantity) => self.buy_at(place, item, *quantity),

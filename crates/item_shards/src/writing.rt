@@ -1,6 +1,7 @@
 //! Rows written on a shard that holds every object.
 ghost use Rattle.std.specs.Prelude.{◌≡◌, OnOk, OnErr};
 
+use crate::acts::Act;
 use crate::shard::Shard;
 use auction_rows::{BidEntry, ItemEntry, Row};
 use std::alloc::AllocError;
@@ -27,8 +28,8 @@ impl Shard {
                     id: row.id,
                 };
                 self.prepare_item(row.id)?;
-                self.add_item(row.id, row.facts);
-                self.list_item(row.facts.category, entry);
+                self.act(&Act::AddItem(row.id, row.facts));
+                self.act(&Act::ListItem(row.facts.category, entry));
             }
             Row::Bid(row) => {
                 let entry = BidEntry {
@@ -37,10 +38,10 @@ impl Shard {
                     id: row.id,
                     bidder: row.bidder,
                 };
-                self.bid(row.item, entry);
+                self.act(&Act::Bid(row.item, entry));
             }
-            Row::Comment(row) => self.comment(row.about, row.stars),
-            Row::Buy(row) => self.buy(row.item, row.quantity),
+            Row::Comment(row) => self.act(&Act::Comment(row.about, row.stars)),
+            Row::Buy(row) => self.act(&Act::Buy(row.item, row.quantity)),
         }
         Ok(())
     }

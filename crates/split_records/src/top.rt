@@ -61,6 +61,7 @@ impl<E: Ord + Copy + Default, const K: usize> TopRec<E, K> {
     fn insert_all(&mut self, entries: &[E])
         ensures { self.new ≡ top E.cmp K (entries.now ++ self.old) }
     {
+        // They are their own top list.
         let _ = &self.entries;
         for entry in entries.iter().rev() {
             self.insert(*entry);

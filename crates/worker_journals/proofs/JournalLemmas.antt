@@ -1,9 +1,9 @@
 -- One more commit at the end of a journal.
-use Rattle.std.proofs.Common.{◌≡◌, ◌<◌, ◌+◌, ℕ, List, [], ◌∷◌, ◌++◌, length, arith, length-append}
+use Rattle.std.proofs.Common.{◌<◌, ℕ, List, [], ◌∷◌, ◌++◌}
 use Rattle.phase_laws.specs.Order.{IsAscendingByNumber}
 use Rattle.phase_laws.specs.Numbers.{last_by}
 use Rattle.phase_laws.proofs.OrderLemmas.{all_push}
-use Rattle.phase_laws.proofs.NumberLemmas.{ascending_push, last-push}
+use Rattle.phase_laws.proofs.NumberLemmas.{ascending_push}
 use Rattle.auction_rows.specs.declared.rows.Entry.{Entry}
 use Rattle.auction_rows.specs.Stars.{GivesStars}
 use Rattle.worker_journals.specs.Journals.{JournalView, entry_number, seen, ComesAfter, IsOf, IsLawful}
@@ -25,9 +25,3 @@ lawful_after journal entry held own after given = record {
   ascending = ascending_after journal.entries entry held.ascending after;
   stars = all_push (λ (e : Entry). GivesStars e.request) journal.entries entry held.stars given;
 }
-
-pub last_pushed : (entries : List Entry) (entry : Entry) → last_by entry_number 0 (entries ++ entry ∷ []) ≡ entry.number
-last_pushed entries entry = last-push entry_number 0 entries entry
-
-pub count_pushed : (entries : List Entry) (entry : Entry) (n : ℕ) → length entries ≡ n → length (entries ++ entry ∷ []) ≡ n + 1
-count_pushed entries entry n is = omega (arith, is, length-append entries (entry ∷ []))

@@ -14,7 +14,7 @@ use Rattle.worker_journals.specs.declared.heads.ShortRequest.TheVariants as ask
 use Rattle.worker_journals.specs.declared.heads.ShortReply.TheVariants as told
 use Rattle.worker_journals.specs.declared.heads.ItemSeen.{ItemSeen as SeenItem}
 use Rattle.worker_journals.specs.declared.heads.UserSeen.{UserSeen as SeenUser}
-use Rattle.worker_journals.specs.Sides.{SaysReply, SaysRequest, facts_at, items_in, item_at, item_reply}
+use Rattle.worker_journals.specs.Sides.{SaysReply, SaysRequest, facts_at, shown_in, item_at, item_reply}
 
 pub says_facts : (all old : List Facts) (facts : Facts) (place time : ℕ) (request : Request) → all ≡ old ++ facts ∷ [] → place ≡ length old →
     StoreItem facts time ≡ request → SaysRequest all (ask.StoreItem place time) request
@@ -24,7 +24,7 @@ says_facts all old facts place time request kept at is = record {
 }
 
 -- where a reply shows an item, it is that item's
-pub only_item : (reply : Reply) (seen : SeenItem) → seen ∷ [] ≡ items_in reply → item_reply seen ≡ reply
+pub only_item : (reply : Reply) (seen : SeenItem) → seen ∷ [] ≡ (shown_in reply).items → item_reply seen ≡ reply
 only_item (ItemStored id) seen e = absurd (cc)
 only_item (BidStored id) seen e = absurd (cc)
 only_item (CommentStored id) seen e = absurd (cc)

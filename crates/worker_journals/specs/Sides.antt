@@ -43,60 +43,37 @@ facts_in (ViewBids item) = []
 facts_in (ViewCategory category) = []
 facts_in (ViewUser user) = []
 
--- what a reply shows of each kind
-abbrev pub items_in : Reply → List SeenItem
-items_in (ItemStored id) = []
-items_in (BidStored id) = []
-items_in (CommentStored id) = []
-items_in (Bought id) = []
-items_in (ItemSeen seller category name start closes highest bidder bids left) =
-    record { seller = seller; category = category; name = name; left = left; start = start; closes = closes; bids = bids; highest = highest; bidder = bidder } ∷ []
-items_in (BidsSeen bids) = []
-items_in (CategorySeen items) = []
-items_in (UserSeen rating comments) = []
-items_in (Refused reason) = []
+-- what a reply shows, of each kind
+pub record ShownLists : Type 0 where
+  pub items : List SeenItem
+  pub users : List SeenUser
+  pub bids : List BidShown
+  pub latest : List ItemShown
 
-abbrev pub users_in : Reply → List SeenUser
-users_in (ItemStored id) = []
-users_in (BidStored id) = []
-users_in (CommentStored id) = []
-users_in (Bought id) = []
-users_in (ItemSeen seller category name start closes highest bidder bids left) = []
-users_in (BidsSeen bids) = []
-users_in (CategorySeen items) = []
-users_in (UserSeen rating comments) = record { rating = rating; comments = comments } ∷ []
-users_in (Refused reason) = []
+abbrev pub nothing_shown : ShownLists
+nothing_shown = record { items = []; users = []; bids = []; latest = [] }
 
-abbrev pub bids_in : Reply → List BidShown
-bids_in (ItemStored id) = []
-bids_in (BidStored id) = []
-bids_in (CommentStored id) = []
-bids_in (Bought id) = []
-bids_in (ItemSeen seller category name start closes highest bidder bids left) = []
-bids_in (BidsSeen bids) = bids
-bids_in (CategorySeen items) = []
-bids_in (UserSeen rating comments) = []
-bids_in (Refused reason) = []
-
-abbrev pub latest_in : Reply → List ItemShown
-latest_in (ItemStored id) = []
-latest_in (BidStored id) = []
-latest_in (CommentStored id) = []
-latest_in (Bought id) = []
-latest_in (ItemSeen seller category name start closes highest bidder bids left) = []
-latest_in (BidsSeen bids) = []
-latest_in (CategorySeen items) = items
-latest_in (UserSeen rating comments) = []
-latest_in (Refused reason) = []
+abbrev pub shown_in : Reply → ShownLists
+shown_in (ItemStored id) = nothing_shown
+shown_in (BidStored id) = nothing_shown
+shown_in (CommentStored id) = nothing_shown
+shown_in (Bought id) = nothing_shown
+shown_in (ItemSeen seller category name start closes highest bidder bids left) = record nothing_shown {
+  items = record { seller = seller; category = category; name = name; left = left; start = start; closes = closes; bids = bids; highest = highest; bidder = bidder } ∷ [];
+}
+shown_in (BidsSeen bids) = record nothing_shown { bids = bids }
+shown_in (CategorySeen items) = record nothing_shown { latest = items }
+shown_in (UserSeen rating comments) = record nothing_shown { users = record { rating = rating; comments = comments } ∷ [] }
+shown_in (Refused reason) = nothing_shown
 
 -- the side lists with what a request stores and a reply shows, each at the end of its list
 abbrev pub with_commit_of : SideLists → Request → Reply → SideLists
 with_commit_of sides request reply = record {
   facts = sides.facts ++ facts_in request;
-  items = sides.items ++ items_in reply;
-  users = sides.users ++ users_in reply;
-  bids = sides.bids ++ bids_in reply;
-  latest = sides.latest ++ latest_in reply;
+  items = sides.items ++ (shown_in reply).items;
+  users = sides.users ++ (shown_in reply).users;
+  bids = sides.bids ++ (shown_in reply).bids;
+  latest = sides.latest ++ (shown_in reply).latest;
   left = sides.left - 1;
 }
 

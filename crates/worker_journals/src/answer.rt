@@ -1,20 +1,23 @@
 //! The reply of a commit, in few bytes.
 ghost use Rattle.std.specs.Prelude.{◌≡◌};
-ghost use Rattle.auction_rows.specs.StoreReplies.{reply_of, store_reply};
+ghost use Rattle.auction_rows.specs.StoreReplies.{reply_of};
 
 use auction_rows::{Reply, StoreReply};
 use std::marker::Model;
 
-/// The reply that a commit is told of, in few bytes, where a whole reply has room for ten bids: that of a store or a refusal as
-/// it is, a view's where it lies. Contracts see the reply.
+/// The reply that a commit is told of, in few bytes, where a whole reply has room for ten bids. Contracts see the reply.
 #[derive(Drop)]
 pub struct Answer<'a> {
-    pub(crate) told: Told<'a>,
+    /// How it is told.
+    pub told: Told<'a>,
 }
 
+/// How a reply is told: that of a store or a refusal as it is, a view's where it lies.
 #[derive(Clone, Copy)]
-pub(crate) enum Told<'a> {
+pub enum Told<'a> {
+    /// The reply to a store, or a refusal.
     Store(StoreReply),
+    /// A reply where it lies.
     Whole(&'a Reply),
 }
 
@@ -27,17 +30,6 @@ impl<'a> Model for Answer<'a> {
     ghost view = { λ a. reply_told a.told };
 }
 
-impl Answer<'static> {
-    /// The reply to a store, or a refusal.
-    pub fn store(reply: StoreReply) -> Answer<'static>
-        ensures { result ≡ reply_of reply }
-    {
-        Answer {
-            told: Told::Store(reply),
-        }
-    }
-}
-
 impl<'a> Answer<'a> {
     /// A reply where it lies.
     pub fn of(reply: &'a Reply) -> Answer<'a>
@@ -45,16 +37,6 @@ impl<'a> Answer<'a> {
     {
         Answer {
             told: Told::Whole(reply),
-        }
-    }
-
-    /// The reply to a store, or a refusal: None of a view's that shows something.
-    pub fn to_store(&self) -> Option<StoreReply>
-        ensures { result ≡ store_reply self.now }
-    {
-        match self.told {
-            Told::Store(reply) => Some(reply),
-            Told::Whole(reply) => StoreReply::of(reply),
         }
     }
 

@@ -34,6 +34,7 @@ impl<'a> EntryRef<'a> {
         ensures entry { slice_get journal.now.entries place ≡ Some result }
         ensures next { place + 1 < 2 ^ 64 }
     {
+        // It fits.
         let _fits = journal.len();
         EntryRef { journal, place }
     }
@@ -42,6 +43,7 @@ impl<'a> EntryRef<'a> {
     pub fn phase(&self) -> u64
         ensures { result ≡ self.now.phase }
     {
+        // A lawful journal is of one phase and one worker.
         let _lawful = self.journal.len();
         self.journal.phase()
     }
@@ -57,6 +59,7 @@ impl<'a> EntryRef<'a> {
     pub fn worker(&self) -> u32
         ensures { result ≡ self.now.worker }
     {
+        // A lawful journal is of one phase and one worker.
         let _lawful = self.journal.len();
         self.journal.worker()
     }

@@ -11,7 +11,7 @@ mod laws;
 mod merging;
 mod sides;
 
-pub use answer::Answer;
+pub use answer::{Answer, Told};
 pub use auction_rows::Entry;
 pub use entry_ref::EntryRef;
 pub use history::{Entries, History, WorkerEntries};

@@ -1,7 +1,7 @@
 //! What a journal keeps beside its heads.
 ghost use Rattle.std.specs.Prelude.{◌≡◌, ◌+◌, ◌<◌, ◌≤◌, ◌++◌, ◌∷◌, [], length, take, drop, option_to_list, vec_len, vec_capacity, IfOk};
 ghost use Rattle.auction_rows.specs.Stars.{GivesStars};
-ghost use Rattle.worker_journals.specs.Sides.{HasRoom, SaysReply, SaysRequest, facts_in, items_in, users_in, bids_in, latest_in, item_reply};
+ghost use Rattle.worker_journals.specs.Sides.{HasRoom, SaysReply, SaysRequest, facts_in, shown_in, item_reply};
 
 use crate::answer::{Answer, Told};
 use crate::heads::{ItemSeen, ShortReply, ShortRequest, UserSeen};
@@ -278,7 +278,7 @@ fn keep_request(all: &mut Vec<Facts>, request: &Request) -> ShortRequest
 
 // What the view of an item shows: None of another reply.
 fn item_seen(reply: &Reply) -> Option<ItemSeen>
-    ensures { option_to_list result ≡ items_in reply.now }
+    ensures { option_to_list result ≡ (shown_in reply.now).items }
 {
     if let Reply::ItemSeen {
         seller,
@@ -319,10 +319,10 @@ fn keep_reply(
     requires users { HasRoom 1 (vec_len users.old) (vec_capacity users.old) }
     requires bids { HasRoom MOST_SHOWN (vec_len bids.old) (vec_capacity bids.old) }
     requires latest { HasRoom MOST_SHOWN (vec_len latest.old) (vec_capacity latest.old) }
-    ensures items { items.new.items ≡ items.old.items ++ items_in reply.now }
-    ensures users { users.new.items ≡ users.old.items ++ users_in reply.now }
-    ensures bids { bids.new.items ≡ bids.old.items ++ bids_in reply.now }
-    ensures latest { latest.new.items ≡ latest.old.items ++ latest_in reply.now }
+    ensures items { items.new.items ≡ items.old.items ++ (shown_in reply.now).items }
+    ensures users { users.new.items ≡ users.old.items ++ (shown_in reply.now).users }
+    ensures bids { bids.new.items ≡ bids.old.items ++ (shown_in reply.now).bids }
+    ensures latest { latest.new.items ≡ latest.old.items ++ (shown_in reply.now).latest }
     ensures says { SaysReply items.new.items users.new.items bids.new.items latest.new.items result reply.now }
     ensures capacities { (vec_capacity items.new ≡ vec_capacity items.old) × (vec_capacity users.new ≡ vec_capacity users.old)
         × (vec_capacity bids.new ≡ vec_capacity bids.old) × (vec_capacity latest.new ≡ vec_capacity latest.old) }

@@ -1,16 +1,16 @@
 use Rattle.std.proofs.Common.{arith, sym, ap}
-use Rattle.worker_journals.specs.Sides.{users_in, bids_in, latest_in}
+use Rattle.worker_journals.specs.Sides.{shown_in}
 use Rattle.worker_journals.proofs.SaidLemmas.{none_more, only_item, says_bids, says_item, says_latest}
 use Rattle.worker_journals.proofs.sides.keep_reply.Goals as goal
 
 pub returns-in-Some-clause-users : goal.returns-in-Some-clause-users
-returns-in-Some-clause-users c = none_more _ _ (ap users_in (only_item c.args.reply.now c.in-Some.seen c.in-Some.ensures))
+returns-in-Some-clause-users c = none_more _ _ (ap (λ reply. (shown_in reply).users) (only_item c.args.reply.now c.in-Some.seen c.in-Some.ensures))
 
 pub returns-in-Some-clause-bids : goal.returns-in-Some-clause-bids
-returns-in-Some-clause-bids c = none_more _ _ (ap bids_in (only_item c.args.reply.now c.in-Some.seen c.in-Some.ensures))
+returns-in-Some-clause-bids c = none_more _ _ (ap (λ reply. (shown_in reply).bids) (only_item c.args.reply.now c.in-Some.seen c.in-Some.ensures))
 
 pub returns-in-Some-clause-latest : goal.returns-in-Some-clause-latest
-returns-in-Some-clause-latest c = none_more _ _ (ap latest_in (only_item c.args.reply.now c.in-Some.seen c.in-Some.ensures))
+returns-in-Some-clause-latest c = none_more _ _ (ap (λ reply. (shown_in reply).latest) (only_item c.args.reply.now c.in-Some.seen c.in-Some.ensures))
 
 pub returns-in-Some-clause-says : goal.returns-in-Some-clause-says
 returns-in-Some-clause-says c =

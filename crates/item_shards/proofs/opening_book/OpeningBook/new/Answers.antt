@@ -5,7 +5,7 @@ use Rattle.auction_rows.specs.History.{IsBook}
 use Rattle.item_shards.specs.Counting.{worker_of}
 use Rattle.item_shards.specs.OpeningRows.{rows_by, opening_rows, with_opened, IsRow, AreRows, IsFirstBad, IsTooLong}
 use Rattle.item_shards.specs.Serial.{opening_of, HoldsBook}
-use Rattle.item_shards.proofs.OpeningBookLemmas.{not_full, not_last, rows_more, book_more, first_bad, is_book, has_workers, has_few, row_moved, row_there, fits_in, neither, for_memory, same_number}
+use Rattle.item_shards.proofs.OpeningBookLemmas.{not_full, not_last, rows_more, book_more, first_bad, is_book, has_workers, has_few, row_moved, not_rows, fits_in, neither, for_memory, same_number}
 use Rattle.item_shards.proofs.opening_book.OpeningBook.new.Goals as goal
 
 pub add_opened-requires : goal.add_opened-requires
@@ -87,15 +87,7 @@ returns-in-None-clause-bad_row c = λ n e.
     subst (λ rows. IsFirstBad start rows n) c.deref-opened-items.ensures.value (subst (IsFirstBad start all) (same_number (i + 1) n e) first)
 
 pub returns-in-None-clause-ok : goal.returns-in-None-clause-ok
-returns-in-None-clause-ok c = λ are fits.
-    let all = c.deref-opened-items.result.now in
-    let i = c.loop-index.index in
-    let opened = c.opened-item.result in
-    let before = c.loop-index.invariant in
-    let start = c.args.opening in
-    let row = row_there start all i opened c.loop-index-test.true c.opened-item.is (subst (AreRows start) (sym c.deref-opened-items.ensures.value) are) in
-    let no_row : ¬ IsRow (opening_of c.loop-index.auction) c.loop-index.book.items opened = (rw c.in-None.is at c.in_ok-row.ensures.bad) c.loop-index.book.items before.holds in
-    absurd (no_row (row_moved start (opening_of c.loop-index.auction) (opening_rows start (take i all)) c.loop-index.book.items opened (sym before.opening_is) (sym before.rows_are) row))
+returns-in-None-clause-ok c = λ are fits. absurd (not_rows _ _ _ (returns-in-None-clause-bad_row c (c.loop-index.index + 1) refl) are)
 
 pub loop-index-preserved : goal.loop-index-preserved
 loop-index-preserved c =

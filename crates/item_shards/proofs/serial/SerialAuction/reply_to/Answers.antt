@@ -2,32 +2,28 @@ use Rattle.std.proofs.Common.{[], refl, sym, ap, ◌∙◌}
 use Rattle.auction_rows.specs.declared.replies.Reply.TheVariants.{ItemStored, BidStored, CommentStored, Bought}
 use Rattle.auction_rows.specs.Replies.{answer, reply}
 use Rattle.item_shards.specs.Serial.{opening_of}
-use Rattle.item_shards.proofs.SerialLemmas.{counted_in, reply_is}
+use Rattle.item_shards.proofs.SerialLemmas.{stored_reply}
 use Rattle.item_shards.proofs.serial.SerialAuction.reply_to.Goals as goal
 
 pub returns-in-StoreItem : goal.returns-in-StoreItem
-returns-in-StoreItem c = λ b holds.
-    let counts = counted_in c.args.self.now b c.args.worker holds c.requires in
-    reply_is (opening_of c.args.self.now) b c.args.worker c.args.request _ _ (c.unless_refused.ensures b holds)
-    ((λ i. ItemStored (record { worker = c.args.worker; serial = (counts i).items })) ∙ ap (answer b c.args.worker) (sym c.in-StoreItem.is))
+returns-in-StoreItem c =
+    stored_reply c.args.self.now c.args.worker c.args.request (λ counts. ItemStored (record { worker = c.args.worker; serial = counts.items })) _ c.requires c.unless_refused.ensures
+    (λ b. ap (answer b c.args.worker) c.in-StoreItem.is)
 
 pub returns-in-StoreBid : goal.returns-in-StoreBid
-returns-in-StoreBid c = λ b holds.
-    let counts = counted_in c.args.self.now b c.args.worker holds c.requires in
-    reply_is (opening_of c.args.self.now) b c.args.worker c.args.request _ _ (c.unless_refused-in-StoreBid.ensures b holds)
-    ((λ i. BidStored (record { worker = c.args.worker; serial = (counts i).bids })) ∙ ap (answer b c.args.worker) (sym c.in-StoreBid.is))
+returns-in-StoreBid c =
+    stored_reply c.args.self.now c.args.worker c.args.request (λ counts. BidStored (record { worker = c.args.worker; serial = counts.bids })) _ c.requires c.unless_refused-in-StoreBid.ensures
+    (λ b. ap (answer b c.args.worker) c.in-StoreBid.is)
 
 pub returns-in-StoreComment : goal.returns-in-StoreComment
-returns-in-StoreComment c = λ b holds.
-    let counts = counted_in c.args.self.now b c.args.worker holds c.requires in
-    reply_is (opening_of c.args.self.now) b c.args.worker c.args.request _ _ (c.unless_refused-in-StoreComment.ensures b holds)
-    ((λ i. CommentStored (record { worker = c.args.worker; serial = (counts i).comments })) ∙ ap (answer b c.args.worker) (sym c.in-StoreComment.is))
+returns-in-StoreComment c =
+    stored_reply c.args.self.now c.args.worker c.args.request (λ counts. CommentStored (record { worker = c.args.worker; serial = counts.comments })) _ c.requires c.unless_refused-in-StoreComment.ensures
+    (λ b. ap (answer b c.args.worker) c.in-StoreComment.is)
 
 pub returns-in-BuyNow : goal.returns-in-BuyNow
-returns-in-BuyNow c = λ b holds.
-    let counts = counted_in c.args.self.now b c.args.worker holds c.requires in
-    reply_is (opening_of c.args.self.now) b c.args.worker c.args.request _ _ (c.unless_refused-in-BuyNow.ensures b holds)
-    ((λ i. Bought (record { worker = c.args.worker; serial = (counts i).buys })) ∙ ap (answer b c.args.worker) (sym c.in-BuyNow.is))
+returns-in-BuyNow c =
+    stored_reply c.args.self.now c.args.worker c.args.request (λ counts. Bought (record { worker = c.args.worker; serial = counts.buys })) _ c.requires c.unless_refused-in-BuyNow.ensures
+    (λ b. ap (answer b c.args.worker) c.in-BuyNow.is)
 
 pub returns-in-ViewItem : goal.returns-in-ViewItem
 returns-in-ViewItem c = λ b holds.

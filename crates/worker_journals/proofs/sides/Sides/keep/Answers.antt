@@ -10,25 +10,16 @@ keep_request-short_request-requires c =
     let some : 0 < c.self.inside.left = omega (arith, c.requires, ap (λ (s : SideLists). s.left) c.self.view_is) in
     (omega (arith, some, c.self.invariant.0.0), omega (arith, some, c.self.invariant.0.1))
 
-pub keep_reply-short_reply-requires-clause-items : goal.keep_reply-short_reply-requires-clause-items
-keep_reply-short_reply-requires-clause-items c =
+pub keep_reply-short_reply-requires : goal.keep_reply-short_reply-requires
+keep_reply-short_reply-requires c =
     let some : 0 < c.self.inside.left = omega (arith, c.requires, ap (λ (s : SideLists). s.left) c.self.view_is) in
-    (omega (arith, some, c.self.invariant.1.0), omega (arith, some, c.self.invariant.1.1))
-
-pub keep_reply-short_reply-requires-clause-users : goal.keep_reply-short_reply-requires-clause-users
-keep_reply-short_reply-requires-clause-users c =
-    let some : 0 < c.self.inside.left = omega (arith, c.requires, ap (λ (s : SideLists). s.left) c.self.view_is) in
-    (omega (arith, some, c.self.invariant.2.0), omega (arith, some, c.self.invariant.2.1))
-
-pub keep_reply-short_reply-requires-clause-bids : goal.keep_reply-short_reply-requires-clause-bids
-keep_reply-short_reply-requires-clause-bids c =
-    let some : 0 < c.self.inside.left = omega (arith, c.requires, ap (λ (s : SideLists). s.left) c.self.view_is) in
-    (omega (arith, some, c.self.invariant.3.0), omega (arith, some, c.self.invariant.3.1))
-
-pub keep_reply-short_reply-requires-clause-latest : goal.keep_reply-short_reply-requires-clause-latest
-keep_reply-short_reply-requires-clause-latest c =
-    let some : 0 < c.self.inside.left = omega (arith, c.requires, ap (λ (s : SideLists). s.left) c.self.view_is) in
-    (omega (arith, some, c.self.invariant.4.0), omega (arith, some, c.self.invariant.4.1))
+    let room = c.self.invariant in
+    record {
+      items = (omega (arith, some, room.1.0), omega (arith, some, room.1.1));
+      users = (omega (arith, some, room.2.0), omega (arith, some, room.2.1));
+      bids = (omega (arith, some, room.3.0), omega (arith, some, room.3.1));
+      latest = (omega (arith, some, room.4.0), omega (arith, some, room.4.1));
+    }
 
 pub returns-in-Store-clause-reply : goal.returns-in-Store-clause-reply
 returns-in-Store-clause-reply c =
