@@ -40,6 +40,9 @@ pub same_objects_of : (hots : List (Object × Hot)) → objects_of (stocks_of ho
 same_objects_of [] = refl
 same_objects_of (hot ∷ hots) = ap (λ objects. hot.0 ∷ objects) (same_objects_of hots)
 
+pub in_setting : {hot : Bool} (hots : List (Object × Hot)) (object : Object) → is_hot (objects_of hots) object ≡ hot → is_hot (objects_of (stocks_of hots)) object ≡ hot
+in_setting hots object is = ap (λ objects. is_hot objects object) (same_objects_of hots) ∙ is
+
 -- a bid is refused by what a book has of its item
 bid_refusal : (opening : Opening) (book : Book) (bidder : ℕ) (item : ItemId) (amount time : ℕ) (facts : Option Facts) → facts_of book item ≡ facts
     → item_refusal (StoreBid bidder item amount time) facts (left book item)
@@ -80,7 +83,7 @@ bid_right split bid answer hot is book counts stocks =
     let theirs = BidStored (record { worker = worker; serial = bids_stored book worker }) in
     let mine = BidStored (record { worker = worker; serial = split.context.counters.bids }) in
     answered_by (refusal_by split.context.opening (stock_of (stocks_of split.slices) (Item bid.item)) (bid_request bid)) answer mine theirs is (ap (λ n. BidStored (record { worker = worker; serial = n })) (sym counts.bids))
-    ∙ ap (λ seen. answer_unless (refusal_by split.context.opening seen (bid_request bid)) theirs) (sym (stocks bid.item hot))
+    ∙ ap (λ seen. answer_unless (refusal_by split.context.opening seen (bid_request bid)) theirs) (sym (stocks bid.item (in_setting split.slices (Item bid.item) hot)))
     ∙ ap (λ refused. answer_unless refused theirs) (sym (bid_refused split.context.opening book bid.bidder bid.item bid.amount bid.time))
 
 -- and the answer by what is fixed
@@ -88,7 +91,7 @@ pub bid_answered : (split : SplitState) (bid : Bid) (index : ℕ) (answer : Repl
     → (shards : ℕ) → IsAnswered (setting_of split shards) split.context.counters (hot_txn split (bid_request bid) index answer)
 bid_answered split bid index answer hot is shards =
     let stock = stock_of (stocks_of split.slices) (Item bid.item) in
-    let found : is_hot (objects_of (stocks_of split.slices)) (Item bid.item) ≡ true = ap (λ objects. is_hot objects (Item bid.item)) (same_objects_of split.slices) ∙ hot in
+    let found = in_setting split.slices (Item bid.item) hot in
     record {
       answered = subst (λ b. MatchOption (refusal_by split.context.opening (cond b stock None) (bid_request bid))
           (answer ≡ BidStored (record { worker = split.context.journal.worker; serial = split.context.counters.bids })) (λ reason. answer ≡ Refused reason)) (sym found) is;
@@ -142,14 +145,14 @@ comment_right split comment answer hot stored is book counts stocks =
     answered_by (number_refusal opening (comment_request comment)) answer mine theirs is (ap (λ n. CommentStored (record { worker = worker; serial = n })) (sym counts.comments))
     ∙ ap (λ refused. answer_unless refused theirs)
     (sym (comment_stored opening comment.author comment.about comment.item comment.stars stock stored)
-    ∙ ap (λ seen. refusal_by opening seen (comment_request comment)) (sym (stocks comment.item hot))
+    ∙ ap (λ seen. refusal_by opening seen (comment_request comment)) (sym (stocks comment.item (in_setting split.slices (Item comment.item) hot)))
     ∙ sym (comment_refused opening book comment.author comment.about comment.item comment.stars))
 
 pub comment_answered : (split : SplitState) (comment : Comment) (index : ℕ) (answer : Reply) → IsHot split (Item comment.item) → IsSome (stock_of (stocks_of split.slices) (Item comment.item)) → IsCommentReply split.context comment answer
     → (shards : ℕ) → IsAnswered (setting_of split shards) split.context.counters (hot_txn split (comment_request comment) index answer)
 comment_answered split comment index answer hot stored is shards =
     let stock = stock_of (stocks_of split.slices) (Item comment.item) in
-    let found : is_hot (objects_of (stocks_of split.slices)) (Item comment.item) ≡ true = ap (λ objects. is_hot objects (Item comment.item)) (same_objects_of split.slices) ∙ hot in
+    let found = in_setting split.slices (Item comment.item) hot in
     let refused = comment_stored split.context.opening comment.author comment.about comment.item comment.stars stock stored in
     record {
       answered = subst (λ reasons. MatchOption reasons

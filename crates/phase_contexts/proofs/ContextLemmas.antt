@@ -1,7 +1,7 @@
 -- A commit keeps the room of a context.
 use Rattle.std.specs.Prelude.{nat_lt, if◌then◌else◌}
 use Rattle.item_shards.specs.CommitNumbers.{next_number, last_number}
-use Rattle.std.proofs.Common.{Bool, true, false, Some, None, max, ◌≡◌, ℕ, suc, ◌+◌, ◌-◌, ◌<◌, ◌≤◌, [], ◌∷◌, refl, arith, length-append}
+use Rattle.std.proofs.Common.{Bool, true, false, Some, None, max, ◌≡◌, ℕ, suc, ◌+◌, ◌-◌, ◌<◌, ◌≤◌, [], ◌∷◌, refl, ◌∙◌, arith, length-append}
 use Rattle.phase_laws.proofs.NumberLemmas.{last-push}
 use Rattle.auction_rows.specs.declared.replies.Reply.{Reply}
 use Rattle.auction_rows.specs.declared.replies.Reply.TheVariants.{ItemStored, BidStored, CommentStored, Bought, ItemSeen, BidsSeen, CategorySeen, UserSeen, Refused}
@@ -9,45 +9,43 @@ use Rattle.auction_rows.specs.declared.requests.Request.{Request}
 use Rattle.worker_journals.specs.Journals.{JournalView, entry_number, commit_in, with_commit}
 use Rattle.phase_contexts.specs.declared.counters.Counters.{Counters}
 use Rattle.phase_contexts.specs.Txns.{counted}
-use Rattle.phase_contexts.specs.Contexts.{AreCounted, HasRoom}
+use Rattle.phase_contexts.specs.declared.read_set.ReadSet.{ReadSet}
+use Rattle.phase_contexts.specs.Contexts.{ContextState, AreCounted, HasRoom, after_commit, with_one_less}
+use Rattle.phase_contexts.specs.Splits.{nothing}
 
--- at most one store of a kind more, and one commit
-pub one_commit_more : (counters : Counters) (reply : Reply) → (counted counters reply).commits ≡ counters.commits + 1
-one_commit_more counters (ItemStored id) = refl
-one_commit_more counters (BidStored id) = refl
-one_commit_more counters (CommentStored id) = refl
-one_commit_more counters (Bought id) = refl
-one_commit_more counters (ItemSeen seller category name start closes highest bidder bids left) = refl
-one_commit_more counters (BidsSeen bids) = refl
-one_commit_more counters (CategorySeen items) = refl
-one_commit_more counters (UserSeen rating comments) = refl
-one_commit_more counters (Refused reason) = refl
+-- What a commit counts: itself, and at most one store.
+pub record CountsOne (old new : Counters) : Type 0 where
+  pub commits : new.commits ≡ old.commits + 1
+  pub items : old.items ≤ new.items
+  pub bids : old.bids ≤ new.bids
+  pub comments : old.comments ≤ new.comments
+  pub buys : old.buys ≤ new.buys
+  pub stores : new.items + new.bids + new.comments + new.buys ≤ old.items + old.bids + old.comments + old.buys + 1
 
-up : (n m : ℕ) → n ≤ m → n ≤ m + 1
-up n m h = omega arith
+no_store : (c : Counters) → CountsOne c (record c { commits = c.commits + 1 })
+no_store c = record { commits = refl; items = omega arith; bids = omega arith; comments = omega arith; buys = omega arith; stores = omega arith }
 
-both : (n m : ℕ) → n ≤ m → n + 1 ≤ m + 1
-both n m h = omega arith
-
-same_store : (c : Counters) → AreCounted c → AreCounted (record c { commits = c.commits + 1 })
-same_store c is = record { items = up c.items c.commits is.items; bids = up c.bids c.commits is.bids; comments = up c.comments c.commits is.comments; buys = up c.buys c.commits is.buys }
+pub counts_one : (c : Counters) (reply : Reply) → CountsOne c (counted c reply)
+counts_one c (ItemStored id) = record { commits = refl; items = omega arith; bids = omega arith; comments = omega arith; buys = omega arith; stores = omega arith }
+counts_one c (BidStored id) = record { commits = refl; items = omega arith; bids = omega arith; comments = omega arith; buys = omega arith; stores = omega arith }
+counts_one c (CommentStored id) = record { commits = refl; items = omega arith; bids = omega arith; comments = omega arith; buys = omega arith; stores = omega arith }
+counts_one c (Bought id) = record { commits = refl; items = omega arith; bids = omega arith; comments = omega arith; buys = omega arith; stores = omega arith }
+counts_one c (ItemSeen seller category name start closes highest bidder bids left) = no_store c
+counts_one c (BidsSeen bids) = no_store c
+counts_one c (CategorySeen items) = no_store c
+counts_one c (UserSeen rating comments) = no_store c
+counts_one c (Refused reason) = no_store c
 
 pub still_counted : (counters : Counters) (reply : Reply) → AreCounted counters → AreCounted (counted counters reply)
-still_counted c (ItemStored id) is = record { items = both c.items c.commits is.items; bids = up c.bids c.commits is.bids; comments = up c.comments c.commits is.comments; buys = up c.buys c.commits is.buys }
-still_counted c (BidStored id) is = record { items = up c.items c.commits is.items; bids = both c.bids c.commits is.bids; comments = up c.comments c.commits is.comments; buys = up c.buys c.commits is.buys }
-still_counted c (CommentStored id) is = record { items = up c.items c.commits is.items; bids = up c.bids c.commits is.bids; comments = both c.comments c.commits is.comments; buys = up c.buys c.commits is.buys }
-still_counted c (Bought id) is = record { items = up c.items c.commits is.items; bids = up c.bids c.commits is.bids; comments = up c.comments c.commits is.comments; buys = both c.buys c.commits is.buys }
-still_counted c (ItemSeen seller category name start closes highest bidder bids left) is = same_store c is
-still_counted c (BidsSeen bids) is = same_store c is
-still_counted c (CategorySeen items) is = same_store c is
-still_counted c (UserSeen rating comments) is = same_store c is
-still_counted c (Refused reason) is = same_store c is
+still_counted c reply is =
+    let one = counts_one c reply in
+    record { items = omega (arith, one, is.items); bids = omega (arith, one, is.bids); comments = omega (arith, one, is.comments); buys = omega (arith, one, is.buys) }
 
 pub room_after : (counters : Counters) (journal : JournalView) (waiting left clock number index : ℕ) (request : Request) (reply : Reply)
     → HasRoom counters journal waiting left clock → 0 < left → clock < number
     → HasRoom (counted counters reply) (with_commit journal number index request reply) waiting (left - 1) number
 room_after counters journal waiting left clock number index request reply is some after =
-    let commits = one_commit_more counters reply in
+    let commits = (counts_one counters reply).commits in
     let longer = length-append journal.entries (commit_in journal number index request reply ∷ []) in
     let last = last-push entry_number 0 journal.entries (commit_in journal number index request reply) in
     let limit = is.limit in
@@ -69,3 +67,9 @@ next_is a found n is = chosen (nat_lt (max a found) last_number) (max a found) n
 
 pub next_of_own : (a n : ℕ) → Some n ≡ next_number a 0 → n ≡ suc a
 next_of_own a n is = let number = next_is a 0 n is in omega arith
+
+-- what is committed at that number finds nothing
+pub own_commit : (context new : ContextState) (number index : ℕ) (given request : Request) (answer : Reply) (found : ReadSet) → Some number ≡ next_number context.clock 0 → given ≡ request → found ≡ nothing
+    → new ≡ with_one_less (after_commit context number index given answer found) → new ≡ with_one_less (after_commit context (suc context.clock) index request answer nothing)
+own_commit context new number index given request answer found next is none committed =
+    committed ∙ (λ i. with_one_less (after_commit context (next_of_own context.clock number next i) index (is i) answer (none i)))

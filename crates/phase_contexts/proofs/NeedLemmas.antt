@@ -43,8 +43,10 @@ cold_where_performed hot (ViewUser user) object is apart goes = subst (λ o. is_
 
 -- a purchase and a view
 module _ (context : ContextState) (slices : List (Object × Hot)) (request : Request) (allowed : number_refusal context.opening request ≡ None) (goes : is_put_off (objects_of slices) request ≡ false) where
-  pub view_needs : (object : Object) → only_object request ≡ Some object → is_view request ≡ true → is_splittable request ≡ false → AreNeeded context slices request (needs.View object)
-  view_needs object only view apart = (allowed, only, view, cold_where_performed (objects_of slices) request object only apart goes)
+  pub view_needs : (object : Object) (view : Request) → request ≡ view → only_object view ≡ Some object → is_view view ≡ true → is_splittable view ≡ false → AreNeeded context slices request (needs.View object)
+  view_needs object view is only sees apart =
+      let its = ap only_object is ∙ only in
+      (allowed, its, ap is_view is ∙ sees, cold_where_performed (objects_of slices) request object its (ap is_splittable is ∙ apart) goes)
 
   pub purchase_needs : (buyer : ℕ) (item : ItemId) (quantity time : ℕ) (id : BuyId) → request ≡ BuyNow buyer item quantity time → id ≡ next_buy context
       → AreNeeded context slices request (needs.Store (record { item = item; write = Buy item quantity; accepted = Bought id }))

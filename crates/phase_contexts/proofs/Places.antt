@@ -17,7 +17,7 @@ use Rattle.item_shards.specs.declared.slices.Slice.{Slice}
 use Rattle.item_shards.specs.Values.{blank, value}
 use Rattle.item_shards.proofs.StandingLemmas.{blank_of_none}
 use Rattle.phase_contexts.specs.declared.slices.Hot.{Hot}
-use Rattle.phase_contexts.specs.Slicing.{objects_of, slice_of, slices_of, stocks_of, stock_of, changed, IsAt, HasAtMost, AreFew}
+use Rattle.phase_contexts.specs.Slicing.{objects_of, slice_of, slices_of, stocks_of, stock_of, changed, IsAt, IsStocked, HasAtMost, AreFew}
 use Rattle.phase_laws.proofs.ListLemmas.{all_at}
 
 -- the slices of other objects stay
@@ -27,7 +27,7 @@ others_stay object change (hot ∷ hots) all = λ i.
     (hot.0, cond (all.0 i) (record hot.1 { slice = change hot.1.slice }) hot.1) ∷ others_stay object change hots all.1 i
 
 -- a write at the place of an object changes its slice alone
-pub placed : (object : Object) (change : Slice → Slice) (hots : List (Object × Hot)) (place : ℕ) (old new : Hot)
+placed : (object : Object) (change : Slice → Slice) (hots : List (Object × Hot)) (place : ℕ) (old new : Hot)
     → IsDistinct same_object (objects_of hots) → IsAt hots place object → Some old ≡ slice_get (map (λ hot. hot.1) hots) place → new ≡ record old { slice = change old.slice }
     → set_value_at hots place new ≡ changed object change hots
 unfolding IsDistinct
@@ -47,6 +47,12 @@ pub none_there : {A : Type 0} (object : Object) (hots : List (Object × Hot)) (p
 none_there object [] place at none = absurd (cc)
 none_there object (hot ∷ hots) zero at none = absurd (cc)
 none_there object (hot ∷ hots) (suc place) at none = none_there object hots place at none
+
+-- so it is with the slices as they are seen
+pub write_seen : (object : Object) (change : Slice → Slice) (hots seen now : List (Object × Hot)) (place : ℕ) (old new : Hot) → hots ≡ seen → IsDistinct object_eq.it (objects_of hots) → IsAt seen place object
+    → Some old ≡ slice_get (map (λ hot. hot.1) hots) place → new ≡ record old { slice = change old.slice } → now ≡ set_value_at hots place new → now ≡ changed object change seen
+write_seen object change hots seen now place old new is unique at there written set =
+    set ∙ placed object change hots place old new (distinct_objects (objects_of hots) unique) (subst (λ hs. IsAt hs place object) (sym is) at) there written ∙ ap (changed object change) is
 
 -- and that slice is one of few operations
 pub few_there : (hots : List (Object × Hot)) (place : ℕ) (hot : Hot) → AreFew 1000000 hots → Some hot ≡ slice_get (map (λ hot. hot.1) hots) place → HasAtMost 1000000 hot.slice
@@ -98,12 +104,16 @@ one_more (first ∷ stocks) zero object stock at =
 one_more (first ∷ stocks) (suc k) object stock at = ap (λ hots. (first.0, record { stock = first.1; slice = slice_of first.0 (value [] first.0) }) ∷ hots) (one_more stocks k object stock at)
 
 -- what is fixed of the objects stays
-pub stocks_stay : (hots : List (Object × Hot)) (place : ℕ) (old new : Hot) → Some old ≡ slice_get (map (λ hot. hot.1) hots) place → new.stock ≡ old.stock → stocks_of (set_value_at hots place new) ≡ stocks_of hots
+stocks_stay : (hots : List (Object × Hot)) (place : ℕ) (old new : Hot) → Some old ≡ slice_get (map (λ hot. hot.1) hots) place → new.stock ≡ old.stock → stocks_of (set_value_at hots place new) ≡ stocks_of hots
 stocks_stay [] place old new is stays = refl
 stocks_stay (hot ∷ hots) zero old new is stays =
     let was : old ≡ hot.1 = cc in
     λ i. (hot.0, (stays ∙ ap (λ (h : Hot). h.stock) was) i) ∷ stocks_of hots
 stocks_stay (hot ∷ hots) (suc place) old new is stays = ap (λ stocks. (hot.0, hot.1.stock) ∷ stocks) (stocks_stay hots place old new is stays)
+
+pub still_stocked : (hots now : List (Object × Hot)) (place : ℕ) (old new : Hot) → now ≡ set_value_at hots place new → Some old ≡ slice_get (map (λ hot. hot.1) hots) place → new.stock ≡ old.stock
+    → AllByRecursion IsStocked (stocks_of hots) → AllByRecursion IsStocked (stocks_of now)
+still_stocked hots now place old new set is stays = subst (AllByRecursion IsStocked) (sym (ap stocks_of set ∙ stocks_stay hots place old new is stays))
 
 pub stocks_of_rows : (stocks : List (Object × Option (Facts × ℕ))) (rows : Book) → stocks_of (slices_of stocks rows) ≡ stocks
 stocks_of_rows [] rows = refl

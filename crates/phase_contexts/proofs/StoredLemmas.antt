@@ -1,9 +1,8 @@
 -- A commit keeps what a split context is.
-use Rattle.std.proofs.Common.{◌≡◌, ℕ, ◌+◌, ◌-◌, ◌≤◌, List, [], ◌∷◌, refl, sym, ap, subst, ◌∙◌, arith}
+use Rattle.std.proofs.Common.{◌≡◌, ℕ, ◌+◌, ◌-◌, List, [], ◌∷◌, refl, sym, ap, subst, ◌∙◌, arith}
 use Rattle.auction_rows.specs.declared.ids.Object.{Object}
 use Rattle.auction_rows.specs.declared.ids.Object.TheVariants.{Item, User, Category}
 use Rattle.auction_rows.specs.declared.replies.Reply.{Reply}
-use Rattle.auction_rows.specs.declared.replies.Reply.TheVariants.{ItemStored, BidStored, CommentStored, Bought, ItemSeen, BidsSeen, CategorySeen, UserSeen, Refused}
 use Rattle.auction_rows.specs.declared.requests.Request.{Request}
 use Rattle.auction_rows.specs.Footprint.{is_hot}
 use Rattle.item_shards.specs.declared.acts.Act.{Act}
@@ -16,7 +15,7 @@ use Rattle.phase_contexts.specs.Slicing.{objects_of, changed, after_act, after_a
 use Rattle.phase_contexts.specs.Txns.{counted}
 use Rattle.phase_contexts.specs.Contexts.{ContextState, after_commit, with_one_less}
 use Rattle.phase_contexts.specs.Splits.{AreStored, HasStashRoom}
-use Rattle.phase_contexts.proofs.ContextLemmas.{one_commit_more}
+use Rattle.phase_contexts.proofs.ContextLemmas.{counts_one}
 
 -- acts leave the objects
 objects-changed : (object : Object) (change : Slice → Slice) (hots : List (Object × Hot)) → objects_of (changed object change hots) ≡ objects_of hots
@@ -35,23 +34,10 @@ pub objects-acts : (hots : List (Object × Hot)) (acts : List Act) → objects_o
 objects-acts hots [] = refl
 objects-acts hots (act ∷ acts) = objects-acts (after_act hots act) acts ∙ objects-act hots act
 
--- a commit counts no item back
-no_fewer_items : (counters : Counters) (reply : Reply) → counters.items ≤ (counted counters reply).items
-no_fewer_items counters (ItemStored id) = omega arith
-no_fewer_items counters (BidStored id) = omega arith
-no_fewer_items counters (CommentStored id) = omega arith
-no_fewer_items counters (Bought id) = omega arith
-no_fewer_items counters (ItemSeen seller category name start closes highest bidder bids left) = omega arith
-no_fewer_items counters (BidsSeen bids) = omega arith
-no_fewer_items counters (CategorySeen items) = omega arith
-no_fewer_items counters (UserSeen rating comments) = omega arith
-no_fewer_items counters (Refused reason) = omega arith
-
 still_stored : (worker : ℕ) (counters : Counters) (reply : Reply) (hots slices : List (Object × Hot)) → objects_of slices ≡ objects_of hots → AreStored worker counters hots → AreStored worker (counted counters reply) slices
 still_stored worker counters reply hots slices same stored item hot own =
     let less = stored item (ap (λ objects. is_hot objects (Item item)) (sym same) ∙ hot) own in
-    let more = no_fewer_items counters reply in
-    omega (arith, less, more)
+    omega (arith, less, (counts_one counters reply).items)
 
 -- the stash has room for one less
 room_less : (hots slices : List (Object × Hot)) (left room : ℕ) → objects_of slices ≡ objects_of hots → HasStashRoom hots left room → HasStashRoom slices (left - 1) room
@@ -67,7 +53,7 @@ pub commit_keeps_split : (context new : ContextState) (hots slices : List (Objec
 commit_keeps_split context new hots slices number index request reply found acts is acted few room stored =
     let objects : objects_of slices ≡ objects_of hots = ap objects_of acted ∙ objects-acts hots acts in
     subst (λ (d : ContextState). AreFew d.counters.commits slices × HasStashRoom slices d.left d.stash.room × AreStored d.journal.worker d.counters slices) (sym is) (
-      subst (λ n. AreFew n slices) (sym (one_commit_more context.counters reply)) few,
+      subst (λ n. AreFew n slices) (sym (counts_one context.counters reply).commits) few,
       room_less hots slices context.left context.stash.room objects room,
       still_stored context.journal.worker context.counters reply hots slices objects stored,
     )

@@ -1,9 +1,10 @@
 -- What a split permit has beside its key, and what a commit with an empty footprint does to it.
-use Rattle.std.specs.Prelude.{◌≡◌, ℕ, ◌<◌, ◌≤◌, suc, true, List, [], ◌∷◌, None, ⊤}
+use Rattle.std.specs.Prelude.{◌≡◌, ℕ, ◌<◌, ◌≤◌, suc, true, List, [], ◌∷◌, Option, None, ⊤}
 use Rattle.auction_rows.specs.declared.ids.ItemId.{ItemId}
 use Rattle.auction_rows.specs.declared.ids.Object.{Object}
 use Rattle.auction_rows.specs.declared.ids.Object.TheVariants.{Item}
 use Rattle.auction_rows.specs.declared.replies.Reply.{Reply}
+use Rattle.auction_rows.specs.declared.requests.Facts.{Facts}
 use Rattle.auction_rows.specs.declared.requests.Request.{Request}
 use Rattle.auction_rows.specs.Book.{Book, items_stored, bids_stored, comments_stored, buys_stored}
 use Rattle.auction_rows.specs.Footprint.{is_hot}
@@ -56,9 +57,13 @@ pub record CountsOf (book : Book) (worker : ℕ) (counters : Counters) : Type 0 
   pub comments : comments_stored book worker ≡ counters.comments
   pub buys : buys_stored book worker ≡ counters.buys
 
--- the hot items have in the book the facts and the number left that the permit holds
+-- the hot items have in the book the facts and the number left that are fixed of them
+abbrev pub AreStocksIn : List (Object × Option (Facts × ℕ)) → Book → Type 0
+AreStocksIn stocks book = (item : ItemId) → is_hot (objects_of stocks) (Item item) ≡ true → stock_in book item ≡ stock_of stocks (Item item)
+
+-- so it is with those that the permit holds
 abbrev pub HasStocks : Book → List (Object × Hot) → Type 0
-HasStocks book hots = (item : ItemId) → is_hot (objects_of hots) (Item item) ≡ true → stock_in book item ≡ stock_of (stocks_of hots) (Item item)
+HasStocks book hots = AreStocksIn (stocks_of hots) book
 
 -- A commit with an empty footprint, of a store on hot objects alone or of a request that the opening refuses, however many shards
 -- there are: its reply is the answer by what is fixed and by the counters, and so the reply of every book in which the hot items

@@ -1,8 +1,8 @@
 //! What a worker has committed.
 ghost use Rattle.std.specs.Prelude.{◌≡◌, ◌<◌};
 
-use auction_rows::{MOST_OF_A_WORKER, StoreReply};
-use worker_journals::Answer;
+use auction_rows::{MOST_OF_A_WORKER, Reply, StoreReply};
+use worker_journals::{Answer, Told};
 
 /// How many items, bids, comments and purchases a worker has had accepted over the whole run, and how many
 /// requests it has committed: each at most 1,000,000.
@@ -26,7 +26,18 @@ impl Counters {
         requires limit { self.old.commits < MOST_OF_A_WORKER }
         ensures { self.new ≡ counted self.old reply.now }
     {
-        match reply.to_store() {
+        match reply.told {
+            Told::Store(reply) => self.count_store(reply),
+            Told::Whole(reply) => self.count_whole(reply),
+        }
+    }
+
+    fn count_whole(&mut self, reply: &Reply)
+        requires counted { AreCounted self.old }
+        requires limit { self.old.commits < MOST_OF_A_WORKER }
+        ensures { self.new ≡ counted self.old reply.now }
+    {
+        match StoreReply::of(reply) {
             Some(reply) => self.count_store(reply),
             None => self.commits += 1,
         }

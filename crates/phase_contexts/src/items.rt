@@ -5,7 +5,7 @@ use crate::context::Context;
 use crate::read_set::ReadSet;
 use crate::split::SplitContext;
 use auction_rows::{Facts, ItemEntry, ItemId, Object, Request, StoreReply};
-use worker_journals::Answer;
+use worker_journals::{Answer, Told};
 
 /// An item that is asked to be stored.
 #[derive(Clone, Copy)]
@@ -91,7 +91,9 @@ impl SplitContext {
         if let Some(place) = self.slices.place_of(Object::Category(item.facts.category)) {
             self.slices.list_item(place, item.entry(id));
         }
-        let reply = Answer::store(StoreReply::ItemStored(id));
+        let reply = Answer {
+            told: Told::Store(StoreReply::ItemStored(id)),
+        };
         self.context
             .commit(number, index, &item.request(), &reply, found);
         reply

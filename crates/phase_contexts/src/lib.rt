@@ -1,4 +1,5 @@
 //! What a worker has in a phase beside its key: its counters, its journal, its stash, and its slices of what is split.
+//! It tells what a request needs of these, and performs the stores on hot objects alone.
 #![tactic(auto)]
 
 mod bids;

@@ -46,6 +46,7 @@ impl Hot {
         requires { HasAtMost MOST_OF_A_WORKER self.old.slice }
         ensures { self.new ≡ record self.old { slice = comment_about stars self.old.slice } }
     {
+        // From -5 to 5, so that the rating fits.
         let _known = stars.value();
         if let Slice::User(slice) = &mut self.slice {
             slice.apply(stars);

@@ -13,7 +13,7 @@ use auction_rows::{
     is_splittable, number_refusal, touches,
 };
 use std::marker::Model;
-use worker_journals::{Answer, Journal};
+use worker_journals::{Answer, Journal, Told};
 
 /// A worker's context in a split phase, with its slices of the hot objects.
 #[derive(Drop)]
@@ -289,7 +289,9 @@ impl SplitContext {
         ensures stored { IfSome result (λ reply. HasStored self.old self.new request.now index reply) }
     {
         let number = self.context.next_number(0)?;
-        let reply = Answer::store(StoreReply::Refused(reason));
+        let reply = Answer {
+            told: Told::Store(StoreReply::Refused(reason)),
+        };
         self.context
             .commit(number, index, request, &reply, &ReadSet::nothing());
         Some(reply)
@@ -360,11 +362,15 @@ impl Context {
         ensures few { AreFew (self.now.counters.commits + 1) slices.new }
     {
         match self.refusal(&bid.request(), slices.stock_at(place)) {
-            Some(reason) => Answer::store(StoreReply::Refused(reason)),
+            Some(reason) => Answer {
+                told: Told::Store(StoreReply::Refused(reason)),
+            },
             None => {
                 let id = self.next_bid();
                 slices.bid(place, bid.entry(id));
-                Answer::store(StoreReply::BidStored(id))
+                Answer {
+                    told: Told::Store(StoreReply::BidStored(id)),
+                }
             }
         }
     }
@@ -388,12 +394,16 @@ impl Context {
         // Fewer commits than a worker may make.
         let _room = self.left;
         match refused {
-            Some(reason) => Answer::store(StoreReply::Refused(reason)),
+            Some(reason) => Answer {
+                told: Told::Store(StoreReply::Refused(reason)),
+            },
             None => {
                 // From -5 to 5.
                 let _known = comment.stars.value();
                 slices.comment(place, comment.stars);
-                Answer::store(StoreReply::CommentStored(self.next_comment()))
+                Answer {
+                    told: Told::Store(StoreReply::CommentStored(self.next_comment())),
+                }
             }
         }
     }

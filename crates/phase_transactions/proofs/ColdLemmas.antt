@@ -29,8 +29,9 @@ use Rattle.phase_transactions.specs.Performing.{HasFailed}
 use Rattle.phase_transactions.specs.Permits.{IsIdle, permit, done_at, HasCommitted}
 use Rattle.phase_transactions.specs.Single.{only_object, HasDone}
 use Rattle.phase_transactions.specs.Taking.{HasStayed}
-use Rattle.phase_transactions.proofs.FailLemmas.{not_memory, one_asked, two_asked, fails_over_one, fails_over_both}
-use Rattle.phase_transactions.proofs.PairLemmas.{cold_kept, cold_setting}
+use Rattle.phase_contexts.proofs.AnswerLemmas.{in_setting}
+use Rattle.phase_transactions.proofs.FailLemmas.{not_memory, one_asked, comment_asked, full_over_one, fails_over_both}
+use Rattle.phase_transactions.proofs.PairLemmas.{cold_kept}
 use Rattle.phase_transactions.proofs.SingleLemmas.{AreAbout, acts_about, not_put_off, done_commits}
 
 -- what is done to a cold object changes no slice
@@ -62,10 +63,6 @@ unwritten hots worker request object reply only cold =
     acts_kept hots object (looks_of None reply request ++ writes_if (row_of worker request reply)) cold (acts_about worker request None reply object only)
     ∙ looks_kept hots None reply request (writes_if (row_of worker request reply))
 
--- a key is left only where no shard is asked for
-pub touched : {A : Type 0} → (x : A) (xs ys : List A) (P : Type 0) → ys ≡ x ∷ xs → ys ≡ [] → P
-touched x xs ys P is none = absurd (cc)
-
 -- a request over the shard of one cold object
 module _ (opening : List ShardState) (split : SplitState) (key back : KeyState) (request : Request) (object : Object) (index : ℕ) (context : ContextState) (same : context ≡ split.context)
     (only : only_object request ≡ Some object) (allowed : number_refusal split.context.opening request ≡ None) (cold : is_hot (objects_of split.slices) object ≡ false) (idle : IsIdle key) where
@@ -73,16 +70,15 @@ module _ (opening : List ShardState) (split : SplitState) (key back : KeyState) 
       → new.context ≡ done_at split.context index request done → new.slices ≡ split.slices
       → HasCommitted opening (permit split key) (permit new back) request index done.reply
   cold_commits new done is committed sliced =
-      done_commits opening split new key back request object index done only allowed (cold_setting split.slices object cold) idle
+      done_commits opening split new key back request object index done only allowed (in_setting split.slices object cold) idle
       (subst (λ (d : ContextState). HasDone opening d key back request object index done) same is) committed
       (sliced ∙ unwritten split.slices split.context.journal.worker request object done.reply only cold)
 
   pub cold_fails : HasStayed opening context.clock key back (shard_of object (length opening)) (shard_of object (length opening)) NumberFull
       → HasFailed opening (permit split key) (permit split back) request NumberFull
   cold_fails stayed =
-      fails_over_one opening split key back request NumberFull (not_put_off (objects_of split.slices) request object only cold) not_memory (shard_of object (length opening))
-      (one_asked (length opening) split request object only allowed cold)
-      (subst (λ (d : ContextState). HasStayed opening d.clock key back (shard_of object (length opening)) (shard_of object (length opening)) NumberFull) same stayed)
+      full_over_one opening split key back request context same (not_put_off (objects_of split.slices) request object only cold) (shard_of object (length opening)) (shard_of object (length opening)) refl
+      (one_asked (length opening) split request object only allowed cold) stayed
 
 -- a comment over the shards of a cold item and a cold user
 module _ (opening : List ShardState) (split : SplitState) (key back : KeyState) (comment : Comment) (index : ℕ) (context : ContextState) (same : context ≡ split.context)
@@ -100,5 +96,5 @@ module _ (opening : List ShardState) (split : SplitState) (key back : KeyState) 
       → HasFailed opening (permit split key) (permit split back) (comment_request comment) NumberFull
   comment_cold_fails stayed =
       fails_over_both opening split key back (comment_request comment) NumberFull refl not_memory (shard_of (Item comment.item) (length opening)) (shard_of (User comment.about) (length opening))
-      (two_asked (length opening) split comment allowed item user)
+      (comment_asked (length opening) split comment false false allowed item user)
       (subst (λ (d : ContextState). HasStayed opening d.clock key back (shard_of (Item comment.item) (length opening)) (shard_of (User comment.about) (length opening)) NumberFull) same stayed)

@@ -1,21 +1,17 @@
 -- Transactions of a split phase that take one shard, or none, are commits.
-use Rattle.std.proofs.Common.{◌≡◌, ℕ, ◌≤◌, ◌==◌, ◌&&◌, not, Bool, true, false, cond, if◌then◌else◌, List, [], ◌∷◌, length, map, filter, Option, Some, None, MatchOption, option_map, inl, inr, refl, sym, ap, subst, ◌∙◌}
-use Rattle.std.specs.Prelude.{is_some, ◌↔◌, IsNone, IfSome}
+use Rattle.std.proofs.Common.{◌≡◌, ℕ, ◌==◌, ◌&&◌, not, Bool, true, false, cond, List, [], ◌∷◌, length, Option, Some, None, MatchOption, option_map, inl, inr, refl, sym, ap, subst, ◌∙◌}
+use Rattle.std.specs.Prelude.{is_some}
 use Rattle.std.proofs.lemmas.Bool.{eq-eqb}
-use Rattle.auction_rows.specs.declared.ids.ItemId.{ItemId}
-use Rattle.auction_rows.specs.declared.ids.Object.{Object}
 use Rattle.auction_rows.specs.declared.ids.Object.TheVariants.{Item, User}
 use Rattle.auction_rows.specs.declared.replies.Refusal.{Refusal}
 use Rattle.auction_rows.specs.declared.replies.Reply.{Reply}
 use Rattle.auction_rows.specs.declared.replies.Reply.TheVariants.{CommentStored, Refused}
 use Rattle.auction_rows.specs.declared.requests.Facts.{Facts}
 use Rattle.auction_rows.specs.declared.requests.Request.{Request}
-use Rattle.auction_rows.specs.declared.requests.Request.TheVariants.{StoreBid}
-use Rattle.auction_rows.specs.Footprint.{objects_of as objects_needed, is_hot, footprint}
+use Rattle.auction_rows.specs.Footprint.{is_hot}
 use Rattle.auction_rows.specs.Refusals.{number_refusal}
 use Rattle.auction_rows.specs.Replies.{row_of}
 use Rattle.auction_rows.specs.Requests.{shard_of}
-use Rattle.item_shards.specs.CommitNumbers.{last_number}
 use Rattle.item_shards.specs.declared.acts.Act.{Act}
 use Rattle.item_shards.specs.declared.acts.Act.TheVariants.{Look, Comment as CommentOn}
 use Rattle.item_shards.specs.declared.acts.Shown.TheVariants as shown
@@ -23,24 +19,20 @@ use Rattle.item_shards.specs.Writing.{writes_if, is_done_on, done_on, padded, ac
 use Rattle.shard_boxes.specs.Keys.{KeyState}
 use Rattle.shard_boxes.specs.States.{ShardState}
 use Rattle.phase_contexts.specs.declared.read_set.ReadSet.{ReadSet}
-use Rattle.phase_contexts.specs.declared.slices.Hot.{Hot}
 use Rattle.phase_contexts.specs.declared.bids.Comment.{Comment}
 use Rattle.phase_contexts.specs.Bids.{comment_request, IsCommentReplyBy}
 use Rattle.phase_contexts.specs.Txns.{Setting, Txn, hot_in, refusal_by, IsAnswered}
 use Rattle.phase_contexts.specs.Contexts.{ContextState, after_commit, with_one_less}
 use Rattle.phase_contexts.specs.Slicing.{objects_of, stocks_of, stock_of, after_acts}
-use Rattle.phase_contexts.specs.Splits.{SplitState, IsHot, HasStored, setting_of, nothing}
+use Rattle.phase_contexts.specs.Splits.{SplitState, IsHot, setting_of}
 use Rattle.phase_transactions.specs.declared.commit.Commit.{Commit}
-use Rattle.phase_transactions.specs.declared.fault.PermitFault.TheVariants.{NumberFull}
 use Rattle.phase_transactions.specs.Halves.{HasCommentedUser, HasLooked}
 use Rattle.phase_transactions.specs.Pairs.{IsCommentAnswer, comment_look}
-use Rattle.phase_transactions.specs.Performing.{HasFailed, entry_asked, shards_asked}
 use Rattle.phase_transactions.specs.Permits.{PermitState, IsIdle, permit, done_at, HasCommitted, txn_of}
-use Rattle.phase_transactions.specs.Taking.{HasStayed}
+use Rattle.phase_contexts.proofs.AnswerLemmas.{in_setting}
 use Rattle.phase_transactions.proofs.CommitLemmas.{over_its_shard}
-use Rattle.phase_transactions.proofs.Hots.{stored_commits, had_number, hot_in_setting, bid_hot_commits}
-use Rattle.phase_transactions.proofs.FailLemmas.{fails_over_one, not_memory}
-use Rattle.phase_transactions.proofs.PairLemmas.{its, Writes, written, replied, cold_acts, cold_written, cold_setting}
+use Rattle.phase_transactions.proofs.FailLemmas.{comment_asked}
+use Rattle.phase_transactions.proofs.PairLemmas.{its, Writes, written, replied, cold_acts, cold_written}
 
 -- a commit with a reply is one with any equal to it
 pub as_told : (opening : List ShardState) (old new : PermitState) (request : Request) (index : ℕ) (reply told : Reply) → told ≡ reply
@@ -61,15 +53,6 @@ module _ (shards : ℕ) (split : SplitState) (comment : Comment) (reply : Reply)
 
   abbrev pub its_writes : List Act
   its_writes = writes_if (row_of split.context.journal.worker (comment_request comment) reply)
-
-  abbrev pub taken_of : Bool → Bool → List Object
-  taken_of item user = cond (not item) (Item comment.item ∷ cond (not user) (User comment.about ∷ []) []) (cond (not user) (User comment.about ∷ []) [])
-
-  pub comment_prints : (item user : Bool) → is_hot (hot_in its_setting) (Item comment.item) ≡ item → is_hot (hot_in its_setting) (User comment.about) ≡ user
-      → footprint its_setting.opening shards (hot_in its_setting) its_txn.0 ≡ map (λ object. shard_of object shards) (taken_of item user)
-  comment_prints item user item_is user_is =
-      ap (λ refused. map (λ object. shard_of object shards) (if is_some refused then [] else filter (λ object. not (is_hot (hot_in its_setting) object)) (Item comment.item ∷ User comment.about ∷ []))) allowed
-      ∙ (λ i. map (λ object. shard_of object shards) (taken_of (item_is i) (user_is i)))
 
   owed_if : (t : ℕ) → acts_owed its_setting.opening t shards (hot_in its_setting) found.stock its_txn.0 ≡ padded (done_on t shards (hot_in its_setting) (its_look ∷ its_writes))
   owed_if t = ap (λ refused. padded (done_on t shards (hot_in its_setting) (cond (is_some refused) [] (its_look ∷ its_writes)))) allowed
@@ -157,8 +140,8 @@ module _ (opening : List ShardState) (split : SplitState) (key back : KeyState) 
       let shards = length opening in
       let stock = stock_of (stocks_of split.slices) (Item comment.item) in
       let its = subst (λ (d : ContextState). HasCommentedUser opening d key back comment stock index done) same over in
-      let item = hot_in_setting split.slices (Item comment.item) hot_item in
-      let user = cold_setting split.slices (User comment.about) cold_user in
+      let item = in_setting split.slices (Item comment.item) hot_item in
+      let user = in_setting split.slices (User comment.about) cold_user in
       over_its_shard opening split new key back (comment_request comment) index done.reply done.number done.found committed
       (sliced ∙ cold_acts split.slices comment.about comment.stars (writes_if (row_of split.context.journal.worker (comment_request comment) done.reply)) cold_user
       (cold_written split.context comment stock done.reply its.act (written split.context comment stock done.reply its.act (refusal_by split.context.opening stock (comment_request comment)) its.answer)))
@@ -167,17 +150,7 @@ module _ (opening : List ShardState) (split : SplitState) (key back : KeyState) 
       for_user (its.act ∷ Look shown.Nothing ∷ []) its.over
       (user_owed shards split comment done.reply done.number index done.found allowed stock its.act its.answer item user)
       idle
-      (comment_prints shards split comment done.reply done.number index done.found allowed true false item user)
-
-  pub user_asked : shards_asked (length opening) split (comment_request comment) ≡ for_user ∷ []
-  user_asked =
-      comment_prints (length opening) split comment (entry_asked split (comment_request comment)).reply 0 0 nothing allowed true false
-      (hot_in_setting split.slices (Item comment.item) hot_item) (cold_setting split.slices (User comment.about) cold_user)
-
-  pub user_fails : (n : ℕ) → n ≡ for_user → HasStayed opening context.clock key back n n NumberFull → HasFailed opening (permit split key) (permit split back) (comment_request comment) NumberFull
-  user_fails n is stayed =
-      fails_over_one opening split key back (comment_request comment) NumberFull refl not_memory for_user user_asked
-      (subst (λ (m : ℕ). HasStayed opening split.context.clock key back m m NumberFull) is (subst (λ (d : ContextState). HasStayed opening d.clock key back n n NumberFull) same stayed))
+      (comment_asked shards split comment true false allowed hot_item cold_user)
 
 -- and on a cold item about a hot user
 module _ (opening : List ShardState) (split : SplitState) (key back : KeyState) (comment : Comment) (index : ℕ) (context : ContextState) (same : context ≡ split.context)
@@ -195,8 +168,8 @@ module _ (opening : List ShardState) (split : SplitState) (key back : KeyState) 
   item_commits new number found reply looked answer committed sliced idle =
       let shards = length opening in
       let stored = CommentStored (record { worker = split.context.journal.worker; serial = split.context.counters.comments }) in
-      let item = cold_setting split.slices (Item comment.item) cold_item in
-      let user = hot_in_setting split.slices (User comment.about) hot_user in
+      let item = in_setting split.slices (Item comment.item) cold_item in
+      let user = in_setting split.slices (User comment.about) hot_user in
       let acted = act_by (refusal_by split.context.opening found.stock (comment_request comment)) reply stored (CommentOn comment.about comment.stars) answer in
       over_its_shard opening split new key back (comment_request comment) index reply number found committed sliced
       (answered_by shards split comment reply number index found allowed false item answer)
@@ -204,33 +177,4 @@ module _ (opening : List ShardState) (split : SplitState) (key back : KeyState) 
       (subst (λ (d : ContextState). HasLooked opening d key back comment index number found) same looked)
       (item_owed shards split comment reply number index found allowed item user found.stock acted.0 acted.1)
       idle
-      (comment_prints shards split comment reply number index found allowed false true item user)
-
-  pub item_asked : shards_asked (length opening) split (comment_request comment) ≡ for_item ∷ []
-  item_asked =
-      comment_prints (length opening) split comment (entry_asked split (comment_request comment)).reply 0 0 nothing allowed false true
-      (cold_setting split.slices (Item comment.item) cold_item) (hot_in_setting split.slices (User comment.about) hot_user)
-
-  pub item_fails : (n : ℕ) → n ≡ for_item → HasStayed opening context.clock key back n n NumberFull → HasFailed opening (permit split key) (permit split back) (comment_request comment) NumberFull
-  item_fails n is stayed =
-      fails_over_one opening split key back (comment_request comment) NumberFull refl not_memory for_item item_asked
-      (subst (λ (m : ℕ). HasStayed opening split.context.clock key back m m NumberFull) is (subst (λ (d : ContextState). HasStayed opening d.clock key back n n NumberFull) same stayed))
-
--- stores on hot objects alone
-pub bid_commits : (opening : List ShardState) (split new : SplitState) (key : KeyState) (request : Request) (bidder : ℕ) (item : ItemId) (amount time index : ℕ) (result : Option Reply)
-    → request ≡ StoreBid bidder item amount time → is_hot (objects_of split.slices) (Item item) ≡ true → IsIdle key → (IsNone result ↔ (last_number ≤ split.context.clock))
-    → IfSome result (λ reply. HasStored split new (StoreBid bidder item amount time) index reply)
-    → IfSome result (λ reply. HasCommitted opening (permit split key) (permit new key) request index reply)
-bid_commits opening split new key request bidder item amount time index result is hot idle none stored =
-    subst (λ (r : Request). IfSome result (λ reply. HasCommitted opening (permit split key) (permit new key) r index reply)) (sym is)
-    (bid_hot_commits opening split new key bidder item amount time index hot result idle none stored)
-
-pub refused_commits : (opening : List ShardState) (split new : SplitState) (key : KeyState) (request : Request) (reason : Refusal) (index : ℕ) (result : Option Reply)
-    → number_refusal split.context.opening request ≡ Some reason → IsIdle key → (IsNone result ↔ (last_number ≤ split.context.clock))
-    → IfSome result (λ reply. HasStored split new request index reply)
-    → IfSome result (λ reply. HasCommitted opening (permit split key) (permit new key) request index reply)
-refused_commits opening split new key request reason index None refused idle none stored = stored
-refused_commits opening split new key request reason index (Some reply) refused idle none stored =
-    stored_commits opening split new key request index reply stored
-    (ap (λ why. cond (is_some why) [] (filter (λ object. not (is_hot (objects_of (stocks_of split.slices)) object)) (objects_needed request reply))) refused)
-    (had_number split.context.clock reply none) idle
+      (comment_asked shards split comment false true allowed cold_item hot_user)

@@ -6,11 +6,12 @@ use Rattle.std.proofs.lemmas.Bool.{true≢false}
 use Rattle.std.specs.List.{AllByRecursion, list_any}
 use Rattle.auction_rows.specs.declared.ids.Object.{Object}
 use Rattle.auction_rows.specs.declared.ids.Object.TheVariants.{Item, User, Category}
+use Rattle.auction_rows.specs.declared.replies.Refusal.{Refusal}
 use Rattle.auction_rows.specs.declared.replies.Reply.{Reply}
 use Rattle.auction_rows.specs.declared.ids.ItemId.{ItemId}
 use Rattle.auction_rows.specs.declared.requests.Request.{Request}
 use Rattle.auction_rows.specs.declared.requests.Request.TheVariants.{StoreBid, StoreComment}
-use Rattle.auction_rows.specs.Footprint.{is_hot, objects_taken, footprint}
+use Rattle.auction_rows.specs.Footprint.{objects_of as objects_needed, is_hot, objects_taken, footprint}
 use Rattle.auction_rows.specs.Refusals.{number_refusal}
 use Rattle.auction_rows.specs.Requests.{shard_of, same_object}
 use Rattle.item_shards.specs.declared.acts.Act.{Act}
@@ -28,8 +29,8 @@ use Rattle.phase_contexts.specs.Txns.{Setting, hot_in, takes, line_on, greatest_
 use Rattle.phase_contexts.specs.Contexts.{ContextState}
 use Rattle.phase_contexts.specs.Splits.{SplitState, HasStored, IsHot, setting_of, hot_txn, nothing}
 use Rattle.phase_contexts.specs.Works.{Work, IsWorkOf, with_txn}
-use Rattle.phase_transactions.specs.Permits.{PermitState, first_of, txn_of, work_of, IsIdle, IsExplained, HasCommitted}
-use Rattle.phase_contexts.proofs.AnswerLemmas.{same_objects_of}
+use Rattle.phase_transactions.specs.Permits.{PermitState, permit, first_of, txn_of, work_of, IsIdle, IsExplained, HasCommitted}
+use Rattle.phase_contexts.proofs.AnswerLemmas.{in_setting}
 use Rattle.phase_contexts.proofs.Keeping.{commit_keeps}
 use Rattle.phase_transactions.proofs.CommitLemmas.{commits}
 use Rattle.phase_transactions.proofs.KeyLemmas.{none_put}
@@ -101,7 +102,7 @@ commit_explained opening old new request index answer done is =
     }
 
 -- an entry that takes no objects is such a commit, whatever the key
-pub stored_commits : (opening : List ShardState) (split new : SplitState) (key : KeyState) (request : Request) (index : ℕ) (answer : Reply) → HasStored split new request index answer
+stored_commits : (opening : List ShardState) (split new : SplitState) (key : KeyState) (request : Request) (index : ℕ) (answer : Reply) → HasStored split new request index answer
     → objects_taken split.context.opening (objects_of (stocks_of split.slices)) (hot_txn split request index answer).0 ≡ []
     → split.context.clock < last_number → IsIdle key
     → HasCommitted opening (record { split = split; key = key }) (record { split = new; key = key }) request index answer
@@ -115,56 +116,40 @@ stored_commits opening split new key request index answer stored none more idle 
     (no_greater split.context.clock (greatest_clock z txn) (ap (greatest_by (λ shard. clock_found shard txn)) nowhere)) more
 
 -- a worker that had a number was not at the end of them
-pub had_number : (clock : ℕ) (reply : Reply) → IsNone (Some reply) ↔ (last_number ≤ clock) → clock < last_number
+had_number : (clock : ℕ) (reply : Reply) → IsNone (Some reply) ↔ (last_number ≤ clock) → clock < last_number
 had_number clock reply none = lt_of_not-le (λ full. true≢false (none.1 full))
 
 -- so it is with a bid, and with a comment
-pub hot_in_setting : (hots : List (Object × Hot)) (object : Object) → is_hot (objects_of hots) object ≡ true → is_hot (objects_of (stocks_of hots)) object ≡ true
-hot_in_setting hots object hot = ap (λ objects. is_hot objects object) (same_objects_of hots) ∙ hot
-
-pub bid_takes_none : (split : SplitState) (bidder : ℕ) (item : ItemId) (amount time index : ℕ) (answer : Reply) → IsHot split (Item item)
+pub bid_takes_none : (split : SplitState) (bidder : ℕ) (item : ItemId) (amount time index : ℕ) → IsHot split (Item item) → (answer : Reply)
     → objects_taken split.context.opening (objects_of (stocks_of split.slices)) (hot_txn split (StoreBid bidder item amount time) index answer).0 ≡ []
-bid_takes_none split bidder item amount time index answer hot =
+bid_takes_none split bidder item amount time index hot answer =
     let objects = objects_of (stocks_of split.slices) in
     none_if (is_some (number_refusal split.context.opening (StoreBid bidder item amount time))) (filter (λ object. not (is_hot objects object)) (Item item ∷ []))
-    (none_cold objects (Item item ∷ []) (hot_in_setting split.slices (Item item) hot, tt))
+    (none_cold objects (Item item ∷ []) (in_setting split.slices (Item item) hot, tt))
 
-pub comment_takes_none : (split : SplitState) (author about : ℕ) (item : ItemId) (stars : ℤ) (index : ℕ) (answer : Reply) → IsHot split (Item item) → IsHot split (User about)
+pub comment_takes_none : (split : SplitState) (author about : ℕ) (item : ItemId) (stars : ℤ) (index : ℕ) → IsHot split (Item item) → IsHot split (User about) → (answer : Reply)
     → objects_taken split.context.opening (objects_of (stocks_of split.slices)) (hot_txn split (StoreComment author about item stars) index answer).0 ≡ []
-comment_takes_none split author about item stars index answer hot user =
+comment_takes_none split author about item stars index hot user answer =
     let objects = objects_of (stocks_of split.slices) in
     none_if (is_some (number_refusal split.context.opening (StoreComment author about item stars))) (filter (λ object. not (is_hot objects object)) (Item item ∷ User about ∷ []))
-    (none_cold objects (Item item ∷ User about ∷ []) (hot_in_setting split.slices (Item item) hot, (hot_in_setting split.slices (User about) user, tt)))
+    (none_cold objects (Item item ∷ User about ∷ []) (in_setting split.slices (Item item) hot, (in_setting split.slices (User about) user, tt)))
 
-module _ (opening : List ShardState) (split new : SplitState) (key : KeyState) (bidder : ℕ) (item : ItemId) (amount time index : ℕ) (hot : IsHot split (Item item)) where
-  pub bid_hot_commits : (result : Option Reply) → IsIdle key → (IsNone result ↔ (last_number ≤ split.context.clock))
-      → IfSome result (λ answer. HasStored split new (StoreBid bidder item amount time) index answer)
-      → IfSome result (λ answer. HasCommitted opening (record { split = split; key = key }) (record { split = new; key = key }) (StoreBid bidder item amount time) index answer)
-  bid_hot_commits None idle none stored = stored
-  bid_hot_commits (Some answer) idle none stored =
-      stored_commits opening split new key (StoreBid bidder item amount time) index answer stored (bid_takes_none split bidder item amount time index answer hot)
-      (had_number split.context.clock answer none) idle
+-- so it is with a request that the opening refuses
+pub refused_takes_none : (split : SplitState) (request : Request) (reason : Refusal) (index : ℕ) → number_refusal split.context.opening request ≡ Some reason → (answer : Reply)
+    → objects_taken split.context.opening (objects_of (stocks_of split.slices)) (hot_txn split request index answer).0 ≡ []
+refused_takes_none split request reason index refused answer =
+    ap (λ why. cond (is_some why) [] (filter (λ object. not (is_hot (objects_of (stocks_of split.slices)) object)) (objects_needed request answer))) refused
 
-  pub bid_keeps : (result : Option Reply) → (IsNone result ↔ (last_number ≤ split.context.clock)) → IfNone result (new ≡ split)
-      → IfSome result (λ answer. HasStored split new (StoreBid bidder item amount time) index answer) → IsExplained (length opening) split key → IsExplained (length opening) new key
-  bid_keeps None none unchanged stored is = subst (λ (s : SplitState). IsExplained (length opening) s key) (sym unchanged) is
-  bid_keeps (Some answer) none unchanged stored is =
-      commit_explained opening (record { split = split; key = key }) (record { split = new; key = key }) (StoreBid bidder item amount time) index answer
-      (bid_hot_commits (Some answer) is.idle none stored) is
+-- what takes no objects is a commit, and keeps a permit explained
+module _ (opening : List ShardState) (split new : SplitState) (key : KeyState) (request : Request) (index : ℕ)
+    (free : (answer : Reply) → objects_taken split.context.opening (objects_of (stocks_of split.slices)) (hot_txn split request index answer).0 ≡ []) where
+  pub free_commits : (result : Option Reply) → IsIdle key → (IsNone result ↔ (last_number ≤ split.context.clock)) → IfSome result (λ answer. HasStored split new request index answer)
+      → IfSome result (λ answer. HasCommitted opening (permit split key) (permit new key) request index answer)
+  free_commits None idle none stored = stored
+  free_commits (Some answer) idle none stored = stored_commits opening split new key request index answer stored (free answer) (had_number split.context.clock answer none) idle
 
-module _ (opening : List ShardState) (split new : SplitState) (key : KeyState) (author about : ℕ) (item : ItemId) (stars : ℤ) (index : ℕ)
-    (hot : IsHot split (Item item)) (user : IsHot split (User about)) where
-  pub comment_hot_commits : (result : Option Reply) → IsIdle key → (IsNone result ↔ (last_number ≤ split.context.clock))
-      → IfSome result (λ answer. HasStored split new (StoreComment author about item stars) index answer)
-      → IfSome result (λ answer. HasCommitted opening (record { split = split; key = key }) (record { split = new; key = key }) (StoreComment author about item stars) index answer)
-  comment_hot_commits None idle none stored = stored
-  comment_hot_commits (Some answer) idle none stored =
-      stored_commits opening split new key (StoreComment author about item stars) index answer stored (comment_takes_none split author about item stars index answer hot user)
-      (had_number split.context.clock answer none) idle
-
-  pub comment_keeps : (result : Option Reply) → (IsNone result ↔ (last_number ≤ split.context.clock)) → IfNone result (new ≡ split)
-      → IfSome result (λ answer. HasStored split new (StoreComment author about item stars) index answer) → IsExplained (length opening) split key → IsExplained (length opening) new key
-  comment_keeps None none unchanged stored is = subst (λ (s : SplitState). IsExplained (length opening) s key) (sym unchanged) is
-  comment_keeps (Some answer) none unchanged stored is =
-      commit_explained opening (record { split = split; key = key }) (record { split = new; key = key }) (StoreComment author about item stars) index answer
-      (comment_hot_commits (Some answer) is.idle none stored) is
+  pub free_keeps : (result : Option Reply) → (IsNone result ↔ (last_number ≤ split.context.clock)) → IfNone result (new ≡ split) → IfSome result (λ answer. HasStored split new request index answer)
+      → IsExplained (length opening) split key → IsExplained (length opening) new key
+  free_keeps None none unchanged stored is = subst (λ (s : SplitState). IsExplained (length opening) s key) (sym unchanged) is
+  free_keeps (Some answer) none unchanged stored is =
+      commit_explained opening (permit split key) (permit new key) request index answer (free_commits (Some answer) is.idle none stored) is

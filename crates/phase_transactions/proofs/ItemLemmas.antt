@@ -35,9 +35,8 @@ use Rattle.phase_contexts.specs.declared.slices.Hot.{Hot}
 use Rattle.phase_contexts.specs.Txns.{Setting, Txn, hot_in, takes, line_on, greatest_clock, clock_found, IsAnswered}
 use Rattle.phase_contexts.specs.Contexts.{ContextState, after_commit, with_one_less}
 use Rattle.phase_contexts.specs.Items.{item_request, next_item, listed_as}
-use Rattle.phase_contexts.specs.Slicing.{objects_of, stocks_of, after_acts, item_listed}
+use Rattle.phase_contexts.specs.Slicing.{objects_of, after_acts, item_listed}
 use Rattle.phase_contexts.specs.Splits.{SplitState, IsHot, setting_of}
-use Rattle.phase_contexts.proofs.AnswerLemmas.{same_objects_of}
 use Rattle.phase_contexts.proofs.ItemLemmas.{item_writes}
 use Rattle.phase_transactions.specs.declared.fault.PermitFault.{PermitFault}
 use Rattle.phase_transactions.specs.Items.{adds, lists, nothing_else, CanAlwaysDo, HasStoredCold, HasFailedCold}
@@ -46,6 +45,7 @@ use Rattle.phase_transactions.specs.Performing.{HasFailed, shards_asked}
 use Rattle.phase_transactions.specs.Permits.{permit, done_at, txn_of, HasCommitted, IsIdle}
 use Rattle.phase_transactions.specs.Putting.{CanDo, IsOverOne}
 use Rattle.phase_transactions.specs.Taking.{HasStayed}
+use Rattle.phase_contexts.proofs.AnswerLemmas.{in_setting}
 use Rattle.phase_transactions.proofs.CommitLemmas.{found_by, over_one_commits, over_both_commit}
 use Rattle.phase_transactions.proofs.FailLemmas.{fails_over_one, fails_over_both}
 use Rattle.phase_transactions.proofs.PairLemmas.{on_shard, cold_kept}
@@ -207,16 +207,13 @@ pub cold_stay : (slices : List (Object × Hot)) (context : ContextState) (item :
 cold_stay slices context item cold =
     sym (cold_kept slices (Category item.facts.category) (item_listed (listed_as item (next_item context))) cold) ∙ ap (after_acts slices) (sym (item_writes context item))
 
-hot_as : (slices : List (Object × Hot)) (object : Object) (b : Bool) → is_hot (objects_of slices) object ≡ b → is_hot (objects_of (stocks_of slices)) object ≡ b
-hot_as slices object b is = ap (λ objects. is_hot objects object) (same_objects_of slices) ∙ is
-
 pub item_fails : (opening : List ShardState) (split : SplitState) (key back : KeyState) (item : NewItem) (hot : Bool) (fault : PermitFault)
     → number_refusal split.context.opening (item_request item) ≡ None
     → is_hot (objects_of split.slices) (Item (next_item split.context)) ≡ false → is_hot (objects_of split.slices) (Category item.facts.category) ≡ hot
     → HasStayed opening split.context.clock key back (shard_of (Item (next_item split.context)) (length opening)) (shard_of (if hot then Item (next_item split.context) else Category item.facts.category) (length opening)) fault
     → HasFailed opening (permit split key) (permit split back) (item_request item) fault
 item_fails opening split key back item hot fault allowed cold_item category_is =
-    go hot (shards_are opening split item hot allowed (hot_as split.slices (Item (next_item split.context)) false cold_item) (hot_as split.slices (Category item.facts.category) hot category_is))
+    go hot (shards_are opening split item hot allowed (in_setting split.slices (Item (next_item split.context)) cold_item) (in_setting split.slices (Category item.facts.category) category_is))
   where
     go : (h : Bool) → shards_asked (length opening) split (item_request item)
         ≡ shard_of (Item (next_item split.context)) (length opening) ∷ cond (not h) (shard_of (Category item.facts.category) (length opening) ∷ []) []
@@ -245,7 +242,7 @@ hot_stored opening split new key back item id own s index number found reply all
     let home_is : s ≡ shard_of (Item mine) (length opening) = home ∙ ap (λ (i : ItemId). shard_of (Item i) (length opening)) id_is in
     subst (λ (r : Reply). HasCommitted opening (permit split key) (permit new back) (item_request item) index r) (sym reply_is)
     (one_commits opening split item true allowed
-    (hot_as split.slices (Item mine) false (subst (λ (i : ItemId). is_hot (objects_of split.slices) (Item i) ≡ false) id_is cold)) (hot_as split.slices (Category item.facts.category) true hot)
+    (in_setting split.slices (Item mine) (subst (λ (i : ItemId). is_hot (objects_of split.slices) (Item i) ≡ false) id_is cold)) (in_setting split.slices (Category item.facts.category) hot)
     new key back index number found
     (committed ∙ ap (λ r. with_one_less (after_commit split.context number index (item_request item) r found)) reply_is)
     (sliced ∙ ap (λ r. after_acts split.slices (writes_if (row_of split.context.journal.worker (item_request item) r))) reply_is)
@@ -282,7 +279,7 @@ module _ (opening : List ShardState) (context : ContextState) (key back : KeySta
   cold_stored_one s number found reply reply_is home_is listed_is idle over =
       let together : listed_in ≡ home_of = sym listed_is ∙ home_is in
       stored_as number found reply reply_is (λ slices cold.
-      one_commits opening (with_slices slices context) item false allowed (hot_as slices (Item mine) false cold.item_is) (hot_as slices (Category item.facts.category) false cold.category_is)
+      one_commits opening (with_slices slices context) item false allowed (in_setting slices (Item mine) cold.item_is) (in_setting slices (Category item.facts.category) cold.category_is)
       (after number found slices) key back index number found refl (cold_stay slices context item cold.category_is) (lists item mine)
       (over_one_as opening context.clock context.clock key back s home_of number index found (adds item id ∷ lists item id ∷ []) (adds item mine ∷ lists item mine ∷ []) refl home_is (λ i. adds item (id_is i) ∷ lists item (id_is i) ∷ []) over)
       (λ t is. ap (λ n. n == t) together ∙ is) (ap (on_shard (adds item mine) (lists item mine) true) (eq-eqb listed_in home_of together)) idle)
@@ -292,7 +289,7 @@ module _ (opening : List ShardState) (context : ContextState) (key back : KeySta
       → HasStoredCold opening context key back item index (record { number = number; reply = reply; found = found })
   cold_stored_two one other number found reply reply_is home_is listed_is apart over =
       stored_as number found reply reply_is (λ slices cold.
-      two_commit opening (with_slices slices context) item false allowed (hot_as slices (Item mine) false cold.item_is) (hot_as slices (Category item.facts.category) false cold.category_is)
+      two_commit opening (with_slices slices context) item false allowed (in_setting slices (Item mine) cold.item_is) (in_setting slices (Category item.facts.category) cold.category_is)
       (after number found slices) key back index number found refl (cold_stay slices context item cold.category_is) refl (λ e. apart (home_is ∙ e ∙ sym listed_is))
       (over_both_as opening context.clock context.clock key back one home_of other listed_in number index found (adds item id ∷ nothing_else ∷ []) (adds item mine ∷ nothing_else ∷ []) (lists item id ∷ nothing_else ∷ []) (lists item mine ∷ nothing_else ∷ [])
       refl home_is listed_is (λ i. adds item (id_is i) ∷ nothing_else ∷ []) (λ i. lists item (id_is i) ∷ nothing_else ∷ []) over))

@@ -28,7 +28,6 @@ use Rattle.phase_contexts.specs.declared.bids.Comment.{Comment}
 use Rattle.phase_contexts.specs.Bids.{comment_request}
 use Rattle.item_shards.specs.declared.slices.Slice.{Slice}
 use Rattle.auction_rows.specs.declared.ids.Object.{Object}
-use Rattle.phase_contexts.proofs.AnswerLemmas.{same_objects_of}
 use Rattle.auction_rows.specs.Requests.{same_object}
 use Rattle.auction_rows.proofs.RequestLemmas.{same_either_way}
 use Rattle.phase_contexts.specs.declared.slices.Hot.{Hot}
@@ -40,7 +39,10 @@ use Rattle.phase_transactions.specs.declared.commit.Commit.{Commit}
 use Rattle.phase_transactions.specs.Pairs.{IsAsTaken, IsCommentAnswer, comment_look, HasCommented, HasCommentedInOne, HasCommentedCold}
 use Rattle.phase_transactions.specs.Permits.{txn_of, done_at, IsIdle}
 use Rattle.phase_transactions.specs.Single.{HaveOpening}
+use Rattle.phase_transactions.specs.Taking.{HasTaken, IsNext}
+use Rattle.phase_contexts.proofs.AnswerLemmas.{in_setting}
 use Rattle.phase_transactions.proofs.SingleLemmas.{lies_taken}
+use Rattle.phase_transactions.proofs.TakeLemmas.{held_for}
 use Rattle.phase_transactions.proofs.CommitLemmas.{over_one_commits, over_both_commit}
 use Rattle.std.specs.Prelude.{nat_le}
 use Rattle.auction_rows.specs.declared.numbers.Opening.{Opening}
@@ -187,6 +189,14 @@ can_comment opening workers key held context comment stock number reply act take
     let fits = (two_fit (state_of shard) (CommentOn comment.about comment.stars) (Look shown.Nothing) taken.within (omega (arith, later, within)) given tt).0 in
     can_act shard comment.about comment.stars (refusal_by context.opening stock (comment_request comment)) reply _ act lies known fits answer
 
+-- so it is where that shard alone was taken
+module _ {opening : List ShardState} {workers own shard before number : ℕ} {old key : KeyState} {held : HeldState} where
+  pub can_comment_next : (context : ContextState) (comment : Comment) (stock : Option (Facts × ℕ)) (answer : Reply × Act) → HasTaken opening workers old key shard held → IsNext own held.shard before number
+      → shard ≡ shard_of (User comment.about) (length opening) → HaveOpening opening context.opening → number_refusal context.opening (comment_request comment) ≡ None → AreStars comment.stars
+      → IsCommentAnswer context stock comment answer.0 answer.1 → CanAct held.shard answer.1
+  can_comment_next context comment stock answer took next user openings allowed given answered =
+      can_comment opening workers key held context comment stock number answer.0 answer.1 took.history (took.number ∙ user) openings allowed (held_for took next).later next.within given answered
+
 -- what is written of a cold object changes no slice
 
 pub cold_kept : (hots : List (Object × Hot)) (object : Object) (change : Slice → Slice) → is_hot (objects_of hots) object ≡ false → changed object change hots ≡ hots
@@ -204,9 +214,6 @@ pub cold_written : (context : ContextState) (comment : Comment) (stock : Option 
     → (writes_if (row_of context.journal.worker (comment_request comment) reply) ≡ []) ⊎ (writes_if (row_of context.journal.worker (comment_request comment) reply) ≡ CommentOn comment.about comment.stars ∷ [])
 cold_written context comment stock reply act (inl h) = inl h.0
 cold_written context comment stock reply act (inr h) = inr h.0
-
-pub cold_setting : (hots : List (Object × Hot)) (object : Object) → is_hot (objects_of hots) object ≡ false → is_hot (objects_of (Rattle.phase_contexts.specs.Slicing.stocks_of hots)) object ≡ false
-cold_setting hots object cold = ap (λ objects. is_hot objects object) (same_objects_of hots) ∙ cold
 
 or_same : (b : Bool) → (b || (b || false)) ≡ b
 or_same true = refl
@@ -242,8 +249,8 @@ module _ (opening : List ShardState) (context : ContextState) (key back : KeySta
       let shards = length opening in
       let split : SplitState = record { context = context; slices = slices } in
       let new : SplitState = record { context = done_at context index (comment_request comment) done; slices = slices } in
-      let cold_item = cold_setting slices (Item comment.item) item in
-      let cold_user = cold_setting slices (User comment.about) user in
+      let cold_item = in_setting slices (Item comment.item) item in
+      let cold_user = in_setting slices (User comment.about) user in
       let turned = ne_eqb its_user its_item (λ e. is.apart (sym e)) in
       over_both_commit opening split new key back (comment_request comment) index done.reply done.number done.found refl (unwritten slices is.act user is.answer)
       (comment_answered shards split comment done.found index done.number done.reply is.act allowed cold_item cold_user is.answer)
@@ -259,8 +266,8 @@ module _ (opening : List ShardState) (context : ContextState) (key back : KeySta
       let shards = length opening in
       let split : SplitState = record { context = context; slices = slices } in
       let new : SplitState = record { context = done_at context index (comment_request comment) done; slices = slices } in
-      let cold_item = cold_setting slices (Item comment.item) item in
-      let cold_user = cold_setting slices (User comment.about) user in
+      let cold_item = in_setting slices (Item comment.item) item in
+      let cold_user = in_setting slices (User comment.about) user in
       let txn = txn_of split done.number (comment_request comment) index done.reply done.found in
       over_one_commits opening split new key back (comment_request comment) index done.reply done.number done.found refl (unwritten slices is.act user is.answer)
       (comment_answered shards split comment done.found index done.number done.reply is.act allowed cold_item cold_user is.answer)

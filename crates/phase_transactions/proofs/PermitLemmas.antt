@@ -1,36 +1,18 @@
 -- What a split permit does with a request leaves it explained.
-use Rattle.std.proofs.Common.{◌≡◌, ℕ, ◌+◌, not, is_some, false, cond, List, [], ◌∷◌, map, filter, None, refl, sym, ap, subst, ◌∙◌}
-use Rattle.auction_rows.specs.declared.ids.Object.TheVariants.{Item, Category}
+use Rattle.std.proofs.Common.{◌≡◌, ℕ, ◌+◌, not, false, List, [], ◌∷◌, refl, sym, subst, ◌∙◌}
 use Rattle.auction_rows.specs.declared.requests.Request.{Request}
 use Rattle.auction_rows.specs.declared.requests.Request.TheVariants.{StoreItem, StoreBid, StoreComment, BuyNow, ViewItem, ViewBids, ViewCategory, ViewUser}
-use Rattle.auction_rows.specs.Footprint.{is_hot}
-use Rattle.auction_rows.specs.Refusals.{number_refusal}
-use Rattle.auction_rows.specs.Requests.{shard_of}
 use Rattle.item_shards.specs.declared.acts.Act.{Act}
 use Rattle.item_shards.specs.declared.acts.Act.TheVariants.{AddItem, ListItem, Bid, Comment, Buy, Look}
 use Rattle.shard_boxes.specs.Keys.{KeyState}
 use Rattle.shard_boxes.specs.States.{ShardState}
-use Rattle.phase_contexts.specs.declared.items.NewItem.{NewItem}
-use Rattle.phase_contexts.specs.Txns.{hot_in, is_put_off}
-use Rattle.phase_contexts.specs.Items.{item_request, next_item}
-use Rattle.phase_contexts.specs.Slicing.{objects_of, after_acts}
+use Rattle.phase_contexts.specs.Txns.{is_put_off}
+use Rattle.phase_contexts.specs.Slicing.{after_acts}
 use Rattle.phase_contexts.specs.Splits.{SplitState, setting_of}
 use Rattle.phase_contexts.specs.Works.{Work, IsWorkOf}
 use Rattle.phase_transactions.specs.declared.fault.PermitFault.{PermitFault}
-use Rattle.phase_transactions.specs.Performing.{HasFailed, shards_asked}
+use Rattle.phase_transactions.specs.Performing.{HasFailed}
 use Rattle.phase_transactions.specs.Permits.{PermitState, work_of, IsExplained}
-use Rattle.phase_transactions.proofs.PairLemmas.{cold_setting}
-
--- an item that is stored takes its own shard
-pub item_taken : (shards : ℕ) (split : SplitState) (item : NewItem) → number_refusal split.context.opening (item_request item) ≡ None → is_hot (objects_of split.slices) (Item (next_item split.context)) ≡ false
-    → shards_asked shards split (item_request item)
-    ≡ shard_of (Item (next_item split.context)) shards ∷ map (λ object. shard_of object shards) (filter (λ object. not (is_hot (hot_in (setting_of split shards)) object)) (Category item.facts.category ∷ []))
-item_taken shards split item allowed cold =
-    let hot = hot_in (setting_of split shards) in
-    let id = Item (next_item split.context) in
-    let rest = filter (λ object. not (is_hot hot object)) (Category item.facts.category ∷ []) in
-    ap (λ refused. map (λ object. shard_of object shards) (cond (is_some refused) [] (filter (λ object. not (is_hot hot object)) (id ∷ Category item.facts.category ∷ [])))) allowed
-    ∙ ap (λ b. map (λ object. shard_of object shards) (cond (not b) (id ∷ rest) rest)) (cold_setting split.slices id cold)
 
 -- a try explains nothing
 pub tried_explained : (shards : ℕ) (split tried : SplitState) (key : KeyState) → tried.context ≡ record split.context { tries = split.context.tries + 1 } → tried.slices ≡ split.slices

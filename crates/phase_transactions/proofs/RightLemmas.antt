@@ -1,5 +1,5 @@
 -- A commit's reply is the model's, whichever request it is of.
-use Rattle.std.proofs.Common.{◌≡◌, ℕ, ◌-◌, ◌==◌, Bool, true, false, cond, ◌||◌, List, [], ◌∷◌, ◌++◌, length, Option, Some, None, MatchOption, option_map, option_and_then, unwrap_or, refl, sym, ap, subst, ◌∙◌, arith, take, length-append}
+use Rattle.std.proofs.Common.{◌≡◌, ℕ, ◌-◌, ◌==◌, Bool, true, false, not, cond, ◌||◌, List, [], ◌∷◌, ◌++◌, length, map, filter, Option, Some, None, is_some, MatchOption, Result, Ok, Err, option_map, option_and_then, unwrap_or, refl, sym, ap, subst, ◌∙◌, arith, take, length-append}
 use Rattle.std.specs.Prelude.{ℤ}
 use Rattle.std.specs.List.{list_any}
 use Rattle.std.specs.Option.{option_or}
@@ -20,7 +20,7 @@ use Rattle.auction_rows.specs.Footprint.{is_hot, objects_of, footprint}
 use Rattle.auction_rows.specs.History.{IsRight, row_of_entry}
 use Rattle.auction_rows.specs.Refusals.{number_refusal, item_refusal, refusal}
 use Rattle.auction_rows.specs.Replies.{answer_unless, answer, reply}
-use Rattle.auction_rows.specs.Requests.{item_of}
+use Rattle.auction_rows.specs.Requests.{item_of, shard_of}
 use Rattle.auction_rows.proofs.RefusalLemmas.{refusal-split}
 use Rattle.item_shards.specs.declared.acts.Act.{Act}
 use Rattle.item_shards.specs.declared.acts.Act.TheVariants.{Look}
@@ -41,10 +41,10 @@ use Rattle.phase_contexts.specs.declared.read_set.ReadSet.{ReadSet}
 use Rattle.phase_contexts.specs.Txns.{Setting, Txn, hot_in, takes, line_on, stock_seen, refusal_by, SuitsItem, SuitsBids, IsAnswered}
 use Rattle.phase_contexts.specs.Slicing.{stock_of}
 use Rattle.phase_transactions.specs.declared.fault.PermitFault.{PermitFault}
-use Rattle.phase_transactions.specs.Performing.{HasFailed, shards_asked}
+use Rattle.phase_transactions.specs.Performing.{HasFailed, HasPerformed, IsUntouched, shards_asked}
 use Rattle.phase_transactions.specs.Permits.{PermitState, HasCommitted, txn_of}
 use Rattle.phase_contexts.specs.Splits.{SplitState, CountsOf, HasStocks, setting_of}
-use Rattle.phase_contexts.proofs.AnswerLemmas.{answered_by, same_objects_of}
+use Rattle.phase_contexts.proofs.AnswerLemmas.{answered_by}
 use Rattle.phase_contexts.proofs.NeedLemmas.{no_other}
 use Rattle.phase_transactions.specs.Replying.{SawTrue, StoodFor, HasFixed, StoodAsTaken}
 use Rattle.phase_transactions.proofs.LookLemmas.{look_true, value_there}
@@ -269,10 +269,6 @@ pub txn_right : (z : Setting) (taken : ℕ → Contents) (counters : Counters) (
 txn_right z taken counters txn saw is book stood fixed counts =
     right_by z taken book fixed counters txn.0.phase txn.0.number txn.0.worker txn.0.index txn.1 counts txn.0.request txn.0.reply saw stood is
 
--- what is fixed of the hot items of a permit
-has_fixed : (split : SplitState) (shards : ℕ) (book : Book) → HasStocks book split.slices → HasFixed (setting_of split shards) book
-has_fixed split shards book has item hot = has item (ap (λ objects. is_hot objects (Item item)) (sym (same_objects_of split.slices)) ∙ hot)
-
 -- a list without its last element
 abbrev without_last : List (ℕ × Line) → List (ℕ × Line)
 without_last list = take (length list - 1) list
@@ -297,7 +293,7 @@ commit_right opening old new request index given done book stood has counts =
     (λ shard took. subst (λ (found : List (ℕ × Line)). AreTrueOf (after (state_at opening shard) found).contents (line_on z shard txn).acts) (sym (found_is shard took)) (done.puts shard took).follows.looks)
     done.answered book
     (λ shard took. subst (λ (found : List (ℕ × Line)). ContentsStandsFor shard (length opening) (after (state_at opening shard) found).contents book (hot_in z)) (sym (found_is shard took)) (stood shard took))
-    (has_fixed old.split (length opening) book has) counts
+    has counts
 
 -- a commit with an empty footprint leaves the key, and so does a failure
 same_key : (old new : KeyState) → new.boxes ≡ old.boxes → new.worker ≡ old.worker → length new.seats ≡ length old.seats → ((shard : ℕ) → seat_at new shard ≡ seat_at old shard) → new ≡ old
@@ -315,3 +311,29 @@ pub failure_leaves : (opening : List ShardState) (old new : PermitState) (reques
     → shards_asked (length opening) old.split request ≡ [] → new.key ≡ old.key
 failure_leaves opening old new request fault failed empty =
     same_key old.key new.key failed.lines.boxes failed.lines.worker failed.lines.seats (λ shard. failed.others shard (ap (list_any (λ taken. taken == shard)) empty))
+
+-- what the reply to an item that is not refused tells is known before
+told_before : {A : Type 0} (refused : Option Refusal) (given stored : Reply) (told : Reply → List A) → MatchOption (option_or refused None) (given ≡ stored) (λ reason. given ≡ Refused reason)
+    → cond (is_some refused) [] (told given) ≡ cond (is_some refused) [] (told stored)
+told_before None given stored told is = ap told is
+told_before (Some reason) given stored told is = refl
+
+-- a commit took the shards that its request asked for
+took_asked : (split : SplitState) (shards number index : ℕ) (request : Request) (given : Reply) (found : ReadSet) → IsAnswered (setting_of split shards) split.context.counters (txn_of split number request index given found)
+    → (let z = setting_of split shards in footprint z.opening z.shards (hot_in z) (txn_of split number request index given found).0) ≡ shards_asked shards split request
+took_asked split shards number index (StoreItem facts time) given found is =
+    ap (map (λ object. shard_of object shards))
+    (told_before (number_refusal split.context.opening (StoreItem facts time)) given _ (λ reply. filter (λ object. not (is_hot (hot_in (setting_of split shards)) object)) (objects_of (StoreItem facts time) reply)) is.answered)
+took_asked split shards number index (StoreBid bidder item amount time) given found is = refl
+took_asked split shards number index (StoreComment author about item stars) given found is = refl
+took_asked split shards number index (BuyNow buyer item quantity time) given found is = refl
+took_asked split shards number index (ViewItem item) given found is = refl
+took_asked split shards number index (ViewBids item) given found is = refl
+took_asked split shards number index (ViewCategory category) given found is = refl
+took_asked split shards number index (ViewUser user) given found is = refl
+
+pub leaves_untouched : (opening : List ShardState) (old new : PermitState) (request : Request) (index : ℕ) (result : Result Reply PermitFault) → HasPerformed opening old new request index result
+    → IsUntouched (length opening) old.split request old.key new.key
+leaves_untouched opening old new request index (Ok given) done none =
+    commit_leaves opening old new request index given done (took_asked old.split (length opening) done.number index request given done.found done.answered ∙ none)
+leaves_untouched opening old new request index (Err fault) failed none = failure_leaves opening old new request fault failed none

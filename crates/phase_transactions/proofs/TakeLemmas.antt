@@ -10,15 +10,15 @@ use Rattle.item_shards.specs.declared.shard.Shard.{Shard}
 use Rattle.item_shards.specs.ShardContents.{clock}
 use Rattle.shard_boxes.specs.declared.line.Line.{Line}
 use Rattle.shard_boxes.specs.Helds.{HeldState, taken_at}
-use Rattle.shard_boxes.specs.Keys.{KeyState, SeatState, seat_at, seen_at, holds_at, taking, putting, HoldsNoneFrom}
+use Rattle.shard_boxes.specs.Keys.{BoxId, KeyState, SeatState, seat_at, seen_at, holds_at, taking, putting, HoldsNoneFrom}
 use Rattle.shard_boxes.specs.Lines.{after, IsHistory, MayFollow, StartsWith}
 use Rattle.shard_boxes.specs.States.{ShardState, state_at, state_of}
 use Rattle.shard_boxes.proofs.SeatLemmas.{taking-same, taking-other, length-with_seat}
 use Rattle.phase_contexts.specs.declared.read_set.ReadSet.{ReadSet}
 use Rattle.phase_transactions.specs.declared.fault.PermitFault.{PermitFault}
-use Rattle.phase_transactions.specs.Pairs.{IsAsTaken, HoldsBoth, LeavesOthers, HasPutBoth, HasPutTwo, HasTakenBoth, IsNextOfBoth, IsOverBoth, found_on_both}
+use Rattle.phase_transactions.specs.Pairs.{IsAsTaken, HoldsBoth, AreHeldBoth, LeavesOthers, HasPutBoth, HasPutTwo, HasTakenBoth, IsNextOfBoth, IsOverBoth, found_on_both}
 use Rattle.phase_transactions.specs.Permits.{IsIdle}
-use Rattle.phase_transactions.specs.Putting.{clock_seen, line_of, IsOverOne, IsPutWith, found_on}
+use Rattle.phase_transactions.specs.Putting.{clock_seen, line_of, IsHeldFor, IsOverOne, IsPutWith, found_on}
 use Rattle.phase_transactions.specs.Taking.{HasTaken, IsNext, IsCauseAt, HasStayed}
 use Rattle.phase_transactions.proofs.KeyLemmas.{same_lines, one_back, one_seen, one_others, others_as, lines_back, put_after, put_two_after, put_two_as}
 
@@ -68,10 +68,10 @@ has_taken opening workers key taken_key shard held seats known is later number h
   history = subst (λ n. IsHistory opening workers n (seen_at taken_key n) (state_of held.shard)) (sym number) history;
 }
 
--- one shard that a key has taken
-module _ (opening : List ShardState) (workers own : ℕ) (key taken back : KeyState) (shard : ℕ) (held : HeldState) (its : HasTaken opening workers key taken shard held) where
-  pub still_taken : (new : HeldState) → state_of new.shard ≡ state_of held.shard → new.number ≡ held.number → HasTaken opening workers key taken shard new
-  still_taken new same number = record {
+-- a shard that a key has taken stays so where its state and its number do
+module _ {opening : List ShardState} {workers shard : ℕ} {key taken : KeyState} {held : HeldState} where
+  pub still_taken : HasTaken opening workers key taken shard held → (new : HeldState) → state_of new.shard ≡ state_of held.shard → new.number ≡ held.number → HasTaken opening workers key taken shard new
+  still_taken its new same number = record {
     known = its.known;
     key = its.key;
     later = its.later;
@@ -80,6 +80,8 @@ module _ (opening : List ShardState) (workers own : ℕ) (key taken back : KeySt
     history = as_taken opening workers taken held new its.history same number;
   }
 
+-- one shard that a key has taken
+module _ (opening : List ShardState) (workers own : ℕ) (key taken back : KeyState) (shard : ℕ) (held : HeldState) (its : HasTaken opening workers key taken shard held) where
   pub stays : IsIdle key → back ≡ putting taken held.number None → (fault : PermitFault) → IsCauseAt (max own (clock held.shard)) fault
       → HasStayed opening own key back shard shard fault
   stays idle put fault cause =
@@ -114,10 +116,11 @@ module _ (opening : List ShardState) (workers own : ℕ) (key taken back : KeySt
         found_is = found_is ∙ ap (found_on shard before) (sym (ap (λ (f : ReadSet). f.stock) found_is));
       }
 
--- two of them
-module _ (opening : List ShardState) (workers own : ℕ) (key taken back : KeyState) (one other : ℕ) (held : HeldState × HeldState) (its : HasTakenBoth opening workers key taken one other held) where
-  pub still_both : (new : HeldState) → state_of new.shard ≡ state_of held.0.shard → new.number ≡ held.0.number → HasTakenBoth opening workers key taken one other (new, held.1)
-  still_both new same number = record {
+-- so it is with the first of two
+module _ {opening : List ShardState} {workers one other : ℕ} {key taken : KeyState} {held : HeldState × HeldState} where
+  pub still_both : HasTakenBoth opening workers key taken one other held → (new : HeldState) → state_of new.shard ≡ state_of held.0.shard → new.number ≡ held.0.number
+      → HasTakenBoth opening workers key taken one other (new, held.1)
+  still_both its new same number = record {
     same = its.same;
     others = others_as key taken held.0.number new.number held.1.number held.1.number (sym number) refl its.others;
     one_is = number ∙ its.one_is;
@@ -127,6 +130,8 @@ module _ (opening : List ShardState) (workers own : ℕ) (key taken back : KeySt
     on_other = its.on_other;
   }
 
+-- two of them
+module _ (opening : List ShardState) (workers own : ℕ) (key taken back : KeyState) (one other : ℕ) (held : HeldState × HeldState) (its : HasTakenBoth opening workers key taken one other held) where
   pub both_stay : HasPutBoth taken back held.0.number held.1.number None None → seen_at back held.0.number ≡ seen_at taken held.0.number → seen_at back held.1.number ≡ seen_at taken held.1.number
       → (fault : PermitFault) → IsCauseAt (max own (max (clock held.0.shard) (clock held.1.shard))) fault → HasStayed opening own key back one other fault
   both_stay put seen seen' fault cause =
@@ -221,8 +226,13 @@ both_turned opening workers key taken a b one other its = record {
 pub after_own : (own : ℕ) (shard : Shard) (before number : ℕ) → IsNext own shard before number → own < number
 after_own own shard before number next = omega (arith, next.numbered)
 
-pub after_clock : (own : ℕ) (shard : Shard) (before number : ℕ) → IsNext own shard before number → clock shard < number
-after_clock own shard before number next = omega (arith, next.before_is, next.numbered)
+pub still_next : {own before number : ℕ} {shard new : Shard} → IsNext own shard before number → state_of new ≡ state_of shard → IsNext own new before number
+still_next next same = record { before_is = next.before_is ∙ sym (ap (λ (state : ShardState). state.clock) same); numbered = next.numbered; within = next.within }
+
+-- so the shard can go back with a line at it
+pub held_for : {opening : List ShardState} {workers own shard before number : ℕ} {old key : KeyState} {held : HeldState} → HasTaken opening workers old key shard held → IsNext own held.shard before number
+    → IsHeldFor opening key held number
+held_for took next = record { holder = took.holds; taken = took.history.state_is; later = omega (arith, next.before_is, next.numbered); within = next.within }
 
 pub after_both : (own : ℕ) (held : HeldState × HeldState) (clocks : ℕ × ℕ) (number : ℕ) → IsNextOfBoth own held clocks number → (clock held.0.shard < number) × (clock held.1.shard < number)
 after_both own held clocks number next = (omega (arith, next.first_is, next.numbered), omega (arith, next.second_is, next.numbered))
@@ -251,6 +261,28 @@ over_both_as opening own own' key back one one' other other' number index found 
     (subst (λ (n : ℕ). IsOverBoth opening own key back one n number index found acts' more') is_other
     (subst (λ (a : List Act). IsOverBoth opening own key back one other number index found a more') is_acts
     (subst (λ (a : List Act). IsOverBoth opening own key back one other number index found acts a) is_more over))))
+
+-- and two shards can go back to the boxes from which they were taken
+pub held_both : {opening : List ShardState} {workers one other : ℕ} {boxes : List BoxId} {old key : KeyState} {held : HeldState × HeldState} → HasTakenBoth opening workers old key one other held → old.boxes ≡ boxes
+    → AreHeldBoth opening workers boxes key held.0 held.1
+held_both took boxes_are = record { boxes_are = took.same.boxes ∙ boxes_are; holds = took.holds; on_one = took.on_one; on_other = took.on_other }
+
+-- what was done over a shard that was taken, by other names
+module _ {opening : List ShardState} {workers own shard s before number index : ℕ} {old key new : KeyState} {held : HeldState} {acts acts' : List Act} {found : ReadSet} {stock : Option (Facts × ℕ)} where
+  pub over_one_at : HasTaken opening workers old key shard held → IsNext own held.shard before number → IsPutWith opening key new held (line_of number index acts held.shard) → found ≡ found_on shard before stock
+      → shard ≡ s → acts ≡ acts' → IsOverOne opening own old new s number index found acts'
+  over_one_at took next put found_is there done =
+      over_one_as opening own own old new shard s number index found acts acts' refl there done (over_one opening workers own old key new shard held took before number index acts found stock next put found_is)
+
+-- and over two
+module _ {opening : List ShardState} {workers own one other a b first second number index : ℕ} {old key new : KeyState} {held : HeldState × HeldState} {acts acts' more more' : List Act} {found : ReadSet}
+    {stock : Option (Facts × ℕ)} where
+  pub over_both_at : HasTakenBoth opening workers old key one other held → IsNextOfBoth own held (first, second) number
+      → HasPutTwo opening key new held.0.number held.1.number (line_of number index acts held.0.shard) (line_of number index more held.1.shard) → found ≡ found_on_both (one, first) (other, second) stock
+      → one ≡ a → other ≡ b → acts ≡ acts' → more ≡ more' → IsOverBoth opening own old new a b number index found acts' more'
+  over_both_at took next put found_is is_one is_other done done' =
+      over_both_as opening own own old new one a other b number index found acts acts' more more' refl is_one is_other done done'
+      (over_both opening workers own old key new one other held took first second number index acts more found stock next put found_is)
 
 pub if_none : {A : Type 0} → (o : Option A) (P : Type 0) → P → IfNone o P
 if_none None P is = is

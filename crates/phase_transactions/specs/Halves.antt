@@ -1,9 +1,8 @@
 -- Transactions of a split phase that take one shard.
-use Rattle.std.specs.Prelude.{◌≡◌, ℕ, List, [], ◌∷◌, length, Option}
+use Rattle.std.specs.Prelude.{ℕ, List, [], ◌∷◌, length, Option}
 use Rattle.auction_rows.specs.declared.ids.Object.TheVariants.{Item, User}
 use Rattle.auction_rows.specs.declared.replies.Reply.{Reply}
 use Rattle.auction_rows.specs.declared.requests.Facts.{Facts}
-use Rattle.auction_rows.specs.declared.requests.Request.{Request}
 use Rattle.auction_rows.specs.Requests.{shard_of}
 use Rattle.item_shards.specs.declared.acts.Act.{Act}
 use Rattle.item_shards.specs.declared.acts.Act.TheVariants.{Look}
@@ -13,15 +12,9 @@ use Rattle.shard_boxes.specs.States.{ShardState}
 use Rattle.phase_contexts.specs.declared.read_set.ReadSet.{ReadSet}
 use Rattle.phase_contexts.specs.declared.bids.Comment.{Comment}
 use Rattle.phase_contexts.specs.Contexts.{ContextState}
-use Rattle.phase_contexts.specs.Splits.{SplitState}
 use Rattle.phase_transactions.specs.declared.commit.Commit.{Commit}
 use Rattle.phase_transactions.specs.Pairs.{IsCommentAnswer, comment_look}
-use Rattle.phase_transactions.specs.Performing.{shards_asked}
 use Rattle.phase_transactions.specs.Putting.{IsOverOne}
-
--- a request that takes no shard leaves the key
-abbrev pub IsUntouched : ℕ → SplitState → Request → KeyState → KeyState → Type 0
-IsUntouched shards split request old new = shards_asked shards split request ≡ [] → new ≡ old
 
 -- A comment was done over the shard of the user whom it is about alone, by what is known of its item.
 pub record HasCommentedUser (opening : List ShardState) (context : ContextState) (old new : KeyState) (comment : Comment) (stock : Option (Facts × ℕ))

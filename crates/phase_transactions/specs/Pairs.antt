@@ -10,7 +10,7 @@ use Rattle.item_shards.specs.declared.acts.Shown.TheVariants as shown
 use Rattle.item_shards.specs.ShardContents.{clock}
 use Rattle.shard_boxes.specs.declared.line.Line.{Line}
 use Rattle.shard_boxes.specs.Helds.{HeldState}
-use Rattle.shard_boxes.specs.Keys.{KeyState, seat_at, lines_at, holds_at, seen_at, added}
+use Rattle.shard_boxes.specs.Keys.{BoxId, KeyState, seat_at, lines_at, holds_at, seen_at, added}
 use Rattle.shard_boxes.specs.Lines.{IsHistory}
 use Rattle.shard_boxes.specs.States.{ShardState, state_of}
 use Rattle.phase_contexts.specs.declared.bids.Comment.{Comment}
@@ -70,6 +70,16 @@ pub record HasPutTwo (opening : List ShardState) (old new : KeyState) (one other
 -- a shard as the key took it
 abbrev pub IsAsTaken : List ShardState → ℕ → KeyState → HeldState → Type 0
 IsAsTaken opening workers key held = IsHistory opening workers held.number (seen_at key held.number) (state_of held.shard)
+
+-- two shards that can go back
+pub record AreHeldBoth (opening : List ShardState) (workers : ℕ) (boxes : List BoxId) (key : KeyState) (one other : HeldState) : Type 0 where
+  -- the key is for these boxes
+  pub boxes_are : key.boxes ≡ boxes
+  -- it holds both, and no other
+  pub holds : HoldsBoth key one.number other.number
+  -- each is as the key took it
+  pub on_one : IsAsTaken opening workers key one
+  pub on_other : IsAsTaken opening workers key other
 
 -- The key has taken two shards, and holds no other.
 pub record HasTakenBoth (opening : List ShardState) (workers : ℕ) (old new : KeyState) (one other : ℕ) (held : HeldState × HeldState) : Type 0 where

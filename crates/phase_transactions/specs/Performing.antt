@@ -1,5 +1,5 @@
--- What is left when a request was performed, put off, or could not be performed.
-use Rattle.std.specs.Prelude.{◌≡◌, ℕ, max, ◌+◌, ◌<◌, ◌≤◌, Bool, true, false, List, length, Option, Some, None, ⊤}
+-- What it takes to commit a request, and what is left when it was performed, put off, or could not be performed.
+use Rattle.std.specs.Prelude.{◌≡◌, ℕ, max, ◌+◌, ◌<◌, ◌≤◌, Bool, true, false, List, [], length, Option, Some, None, Result, Ok, Err, ⊤}
 use Rattle.phase_laws.specs.Numbers.{greatest_by}
 use Rattle.auction_rows.specs.declared.replies.Reply.{Reply}
 use Rattle.auction_rows.specs.declared.replies.Reply.TheVariants.{ItemStored}
@@ -9,10 +9,10 @@ use Rattle.auction_rows.specs.declared.rows.Entry.{Entry}
 use Rattle.auction_rows.specs.Footprint.{footprint, takes_shard}
 use Rattle.auction_rows.specs.Refusals.{number_refusal}
 use Rattle.item_shards.specs.CommitNumbers.{last_number}
-use Rattle.shard_boxes.specs.Keys.{KeyState, seat_at}
+use Rattle.shard_boxes.specs.Keys.{BoxId, KeyState, seat_at}
 use Rattle.shard_boxes.specs.States.{ShardState}
 use Rattle.phase_contexts.specs.Txns.{hot_in, is_put_off}
-use Rattle.phase_contexts.specs.Contexts.{next_entry, after_putting_off}
+use Rattle.phase_contexts.specs.Contexts.{ContextState, next_entry, after_putting_off}
 use Rattle.phase_contexts.specs.Slicing.{objects_of}
 use Rattle.phase_contexts.specs.Splits.{SplitState, setting_of}
 use Rattle.phase_transactions.specs.declared.fault.Done.{Done}
@@ -22,6 +22,16 @@ use Rattle.phase_transactions.specs.declared.fault.PermitFault.TheVariants.{Memo
 use Rattle.phase_transactions.specs.Pairs.{HasSameLines}
 use Rattle.phase_transactions.specs.Permits.{PermitState, IsIdle, HasCommitted}
 use Rattle.phase_transactions.specs.Putting.{clock_seen}
+use Rattle.phase_transactions.specs.Taking.{IsReady}
+
+-- a request of the quota may be committed
+pub record MayCommit (opening : List ShardState) (boxes : List BoxId) (key : KeyState) (context : ContextState) (request : Request) : Type 0 where
+  -- the key is for these boxes, and holds no shard
+  pub ready : IsReady opening boxes key
+  -- one of the quota is left
+  pub left : 0 < context.left
+  -- the opening does not refuse the request
+  pub allowed : number_refusal context.opening request ≡ None
 
 -- what a permit did: a commit with this reply, or, where there is none, it put the request off
 abbrev pub done_of : Option Reply → Done
@@ -40,6 +50,10 @@ entry_asked split request =
 -- the footprint of a request in a phase with so many shards
 abbrev pub shards_asked : ℕ → SplitState → Request → List ℕ
 shards_asked shards split request = footprint split.context.opening shards (hot_in (setting_of split shards)) (entry_asked split request)
+
+-- a request that takes no shard leaves the key
+abbrev pub IsUntouched : ℕ → SplitState → Request → KeyState → KeyState → Type 0
+IsUntouched shards split request old new = shards_asked shards split request ≡ [] → new ≡ old
 
 -- whether a request's footprint has the shard
 abbrev pub asks : ℕ → SplitState → Request → ℕ → Bool
@@ -82,6 +96,11 @@ pub record HasFailed (opening : List ShardState) (old new : PermitState) (reques
   pub not_put_off : is_put_off (objects_of old.split.slices) request ≡ false
   -- the fault comes for its cause
   pub cause : IsCause opening old.split new.key request fault
+
+-- what became of a request that is not put off: it was committed with this reply, or it was not performed, for the cause of this fault
+abbrev pub HasPerformed : List ShardState → PermitState → PermitState → Request → ℕ → Result Reply PermitFault → Type 0
+HasPerformed opening old new request index (Ok reply) = HasCommitted opening old new request index reply
+HasPerformed opening old new request index (Err fault) = HasFailed opening old new request fault
 
 -- The request waits for the next joined phase: the stash gains it, one of the quota is used, and all else stays.
 pub record HasPutOff (old new : PermitState) (request : Request) (index : ℕ) : Type 0 where

@@ -1,5 +1,5 @@
 -- A shard that is put back with a line, and what a key has seen of it.
-use Rattle.std.specs.Prelude.{◌≡◌, ℕ, suc, max, ◌<◌, ◌≤◌, List, [], ◌∷◌, ◌++◌, length, Option, Some, None}
+use Rattle.std.specs.Prelude.{◌≡◌, ℕ, suc, max, ◌<◌, ◌≤◌, true, List, [], ◌∷◌, ◌++◌, length, Option, Some, None}
 use Rattle.auction_rows.specs.declared.requests.Facts.{Facts}
 use Rattle.item_shards.specs.CommitNumbers.{last_number}
 use Rattle.item_shards.specs.declared.acts.Act.{Act}
@@ -8,9 +8,9 @@ pub use Rattle.item_shards.specs.Acting.{CanDo}
 use Rattle.item_shards.specs.ShardContents.{clock}
 use Rattle.shard_boxes.specs.declared.line.Line.{Line}
 use Rattle.shard_boxes.specs.Helds.{HeldState, taken_at}
-use Rattle.shard_boxes.specs.Keys.{KeyState, seen_at, taking, putting}
+use Rattle.shard_boxes.specs.Keys.{KeyState, seen_at, holds_at, taking, putting}
 use Rattle.shard_boxes.specs.Lines.{after, MayFollow, StartsWith}
-use Rattle.shard_boxes.specs.States.{ShardState, state_at}
+use Rattle.shard_boxes.specs.States.{ShardState, state_at, state_of}
 use Rattle.phase_contexts.specs.declared.read_set.ReadSet.{ReadSet}
 
 -- the clock of a shard as the key has last seen it
@@ -55,6 +55,17 @@ pub record IsOverOne (opening : List ShardState) (own : ℕ) (old new : KeyState
   pub numbered : number ≡ suc (max own before)
   pub within : number ≤ last_number
   pub found_is : found ≡ found_on shard before found.stock
+
+-- a shard that can go back with a line at this number
+pub record IsHeldFor (opening : List ShardState) (key : KeyState) (held : HeldState) (number : ℕ) : Type 0 where
+  -- the key holds it
+  pub holder : holds_at key held.number ≡ true
+  -- it is as it was taken
+  pub taken : state_of held.shard ≡ taken_at opening key held.number
+  -- the number follows its clock
+  pub later : clock held.shard < number
+  -- and is not past the last one
+  pub within : number ≤ last_number
 
 -- A shard that the key holds was put back with the line, which may follow it as it was taken.
 pub record IsPutWith (opening : List ShardState) (old new : KeyState) (held : HeldState) (line : Line) : Type 0 where

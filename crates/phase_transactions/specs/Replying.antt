@@ -1,19 +1,14 @@
 -- What a commit saw, and the books for which the shards that it took stood.
 use Rattle.std.specs.Prelude.{◌≡◌, ℕ, true, length, List}
-use Rattle.auction_rows.specs.declared.ids.ItemId.{ItemId}
-use Rattle.auction_rows.specs.declared.ids.Object.TheVariants.{Item}
 use Rattle.auction_rows.specs.declared.replies.Reply.{Reply}
 use Rattle.auction_rows.specs.declared.requests.Request.{Request}
 use Rattle.auction_rows.specs.Book.{Book}
-use Rattle.auction_rows.specs.Footprint.{is_hot}
 use Rattle.item_shards.specs.Contents.{Contents}
 use Rattle.item_shards.specs.Standing.{ContentsStandsFor}
-use Rattle.item_shards.specs.Values.{stock_in}
 use Rattle.shard_boxes.specs.Lines.{after, AreTrueOf}
 use Rattle.shard_boxes.specs.States.{ShardState, state_at}
 use Rattle.phase_contexts.specs.Txns.{Setting, Txn, hot_in, takes, line_on}
-use Rattle.phase_contexts.specs.Slicing.{stock_of}
-use Rattle.phase_contexts.specs.Splits.{setting_of}
+use Rattle.phase_contexts.specs.Splits.{AreStocksIn, setting_of}
 use Rattle.phase_transactions.specs.Permits.{PermitState, txn_of, HasCommitted}
 
 -- the looks of the lines that a transaction owes are true of the shards that it took, as it took them
@@ -26,7 +21,7 @@ StoodFor z taken book txn = (shard : ℕ) → takes z shard txn ≡ true → Con
 
 -- the hot items have in a book the facts and the number left that are fixed of them
 abbrev pub HasFixed : Setting → Book → Type 0
-HasFixed z book = (item : ItemId) → is_hot (hot_in z) (Item item) ≡ true → stock_in book item ≡ stock_of z.stocks (Item item)
+HasFixed z book = AreStocksIn z.stocks book
 
 -- the shards that a commit took stood for a book as it took them, but for the hot objects
 abbrev pub StoodAsTaken : (opening : List ShardState) (old new : PermitState) (request : Request) (index : ℕ) (answer : Reply) →

@@ -1,8 +1,7 @@
 //! What a request needs, found and done: nothing, one shard or two.
-ghost use Rattle.std.specs.Prelude.{◌≡◌, ◌<◌, length, true, false, Some, None, IfSome, IfNone, IfOk, IfErr};
+ghost use Rattle.std.specs.Prelude.{◌≡◌, ◌<◌, true, false, Some, ok_or};
 ghost use Rattle.auction_rows.specs.declared.ids.Object.TheVariants.{Item, User};
 ghost use Rattle.auction_rows.specs.Footprint.{is_hot};
-ghost use Rattle.auction_rows.specs.Refusals.{number_refusal};
 ghost use Rattle.auction_rows.specs.Requests.{is_view};
 ghost use Rattle.phase_contexts.specs.Bids.{comment_request};
 ghost use Rattle.phase_contexts.specs.Txns.{is_put_off};
@@ -10,10 +9,9 @@ ghost use Rattle.phase_contexts.specs.Items.{item_request};
 ghost use Rattle.phase_contexts.specs.Needing.{AreNeeded, IsStoreOf};
 ghost use Rattle.phase_contexts.specs.Slicing.{objects_of};
 ghost use Rattle.phase_transactions.specs.declared.fault.PermitFault.TheVariants.{NumberFull};
-ghost use Rattle.phase_transactions.specs.Permits.{permit, HasCommitted};
-ghost use Rattle.phase_transactions.specs.Performing.{HasFailed};
+ghost use Rattle.phase_transactions.specs.Permits.{permit};
+ghost use Rattle.phase_transactions.specs.Performing.{MayCommit, HasPerformed};
 ghost use Rattle.phase_transactions.specs.Single.{only_object, HaveOpening};
-ghost use Rattle.phase_transactions.specs.Halves.{IsUntouched};
 ghost use Rattle.phase_transactions.specs.Taking.{IsReady};
 
 use crate::commit::commit_done;
@@ -41,16 +39,11 @@ fn store_cold<N: PhaseName, R: Wait>(
     store: ItemStore,
     index: u32,
 ) -> Option<Ghost<Reply>>
-    requires ready { IsReady N.opening boxes.now key.old }
-    requires left { 0 < split.old.context.left }
-    requires allowed { number_refusal split.old.context.opening request.now ≡ None }
+    requires may { MayCommit N.opening boxes.now key.old split.old.context request.now }
     requires store { IsStoreOf split.old.context request.now store }
     requires cold { is_hot (objects_of split.old.slices) (Item store.item) ≡ false }
-    ensures committed { IfSome result (λ reply. HasCommitted N.opening
-        (permit split.old key.old) (permit split.new key.new) request.now index reply) }
-    ensures full { IfNone result (HasFailed N.opening
-        (permit split.old key.old) (permit split.new key.new) request.now NumberFull) }
-    ensures untouched { IsUntouched (length N.opening) split.old request.now key.old key.new }
+    ensures { HasPerformed N.opening
+        (permit split.old key.old) (permit split.new key.new) request.now index (ok_or result NumberFull) }
 {
     let context = split.context();
     let done = store_on(rt, boxes, key, context, request, store, index)?;
@@ -67,18 +60,13 @@ fn view_cold<N: PhaseName, R: Wait>(
     object: Object,
     index: u32,
 ) -> Option<Ghost<Reply>>
-    requires ready { IsReady N.opening boxes.now key.old }
-    requires left { 0 < split.old.context.left }
+    requires may { MayCommit N.opening boxes.now key.old split.old.context request.now }
     requires opening { HaveOpening N.opening split.old.context.opening }
-    requires allowed { number_refusal split.old.context.opening request.now ≡ None }
     requires only { only_object request.now ≡ Some object }
     requires view { is_view request.now ≡ true }
     requires cold { is_hot (objects_of split.old.slices) object ≡ false }
-    ensures committed { IfSome result (λ reply. HasCommitted N.opening
-        (permit split.old key.old) (permit split.new key.new) request.now index reply) }
-    ensures full { IfNone result (HasFailed N.opening
-        (permit split.old key.old) (permit split.new key.new) request.now NumberFull) }
-    ensures untouched { IsUntouched (length N.opening) split.old request.now key.old key.new }
+    ensures { HasPerformed N.opening
+        (permit split.old key.old) (permit split.new key.new) request.now index (ok_or result NumberFull) }
 {
     let context = split.context();
     let done = view_on(rt, boxes, key, context, request, object, index)?;
@@ -98,17 +86,12 @@ fn comment_cold<N: PhaseName, R: Wait>(
     comment: &Comment,
     index: u32,
 ) -> Option<Ghost<Reply>>
-    requires ready { IsReady N.opening boxes.now key.old }
-    requires left { 0 < split.old.context.left }
+    requires may { MayCommit N.opening boxes.now key.old split.old.context (comment_request comment.now) }
     requires opening { HaveOpening N.opening split.old.context.opening }
-    requires allowed { number_refusal split.old.context.opening (comment_request comment.now) ≡ None }
     requires item { is_hot (objects_of split.old.slices) (Item comment.now.item) ≡ false }
     requires user { is_hot (objects_of split.old.slices) (User comment.now.about) ≡ false }
-    ensures committed { IfSome result (λ reply. HasCommitted N.opening
-        (permit split.old key.old) (permit split.new key.new) (comment_request comment.now) index reply) }
-    ensures full { IfNone result (HasFailed N.opening
-        (permit split.old key.old) (permit split.new key.new) (comment_request comment.now) NumberFull) }
-    ensures untouched { IsUntouched (length N.opening) split.old (comment_request comment.now) key.old key.new }
+    ensures { HasPerformed N.opening
+        (permit split.old key.old) (permit split.new key.new) (comment_request comment.now) index (ok_or result NumberFull) }
 {
     let context = split.context();
     let done = comment_over_shards(rt, boxes, key, context, comment, index)?;
@@ -126,15 +109,10 @@ fn comment_in_split<N: PhaseName, R: Wait>(
     comment: &Comment,
     index: u32,
 ) -> Option<Ghost<Reply>>
-    requires ready { IsReady N.opening boxes.now key.old }
-    requires left { 0 < split.old.context.left }
+    requires may { MayCommit N.opening boxes.now key.old split.old.context (comment_request comment.now) }
     requires opening { HaveOpening N.opening split.old.context.opening }
-    requires allowed { number_refusal split.old.context.opening (comment_request comment.now) ≡ None }
-    ensures committed { IfSome result (λ reply. HasCommitted N.opening
-        (permit split.old key.old) (permit split.new key.new) (comment_request comment.now) index reply) }
-    ensures full { IfNone result (HasFailed N.opening
-        (permit split.old key.old) (permit split.new key.new) (comment_request comment.now) NumberFull) }
-    ensures untouched { IsUntouched (length N.opening) split.old (comment_request comment.now) key.old key.new }
+    ensures { HasPerformed N.opening
+        (permit split.old key.old) (permit split.new key.new) (comment_request comment.now) index (ok_or result NumberFull) }
 {
     let item = split.is_hot(Object::Item(comment.item));
     let user = split.place_of(Object::User(comment.about));
@@ -159,16 +137,12 @@ fn store_in_split<N: PhaseName, R: Wait>(
     item: &NewItem,
     index: u32,
 ) -> Result<Ghost<Reply>, PermitFault>
-    requires ready { IsReady N.opening boxes.now key.old }
-    requires left { 0 < split.old.context.left }
+    requires may { MayCommit N.opening boxes.now key.old split.old.context (item_request item.now) }
     requires opening { HaveOpening N.opening split.old.context.opening }
-    requires allowed { number_refusal split.old.context.opening (item_request item.now) ≡ None }
-    ensures committed { IfOk result (λ reply. HasCommitted N.opening
-        (permit split.old key.old) (permit split.new key.new) (item_request item.now) index reply) }
-    ensures failed { IfErr result (HasFailed N.opening
-        (permit split.old key.old) (permit split.new key.new) (item_request item.now)) }
-    ensures untouched { IsUntouched (length N.opening) split.old (item_request item.now) key.old key.new }
+    ensures { HasPerformed N.opening
+        (permit split.old key.old) (permit split.new key.new) (item_request item.now) index result }
 {
+    // It is never hot.
     let _id = split.next_item();
     if split.is_hot(Object::Category(item.facts.category)) {
         return store_in_hot_category(rt, boxes, key, split, item, index);
@@ -194,11 +168,8 @@ pub(crate) fn commit_in_split<N: PhaseName, R: Wait>(
     requires opening { HaveOpening N.opening split.old.context.opening }
     requires not_put_off { is_put_off (objects_of split.old.slices) request.now ≡ false }
     requires needs { AreNeeded split.old.context split.old.slices request.now needs }
-    ensures committed { IfOk result (λ reply. HasCommitted N.opening
-        (permit split.old key.old) (permit split.new key.new) request.now index reply) }
-    ensures failed { IfErr result (HasFailed N.opening
-        (permit split.old key.old) (permit split.new key.new) request.now) }
-    ensures untouched { IsUntouched (length N.opening) split.old request.now key.old key.new }
+    ensures { HasPerformed N.opening
+        (permit split.old key.old) (permit split.new key.new) request.now index result }
 {
     let full = PermitFault::NumberFull;
     match needs {

@@ -1,5 +1,5 @@
 //! Comments of which the item is hot and the user is not, or the other way round.
-ghost use Rattle.std.specs.Prelude.{◌≡◌, ◌<◌, length, false, IfSome, IfNone, None};
+ghost use Rattle.std.specs.Prelude.{◌≡◌, ◌<◌, length, false, IfSome, IfNone, None, ok_or};
 ghost use Rattle.auction_rows.specs.declared.ids.Object.TheVariants.{Item, User};
 ghost use Rattle.auction_rows.specs.Footprint.{is_hot};
 ghost use Rattle.auction_rows.specs.Refusals.{number_refusal};
@@ -9,21 +9,21 @@ ghost use Rattle.phase_contexts.specs.Txns.{refusal_by};
 ghost use Rattle.phase_contexts.specs.Slicing.{objects_of};
 ghost use Rattle.phase_contexts.specs.Splits.{IsHot};
 ghost use Rattle.phase_transactions.specs.declared.fault.PermitFault.TheVariants.{NumberFull};
-ghost use Rattle.phase_transactions.specs.Permits.{permit, HasCommitted};
-ghost use Rattle.phase_transactions.specs.Performing.{HasFailed};
+ghost use Rattle.phase_transactions.specs.Permits.{permit};
+ghost use Rattle.phase_transactions.specs.Performing.{MayCommit, HasPerformed};
 ghost use Rattle.phase_transactions.specs.Single.{HaveOpening};
 ghost use Rattle.phase_transactions.specs.Taking.{IsReady, HasStayed};
-ghost use Rattle.phase_transactions.specs.Halves.{IsUntouched, HasCommentedUser, HasLooked};
+ghost use Rattle.phase_transactions.specs.Halves.{HasCommentedUser, HasLooked};
 
 use crate::commit::{Commit, commit_done};
 use crate::pairs::{alone, answer_comment, look_and};
 use crate::putting::put_with_line;
 use crate::taking::{found_on, take_next};
-use auction_rows::{Facts, Object, Refusal, Reply, shard_of};
+use auction_rows::{Facts, Object, Refusal, Reply};
 use ghost_log::Ghost;
 use item_shards::{Act, Shown};
 use phase_contexts::{Comment, Context, ReadSet, SplitContext};
-use shard_boxes::{Boxes, Key, PhaseName};
+use shard_boxes::{Boxes, Key, PhaseName, shard_of};
 use std::sync::Wait;
 use worker_journals::Answer;
 
@@ -48,6 +48,7 @@ fn comment_over_user<N: PhaseName, R: Wait>(
     ensures done { IfSome result (HasCommentedUser N.opening context.now key.old key.new comment.now stock index) }
     ensures stayed { IfNone result (HasStayed N.opening context.now.clock key.old key.new user user NumberFull) }
 {
+    // From -5 to 5.
     let _known = comment.stars.value();
     let (held, before, number) = take_next(rt, boxes, key, context, user)?;
     let (reply, act) = answer_comment(context, comment, stock);
@@ -100,17 +101,12 @@ pub(crate) fn comment_on_hot_item<N: PhaseName, R: Wait>(
     comment: &Comment,
     index: u32,
 ) -> Option<Ghost<Reply>>
-    requires ready { IsReady N.opening boxes.now key.old }
-    requires left { 0 < split.old.context.left }
+    requires may { MayCommit N.opening boxes.now key.old split.old.context (comment_request comment.now) }
     requires openings { HaveOpening N.opening split.old.context.opening }
-    requires allowed { number_refusal split.old.context.opening (comment_request comment.now) ≡ None }
     requires item { IsHot split.old (Item comment.now.item) }
     requires user { is_hot (objects_of split.old.slices) (User comment.now.about) ≡ false }
-    ensures committed { IfSome result (λ reply. HasCommitted N.opening
-        (permit split.old key.old) (permit split.new key.new) (comment_request comment.now) index reply) }
-    ensures full { IfNone result (HasFailed N.opening
-        (permit split.old key.old) (permit split.new key.new) (comment_request comment.now) NumberFull) }
-    ensures untouched { IsUntouched (length N.opening) split.old (comment_request comment.now) key.old key.new }
+    ensures { HasPerformed N.opening
+        (permit split.old key.old) (permit split.new key.new) (comment_request comment.now) index (ok_or result NumberFull) }
 {
     let user = shard_of(Object::User(comment.about), boxes.shards());
     let stock = split.stock(comment.item);
@@ -130,16 +126,11 @@ pub(crate) fn comment_about_hot_user<N: PhaseName, R: Wait>(
     comment: &Comment,
     index: u32,
 ) -> Option<Ghost<Reply>>
-    requires ready { IsReady N.opening boxes.now key.old }
-    requires left { 0 < split.old.context.left }
-    requires allowed { number_refusal split.old.context.opening (comment_request comment.now) ≡ None }
+    requires may { MayCommit N.opening boxes.now key.old split.old.context (comment_request comment.now) }
     requires item { is_hot (objects_of split.old.slices) (Item comment.now.item) ≡ false }
     requires user { IsHot split.old (User comment.now.about) }
-    ensures committed { IfSome result (λ reply. HasCommitted N.opening
-        (permit split.old key.old) (permit split.new key.new) (comment_request comment.now) index reply) }
-    ensures full { IfNone result (HasFailed N.opening
-        (permit split.old key.old) (permit split.new key.new) (comment_request comment.now) NumberFull) }
-    ensures untouched { IsUntouched (length N.opening) split.old (comment_request comment.now) key.old key.new }
+    ensures { HasPerformed N.opening
+        (permit split.old key.old) (permit split.new key.new) (comment_request comment.now) index (ok_or result NumberFull) }
 {
     let item = shard_of(Object::Item(comment.item), boxes.shards());
     let context = split.context();

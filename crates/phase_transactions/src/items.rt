@@ -8,9 +8,9 @@ ghost use Rattle.shard_boxes.specs.States.{state_of};
 ghost use Rattle.phase_contexts.specs.Items.{item_request, next_item};
 ghost use Rattle.phase_contexts.specs.Splits.{IsHot};
 ghost use Rattle.phase_transactions.specs.declared.fault.PermitFault.TheVariants.{Memory};
-ghost use Rattle.phase_transactions.specs.Performing.{HasFailed};
+ghost use Rattle.phase_transactions.specs.Performing.{MayCommit, HasPerformed};
 ghost use Rattle.phase_transactions.specs.Pairs.{IsOverBoth};
-ghost use Rattle.phase_transactions.specs.Permits.{permit, HasCommitted};
+ghost use Rattle.phase_transactions.specs.Permits.{permit};
 ghost use Rattle.phase_transactions.specs.Putting.{IsOverOne};
 ghost use Rattle.phase_transactions.specs.Taking.{IsReady, HasStayed};
 ghost use Rattle.phase_transactions.specs.Single.{HaveOpening};
@@ -21,13 +21,13 @@ use crate::fault::PermitFault;
 use crate::pairs::{alone, put_both, put_both_back, take_both_next};
 use crate::putting::put_with_line;
 use crate::taking::{found_on, found_on_both, take_next};
-use auction_rows::{ItemId, Object, Reply, StoreReply, shard_of};
+use auction_rows::{ItemId, Object, Reply, StoreReply};
 use ghost_log::Ghost;
 use item_shards::{Act, Shown};
 use phase_contexts::{Context, NewItem, ReadSet, SplitContext};
-use shard_boxes::{Boxes, Held, Key, PhaseName};
+use shard_boxes::{Boxes, Held, Key, PhaseName, shard_of};
 use std::sync::Wait;
-use worker_journals::Answer;
+use worker_journals::{Answer, Told};
 
 /// Makes room for an item on its shard, which shows nothing of it.
 fn prepare<N: PhaseName>(held: &mut Held<N>, id: ItemId) -> Result<(), PermitFault>
@@ -150,7 +150,9 @@ fn store_over_one<N: PhaseName, R: Wait>(
     let (number, found) = add_over_one(rt, boxes, key, context, shard, id, &acts, index)?;
     Ok(Commit {
         number,
-        reply: Answer::store(StoreReply::ItemStored(id)),
+        reply: Answer {
+            told: Told::Store(StoreReply::ItemStored(id)),
+        },
         found,
     })
 }
@@ -180,7 +182,9 @@ fn store_over_two<N: PhaseName, R: Wait>(
     let (number, found) = add_over_two(rt, boxes, key, context, shards, item, id, index)?;
     Ok(Commit {
         number,
-        reply: Answer::store(StoreReply::ItemStored(id)),
+        reply: Answer {
+            told: Told::Store(StoreReply::ItemStored(id)),
+        },
         found,
     })
 }
@@ -223,14 +227,10 @@ pub(crate) fn store_in_hot_category<N: PhaseName, R: Wait>(
     item: &NewItem,
     index: u32,
 ) -> Result<Ghost<Reply>, PermitFault>
-    requires ready { IsReady N.opening boxes.now key.old }
-    requires left { 0 < split.old.context.left }
-    requires allowed { number_refusal split.old.context.opening (item_request item.now) ≡ None }
+    requires may { MayCommit N.opening boxes.now key.old split.old.context (item_request item.now) }
     requires hot { IsHot split.old (Category item.now.facts.category) }
-    ensures committed { IfOk result (λ reply. HasCommitted N.opening
-        (permit split.old key.old) (permit split.new key.new) (item_request item.now) index reply) }
-    ensures failed { IfErr result (HasFailed N.opening
-        (permit split.old key.old) (permit split.new key.new) (item_request item.now)) }
+    ensures { HasPerformed N.opening
+        (permit split.old key.old) (permit split.new key.new) (item_request item.now) index result }
 {
     let id = split.next_item();
     let home = shard_of(Object::Item(id), boxes.shards());

@@ -117,6 +117,7 @@ impl<N: PhaseName> JoinedPermit<N> {
             HasCommitted N.opening (with_try self.old) self.new request.now index reply) }
         ensures failed { IfErr result (HasFailed N.opening (with_try self.old) self.new request.now) }
     {
+        // One of the phase's workers.
         let _worker = self.key.worker();
         let needs = self.split.begin(request);
         let key = &mut self.key;

@@ -12,20 +12,20 @@ ghost use Rattle.shard_boxes.specs.Lines.{AreTrueOf};
 ghost use Rattle.phase_contexts.specs.Bids.{comment_request};
 ghost use Rattle.phase_transactions.specs.declared.fault.PermitFault.TheVariants.{NumberFull};
 ghost use Rattle.phase_transactions.specs.Putting.{CanDo, line_of};
-ghost use Rattle.phase_transactions.specs.Pairs.{HoldsBoth, HasTakenBoth, IsNextOfBoth, HasPutBoth, HasPutTwo, IsAsTaken, IsCommentAnswer, comment_look, HasCommented, HasCommentedInOne, HasCommentedCold};
+ghost use Rattle.phase_transactions.specs.Pairs.{HasTakenBoth, IsNextOfBoth, AreHeldBoth, HasPutBoth, HasPutTwo, IsCommentAnswer, comment_look, HasCommented, HasCommentedInOne, HasCommentedCold};
 ghost use Rattle.phase_transactions.specs.Single.{HaveOpening};
 ghost use Rattle.phase_transactions.specs.Taking.{IsReady, HasStayed};
 
 use crate::commit::Commit;
 use crate::putting::put_with_line;
 use crate::taking::{found_on, found_on_both, take_next};
-use auction_rows::{Facts, Object, StoreReply, shard_of};
+use auction_rows::{Facts, Object, StoreReply};
 use ghost_log::Ghost;
 use item_shards::{Act, Shown};
 use phase_contexts::{Comment, Context};
-use shard_boxes::{Boxes, Held, Key, PhaseName};
+use shard_boxes::{Boxes, Held, Key, PhaseName, shard_of};
 use std::sync::Wait;
-use worker_journals::Answer;
+use worker_journals::{Answer, Told};
 
 /// Takes two shards, the lesser first.
 fn take_both<N: PhaseName, R: Wait>(
@@ -88,10 +88,7 @@ pub(crate) fn put_both_back<N: PhaseName, R: Wait>(
     one: Held<N>,
     other: Held<N>,
 )
-    requires of { key.old.boxes ≡ boxes.now }
-    requires holds { HoldsBoth key.old one.number other.number }
-    requires one { IsAsTaken N.opening N.workers key.old one }
-    requires other { IsAsTaken N.opening N.workers key.old other }
+    requires { AreHeldBoth N.opening N.workers boxes.now key.old one other }
     ensures put { HasPutBoth key.old key.new one.number other.number None None }
     ensures seen_of_one { seen_at key.new one.number ≡ seen_at key.old one.number }
     ensures seen_of_other { seen_at key.new other.number ≡ seen_at key.old other.number }
@@ -112,10 +109,7 @@ pub(crate) fn put_both<N: PhaseName, R: Wait>(
     first: &[Act; 2],
     second: &[Act; 2],
 )
-    requires of { key.old.boxes ≡ boxes.now }
-    requires holds { HoldsBoth key.old held.0.number held.1.number }
-    requires one { IsAsTaken N.opening N.workers key.old held.0 }
-    requires other { IsAsTaken N.opening N.workers key.old held.1 }
+    requires held { AreHeldBoth N.opening N.workers boxes.now key.old held.0 held.1 }
     requires later { (clock held.0.shard < number) × (clock held.1.shard < number) }
     requires within { number ≤ last_number }
     requires can { CanDo held.0.shard first.now × CanDo held.1.shard second.now }
@@ -138,11 +132,15 @@ pub(crate) fn answer_comment(
 {
     match context.refusal(&comment.request(), seen) {
         Some(reason) => (
-            Answer::store(StoreReply::Refused(reason)),
+            Answer {
+                told: Told::Store(StoreReply::Refused(reason)),
+            },
             Act::Look(Shown::Nothing),
         ),
         None => (
-            Answer::store(StoreReply::CommentStored(context.next_comment())),
+            Answer {
+                told: Told::Store(StoreReply::CommentStored(context.next_comment())),
+            },
             Act::Comment(comment.about, comment.stars),
         ),
     }
@@ -191,6 +189,7 @@ fn comment_over_two<N: PhaseName, R: Wait>(
     ensures later { IfSome result (λ done. context.now.clock < done.number) }
     ensures stayed { IfNone result (HasStayed N.opening context.now.clock key.old key.new item user NumberFull) }
 {
+    // From -5 to 5.
     let _known = comment.stars.value();
     let next = take_both_next(rt, boxes, key, context, item, user)?;
     let (held, (first, second), number) = next;
@@ -228,6 +227,7 @@ fn comment_over_one<N: PhaseName, R: Wait>(
     ensures later { IfSome result (λ done. context.now.clock < done.number) }
     ensures stayed { IfNone result (HasStayed N.opening context.now.clock key.old key.new shard shard NumberFull) }
 {
+    // From -5 to 5.
     let _known = comment.stars.value();
     let (held, before, number) = take_next(rt, boxes, key, context, shard)?;
     let seen = held.shard().stock(comment.item);

@@ -44,6 +44,7 @@ pub(crate) fn see_view(context: &Context, shard: &Shard, request: &Request) -> S
     requires accepted { number_refusal context.now.opening request.now ≡ None }
     ensures { HasSeen context.now shard.now request.now result }
 {
+    // What a context keeps is known where it is read.
     let _context = context;
     match *request {
         Request::ViewItem { item } => Seen::view(Object::Item(item), item_seen(shard, item)),

@@ -15,13 +15,13 @@ use crate::commit::Commit;
 use crate::putting::put_with_line;
 use crate::seen::{Seen, see_view};
 use crate::taking::{found_on, take_next};
-use auction_rows::{ItemId, Object, Refusal, Reply, Request, StoreReply, shard_of};
+use auction_rows::{ItemId, Object, Refusal, Reply, Request, StoreReply};
 use ghost_log::Ghost;
 use item_shards::{Act, Answered};
 use phase_contexts::{Context, ItemStore};
-use shard_boxes::{Acts, Boxes, Held, Key, Line, PhaseName};
+use shard_boxes::{Acts, Boxes, Held, Key, Line, PhaseName, shard_of};
 use std::sync::Wait;
-use worker_journals::Answer;
+use worker_journals::{Answer, Told};
 
 /// Does a bid or a purchase over the shard of its item, at 1 + the greater of the worker's clock and the shard's, for the context
 /// to commit: None exactly where that is past the end of numbers, and then the shard goes back as it was. It takes no memory.
@@ -47,8 +47,8 @@ pub(crate) fn store_on<N: PhaseName, R: Wait>(
         write,
         accepted,
     } = store;
-    let shard = shard_of(Object::Item(item), boxes.shards());
-    let mut held = boxes.take(rt, key, shard);
+    let mut held = boxes.take_shard_of(rt, key, Object::Item(item));
+    let shard = held.number();
     let Some(done) = answer_on(&mut held, context.clock(), request, item, write) else {
         boxes.put(rt, key, held, None);
         return None;
@@ -69,7 +69,9 @@ pub(crate) fn store_on<N: PhaseName, R: Wait>(
     boxes.put(rt, key, held, Some(line));
     Some(Commit {
         number,
-        reply: Answer::store(reply_unless(refused, accepted)),
+        reply: Answer {
+            told: Told::Store(reply_unless(refused, accepted)),
+        },
         found: found_on(shard, before, stock),
     })
 }

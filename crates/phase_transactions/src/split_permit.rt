@@ -56,9 +56,8 @@ impl<N: PhaseName> SplitPermit<N> {
     ghost use Rattle.phase_contexts.specs.Splits.{IsHot, AreStored};
     ghost use Rattle.phase_contexts.specs.Txns.{is_put_off};
     ghost use Rattle.phase_transactions.specs.declared.fault.Done.TheVariants.{Stashed};
-    ghost use Rattle.phase_transactions.specs.Halves.{IsUntouched};
     ghost use Rattle.std.specs.Prelude.{Some, None};
-    ghost use Rattle.phase_transactions.specs.Performing.{HasDealtWith, HasFailed, done_of, with_try};
+    ghost use Rattle.phase_transactions.specs.Performing.{IsUntouched, HasDealtWith, HasFailed, done_of, with_try};
     ghost use Rattle.phase_transactions.specs.Permits.{IsUnused, IsExplained, HasCommitted};
     ghost use Rattle.phase_transactions.specs.Single.{HaveOpening};
 
@@ -180,6 +179,7 @@ impl<N: PhaseName> SplitPermit<N> {
         ensures failed { IfErr result (HasFailed N.opening (with_try self.old) self.new request.now) }
         ensures untouched { IsUntouched (length N.opening) self.old.split request.now self.old.key self.new.key }
     {
+        // One of the phase's workers.
         let _worker = self.key.worker();
         if self.split.is_put_off(request) {
             self.split.count_try();

@@ -1,13 +1,37 @@
 -- One leave for each box, as the boxes are opened and closed.
-use Rattle.std.specs.Prelude.{◌≡◌, ℕ, ◌<◌, false, List, [], map, length, replicate, slice_index_or}
+use Rattle.std.specs.Prelude.{◌≡◌, ℕ, ◌+◌, ◌<◌, false, List, [], map, length, replicate, slice_index_or}
+use Rattle.item_shards.specs.declared.shard.Shard.{Shard}
+use Rattle.item_shards.specs.ShardContents.{shard_number}
 use Rattle.shard_boxes.specs.declared.line.Line.{Line}
 use Rattle.shard_boxes.specs.declared.rule.View.{View}
-use Rattle.shard_boxes.specs.States.{ShardState}
+use Rattle.shard_boxes.specs.States.{ShardState, state_at, state_of}
 use Rattle.shard_boxes.specs.Lines.{IsHistory, lines_of}
 use Rattle.shard_boxes.specs.Keys.{BoxId}
-use Rattle.shard_boxes.specs.Rule.{maker}
+use Rattle.shard_boxes.specs.Rule.{IsKept, Speaks, maker}
 use Rattle.shard_boxes.specs.Passes.{LeaveState}
 use Rattle.shard_boxes.specs.Seats.{places_of}
+
+-- by this leave the shard can go into the empty box
+pub record CanOpen (opening : List ShardState) (workers : ℕ) (box : BoxId) (leave : LeaveState) (shard : Shard) : Type 0 where
+  -- the leave is to the box
+  pub place : leave.place ≡ box
+  -- it is the maker's
+  pub made : leave.knows ≡ maker workers
+  -- the shard is one that the box keeps
+  pub kept : IsKept opening workers (shard_number shard) []
+  -- it is as the phase opens with it
+  pub opens : state_of shard ≡ state_at opening (shard_number shard)
+
+-- two leaves can be united, the second for the workers that follow those of the first
+pub record CanUnite (box : BoxId) (leave other : LeaveState) : Type 0 where
+  -- both are to the box
+  pub place : (leave.place ≡ box) × (other.place ≡ box)
+  -- the first speaks for a worker
+  pub speaks : Speaks leave.knows
+  -- neither holds the shard
+  pub free : (leave.knows.holds ≡ false) × (other.knows.holds ≡ false)
+  -- the second goes on where the first ends
+  pub next : other.knows.first ≡ leave.knows.first + length leave.knows.own
 
 -- a view of the opened box of this number, for so many workers from this one on, who have done nothing
 abbrev pub ready : ℕ → ℕ → ℕ → View

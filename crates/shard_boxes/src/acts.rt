@@ -52,6 +52,7 @@ fn gives_stars(act: &Act)
     ensures { ActGivesStars act.now }
 {
     if let Act::Comment(_, stars) = act {
+        // From -5 to 5.
         let _known = stars.value();
     }
 }

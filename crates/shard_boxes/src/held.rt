@@ -55,6 +55,13 @@ impl<N: PhaseName> Held<N> {
         (number, shard)
     }
 
+    /// The number of the shard.
+    pub fn number(&self) -> u32
+        ensures { result ≡ self.now.number }
+    {
+        self.number
+    }
+
     /// The shard.
     pub fn shard(&self) -> &Shard
         ensures { result.now ≡ self.now.shard }

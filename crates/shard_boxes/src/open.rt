@@ -106,7 +106,7 @@ fn open_all<N: PhaseName, R: Wait>(
     leaves
 }
 
-// A key for each worker.
+// Deals the leaves of all boxes out, into a key for each worker.
 fn deal_all<N: PhaseName>(
     places: &[Place<N>],
     mut leaves: Vec<Leave>,

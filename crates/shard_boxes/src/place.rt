@@ -1,12 +1,12 @@
 //! One box, and the passes to it.
-ghost use Rattle.std.specs.Prelude.{◌≡◌, ◌+◌, ◌<◌, [], true, false, length, IfOk};
+ghost use Rattle.std.specs.Prelude.{◌≡◌, ◌<◌, true, false, length, IfOk};
 ghost use Rattle.crossbeam_queue.specs.Passes.{view, IsPassOf};
-ghost use Rattle.item_shards.specs.ShardContents.{shard_number};
 ghost use Rattle.shard_boxes.specs.States.{state_of, state_at, AreOpened};
 ghost use Rattle.shard_boxes.specs.Lines.{after};
 ghost use Rattle.shard_boxes.specs.Limits.{IsWellFormedIfAny};
 ghost use Rattle.shard_boxes.specs.Helds.{MayPut};
-ghost use Rattle.shard_boxes.specs.Rule.{IsKept, Speaks, TakenBy, maker, opened, put, first_of, rest_of, joined};
+ghost use Rattle.shard_boxes.specs.Leaves.{CanOpen, CanUnite};
+ghost use Rattle.shard_boxes.specs.Rule.{Speaks, TakenBy, maker, opened, put, first_of, rest_of, joined};
 
 use crate::line::{Line, LineName};
 use crate::phase::PhaseName;
@@ -67,10 +67,7 @@ impl<N: PhaseName> Place<N> {
 
     /// The opening shard goes into the box.
     pub fn open<R: Wait>(&self, rt: &R, leave: &mut Leave, shard: Shard)
-        requires place { leave.old.place ≡ self.now }
-        requires maker { leave.old.knows ≡ maker N.workers }
-        requires kept { IsKept N.opening N.workers (shard_number shard) [] }
-        requires opening { state_of shard ≡ state_at N.opening (shard_number shard) }
+        requires { CanOpen N.opening N.workers self.now leave.old shard }
         ensures { leave.new ≡ record leave.old { knows = opened leave.old.knows shard } }
     {
         match self.queue.push_as::<Opened, R>(rt, &mut leave.pass, shard) {
@@ -127,10 +124,7 @@ impl<N: PhaseName> Place<N> {
 
     /// Unites two leaves, the second for the workers that follow those of the first.
     pub fn collect(&self, leave: &mut Leave, other: Leave)
-        requires place { (leave.old.place ≡ self.now) × (other.place ≡ self.now) }
-        requires speaks { Speaks leave.old.knows }
-        requires free { (leave.old.knows.holds ≡ false) × (other.knows.holds ≡ false) }
-        requires next { other.knows.first ≡ leave.old.knows.first + length leave.old.knows.own }
+        requires { CanUnite self.now leave.old other }
         ensures { leave.new ≡ record leave.old { knows = joined leave.old.knows other.knows } }
     {
         let Leave { pass } = other;

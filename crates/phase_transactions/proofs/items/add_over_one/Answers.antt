@@ -1,4 +1,4 @@
-use Rattle.std.proofs.Common.{◌<◌, max, sym, ap, subst, ◌∙◌}
+use Rattle.std.proofs.Common.{◌<◌, max, refl, sym, ap, subst, ◌∙◌}
 use Rattle.item_shards.specs.CommitNumbers.{last_number}
 use Rattle.item_shards.specs.declared.acts.Act.TheVariants.{AddItem}
 use Rattle.item_shards.specs.ShardContents.{rooms, contents}
@@ -9,12 +9,11 @@ use Rattle.phase_transactions.specs.Items.{second_of, CanAlwaysDo}
 use Rattle.phase_transactions.specs.Putting.{CanDo}
 use Rattle.phase_transactions.specs.Taking.{IsCauseAt}
 use Rattle.phase_transactions.proofs.ItemLemmas.{can_add}
-use Rattle.phase_transactions.proofs.TakeLemmas.{below_last, still_taken, stays, over_one}
+use Rattle.phase_transactions.proofs.TakeLemmas.{below_last, still_taken, still_next, held_for, stays, over_one_at}
 use Rattle.phase_transactions.proofs.items.add_over_one.Goals as goal
 
 pub put-requires-clause-may : goal.put-requires-clause-may
-put-requires-clause-may g c =
-    (still_taken g.N.PhaseName.opening g.N.PhaseName.workers c.args.context.now.clock c.args.key.now c.take_next.new.key c.take_next.new.key c.args.shard c.in-Some.next.0 c.in-Some.ensures.taken c.prepare.new.held c.prepare.ensures.state c.prepare.ensures.number).history.state_is
+put-requires-clause-may g c = (still_taken c.in-Some.ensures.taken c.prepare.new.held c.prepare.ensures.state c.prepare.ensures.number).history.state_is
 
 pub returns-in-Err-clause-stayed : goal.returns-in-Err-clause-stayed
 returns-in-Err-clause-stayed g c =
@@ -24,12 +23,11 @@ returns-in-Err-clause-stayed g c =
     let before_is = next.before_is ∙ sym (ap (λ (state : ShardState). state.clock) c.prepare.ensures.state) in
     let short = subst (λ n. max own n < last_number) before_is (below_last (max own c.in-Some.next.1) c.in-Some.next.2 next.numbered next.within) in
     stays g.N.PhaseName.opening g.N.PhaseName.workers own c.args.key.now taken c.put.new.key c.args.shard c.prepare.new.held
-    (still_taken g.N.PhaseName.opening g.N.PhaseName.workers own c.args.key.now taken taken c.args.shard c.in-Some.next.0 c.in-Some.ensures.taken c.prepare.new.held c.prepare.ensures.state c.prepare.ensures.number)
+    (still_taken c.in-Some.ensures.taken c.prepare.new.held c.prepare.ensures.state c.prepare.ensures.number)
     c.requires.ready.idle c.put.ensures c.in-Err.fault (subst (IsCauseAt _) (sym c.in-Err.ensures.refused) short)
 
-pub put_with_line-requires-clause-taken : goal.put_with_line-requires-clause-taken
-put_with_line-requires-clause-taken g c =
-    (still_taken g.N.PhaseName.opening g.N.PhaseName.workers c.args.context.now.clock c.args.key.now c.take_next.new.key c.take_next.new.key c.args.shard c.in-Some.next.0 c.in-Some.ensures.taken c.prepare.new.held c.prepare.ensures.state c.prepare.ensures.number).history.state_is
+pub put_with_line-requires-clause-held : goal.put_with_line-requires-clause-held
+put_with_line-requires-clause-held g c = held_for (still_taken c.in-Some.ensures.taken c.prepare.new.held c.prepare.ensures.state c.prepare.ensures.number) (still_next c.in-Some.ensures.next c.prepare.ensures.state)
 
 pub put_with_line-requires-clause-can : goal.put_with_line-requires-clause-can
 put_with_line-requires-clause-can g c =
@@ -46,11 +44,5 @@ put_with_line-requires-clause-looks g c =
 
 pub returns-clause-added : goal.returns-clause-added
 returns-clause-added g c =
-    let own = c.args.context.now.clock in
-    let next = c.in-Some.ensures.next in
-    let taken = c.take_next.new.key in
-    over_one g.N.PhaseName.opening g.N.PhaseName.workers own c.args.key.now taken c.put_with_line.new.key c.args.shard c.prepare.new.held
-    (still_taken g.N.PhaseName.opening g.N.PhaseName.workers own c.args.key.now taken taken c.args.shard c.in-Some.next.0 c.in-Some.ensures.taken c.prepare.new.held c.prepare.ensures.state c.prepare.ensures.number)
-    c.in-Some.next.1 c.in-Some.next.2 c.args.index _ c.found_on.result c.of.result
-    (record { before_is = next.before_is ∙ sym (ap (λ (state : ShardState). state.clock) c.prepare.ensures.state); numbered = next.numbered; within = next.within })
-    c.put_with_line.ensures c.found_on.ensures
+    over_one_at (still_taken c.in-Some.ensures.taken c.prepare.new.held c.prepare.ensures.state c.prepare.ensures.number)
+    (still_next c.in-Some.ensures.next c.prepare.ensures.state) c.put_with_line.ensures c.found_on.ensures refl refl

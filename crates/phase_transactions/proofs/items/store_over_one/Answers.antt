@@ -1,5 +1,6 @@
 use Rattle.std.proofs.Common.{refl, ◌∷◌, [], subst}
 use Rattle.auction_rows.specs.declared.ids.ItemEntry.{ItemEntry}
+use Rattle.auction_rows.specs.declared.replies.Reply.TheVariants.{ItemStored}
 use Rattle.item_shards.specs.declared.acts.Act.TheVariants.{ListItem}
 use Rattle.phase_transactions.specs.Items.{adds}
 use Rattle.phase_transactions.specs.Putting.{IsOverOne}
@@ -23,5 +24,5 @@ returns-clause-cold g c =
     let listed = λ (entry : ItemEntry). IsOverOne opening c.args.context.now.clock c.args.key.now c.add_over_one.new.key c.args.shard c.in_ok-number.number c.args.index c.in_ok-number.found
     (adds item c.next_item-id.result ∷ ListItem item.facts.category entry ∷ []) in
     cold_stored_one opening c.args.context.now c.args.key.now c.add_over_one.new.key item c.next_item-id.result c.args.index
-    c.requires.allowed c.next_item-id.ensures c.args.shard c.in_ok-number.number c.in_ok-number.found c.store.result c.store.ensures
+    c.requires.allowed c.next_item-id.ensures c.args.shard c.in_ok-number.number c.in_ok-number.found (ItemStored c.next_item-id.result) refl
     c.requires.home c.requires.listed c.requires.ready.idle (subst listed c.entry.ensures c.in_ok-number.ensures.added)

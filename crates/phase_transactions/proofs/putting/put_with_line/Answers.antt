@@ -14,9 +14,9 @@ put-requires-clause-may g c =
     let made = c.commit-before.ensures in
     let line : line_of c.args.number c.args.index c.args.acts.now old ≡ record { number = c.args.number; before = c.commit-before.result; index = c.args.index; acts = c.of.result } =
     λ i. record { number = c.args.number; before = sym (made.found ∙ ap clock lent) i; index = c.args.index; acts = sym c.of.ensures i } in
-    may_put old c.commit-before.new.self _ c.args.number c.args.index c.args.acts.now _ line c.requires.taken
+    may_put old c.commit-before.new.self _ c.args.number c.args.index c.args.acts.now _ line c.requires.held.taken
     (subst (λ (s : Shard). IsSameShard s c.commit-before.new.self) lent made.same)
-    (made.contents ∙ ap (λ (s : Shard). after_acts (contents s) c.args.acts.now) lent) made.clock c.requires.later c.requires.looks
+    (made.contents ∙ ap (λ (s : Shard). after_acts (contents s) c.args.acts.now) lent) made.clock c.requires.held.later c.requires.looks
 
 pub returns : goal.returns
 returns g c =
@@ -28,5 +28,5 @@ returns g c =
             index = c.args.index;
             acts = c.of.ensures i;
           })));
-      follows = line_follows _ c.args.held.shard c.args.number c.args.index c.args.acts.now c.requires.taken c.requires.later c.requires.looks;
+      follows = line_follows _ c.args.held.shard c.args.number c.args.index c.args.acts.now c.requires.held.taken c.requires.held.later c.requires.looks;
     }

@@ -6,7 +6,7 @@ use Rattle.auction_rows.specs.Requests.{shard_of}
 use Rattle.phase_transactions.specs.declared.fault.PermitFault.TheVariants.{NumberFull}
 use Rattle.phase_transactions.specs.Putting.{CanDo, found_on}
 use Rattle.phase_transactions.proofs.SingleLemmas.{has_done, only_lies}
-use Rattle.phase_transactions.proofs.TakeLemmas.{after_clock, after_own, over_one, stayed_as, if_none}
+use Rattle.phase_transactions.proofs.TakeLemmas.{held_for, after_own, over_one, stayed_as, if_none}
 use Rattle.phase_transactions.proofs.single.view_on.Goals as goal
 
 pub returns-in_err-held-clause-stayed : goal.returns-in_err-held-clause-stayed
@@ -26,11 +26,8 @@ see_view-reply-requires-clause-opening g c =
     let history = c.in_ok-held.ensures.taken.history in
     subst (λ (s : Shard). opening_of s ≡ c.args.context.now.opening) (sym c.shard.ensures) (history.opening_is ∙ c.requires.opening c.in_ok-held.held.number history.known)
 
-pub put_with_line-requires-clause-taken : goal.put_with_line-requires-clause-taken
-put_with_line-requires-clause-taken g c = c.in_ok-held.ensures.taken.history.state_is
-
-pub put_with_line-requires-clause-later : goal.put_with_line-requires-clause-later
-put_with_line-requires-clause-later g c = after_clock c.args.context.now.clock c.in_ok-held.held.shard c.in_ok-held.before c.in_ok-held.number c.in_ok-held.ensures.next
+pub put_with_line-requires-clause-held : goal.put_with_line-requires-clause-held
+put_with_line-requires-clause-held g c = held_for c.in_ok-held.ensures.taken c.in_ok-held.ensures.next
 
 pub put_with_line-requires-clause-can : goal.put_with_line-requires-clause-can
 put_with_line-requires-clause-can g c = subst (λ (s : Shard). CanDo s c.see_view-reply.result.acts) c.shard.ensures c.see_view-reply.ensures.can

@@ -20,55 +20,27 @@ loop-other-init g c =
       ((λ k d low. absurd (omega arith)), λ k d from low. (mine.free.1 k d low, mine.own k d low)),
     )
 
-pub collect-requires-clause-place : goal.collect-requires-clause-place
-collect-requires-clause-place g c =
-    let places = c.args.places.now in let others = c.args.others.items in
-    let was = c.loop-other.invariant in let step = c.in-Some.ensures.steps in
-    let s = c.loop-other.s in let leaves = c.loop-other.leaves.items in let other = c.in-Some.other in
-    let low : s < length places = omega (arith, step.1, was.0, c.requires.places) in
-    let below : s < length leaves = omega (arith, low, as_many leaves places was.2) in
-    let below' : s < length others = omega (arith, low, as_many others places c.requires.others.0) in (
-      place_is leaves places s c.index_mut.result.now c.index-places-s.result was.2 below c.index_mut.ensures.value c.index-places-s.is,
-      place_is others places s other c.index-places-s.result c.requires.others.0 below' (sym (at_head others s other (into_iter_items c.next.new.self) other (sym step.0 ∙ was.1))) c.index-places-s.is,
-    )
-
-pub collect-requires-clause-speaks : goal.collect-requires-clause-speaks
-collect-requires-clause-speaks g c =
-    let places = c.args.places.now in let was = c.loop-other.invariant in let step = c.in-Some.ensures.steps in
-    let s = c.loop-other.s in let leaves = c.loop-other.leaves.items in let leave = c.index_mut.result.now in
-    let below : s < length leaves = omega (arith, step.1, was.0, c.requires.places, as_many leaves places was.2) in
-    let one : length leave.knows.own ≡ 1 = ap (λ (l : LeaveState). length l.knows.own) c.index_mut.ensures.value ∙ ap length (was.3.1 s leave (omega arith) below).1 in
-    omega (arith, one)
-
-pub collect-requires-clause-free : goal.collect-requires-clause-free
-collect-requires-clause-free g c =
+pub collect-requires : goal.collect-requires
+collect-requires g c =
     let places = c.args.places.now in let others = c.args.others.items in
     let was = c.loop-other.invariant in let step = c.in-Some.ensures.steps in
     let s = c.loop-other.s in let leaves = c.loop-other.leaves.items in let other = c.in-Some.other in let leave = c.index_mut.result.now in
     let low : s < length places = omega (arith, step.1, was.0, c.requires.places) in
     let below : s < length leaves = omega (arith, low, as_many leaves places was.2) in
     let below' : s < length others = omega (arith, low, as_many others places c.requires.others.0) in
-    let head = at_head others s other (into_iter_items c.next.new.self) other (sym step.0 ∙ was.1) in (
-      ap (λ (l : LeaveState). l.knows.holds) c.index_mut.ensures.value ∙ (was.3.1 s leave (omega arith) below).0.free,
-      ap (λ (l : LeaveState). l.knows.holds) (sym head) ∙ (c.requires.others.1 s other below').free,
-    )
-
-pub collect-requires-clause-next : goal.collect-requires-clause-next
-collect-requires-clause-next g c =
-    let places = c.args.places.now in let others = c.args.others.items in
-    let was = c.loop-other.invariant in let step = c.in-Some.ensures.steps in
-    let s = c.loop-other.s in let leaves = c.loop-other.leaves.items in let other = c.in-Some.other in let leave = c.index_mut.result.now in
-    let low : s < length places = omega (arith, step.1, was.0, c.requires.places) in
-    let below : s < length leaves = omega (arith, low, as_many leaves places was.2) in
-    let below' : s < length others = omega (arith, low, as_many others places c.requires.others.0) in
-    let theirs = (c.requires.others.1 s other below').from in
-    let head = at_head others s other (into_iter_items c.next.new.self) other (sym step.0 ∙ was.1) in
-    let mine = was.3.1 s leave (omega arith) below in
     let at = c.index_mut.ensures.value in
-    let first : other.knows.first ≡ c.args.key.worker + 1 = ap (λ (l : LeaveState). l.knows.first) (sym head) ∙ theirs in
-    let from : leave.knows.first ≡ c.args.key.worker = ap (λ (l : LeaveState). l.knows.first) at ∙ mine.0.from in
+    let mine = was.3.1 s leave (omega arith) below in
     let one : length leave.knows.own ≡ 1 = ap (λ (l : LeaveState). length l.knows.own) at ∙ ap length mine.1 in
-    omega (arith, first, from, one)
+    let from : leave.knows.first ≡ c.args.key.worker = ap (λ (l : LeaveState). l.knows.first) at ∙ mine.0.from in
+    let head = at_head others s other (into_iter_items c.next.new.self) other (sym step.0 ∙ was.1) in
+    let theirs = c.requires.others.1 s other below' in
+    let first : other.knows.first ≡ c.args.key.worker + 1 = ap (λ (l : LeaveState). l.knows.first) (sym head) ∙ theirs.from in
+    record {
+      place = (place_is leaves places s leave c.index-places-s.result was.2 below at c.index-places-s.is, place_is others places s other c.index-places-s.result c.requires.others.0 below' (sym head) c.index-places-s.is);
+      speaks = omega (arith, one);
+      free = (ap (λ (l : LeaveState). l.knows.holds) at ∙ mine.0.free, ap (λ (l : LeaveState). l.knows.holds) (sym head) ∙ theirs.free);
+      next = omega (arith, first, from, one);
+    }
 
 pub loop-other-preserved : goal.loop-other-preserved
 loop-other-preserved g c =

@@ -26,40 +26,23 @@ loop-shard-init g c =
       ),
     )
 
-pub open-requires-clause-place : goal.open-requires-clause-place
-open-requires-clause-place g c =
-    let places = c.args.places.now in let was = c.loop-shard.invariant in let step = c.in-Some.ensures.steps in
-    let s = c.loop-shard.s in let leaves = c.loop-shard.leaves.items in let leave = c.index_mut.result.now in
-    let below : s < length leaves = omega (arith, step.1, was.0, as_many leaves places was.2, c.requires.places) in
-    place_is leaves places s leave c.index-places-s.result was.2 below c.index_mut.ensures.value c.index-places-s.is
-
-pub open-requires-clause-maker : goal.open-requires-clause-maker
-open-requires-clause-maker g c =
+pub open-requires : goal.open-requires
+open-requires g c =
+    let opening = g.N.PhaseName.opening in let places = c.args.places.now in let shards = c.args.shards.items in let shard = c.in-Some.shard in
     let was = c.loop-shard.invariant in let step = c.in-Some.ensures.steps in
     let s = c.loop-shard.s in let leaves = c.loop-shard.leaves.items in let leave = c.index_mut.result.now in
-    let below : s < length leaves = omega (arith, step.1, was.0, as_many leaves c.args.places.now was.2, c.requires.places) in
-    ap (λ (l : LeaveState). l.knows) c.index_mut.ensures.value ∙ was.3.1 s leave (omega arith) below
-
-pub open-requires-clause-opening : goal.open-requires-clause-opening
-open-requires-clause-opening g c =
-    let opening = g.N.PhaseName.opening in let shards = c.args.shards.items in let shard = c.in-Some.shard in
-    let was = c.loop-shard.invariant in let step = c.in-Some.ensures.steps in
-    let s = c.loop-shard.s in
     let low : s < length opening = omega (arith, step.1, was.0) in
     let there : s < length shards = omega (arith, low, as_many_states shards opening c.requires.opening) in
+    let below : s < length leaves = omega (arith, low, as_many leaves places was.2, c.requires.places) in
+    let at = c.index_mut.ensures.value in
     let state = state_is shards opening s shard c.requires.opening there (at_head shards s shard (into_iter_items c.next.new.self) shard (sym step.0 ∙ was.1)) in
     let number = ap (λ (x : ShardState). x.number) state ∙ (c.requires.opened s low).number_is in
-    state ∙ ap (state_at opening) (sym number)
-
-pub open-requires-clause-kept : goal.open-requires-clause-kept
-open-requires-clause-kept g c =
-    let opening = g.N.PhaseName.opening in let shards = c.args.shards.items in let shard = c.in-Some.shard in
-    let was = c.loop-shard.invariant in let step = c.in-Some.ensures.steps in
-    let s = c.loop-shard.s in
-    let low : s < length opening = omega (arith, step.1, was.0) in
-    let there : s < length shards = omega (arith, low, as_many_states shards opening c.requires.opening) in
-    let state = state_is shards opening s shard c.requires.opening there (at_head shards s shard (into_iter_items c.next.new.self) shard (sym step.0 ∙ was.1)) in
-    kept_open opening g.N.PhaseName.workers s (shard_number shard) low (c.requires.opened s low) (ap (λ (x : ShardState). x.number) state ∙ (c.requires.opened s low).number_is)
+    record {
+      place = place_is leaves places s leave c.index-places-s.result was.2 below at c.index-places-s.is;
+      made = ap (λ (l : LeaveState). l.knows) at ∙ was.3.1 s leave (omega arith) below;
+      kept = kept_open opening g.N.PhaseName.workers s (shard_number shard) low (c.requires.opened s low) number;
+      opens = state ∙ ap (state_at opening) (sym number);
+    }
 
 pub loop-shard-preserved : goal.loop-shard-preserved
 loop-shard-preserved g c =

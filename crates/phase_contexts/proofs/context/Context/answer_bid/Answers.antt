@@ -1,11 +1,8 @@
-use Rattle.std.proofs.Common.{◌+◌, ◌∷◌, [], Some, None, sym, ap, subst, ◌∙◌}
+use Rattle.std.proofs.Common.{◌+◌, ◌∷◌, [], Some, None, refl, sym, ap, subst, ◌∙◌}
 use Rattle.auction_rows.specs.declared.ids.BidId.{BidId}
 use Rattle.auction_rows.specs.declared.ids.Object.TheVariants.{Item}
-use Rattle.auction_rows.specs.declared.replies.Reply.TheVariants.{BidStored}
-use Rattle.auction_rows.specs.Replies.{row_of}
+use Rattle.auction_rows.specs.declared.replies.Reply.TheVariants.{BidStored, Refused}
 use Rattle.item_shards.specs.declared.acts.Act.TheVariants.{Bid as BidOn}
-use Rattle.item_shards.specs.Writing.{writes_if}
-use Rattle.phase_contexts.specs.Bids.{bid_request}
 use Rattle.phase_contexts.specs.Slicing.{bid_on, after_acts, stock_of, stocks_of, AreFew}
 use Rattle.phase_contexts.proofs.AnswerLemmas.{bid_replied, bid_written}
 use Rattle.phase_contexts.proofs.FewLemmas.{few_changed, few_bid}
@@ -14,14 +11,14 @@ use Rattle.phase_contexts.proofs.context.Context.answer_bid.Goals as goal
 pub returns-in-Some-clause-reply : goal.returns-in-Some-clause-reply
 returns-in-Some-clause-reply c =
     let bid = c.args.bid.now in
-    bid_replied c.args.self.now bid (stock_of (stocks_of c.args.slices.now) (Item bid.item)) c.stock_at.result c.request.result (Some c.in-Some.reason) c.store.result
-    c.request.ensures (c.stock_at.ensures (Item bid.item) c.requires.at) c.in-Some.ensures c.store.ensures
+    bid_replied c.args.self.now bid (stock_of (stocks_of c.args.slices.now) (Item bid.item)) c.stock_at.result c.request.result (Some c.in-Some.reason) (Refused c.in-Some.reason)
+    c.request.ensures (c.stock_at.ensures (Item bid.item) c.requires.at) c.in-Some.ensures refl
 
 pub returns-in-None-clause-reply : goal.returns-in-None-clause-reply
 returns-in-None-clause-reply c =
     let bid = c.args.bid.now in
-    bid_replied c.args.self.now bid (stock_of (stocks_of c.args.slices.now) (Item bid.item)) c.stock_at.result c.request.result None c.store-in-None.result
-    c.request.ensures (c.stock_at.ensures (Item bid.item) c.requires.at) c.in-None.ensures (c.store-in-None.ensures ∙ ap BidStored c.next_bid-id.ensures)
+    bid_replied c.args.self.now bid (stock_of (stocks_of c.args.slices.now) (Item bid.item)) c.stock_at.result c.request.result None (BidStored c.next_bid-id.result)
+    c.request.ensures (c.stock_at.ensures (Item bid.item) c.requires.at) c.in-None.ensures (ap BidStored c.next_bid-id.ensures)
 
 pub returns-in-None-clause-slices : goal.returns-in-None-clause-slices
 returns-in-None-clause-slices c =
@@ -31,7 +28,7 @@ returns-in-None-clause-slices c =
     let written = bid_written worker bid id (ap (λ (i : BidId). i.worker) c.next_bid-id.ensures) in
     c.bid.ensures bid.item c.requires.at
     ∙ ap (after_acts c.args.slices.now)
-    (sym (ap (λ r. writes_if (row_of worker (bid_request bid) r)) c.store-in-None.ensures ∙ written ∙ ap (λ entry. BidOn bid.item entry ∷ []) (sym c.entry.ensures)))
+    (sym (written ∙ ap (λ entry. BidOn bid.item entry ∷ []) (sym c.entry.ensures)))
 
 pub returns-in-None-clause-few : goal.returns-in-None-clause-few
 returns-in-None-clause-few c =

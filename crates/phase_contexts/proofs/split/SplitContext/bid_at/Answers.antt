@@ -1,10 +1,10 @@
-use Rattle.std.proofs.Common.{sym, subst, ◌∙◌}
+use Rattle.std.proofs.Common.{sym, subst}
+use Rattle.auction_rows.specs.declared.ids.Object.TheVariants.{Item}
 use Rattle.auction_rows.specs.Replies.{row_of}
 use Rattle.item_shards.specs.Writing.{writes_if}
 use Rattle.phase_contexts.specs.Bids.{bid_request}
-use Rattle.phase_contexts.specs.Contexts.{after_commit, with_one_less}
 use Rattle.phase_contexts.specs.Splits.{SplitState, HasStored, IsHot}
-use Rattle.phase_contexts.proofs.ContextLemmas.{next_of_own}
+use Rattle.phase_contexts.proofs.ContextLemmas.{own_commit}
 use Rattle.phase_contexts.proofs.AnswerLemmas.{bid_answered, bid_right}
 use Rattle.phase_contexts.proofs.StoredLemmas.{commit_keeps_split}
 use Rattle.phase_contexts.proofs.split.SplitContext.bid_at.Goals as goal
@@ -15,10 +15,9 @@ returns-clause-stored c =
     let new : SplitState = record { context = c.commit.new.self; slices = c.answer_bid-reply.new.slices } in
     let answer = c.answer_bid-reply.result in
     let bid = c.args.bid.now in
-    let number = next_of_own c.self.inside.context.clock c.in_ok-number.number c.in_ok-number.ensures.number in
-    let hot = subst (λ (s : SplitState). IsHot s (Rattle.auction_rows.specs.declared.ids.Object.TheVariants.Item bid.item)) (sym c.self.view_is) c.requires.hot in
+    let hot = subst (λ (s : SplitState). IsHot s (Item bid.item)) (sym c.self.view_is) c.requires.hot in
     subst (λ (old : SplitState). HasStored old new (bid_request bid) c.args.index answer) c.self.view_is (record {
-      context = c.commit.ensures ∙ (λ i. with_one_less (after_commit split.context (number i) c.args.index (c.request.ensures i) answer (c.nothing.ensures i)));
+      context = own_commit split.context c.commit.new.self c.in_ok-number.number c.args.index c.request.result (bid_request bid) answer c.nothing.result c.in_ok-number.ensures.number c.request.ensures c.nothing.ensures c.commit.ensures;
       slices = c.answer_bid-reply.ensures.slices;
       answered = bid_answered split bid c.args.index answer hot c.answer_bid-reply.ensures.reply;
       right = bid_right split bid answer hot c.answer_bid-reply.ensures.reply;

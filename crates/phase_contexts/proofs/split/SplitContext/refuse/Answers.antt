@@ -1,5 +1,5 @@
 use Rattle.std.proofs.Common.{◌≡◌, [], Some, false, refl, sym, subst, ◌∙◌, arith}
-use Rattle.auction_rows.specs.declared.replies.Reply.{Reply}
+use Rattle.auction_rows.specs.declared.replies.Reply.TheVariants.{Refused}
 use Rattle.auction_rows.specs.Refusals.{number_refusal}
 use Rattle.phase_contexts.specs.Slicing.{objects_of}
 use Rattle.phase_contexts.specs.Txns.{is_put_off}
@@ -20,18 +20,18 @@ returns-clause-stored c =
     let number = next_of_own split.context.clock c.in_ok-number.number c.in_ok-number.ensures.number in
     let refused = subst (λ (s : SplitState). number_refusal s.context.opening request ≡ Some reason) (sym c.self.view_is) c.requires.refused in
     let goes = subst (λ (s : SplitState). is_put_off (objects_of s.slices) request ≡ false) (sym c.self.view_is) c.requires.not_put_off in
-    subst (λ (old : SplitState). HasStored old new request c.args.index c.store-reply.result) c.self.view_is
-    (subst (λ (reply : Reply). HasStored split new request c.args.index reply) (sym c.store-reply.ensures) (record {
-      context = c.commit.ensures ∙ (λ i. with_one_less (after_commit split.context (number i) c.args.index request (c.store-reply.ensures i) (c.nothing.ensures i)));
+    subst (λ (old : SplitState). HasStored old new request c.args.index (Refused reason)) c.self.view_is
+    (record {
+      context = c.commit.ensures ∙ (λ i. with_one_less (after_commit split.context (number i) c.args.index request (Refused reason) (c.nothing.ensures i)));
       slices = nothing_written split.slices split.context.journal.worker request reason;
       answered = refusal_answered split request reason c.args.index refused goes;
       right = λ book counts stocks. refusal_right split.context.opening book split.context.journal.worker request reason refused;
-    }))
+    })
 
 pub invariant_of-self : goal.invariant_of-self
 invariant_of-self c =
     let context = c.self.inside.context in
     let hots = c.self.inside.slices in
     let kept = c.self.invariant in
-    commit_keeps_split context c.commit.new.self hots hots c.in_ok-number.number c.args.index c.args.request.now c.store-reply.result c.nothing.result [] c.commit.ensures
+    commit_keeps_split context c.commit.new.self hots hots c.in_ok-number.number c.args.index c.args.request.now (Refused c.args.reason) c.nothing.result [] c.commit.ensures
     refl (few_more context.counters.commits _ hots (omega arith) kept.0) kept.1 kept.2

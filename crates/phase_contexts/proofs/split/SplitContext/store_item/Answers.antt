@@ -1,5 +1,6 @@
 use Rattle.std.proofs.Common.{◌≡◌, ◌+◌, List, [], ◌∷◌, sym, subst, ◌∙◌, arith}
 use Rattle.auction_rows.specs.declared.ids.Object.TheVariants.{Category}
+use Rattle.auction_rows.specs.declared.replies.Reply.TheVariants.{ItemStored}
 use Rattle.item_shards.specs.declared.acts.Act.{Act}
 use Rattle.item_shards.specs.declared.acts.Act.TheVariants.{ListItem}
 use Rattle.phase_contexts.specs.Contexts.{ContextState, after_commit, with_one_less}
@@ -22,8 +23,8 @@ invariant_of-self c =
     let keeps : (acts : List Act) → c.match-place_of.self-inside.context ≡ context → slices ≡ after_acts hots acts → AreFew (n + 1) slices
     → AreFew c.commit.new.self.counters.commits slices × HasStashRoom slices c.commit.new.self.left c.commit.new.self.stash.room × AreStored c.commit.new.self.journal.worker c.commit.new.self.counters slices
     = λ acts same acted more.
-    commit_keeps_split context c.commit.new.self hots slices c.args.number c.args.index c.request.result c.store-reply.result c.args.found.now acts
-    (subst (λ (d : ContextState). c.commit.new.self ≡ with_one_less (after_commit d c.args.number c.args.index c.request.result c.store-reply.result c.args.found.now)) same c.commit.ensures)
+    commit_keeps_split context c.commit.new.self hots slices c.args.number c.args.index c.request.result (ItemStored c.next_item-id.result) c.args.found.now acts
+    (subst (λ (d : ContextState). c.commit.new.self ≡ with_one_less (after_commit d c.args.number c.args.index c.request.result (ItemStored c.next_item-id.result) c.args.found.now)) same c.commit.ensures)
     acted more kept.1 kept.2 in
     elim c.match-place_of.branch [
       | in-Some w ↦

@@ -1,11 +1,11 @@
 use Rattle.std.proofs.Common.{◌≡◌, List, false, length, sym, ap, subst, ◌∙◌}
-use Rattle.std.specs.Prelude.{IfOk, IfErr}
 use Rattle.auction_rows.specs.declared.ids.Object.{Object}
 use Rattle.phase_contexts.specs.declared.slices.Hot.{Hot}
 use Rattle.phase_contexts.specs.Txns.{is_put_off}
 use Rattle.phase_contexts.specs.Slicing.{objects_of}
-use Rattle.phase_transactions.specs.Permits.{PermitState, permit, HasCommitted}
-use Rattle.phase_transactions.specs.Performing.{HasFailed}
+use Rattle.phase_transactions.specs.Permits.{PermitState, permit}
+use Rattle.phase_transactions.specs.Performing.{HasPerformed}
+use Rattle.phase_transactions.proofs.FailLemmas.{done_committed, done_failed}
 use Rattle.phase_transactions.proofs.PermitLemmas.{none_put_off, tried_explained}
 use Rattle.phase_transactions.proofs.TryLemmas.{tried_as}
 use Rattle.phase_transactions.proofs.JoinedLemmas.{stays_joined}
@@ -32,19 +32,21 @@ invariant_of-self g c =
     let key = c.self.inside.key in
     let new = c.commit_in_split.new in
     stays_joined g.N.PhaseName.opening (permit begun key) (permit new.split new.key) c.args.request.now c.args.index c.commit_in_split.result
-    c.commit_in_split.ensures.committed c.commit_in_split.ensures.failed (c.begin-needs.ensures.slices ∙ c.self.invariant.0)
+    c.commit_in_split.ensures (c.begin-needs.ensures.slices ∙ c.self.invariant.0)
     (tried_explained (length g.N.PhaseName.opening) c.self.inside.split begun key c.begin-needs.ensures.context c.begin-needs.ensures.slices c.self.invariant.1)
 
 pub returns-clause-committed : goal.returns-clause-committed
 returns-clause-committed g c =
     let new = permit c.commit_in_split.new.split c.commit_in_split.new.key in
-    subst (λ (old : PermitState). IfOk c.commit_in_split.result (λ reply. HasCommitted g.N.PhaseName.opening old new c.args.request.now c.args.index reply))
+    done_committed _ _ _ _ c.args.index c.commit_in_split.result
+    (subst (λ (old : PermitState). HasPerformed g.N.PhaseName.opening old new c.args.request.now c.args.index c.commit_in_split.result)
     (tried_as c.args.self.now (permit c.self.inside.split c.self.inside.key) c.begin-needs.new.self c.self.view_is c.begin-needs.ensures.context c.begin-needs.ensures.slices)
-    c.commit_in_split.ensures.committed
+    c.commit_in_split.ensures)
 
 pub returns-clause-failed : goal.returns-clause-failed
 returns-clause-failed g c =
     let new = permit c.commit_in_split.new.split c.commit_in_split.new.key in
-    subst (λ (old : PermitState). IfErr c.commit_in_split.result (HasFailed g.N.PhaseName.opening old new c.args.request.now))
+    done_failed _ _ _ _ c.args.index c.commit_in_split.result
+    (subst (λ (old : PermitState). HasPerformed g.N.PhaseName.opening old new c.args.request.now c.args.index c.commit_in_split.result)
     (tried_as c.args.self.now (permit c.self.inside.split c.self.inside.key) c.begin-needs.new.self c.self.view_is c.begin-needs.ensures.context c.begin-needs.ensures.slices)
-    c.commit_in_split.ensures.failed
+    c.commit_in_split.ensures)

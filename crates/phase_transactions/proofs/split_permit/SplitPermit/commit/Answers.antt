@@ -4,13 +4,13 @@ use Rattle.phase_contexts.specs.Contexts.{ContextState, after_putting_off}
 use Rattle.phase_contexts.specs.Slicing.{objects_of}
 use Rattle.phase_contexts.specs.Splits.{SplitState}
 use Rattle.phase_contexts.specs.Txns.{is_put_off}
-use Rattle.phase_transactions.specs.Halves.{IsUntouched}
 use Rattle.phase_transactions.specs.Permits.{PermitState, permit, IsExplained, HasCommitted}
-use Rattle.phase_transactions.specs.Performing.{HasFailed}
+use Rattle.phase_transactions.specs.Performing.{HasFailed, IsUntouched}
 use Rattle.phase_transactions.specs.Single.{HaveOpening}
 use Rattle.phase_transactions.proofs.Hots.{commit_explained}
 use Rattle.phase_transactions.proofs.ItemLemmas.{err_as}
 use Rattle.phase_transactions.proofs.PermitLemmas.{tried_explained, fail_explained}
+use Rattle.phase_transactions.proofs.RightLemmas.{leaves_untouched}
 use Rattle.phase_transactions.proofs.TryLemmas.{tried_as, no_answer, told_kept, fault_kept}
 use Rattle.phase_transactions.proofs.split_permit.SplitPermit.commit.Goals as goal
 
@@ -62,14 +62,14 @@ pub invariant_of-self-2 : goal.invariant_of-self-2
 invariant_of-self-2 g c =
     let shards = length g.N.PhaseName.opening in
     let key = c.self.inside.key in
-    commit_explained g.N.PhaseName.opening (permit c.begin-needs.new.self key) (permit c.commit_in_split.new.split c.commit_in_split.new.key) c.args.request.now c.args.index c.in_ok-reply.reply c.in_ok-reply.ensures.committed
+    commit_explained g.N.PhaseName.opening (permit c.begin-needs.new.self key) (permit c.commit_in_split.new.split c.commit_in_split.new.key) c.args.request.now c.args.index c.in_ok-reply.reply c.in_ok-reply.ensures
     (tried_explained shards c.self.inside.split c.begin-needs.new.self key c.begin-needs.ensures.context c.begin-needs.ensures.slices c.self.invariant)
 
 pub invariant_of-self-in_err-reply : goal.invariant_of-self-in_err-reply
 invariant_of-self-in_err-reply g c =
     let shards = length g.N.PhaseName.opening in
     let key = c.self.inside.key in
-    fail_explained g.N.PhaseName.opening shards (permit c.begin-needs.new.self key) (permit c.commit_in_split.new.split c.commit_in_split.new.key) c.args.request.now c.in_err-reply.field-0.0 c.in_err-reply.ensures.failed
+    fail_explained g.N.PhaseName.opening shards (permit c.begin-needs.new.self key) (permit c.commit_in_split.new.split c.commit_in_split.new.key) c.args.request.now c.in_err-reply.field-0.0 c.in_err-reply.ensures
     (tried_explained shards c.self.inside.split c.begin-needs.new.self key c.begin-needs.ensures.context c.begin-needs.ensures.slices c.self.invariant)
 
 pub returns-then-is_put_off-clause-dealt : goal.returns-then-is_put_off-clause-dealt
@@ -102,21 +102,21 @@ returns-in_err-reply-clause-failed g c =
     err_as c.from_residual.result c.in_err-reply.field-0.0 _ c.from_residual.ensures.1
     (subst (λ (old : PermitState). HasFailed g.N.PhaseName.opening old new c.args.request.now c.in_err-reply.field-0.0)
     (tried_as c.args.self.now (permit c.self.inside.split c.self.inside.key) c.begin-needs.new.self c.self.view_is c.begin-needs.ensures.context c.begin-needs.ensures.slices)
-    c.in_err-reply.ensures.failed)
+    c.in_err-reply.ensures)
 
 pub returns-in_err-reply-clause-untouched : goal.returns-in_err-reply-clause-untouched
 returns-in_err-reply-clause-untouched g c =
     let new = permit c.commit_in_split.new.split c.commit_in_split.new.key in
     subst (λ (old : PermitState). IsUntouched (length g.N.PhaseName.opening) old.split c.args.request.now old.key new.key)
     (tried_as c.args.self.now (permit c.self.inside.split c.self.inside.key) c.begin-needs.new.self c.self.view_is c.begin-needs.ensures.context c.begin-needs.ensures.slices)
-    c.commit_in_split.ensures.untouched
+    (leaves_untouched g.N.PhaseName.opening (permit c.begin-needs.new.self c.self.inside.key) new c.args.request.now c.args.index c.commit_in_split.result c.commit_in_split.ensures)
 
 pub returns-clause-dealt : goal.returns-clause-dealt
 returns-clause-dealt g c =
     let new = permit c.commit_in_split.new.split c.commit_in_split.new.key in
     subst (λ (old : PermitState). HasCommitted g.N.PhaseName.opening old new c.args.request.now c.args.index c.in_ok-reply.reply)
     (tried_as c.args.self.now (permit c.self.inside.split c.self.inside.key) c.begin-needs.new.self c.self.view_is c.begin-needs.ensures.context c.begin-needs.ensures.slices)
-    c.in_ok-reply.ensures.committed
+    c.in_ok-reply.ensures
 
 pub returns-clause-stashed : goal.returns-clause-stashed
 returns-clause-stashed g c =
@@ -128,4 +128,4 @@ returns-clause-untouched g c =
     let new = permit c.commit_in_split.new.split c.commit_in_split.new.key in
     subst (λ (old : PermitState). IsUntouched (length g.N.PhaseName.opening) old.split c.args.request.now old.key new.key)
     (tried_as c.args.self.now (permit c.self.inside.split c.self.inside.key) c.begin-needs.new.self c.self.view_is c.begin-needs.ensures.context c.begin-needs.ensures.slices)
-    c.commit_in_split.ensures.untouched
+    (leaves_untouched g.N.PhaseName.opening (permit c.begin-needs.new.self c.self.inside.key) new c.args.request.now c.args.index c.commit_in_split.result c.commit_in_split.ensures)

@@ -6,5 +6,5 @@ use Rattle.shard_boxes.proofs.place.Place.open.Goals as goal
 
 pub push_as-requires-clause-rule : goal.push_as-requires-clause-rule
 push_as-requires-clause-rule g c =
-    let knows = ap (λ (l : LeaveState). l.knows) c.leave.view_is ∙ c.requires.maker in
-    (opens _ _ _ _ _ _ knows c.requires.kept c.requires.opening, learns_empty _ _ _ _ (ap (λ (v : View). v.holds) knows))
+    let knows = ap (λ (l : LeaveState). l.knows) c.leave.view_is ∙ c.requires.made in
+    (opens _ _ _ _ _ _ knows c.requires.kept c.requires.opens, learns_empty _ _ _ _ (ap (λ (v : View). v.holds) knows))
