@@ -232,7 +232,7 @@ module _ (opening : Opening) (rows : Book) (is_book : IsBook opening rows) (poli
             ∙ ap (λ book. book ++ rows_of es) shown.book_is ∙ append_assoc rows (rows_of old) (rows_of es) ∙ ap (λ rs. rows ++ rs) (sym rows_now);
       }
 
--- one phase takes a run one phase on, under the names that its round has for the policy and the scripts
+-- one phase takes a run one phase on, under the names that its plan has for the policy and the scripts
 pub next_runs : (opening : Opening) (rows : Book) (is_book : IsBook opening rows) (policy own_policy : Policy) (scripts own_scripts : List (List Request)) (p : ℕ) (running next : Running) →
     own_policy ≡ policy → own_scripts ≡ scripts → IsRunning opening rows policy scripts p running →
     ((opening : Opening) (rows : Book) → IsBook opening rows → IsRunning opening rows own_policy own_scripts running.state.phase running →

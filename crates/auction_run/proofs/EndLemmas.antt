@@ -1,10 +1,10 @@
 -- Where commit numbers end: at a call of a script.
 use Rattle.std.proofs.Common.{◌≡◌, ℕ, suc, ◌+◌, ◌<◌, Bool, true, false, List, [], ◌∷◌, ◌++◌, length, take, drop, slice_get, Some, inl, inr, sym, ap, subst, arith}
+use Rattle.std.specs.Prelude.{Result, IfErr, IsErrAnd}
 use Rattle.std.specs.List.{AllByRecursion}
 use Rattle.std.proofs.lemmas.List.{take-append-drop}
 use Rattle.auction_rows.specs.declared.requests.Request.{Request}
 use Rattle.phase_closing.specs.Phases.{receipt_at}
-use Rattle.phase_transactions.specs.declared.fault.PermitFault.{PermitFault}
 use Rattle.phase_transactions.specs.declared.fault.PermitFault.TheVariants as permit
 use Rattle.phase_transactions.specs.Performing.{IsCause}
 use Rattle.phase_transactions.specs.Permits.{PermitState}
@@ -15,10 +15,11 @@ use Rattle.shard_boxes.specs.Keys.{BoxId}
 use Rattle.shard_boxes.specs.States.{ShardState}
 use Rattle.phase_workers.specs.declared.fault.ServingFault.{ServingFault}
 use Rattle.phase_workers.specs.declared.fault.ServingFault.TheVariants as serving
-use Rattle.phase_workers.specs.Tasks.{task, tasks, to_do, calls_for, IsFirstFault, IsFaultBy}
-use Rattle.phase_workers.specs.Working.{calls_from, stashed, taken}
+use Rattle.phase_workers.specs.Tasks.{task, tasks, to_do, calls_for, CanBeDone, IsFirstFault, IsFaultBy}
+use Rattle.phase_workers.specs.Working.{calls_from, stashed, taken, ArePermitsOf}
+use Rattle.phase_workers.proofs.WorkLemmas.{err_as}
+use Rattle.auction_run.specs.declared.fault.RunFault.{RunFault}
 use Rattle.auction_run.specs.Phases.{IsCallOf, HasMetTheEnd, IsMet, told}
-use Rattle.auction_run.specs.Serving.{AreReady}
 
 numbered_from : (script : List Request) (k : ℕ) (rs : List Request) → ((i : ℕ) → slice_get script (k + i) ≡ slice_get rs i) → AllByRecursion (IsCallOf script) (numbered k rs)
 numbered_from script k [] same = tt
@@ -69,17 +70,32 @@ taken_is_its : (script : List Request) (takes : Bool) (begun : PermitState) → 
 taken_is_its script true begun its = its
 taken_is_its script false begun its = tt
 
+-- Permits of a phase are ready to be served: each worker can perform what it is given of its script, from this index on, and what
+-- waits of it is of its script.
+pub record AreReady (opening : List ShardState) (boxes : List BoxId) (phase first : ℕ) (scripts : List (List Request))
+    (permits : List PermitState) : Type 0 where
+  pub can : AllByRecursion (CanBeDone opening boxes) (tasks permits scripts first)
+  pub of : ArePermitsOf phase 0 permits
+  pub own : (worker : ℕ) → worker < length permits →
+      AllByRecursion (IsCallOf (script_of scripts worker)) (stashed (receipt_at permits worker))
+
 -- where permits were ready, a worker that met the end of numbers met it at a call of its script
-pub end_met : (takes : Bool) (opening : List ShardState) (boxes : List BoxId) (phase first : ℕ) (scripts : List (List Request)) (permits : List PermitState) →
+end_met : (takes : Bool) (opening : List ShardState) (boxes : List BoxId) (phase first : ℕ) (scripts : List (List Request)) (permits : List PermitState) →
     AreReady opening boxes phase first scripts permits → IsFirstFault takes opening (tasks permits scripts first) permit.NumberFull → (worker : ℕ) × HasMetTheEnd (script_of scripts worker)
 end_met takes opening boxes phase first scripts permits ready = first_end takes opening permits scripts first (λ w below.
     let script : List Request = script_of scripts w in
     let begun : PermitState = receipt_at permits w in
     all-append (IsCallOf script) (taken takes begun) (calls_for (task begun script first)) (taken_is_its script takes begun (ready.own w below)) (calls_of_its first begun.split.context.left script))
 
-pub is_met : (scripts : List (List Request)) (P : PermitFault → Type 0) (fault : ServingFault) →
-    (P permit.NumberFull → (worker : ℕ) × HasMetTheEnd (script_of scripts worker)) → IsFaultBy (length scripts) P fault → IsMet scripts (told fault)
-is_met scripts P serving.Spawn ends is = is
-is_met scripts P serving.Memory ends is = tt
-is_met scripts P (serving.Worker permit.Memory) ends is = tt
-is_met scripts P (serving.Worker permit.NumberFull) ends is = ends is
+-- and what its workers met is told
+fault_met : (takes : Bool) (opening : List ShardState) (boxes : List BoxId) (phase first : ℕ) (scripts : List (List Request)) (permits : List PermitState) →
+    AreReady opening boxes phase first scripts permits → (fault : ServingFault) → IsFaultBy (length scripts) (IsFirstFault takes opening (tasks permits scripts first)) fault → IsMet scripts (told fault)
+fault_met takes opening boxes phase first scripts permits ready serving.Spawn is = is
+fault_met takes opening boxes phase first scripts permits ready serving.Memory is = tt
+fault_met takes opening boxes phase first scripts permits ready (serving.Worker permit.Memory) is = tt
+fault_met takes opening boxes phase first scripts permits ready (serving.Worker permit.NumberFull) is = end_met takes opening boxes phase first scripts permits ready is
+
+pub is_told : {T : Type 0} (result : Result T RunFault) (fault : ServingFault) (takes : Bool) {opening : List ShardState} {boxes : List BoxId} {phase first : ℕ} {scripts : List (List Request)} {permits : List PermitState} →
+    AreReady opening boxes phase first scripts permits → IsErrAnd result (λ e. e ≡ told fault) → IsFaultBy (length scripts) (IsFirstFault takes opening (tasks permits scripts first)) fault → IfErr result (IsMet scripts)
+is_told result fault takes {opening} {boxes} {phase} {first} {scripts} {permits} ready is met =
+    err_as result (told fault) (IsMet scripts) is (fault_met takes opening boxes phase first scripts permits ready fault met)

@@ -40,10 +40,11 @@ use Rattle.phase_floor.specs.States.{JoinedState, states_of, StandsFor}
 use Rattle.auction_run.specs.declared.phase.Closed.{Closed}
 use Rattle.auction_run.specs.Closed.{HasClosedPhase}
 use Rattle.auction_run.specs.Phases.{lists, IsCallOf, MayPerform, waiting_in, quota_of}
-use Rattle.auction_run.specs.Serving.{AreReady, HasBegun}
+use Rattle.auction_run.specs.Serving.{HasBegun}
 use Rattle.phase_workers.specs.Tasks.{Task, task, tasks, to_do, calls_for, CanBeDone, IsDone}
 use Rattle.phase_workers.specs.Working.{committed, stashed, taken, kept, hot_for, put_off, not_put_off, AreOfPhase, IsSamePermit, IsPermitOf, ArePermitsOf}
 use Rattle.phase_workers.proofs.WorkLemmas.{cold_kept, cold_off}
+use Rattle.auction_run.proofs.EndLemmas.{AreReady}
 use Rattle.auction_run.proofs.ScriptLemmas.{past_stashes}
 
 -- ---- tasks, by worker
@@ -78,10 +79,9 @@ only_memory UnknownHot known short = absurd (known refl)
 only_memory TooLong known short = absurd (short refl)
 only_memory Memory known short = refl
 
-pub not_too_long : (policy : Policy) (scripts : List (List Request)) (state : JoinedState) (stashes handed : List StashState) (hot : List Object) (quotas : List ℕ) →
-    MayPerform policy scripts state stashes hot → ((w : ℕ) → (stash_at handed w).requests ≡ waiting_in stashes w) →
-    ((w : ℕ) → w < length scripts → slice_index quotas w ≡ quota_of policy state.phase (script_of scripts w)) → IsTooLong state.counters handed quotas → ⊥
-not_too_long policy scripts state stashes handed hot quotas may handed_is are long =
+pub not_too_long : {policy : Policy} {scripts : List (List Request)} {state : JoinedState} {stashes : List StashState} {hot : List Object} (may : MayPerform policy scripts state stashes hot) (handed : List StashState) (quotas : List ℕ) →
+    ((w : ℕ) → (stash_at handed w).requests ≡ waiting_in stashes w) → ((w : ℕ) → w < length scripts → slice_index quotas w ≡ quota_of policy state.phase (script_of scripts w)) → IsTooLong state.counters handed quotas → ⊥
+not_too_long may handed quotas handed_is are long =
     let room = may.room long.0 long.1 in
     let same = are long.0 (omega (arith, long.1, may.scripts_are)) in
     let as_long = ap length (handed_is long.0) in
@@ -89,13 +89,13 @@ not_too_long policy scripts state stashes handed hot quotas may handed_is are lo
     absurd (omega (arith, room, same, as_long, over))
 
 -- what each worker is given is its quota of the phase
-pub given_quotas : (policy : Policy) (scripts : List (Vec Request Global)) (phase quota first : ℕ) (given quotas : List ℕ) → cond (is_split phase) policy.split_quota policy.joined_quota ≡ quota →
-    first ≡ first_index policy phase → given ≡ quotas → ((w : ℕ) → w < length scripts → slice_index quotas w ≡ min quota (length (script_of (lists scripts) w) - first)) →
+pub given_quotas : (policy : Policy) (scripts : List (Vec Request Global)) (phase first : ℕ) (given quotas : List ℕ) (split : Bool) → is_split phase ≡ split → first ≡ first_index policy phase → given ≡ quotas →
+    ((w : ℕ) → w < length scripts → slice_index quotas w ≡ min (cond split policy.split_quota policy.joined_quota) (length (script_of (lists scripts) w) - first)) →
     (w : ℕ) → w < length (lists scripts) → slice_index given w ≡ quota_of policy phase (script_of (lists scripts) w)
-given_quotas policy scripts phase quota first given quotas own at same are w less =
+given_quotas policy scripts phase first given quotas split is at same are w less =
     ap (λ qs. slice_index qs w) same ∙ are w (omega (arith, less, lists_length scripts))
-    ∙ ap (λ k. min quota (length (script_of (lists scripts) w) - k)) at
-    ∙ ap (λ k. min k (length (script_of (lists scripts) w) - first_index policy phase)) (sym own)
+    ∙ ap (λ k. min (cond split policy.split_quota policy.joined_quota) (length (script_of (lists scripts) w) - k)) at
+    ∙ ap (λ b. min (cond b policy.split_quota policy.joined_quota) (length (script_of (lists scripts) w) - first_index policy phase)) (sym is)
 
 -- ---- small facts
 
@@ -143,9 +143,9 @@ of_workers phase n (p ∷ ps) each =
     )
 
 -- permits show themselves
-pub shown : (policy : Policy) (scripts : List (List Request)) (state : JoinedState) (stashes : List StashState) (hot : List Object) (floor : FloorState) (permits : List PermitState) →
+pub shown : {policy : Policy} {scripts : List (List Request)} {state : JoinedState} {stashes : List StashState} {hot : List Object} {floor : FloorState} {permits : List PermitState} →
     HasBegun policy scripts state stashes hot floor permits → HasBegun policy scripts state stashes hot floor (map (λ permit. permit) permits)
-shown policy scripts state stashes hot floor permits begun = subst (HasBegun policy scripts state stashes hot floor) (sym (map-id permits)) begun
+shown {policy} {scripts} {state} {stashes} {hot} {floor} {permits} begun = subst (HasBegun policy scripts state stashes hot floor) (sym (map-id permits)) begun
 
 module _ (policy : Policy) (scripts : List (List Request)) (state : JoinedState) (stashes : List StashState) (hot : List Object) (first : ℕ)
     (first_is : first ≡ first_index policy state.phase) (may : MayPerform policy scripts state stashes hot)

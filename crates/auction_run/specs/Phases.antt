@@ -40,9 +40,9 @@ waiting_in stashes worker = (stash_at stashes worker).requests
 abbrev pub quota_of : Policy → ℕ → List Request → ℕ
 quota_of policy phase script = quota policy.joined_quota policy.split_quota phase (length script)
 
--- the round is that of the phase, and goes on with each script at the first index that reaches it
-abbrev pub IsRoundOf : {G : Type 0} → Plan G → ℕ → Type 0
-IsRoundOf round phase = (round.phase ≡ phase) × (round.first ≡ first_index round.policy phase)
+-- the plan's round is that of the phase, and goes on with each script at the first index that reaches it
+abbrev pub IsPlanOf : {G : Type 0} → Plan G → ℕ → Type 0
+IsPlanOf plan phase = (plan.round.phase ≡ phase) × (plan.round.first ≡ first_index plan.policy phase)
 
 -- A run may perform the next phase of a state.
 pub record MayPerform (policy : Policy) (scripts : List (List Request)) (state : JoinedState) (stashes : List StashState)

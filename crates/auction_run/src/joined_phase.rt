@@ -6,16 +6,16 @@ ghost use Rattle.worker_journals.specs.Merged.{added, merged};
 ghost use Rattle.run_serving.specs.Run.{first_index};
 ghost use Rattle.auction_run.specs.declared.fault.RunFault.TheVariants.{Memory};
 ghost use Rattle.auction_run.specs.Closed.{HasClosedPhase};
-ghost use Rattle.auction_run.specs.Phases.{lists, IsRoundOf, MayPerform, IsMet};
+ghost use Rattle.auction_run.specs.Phases.{lists, IsPlanOf, MayPerform, IsMet};
 ghost use Rattle.auction_run.specs.Serving.{HasBegun};
 
 use crate::fault::RunFault;
-use crate::phase::{Closed, begin_fault, serve};
+use crate::phase::{Closed, begin_fault};
 use crate::plan::Plan;
 use crate::quotas::quotas;
 use phase_floor::{Joined, JoinedFloor};
 use phase_transactions::{JoinedPermit, Stash};
-use phase_workers::Gate;
+use phase_workers::{Gate, serve_all};
 use shard_boxes::PhaseName;
 use std::alloc::Global;
 use std::sync::Wait;
@@ -29,7 +29,7 @@ pub(crate) fn perform_joined_phase<N, R, G>(
     history: &mut History,
     state: Joined,
     stashes: Vec<Stash>,
-    round: Plan<'_, G>,
+    plan: Plan<'_, G>,
 ) -> Result<Closed, RunFault>
 where
     N: PhaseName + Send + Sync,
@@ -38,16 +38,16 @@ where
     requires shards { states_of state ≡ N.opening }
     requires workers { length state.counters ≡ N.workers }
     requires joined { is_split state.phase ≡ false }
-    requires round { IsRoundOf round state.phase }
-    requires may { MayPerform round.policy (lists round.scripts.now) state stashes.items [] }
+    requires plan { IsPlanOf plan state.phase }
+    requires may { MayPerform plan.policy (lists plan.round.scripts.now) state stashes.items [] }
     ensures history { OnOk result (history.new.entries ≡ history.old.entries ++ added history.old.entries history.new.entries) }
     ensures last { OnOk result (merged history.new.last ≡ added history.old.entries history.new.entries) }
-    ensures closed { IfOk result (HasClosedPhase round.entry.policy (lists round.entry.scripts.now) state stashes.items []
+    ensures closed { IfOk result (HasClosedPhase plan.entry.policy (lists plan.entry.round.scripts.now) state stashes.items []
         (added history.old.entries history.new.entries)) }
-    ensures fault { IfErr result (IsMet (lists round.entry.scripts.now)) }
+    ensures fault { IfErr result (IsMet (lists plan.entry.round.scripts.now)) }
 {
-    let (floor, permits) = begin::<N, R, G>(rt, alloc, state, stashes, &round)?;
-    let receipts = serve(rt, alloc, floor.boxes(), permits, round)?;
+    let (floor, permits) = begin::<N, R, G>(rt, alloc, state, stashes, &plan)?;
+    let receipts = serve_all(rt, alloc, floor.boxes(), permits, plan.round)?;
     let (state, stashes) = floor.close(rt, alloc, history, receipts)?;
     Ok(Closed { state, stashes })
 }
@@ -58,7 +58,7 @@ fn begin<N, R, G>(
     alloc: Global,
     state: Joined,
     stashes: Vec<Stash>,
-    round: &Plan<'_, G>,
+    plan: &Plan<'_, G>,
 ) -> Result<(JoinedFloor<N>, Vec<JoinedPermit<N>>), RunFault>
 where
     N: PhaseName,
@@ -66,13 +66,18 @@ where
     requires shards { states_of state ≡ N.opening }
     requires workers { length state.counters ≡ N.workers }
     requires joined { is_split state.phase ≡ false }
-    requires first { round.now.first ≡ first_index round.now.policy state.phase }
-    requires may { MayPerform round.now.policy (lists round.now.scripts.now) state stashes.items [] }
+    requires first { plan.now.round.first ≡ first_index plan.now.policy state.phase }
+    requires may { MayPerform plan.now.policy (lists plan.now.round.scripts.now) state stashes.items [] }
     ensures begun { IfOk result (λ begun.
-        HasBegun round.entry.now.policy (lists round.entry.now.scripts.now) state stashes.items [] begun.0 begun.1.items) }
+        HasBegun plan.entry.now.policy (lists plan.entry.now.round.scripts.now) state stashes.items [] begun.0 begun.1.items) }
     ensures fault { IfErr result (λ fault. fault ≡ Memory) }
 {
-    let quotas = quotas(alloc, round.scripts, round.policy.joined_quota, round.first)?;
+    let quotas = quotas(
+        alloc,
+        plan.round.scripts,
+        plan.policy.joined_quota,
+        plan.round.first,
+    )?;
     match state.begin_joined::<N, R>(rt, alloc, &quotas, stashes) {
         Ok(begun) => Ok(begun),
         Err((_state, _stashes, fault)) => Err(begin_fault(fault)),

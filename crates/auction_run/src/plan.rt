@@ -3,23 +3,21 @@ ghost use Rattle.std.specs.Prelude.{◌≡◌, ◌<◌, ◌^◌};
 ghost use Rattle.run_serving.specs.Run.{first_index};
 
 use auction_rows::Request;
+use phase_workers::Round;
 use run_serving::Policy;
 
-/// A phase of a run: the scripts, how they are divided, and where the phase goes on with each.
+/// A phase of a run: how the scripts are divided, and the round that goes on with each.
 #[derive(Drop)]
 pub(crate) struct Plan<'a, G> {
-    pub(crate) scripts: &'a [Vec<Request>],
     pub(crate) policy: Policy,
-    pub(crate) gate: &'a G,
-    pub(crate) phase: u64,
-    // The first index that reaches the phase.
-    pub(crate) first: u64,
+    // It goes on at the first index that reaches the phase.
+    pub(crate) round: Round<'a, G>,
 }
 
 impl<'a, G> Plan<'a, G> {
-    ghost use Rattle.auction_run.specs.Phases.{IsRoundOf};
+    ghost use Rattle.auction_run.specs.Phases.{IsPlanOf};
 
-    /// The round of a phase.
+    /// The plan of a phase.
     pub(crate) fn new(
         scripts: &'a [Vec<Request>],
         policy: Policy,
@@ -27,17 +25,17 @@ impl<'a, G> Plan<'a, G> {
         phase: u64,
     ) -> Plan<'a, G>
         requires { phase < 2 ^ 31 }
-        ensures scripts { result.scripts.now ≡ scripts.now }
+        ensures scripts { result.round.scripts.now ≡ scripts.now }
         ensures policy { result.policy ≡ policy }
-        ensures round { IsRoundOf result phase }
+        ensures plan { IsPlanOf result phase }
     {
-        Plan {
+        let round = Round {
             scripts,
-            policy,
-            gate,
-            phase,
             first: first_index(policy, phase),
-        }
+            phase,
+            gate,
+        };
+        Plan { policy, round }
     }
 }
 

@@ -15,7 +15,7 @@ ghost use Rattle.auction_run.specs.declared.fault.RunFault.TheVariants.{Workers,
 ghost use Rattle.auction_run.specs.Boards.{CanShow};
 ghost use Rattle.auction_run.specs.Beginning.{HaveWorkers, HasShards, HasQuotas, AreShort, IsRefusedInOrder};
 ghost use Rattle.auction_run.specs.Outcomes.{HasShownAll, IsOutcome};
-ghost use Rattle.auction_run.specs.Phases.{lists, hot_sets, waiting_in, HasMetTheEnd, IsRoundOf, IsMet, HasCause};
+ghost use Rattle.auction_run.specs.Phases.{lists, hot_sets, waiting_in, HasMetTheEnd, IsPlanOf, IsMet, HasCause};
 ghost use Rattle.auction_run.specs.Running.{IsRunning, CanGoOn};
 
 use crate::board::{Board, NoBoard};
@@ -143,8 +143,8 @@ fn run_checked<R: Threads + Wait + Sync, G: Gate + Sync, B: Board>(
 {
     let mut running = begin(alloc, book, scripts, policy)?;
     for _phase in 0..MOST_PHASES {
-        let round = Plan::new(scripts, policy, gate, running.state.phase());
-        if !is_left(scripts, &running.stashes, round.first) {
+        let plan = Plan::new(scripts, policy, gate, running.state.phase());
+        if !is_left(scripts, &running.stashes, plan.round.first) {
             let Running {
                 state,
                 history,
@@ -157,7 +157,7 @@ fn run_checked<R: Threads + Wait + Sync, G: Gate + Sync, B: Board>(
                 state,
             });
         }
-        running = next_phase(rt, alloc, running, round)?;
+        running = next_phase(rt, alloc, running, plan)?;
         show_phase(rt, alloc, board, &running.history)?;
     }
     unreachable!()
@@ -223,29 +223,29 @@ fn next_phase<R: Threads + Wait + Sync, G: Gate + Sync>(
     rt: &R,
     alloc: Global,
     running: Running,
-    round: Plan<'_, G>,
+    plan: Plan<'_, G>,
 ) -> Result<Running, RunFault>
-    requires shards { HasShards round.policy }
-    requires quotas { 0 < round.policy.joined_quota + round.policy.split_quota }
+    requires shards { HasShards plan.policy }
+    requires quotas { 0 < plan.policy.joined_quota + plan.policy.split_quota }
     requires counted { running.state.phase + 1 < 2 ^ 64 }
-    requires round { IsRoundOf round running.state.phase }
-    requires running { CanGoOn round.policy (lists round.scripts.now) running }
-    requires left { (worker : ℕ) × HasLeft round.policy (lists round.scripts.now) running.state.phase (waiting_in running.stashes.items) worker }
+    requires plan { IsPlanOf plan running.state.phase }
+    requires running { CanGoOn plan.policy (lists plan.round.scripts.now) running }
+    requires left { (worker : ℕ) × HasLeft plan.policy (lists plan.round.scripts.now) running.state.phase (waiting_in running.stashes.items) worker }
     ensures running { IfOk result (λ next. (opening : Numbers) (rows : Book) → IsBook opening rows →
-        IsRunning opening rows round.entry.policy (lists round.entry.scripts.now) running.state.phase running →
-        IsRunning opening rows round.entry.policy (lists round.entry.scripts.now) (suc running.state.phase) next) }
+        IsRunning opening rows plan.entry.policy (lists plan.entry.round.scripts.now) running.state.phase running →
+        IsRunning opening rows plan.entry.policy (lists plan.entry.round.scripts.now) (suc running.state.phase) next) }
     ensures grown { IfOk result (λ next. next.history.entries
         ≡ running.history.entries ++ merged next.history.last) }
-    ensures fault { IfErr result (IsMet (lists round.entry.scripts.now)) }
+    ensures fault { IfErr result (IsMet (lists plan.entry.round.scripts.now)) }
 {
-    let hot_now = next_hot(alloc, &running, round.policy)?;
+    let hot_now = next_hot(alloc, &running, plan.policy)?;
     let Running {
         state,
         mut history,
         mut hot,
         stashes,
     } = running;
-    let closed = perform_phase(rt, alloc, &mut history, state, &hot_now, stashes, round)?;
+    let closed = perform_phase(rt, alloc, &mut history, state, &hot_now, stashes, plan)?;
     let Closed { state, stashes } = closed;
     hot.push(hot_now)?;
     Ok(Running {

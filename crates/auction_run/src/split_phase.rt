@@ -6,18 +6,18 @@ ghost use Rattle.worker_journals.specs.Merged.{added, merged};
 ghost use Rattle.run_serving.specs.Run.{first_index};
 ghost use Rattle.auction_run.specs.declared.fault.RunFault.TheVariants.{Memory};
 ghost use Rattle.auction_run.specs.Closed.{HasClosedPhase};
-ghost use Rattle.auction_run.specs.Phases.{lists, waiting_in, IsRoundOf, MayPerform, IsMet};
+ghost use Rattle.auction_run.specs.Phases.{lists, waiting_in, IsPlanOf, MayPerform, IsMet};
 ghost use Rattle.auction_run.specs.Serving.{HasBegun};
 
 use crate::fault::RunFault;
-use crate::phase::{Closed, begin_fault, serve};
+use crate::phase::{Closed, begin_fault};
 use crate::plan::Plan;
 use crate::quotas::quotas;
 use auction_rows::Object;
 use indexmap::IndexSet;
 use phase_floor::{Joined, SplitFloor};
 use phase_transactions::{SplitPermit, Stash};
-use phase_workers::Gate;
+use phase_workers::{Gate, serve_all};
 use shard_boxes::PhaseName;
 use std::alloc::Global;
 use std::sync::Wait;
@@ -32,7 +32,7 @@ pub(crate) fn perform_split_phase<N, R, G>(
     state: Joined,
     hot: &IndexSet<Object>,
     stashes: Vec<Stash>,
-    round: Plan<'_, G>,
+    plan: Plan<'_, G>,
 ) -> Result<Closed, RunFault>
 where
     N: PhaseName + Send + Sync,
@@ -41,16 +41,16 @@ where
     requires shards { states_of state ≡ N.opening }
     requires workers { length state.counters ≡ N.workers }
     requires split { is_split state.phase ≡ true }
-    requires round { IsRoundOf round state.phase }
-    requires may { MayPerform round.policy (lists round.scripts.now) state stashes.items hot.now.keys }
+    requires plan { IsPlanOf plan state.phase }
+    requires may { MayPerform plan.policy (lists plan.round.scripts.now) state stashes.items hot.now.keys }
     ensures history { OnOk result (history.new.entries ≡ history.old.entries ++ added history.old.entries history.new.entries) }
     ensures last { OnOk result (merged history.new.last ≡ added history.old.entries history.new.entries) }
-    ensures closed { IfOk result (HasClosedPhase round.entry.policy (lists round.entry.scripts.now) state stashes.items hot.now.keys
+    ensures closed { IfOk result (HasClosedPhase plan.entry.policy (lists plan.entry.round.scripts.now) state stashes.items hot.now.keys
         (added history.old.entries history.new.entries)) }
-    ensures fault { IfErr result (IsMet (lists round.entry.scripts.now)) }
+    ensures fault { IfErr result (IsMet (lists plan.entry.round.scripts.now)) }
 {
-    let (floor, permits) = begin::<N, R, G>(rt, alloc, state, hot, stashes, &round)?;
-    let receipts = serve(rt, alloc, floor.boxes(), permits, round)?;
+    let (floor, permits) = begin::<N, R, G>(rt, alloc, state, hot, stashes, &plan)?;
+    let receipts = serve_all(rt, alloc, floor.boxes(), permits, plan.round)?;
     let (state, stashes) = floor.close(rt, alloc, history, receipts)?;
     Ok(Closed { state, stashes })
 }
@@ -62,7 +62,7 @@ fn begin<N, R, G>(
     state: Joined,
     hot: &IndexSet<Object>,
     stashes: Vec<Stash>,
-    round: &Plan<'_, G>,
+    plan: &Plan<'_, G>,
 ) -> Result<(SplitFloor<N>, Vec<SplitPermit<N>>), RunFault>
 where
     N: PhaseName,
@@ -70,14 +70,19 @@ where
     requires shards { states_of state ≡ N.opening }
     requires workers { length state.counters ≡ N.workers }
     requires split { is_split state.phase ≡ true }
-    requires first { round.now.first ≡ first_index round.now.policy state.phase }
-    requires may { MayPerform round.now.policy (lists round.now.scripts.now) state stashes.items hot.now.keys }
+    requires first { plan.now.round.first ≡ first_index plan.now.policy state.phase }
+    requires may { MayPerform plan.now.policy (lists plan.now.round.scripts.now) state stashes.items hot.now.keys }
     ensures begun { IfOk result (λ begun.
-        HasBegun round.entry.now.policy (lists round.entry.now.scripts.now) state stashes.items hot.now.keys begun.0 begun.1.items) }
+        HasBegun plan.entry.now.policy (lists plan.entry.now.round.scripts.now) state stashes.items hot.now.keys begun.0 begun.1.items) }
     ensures fault { IfErr result (λ fault. fault ≡ Memory) }
 {
     let_go(stashes);
-    let quotas = quotas(alloc, round.scripts, round.policy.split_quota, round.first)?;
+    let quotas = quotas(
+        alloc,
+        plan.round.scripts,
+        plan.policy.split_quota,
+        plan.round.first,
+    )?;
     match state.begin_split::<N, R>(rt, alloc, &quotas, hot) {
         Ok(begun) => Ok(begun),
         Err((_state, fault)) => Err(begin_fault(fault)),

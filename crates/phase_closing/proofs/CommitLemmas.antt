@@ -1,15 +1,13 @@
 -- A phase leaves a book, and a worker's commits grow by the entries of its journal.
 use Rattle.std.proofs.Common.{◌≡◌, ℕ, ◌+◌, ◌<◌, ◌≤◌, List, [], ◌∷◌, fold, length, sym, ap, subst, ◌∙◌, arith}
 use Rattle.std.proofs.lemmas.List.{length-map}
-use Rattle.auction_rows.specs.declared.replies.Reply.{Reply}
-use Rattle.auction_rows.specs.declared.replies.Reply.TheVariants.{ItemStored, BidStored, CommentStored, Bought, ItemSeen, BidsSeen, CategorySeen, UserSeen, Refused}
 use Rattle.auction_rows.specs.declared.rows.Entry.{Entry}
 use Rattle.auction_rows.specs.Book.{Book}
 use Rattle.auction_rows.specs.History.{IsBook, book_after, rows_of}
 use Rattle.auction_rows.proofs.HistoryLemmas.{book_after-replays, rows_go_on, longer_book}
 use Rattle.phase_contexts.specs.declared.counters.Counters.{Counters}
-use Rattle.phase_contexts.specs.Txns.{Txn, entry_of, counted, after_txn}
-use Rattle.phase_contexts.proofs.ContextLemmas.{one_commit_more}
+use Rattle.phase_contexts.specs.Txns.{Txn, entry_of, after_txn}
+use Rattle.phase_contexts.proofs.ContextLemmas.{counts_one}
 use Rattle.phase_closing.specs.Phases.{Phase, HasClosed, counters_of, journal_of, receipt_at}
 use Rattle.phase_closing.specs.Standing.{StandFor, AreOfWorkers, counters_at, stores}
 use Rattle.phase_closing.proofs.WorkerLemmas.{rows_below, rows_star}
@@ -30,7 +28,7 @@ book_left p closed book opens is =
 commits_after : (counters : Counters) (txns : List Txn) → (fold after_txn counters txns).commits ≡ counters.commits + length txns
 commits_after counters [] = omega arith
 commits_after counters (txn ∷ txns) =
-    let one = one_commit_more counters txn.0.reply in
+    let one = (counts_one counters txn.0.reply).commits in
     omega (arith, one, commits_after (after_txn counters txn) txns)
 
 pub commits_grow : (p : Phase) (closed : HasClosed p) (w : ℕ) → w < length p.receipts
@@ -42,21 +40,11 @@ commits_grow p closed w known =
     (sym (length-map (txns_by p closed w) entry_of) ∙ ap (length {A = Entry}) (sym (journal_entries p closed w)))
 
 -- each commit has at most one store
-one_store : (counters : Counters) (reply : Reply) → stores (counted counters reply) ≤ stores counters + 1
-one_store counters (ItemStored id) = omega arith
-one_store counters (BidStored id) = omega arith
-one_store counters (CommentStored id) = omega arith
-one_store counters (Bought id) = omega arith
-one_store counters (ItemSeen seller category name start closes highest bidder bids left) = omega arith
-one_store counters (BidsSeen bids) = omega arith
-one_store counters (CategorySeen items) = omega arith
-one_store counters (UserSeen rating comments) = omega arith
-one_store counters (Refused reason) = omega arith
-
 stores_after : (counters : Counters) (txns : List Txn) → stores counters ≤ counters.commits → stores (fold after_txn counters txns) ≤ (fold after_txn counters txns).commits
 stores_after counters [] few = few
 stores_after counters (txn ∷ txns) few =
-    stores_after (after_txn counters txn) txns (omega (arith, few, one_store counters txn.0.reply, one_commit_more counters txn.0.reply))
+    let one = counts_one counters txn.0.reply in
+    stores_after (after_txn counters txn) txns (omega (arith, few, one.stores, one.commits))
 
 pub stores_few : (p : Phase) (closed : HasClosed p) (w : ℕ) → w < length p.receipts
     → (let after = counters_of (receipt_at p.receipts w) in stores (counters_at p.counters w) ≤ (counters_at p.counters w).commits → stores after ≤ after.commits)

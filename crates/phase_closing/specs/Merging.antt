@@ -33,15 +33,17 @@ after_merge states pair = let s = shard_of pair.0 (length states) in slice_set s
 abbrev pub slices_left : List PermitState → List (Object × Slice)
 slices_left receipts = flat_map (λ receipt. slices_in receipt.split.slices) receipts
 
--- A slice can be merged: its object is of its kind, an item is stored, and the sums that are made fit their types.
+-- A slice can be merged into a value of its object: the object is of its kind, an item is stored, and the sums that are made fit their types.
+abbrev pub CanTake : Value → Object × Slice → Type 0
+CanTake value (Item id, slice.Item s) = IsSome value.facts × (value.bids.bids + s.bids < 2 ^ 64)
+CanTake value (User user, slice.User s) =
+    FitsSigned w64 (value.comments.rating +ℤ s.rating) × (value.comments.comments + s.comments < 2 ^ 64)
+CanTake value (Category category, slice.Category s) = ⊤
+CanTake value pair = ⊥
+
+-- it can be merged into the shard in which its object lies
 abbrev pub CanMerge : List ShardState → Object × Slice → Type 0
-CanMerge states (Item id, slice.Item s) =
-    IsSome (value_on states (Item id)).facts × ((value_on states (Item id)).bids.bids + s.bids < 2 ^ 64)
-CanMerge states (User user, slice.User s) =
-    FitsSigned w64 ((value_on states (User user)).comments.rating +ℤ s.rating)
-    × ((value_on states (User user)).comments.comments + s.comments < 2 ^ 64)
-CanMerge states (Category category, slice.Category s) = ⊤
-CanMerge states pair = ⊥
+CanMerge states pair = CanTake (value_on states pair.0) pair
 
 -- What reconciliation does: into the shards that the boxes gave back all slices of all workers are merged, once each, in some
 -- order. Clocks don't matter.

@@ -33,54 +33,37 @@ begun_receipt floor w quota stash permit begun = record {
 pub begun_receipts : (floor : FloorState) (quotas : List ℕ) (stashes : List StashState) (permits : List PermitState) → AreBegun floor quotas stashes permits → AreReceiptsOf floor permits
 begun_receipts floor quotas stashes permits begun = (begun.0, λ w low. begun_receipt floor w _ _ _ (begun.1 w no_receipt low))
 
-tried : (floor : FloorState) (w : ℕ) (old : PermitState) → IsReceipt floor w old → IsReceipt floor w (with_try old)
-tried floor w old was = record {
-  boxes_are = was.boxes_are;
-  worker_is = was.worker_is;
-  opening_is = was.opening_is;
-  phase_is = was.phase_is;
-  stocks_are = was.stocks_are;
-  begun = was.begun;
-}
-
-called : (floor : FloorState) (w : ℕ) (old : PermitState) → IsReceipt floor w old → IsReceipt floor w (with_first_called old)
-called floor w old was = record {
-  boxes_are = was.boxes_are;
-  worker_is = was.worker_is;
-  opening_is = was.opening_is;
-  phase_is = was.phase_is;
-  stocks_are = was.stocks_are;
-  begun = was.begun;
+-- a permit of the same worker, boxes and phase is such, too
+still_receipt : (floor : FloorState) (w : ℕ) (old new : PermitState) → IsReceipt floor w old → new.key.boxes ≡ old.key.boxes → new.key.worker ≡ old.key.worker
+    → new.split.context.opening ≡ old.split.context.opening → new.split.context.journal.phase ≡ old.split.context.journal.phase → new.split.context.begun ≡ old.split.context.begun
+    → stocks_of new.split.slices ≡ stocks_of old.split.slices → IsReceipt floor w new
+still_receipt floor w old new was boxes worker opening phase begun stocks = record {
+  boxes_are = boxes ∙ was.boxes_are;
+  worker_is = worker ∙ was.worker_is;
+  opening_is = opening ∙ was.opening_is;
+  phase_is = phase ∙ was.phase_is;
+  stocks_are = stocks ∙ was.stocks_are;
+  begun = begun ∙ was.begun;
 }
 
 module _ (opening : List ShardState) (floor : FloorState) (w : ℕ) (old new : PermitState) (was : IsReceipt floor w old) (request : Request) (index : ℕ) where
   pub committed : (answer : Reply) → HasCommitted opening (with_try old) new request index answer → IsReceipt floor w new
-  committed answer h = record {
-    boxes_are = h.boxes ∙ was.boxes_are;
-    worker_is = h.worker ∙ was.worker_is;
-    opening_is = ap (λ d. d.opening) h.context ∙ was.opening_is;
-    phase_is = ap (λ d. d.journal.phase) h.context ∙ was.phase_is;
-    stocks_are = ap stocks_of h.slices ∙ stocks-acts old.split.slices (writes_if (row_of old.split.context.journal.worker request answer)) ∙ was.stocks_are;
-    begun = ap (λ d. d.begun) h.context ∙ was.begun;
-  }
+  committed answer h =
+      still_receipt floor w old new was h.boxes h.worker (ap (λ d. d.opening) h.context) (ap (λ d. d.journal.phase) h.context) (ap (λ d. d.begun) h.context)
+      (ap stocks_of h.slices ∙ stocks-acts old.split.slices (writes_if (row_of old.split.context.journal.worker request answer)))
 
   pub dealt : (done : Done) → HasDealtWith opening (with_try old) new request index done → IsReceipt floor w new
   dealt (Committed answer) h = committed answer h
-  dealt Stashed h = record {
-    boxes_are = ap (λ k. k.boxes) h.key ∙ was.boxes_are;
-    worker_is = ap (λ k. k.worker) h.key ∙ was.worker_is;
-    opening_is = ap (λ d. d.opening) h.context ∙ was.opening_is;
-    phase_is = ap (λ d. d.journal.phase) h.context ∙ was.phase_is;
-    stocks_are = ap stocks_of h.slices ∙ was.stocks_are;
-    begun = ap (λ d. d.begun) h.context ∙ was.begun;
-  }
+  dealt Stashed h =
+      still_receipt floor w old new was (ap (λ k. k.boxes) h.key) (ap (λ k. k.worker) h.key) (ap (λ d. d.opening) h.context) (ap (λ d. d.journal.phase) h.context) (ap (λ d. d.begun) h.context)
+      (ap stocks_of h.slices)
 
 -- the permit that has performed what waited longest, if anything did
 pub performed_first : (opening : List ShardState) (floor : FloorState) (w : ℕ) (old new : PermitState) → IsReceipt floor w old → (answer : Option Reply)
     → IfNone answer (new ≡ with_try old) → IfSome answer (HasPerformedFirst opening (with_try old) new) → IsReceipt floor w new
-performed_first opening floor w old new was None unchanged done = subst (IsReceipt floor w) (sym unchanged) (tried floor w old was)
+performed_first opening floor w old new was None unchanged done = subst (IsReceipt floor w) (sym unchanged) (still_receipt floor w old (with_try old) was refl refl refl refl refl refl)
 performed_first opening floor w old new was (Some answer) unchanged done =
-    committed opening floor w (with_first_called old) new (called floor w old was) done.request done.index answer done.committed
+    committed opening floor w (with_first_called old) new (still_receipt floor w old (with_first_called old) was refl refl refl refl refl refl) done.request done.index answer done.committed
 
 -- what was written through a slice of all of a list
 pub written : {X : Type 0} (n : ℕ) (xs ys : List X) → length xs ≡ n → take n (xs ++ ys) ≡ xs

@@ -3,12 +3,14 @@ ghost use Rattle.std.specs.Prelude.{◌≡◌, map, fold};
 ghost use Rattle.std.specs.List.{flat_map};
 ghost use Rattle.phase_laws.specs.Replay.{SawInTurn};
 ghost use Rattle.shard_boxes.specs.States.{state_of};
-ghost use Rattle.phase_closing.specs.Merging.{CanMerge, after_merge};
+ghost use Rattle.item_shards.specs.ShardContents.{LiesIn, contents, opening};
+ghost use Rattle.phase_closing.specs.Merging.{CanMerge, CanTake, after_merge, with_slice};
 ghost use Rattle.phase_floor.specs.Closings.{AreOfOne, AreKnown, IsKnown, opening_in, from_the_last};
 
-use auction_rows::{Object, shard_of};
+use auction_rows::Object;
 use item_shards::{Shard, Slice};
 use phase_transactions::Slices;
+use shard_boxes::shard_of;
 
 // Merges a slice of an object into the shard in which it lies.
 pub(crate) fn merge(shards: &mut Vec<Shard>, object: Object, slice: Slice)
@@ -18,7 +20,16 @@ pub(crate) fn merge(shards: &mut Vec<Shard>, object: Object, slice: Slice)
     ensures { map state_of shards.new.items ≡ after_merge (map state_of shards.old.items) (object, slice) }
 {
     let place = shard_of(object, shards.len() as u32) as usize;
-    let shard = &mut shards[place];
+    merge_into(&mut shards[place], object, slice);
+}
+
+// Merges a slice of an object into its shard.
+fn merge_into(shard: &mut Shard, object: Object, slice: Slice)
+    requires lies { LiesIn shard.old object }
+    requires known { IsKnown (opening shard.old) object }
+    requires can { CanTake (contents shard.old object) (object, slice) }
+    ensures { state_of shard.new ≡ with_slice (state_of shard.old) (object, slice) }
+{
     match (object, slice) {
         (Object::Item(item), Slice::Item(slice)) => shard.merge_item(item, slice),
         (Object::User(user), Slice::User(slice)) => shard.merge_user(user, slice),

@@ -2,8 +2,9 @@
 ghost use Rattle.std.specs.Prelude.{◌≡◌, [], is_some, IfSome, ℕ};
 
 use crate::joined::Joined;
-use auction_rows::{Object, Reply, Request, shard_of};
+use auction_rows::{Object, Reply, Request};
 use item_shards::Shard;
+use shard_boxes::shard_of;
 
 impl Joined {
     ghost use Rattle.auction_rows.specs.Book.{Book};

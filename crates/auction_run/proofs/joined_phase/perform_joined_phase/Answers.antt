@@ -1,33 +1,26 @@
-use Rattle.std.proofs.Common.{true, [], sym}
+use Rattle.std.proofs.Common.{true, sym}
 use Rattle.std.proofs.lemmas.Bool.{false≢true}
 use Rattle.worker_journals.specs.Merged.{added}
-use Rattle.auction_run.specs.Phases.{lists}
+use Rattle.auction_run.proofs.EndLemmas.{is_told}
 use Rattle.auction_run.proofs.PhaseLemmas.{shown, are_ready, receipts_are, closed_phase}
 use Rattle.auction_run.proofs.joined_phase.perform_joined_phase.Goals as goal
 
-pub serve-requires-clause-ready : goal.serve-requires-clause-ready
-serve-requires-clause-ready g c κs within =
-    let round = c.args.round in
-    let start = c.in_ok-floor in
-    let begun = shown round.policy (lists round.scripts.now) c.args.state c.args.stashes.items [] start.floor start.permits.items start.ensures.begun in
-    are_ready round.policy (lists round.scripts.now) c.args.state c.args.stashes.items [] round.first c.requires.round.1 c.requires.may start.floor _ begun
-    g.N.PhaseName.opening c.boxes.result.now round.phase c.boxes.ensures.boxes c.boxes.ensures.opening c.requires.round.0
+pub serve_all-requires-clause-can : goal.serve_all-requires-clause-can
+serve_all-requires-clause-can g c κs within = (are_ready c.args.plan.policy _ c.args.state _ _ _ c.requires.plan.1 c.requires.may _ _ (shown c.in_ok-floor.ensures.begun) g.N.PhaseName.opening _ _ c.boxes.ensures.boxes c.boxes.ensures.opening c.requires.plan.0).can
+
+pub serve_all-requires-clause-of : goal.serve_all-requires-clause-of
+serve_all-requires-clause-of g c κs within = (are_ready c.args.plan.policy _ c.args.state _ _ _ c.requires.plan.1 c.requires.may _ _ (shown c.in_ok-floor.ensures.begun) g.N.PhaseName.opening _ _ c.boxes.ensures.boxes c.boxes.ensures.opening c.requires.plan.0).of
+
+pub returns-in_err-receipts-clause-fault : goal.returns-in_err-receipts-clause-fault
+returns-in_err-receipts-clause-fault g c =
+    is_told c.from_residual-in_err-receipts.result c.in_err-receipts.field-0.0 true (are_ready c.args.plan.policy _ c.args.state _ _ _ c.requires.plan.1 c.requires.may _ _ (shown c.in_ok-floor.ensures.begun) g.N.PhaseName.opening _ _ c.boxes.ensures.boxes c.boxes.ensures.opening c.requires.plan.0) c.from_residual-in_err-receipts.ensures.1 c.in_err-receipts.ensures.fault
 
 pub close-requires : goal.close-requires
-close-requires g c =
-    let round = c.args.round in
-    let start = c.in_ok-floor in
-    let begun = shown round.policy (lists round.scripts.now) c.args.state c.args.stashes.items [] start.floor start.permits.items start.ensures.begun in
-    receipts_are round.policy (lists round.scripts.now) c.args.state c.args.stashes.items [] round.first c.requires.round.1 c.requires.may start.floor _ begun
-    true c.in_ok-receipts.receipts.items c.in_ok-receipts.ensures.done
+close-requires g c = receipts_are c.args.plan.policy _ c.args.state _ _ _ c.requires.plan.1 c.requires.may _ _ (shown c.in_ok-floor.ensures.begun) true c.in_ok-receipts.receipts.items c.in_ok-receipts.ensures.done
 
 pub returns-clause-closed : goal.returns-clause-closed
 returns-clause-closed g c =
-    let round = c.args.round in
-    let start = c.in_ok-floor in
-    let begun = shown round.policy (lists round.scripts.now) c.args.state c.args.stashes.items [] start.floor start.permits.items start.ensures.begun in
     let left = c.in_ok-state.ensures.leaves in
-    closed_phase round.policy (lists round.scripts.now) c.args.state c.args.stashes.items [] round.first c.requires.round.1 c.requires.may start.floor _ begun
-    true c.in_ok-receipts.receipts.items c.in_ok-receipts.ensures.done g.N.PhaseName.opening c.requires.shards (λ w no. absurd (false≢true (sym no)))
+    closed_phase c.args.plan.policy _ c.args.state _ _ _ c.requires.plan.1 c.requires.may _ _ (shown c.in_ok-floor.ensures.begun) true c.in_ok-receipts.receipts.items c.in_ok-receipts.ensures.done g.N.PhaseName.opening c.requires.shards (λ w no. absurd (false≢true (sym no)))
     (record { state = c.in_ok-state.state; stashes = c.in_ok-state.stashes }) (added c.args.history.now.entries c.close.new.history.entries)
     left.opening_is left.phase_is left.counters_are left.stashes_are left.lawful left.commits left.replays left.stands

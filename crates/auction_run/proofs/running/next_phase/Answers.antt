@@ -8,13 +8,13 @@ use Rattle.auction_run.proofs.running.next_phase.Goals as goal
 
 pub perform_phase-requires-clause-may : goal.perform_phase-requires-clause-may
 perform_phase-requires-clause-may g c κs within =
-    may_perform c.args.round.policy (lists c.args.round.scripts.now) c.args.running c.requires.shards.some c.requires.running c.requires.counted c.in_ok-hot_now.hot_now.keys
+    may_perform c.args.plan.policy (lists c.args.plan.round.scripts.now) c.args.running c.requires.shards.some c.requires.running c.requires.counted c.in_ok-hot_now.hot_now.keys
     c.in_ok-hot_now.ensures.joined c.in_ok-hot_now.ensures.split
 
 pub returns-clause-running : goal.returns-clause-running
 returns-clause-running g c = λ opening rows is_book run.
     let closed = c.in_ok-closed.ensures.closed in
-    stepped c.args.round.policy c.requires.quotas (lists c.args.round.scripts.now) c.args.running.state.phase opening rows is_book c.args.running _ c.in_ok-hot_now.hot_now.keys
+    stepped c.args.plan.policy c.requires.quotas (lists c.args.plan.round.scripts.now) c.args.running.state.phase opening rows is_book c.args.running _ c.in_ok-hot_now.hot_now.keys
     (added c.args.running.history.entries c.perform_phase.new.history.entries) c.requires.left.0 run c.requires.left.1
     closed.performed
     closed.numbered

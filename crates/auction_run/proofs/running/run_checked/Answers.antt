@@ -12,12 +12,12 @@ use Rattle.auction_run.proofs.running.run_checked.Goals as goal
 
 pub returns-then-not-is_left-clause-outcome : goal.returns-then-not-is_left-clause-outcome
 returns-then-not-is_left-clause-outcome g c =
-    let round = c.new-round.ensures in
+    let plan = c.new-plan.ensures in
     let running = c.loop-phase.invariant.running in
     let phase = running.phase_is in
     ended (opening_of c.args.book.now) (rows_of c.args.book.now) c.args.policy (omega (arith, c.requires.quotas.joined)) (lists c.args.scripts.now) c.requires.short c.loop-phase._phase c.loop-phase.running
-    running c.new-round.result.first (search rules)
-    (subst (λ stashes. (worker : ℕ) → (length (script_of (lists c.args.scripts.now) worker) ≤ c.new-round.result.first) × (length (waiting_in stashes worker) ≡ 0)) c.deref.ensures.value
+    running c.new-plan.result.round.first (search rules)
+    (subst (λ stashes. (worker : ℕ) → (length (script_of (lists c.args.scripts.now) worker) ≤ c.new-plan.result.round.first) × (length (waiting_in stashes worker) ≡ 0)) c.deref.ensures.value
     (c.is_left.ensures.none (search rules)))
 
 pub returns-then-not-is_left-clause-board : goal.returns-then-not-is_left-clause-board
@@ -31,13 +31,13 @@ pub next_phase-requires-clause-left : goal.next_phase-requires-clause-left
 next_phase-requires-clause-left g c κs within =
     let some = c.is_left.ensures.some (search rules) in
     let running = c.loop-phase.invariant.running in
-    let same = c.new-round.ensures in (
+    let same = c.new-plan.ensures in (
       some.0,
-      subst (λ policy. HasLeft policy (lists c.new-round.result.scripts.now) c.loop-phase.running.state.phase (waiting_in c.loop-phase.running.stashes.items) some.0) (sym same.policy)
+      subst (λ policy. HasLeft policy (lists c.new-plan.result.round.scripts.now) c.loop-phase.running.state.phase (waiting_in c.loop-phase.running.stashes.items) some.0) (sym same.policy)
           (subst (λ scripts. HasLeft c.args.policy (lists scripts) c.loop-phase.running.state.phase (waiting_in c.loop-phase.running.stashes.items) some.0) (sym same.scripts)
           (subst (λ p. HasLeft c.args.policy (lists c.args.scripts.now) p (waiting_in c.loop-phase.running.stashes.items) some.0) (sym running.phase_is)
           (left_over (opening_of c.args.book.now) (rows_of c.args.book.now) c.args.policy (omega (arith, c.requires.quotas.joined)) (lists c.args.scripts.now) c.requires.short c.loop-phase._phase c.loop-phase.running
-          running c.new-round.result.first some.0 (search rules) (search rules)))),
+          running c.new-plan.result.round.first some.0 (search rules) (search rules)))),
     )
 
 pub loop-phase-init : goal.loop-phase-init
@@ -49,20 +49,20 @@ loop-phase-init g c = record {
 
 pub show_phase-requires : goal.show_phase-requires
 show_phase-requires g c =
-    let same = c.new-round.ensures in
+    let same = c.new-plan.ensures in
     let book = c.args.book.now in
     let scripts = lists c.args.scripts.now in
-    let next = next_runs (opening_of book) (rows_of book) book.is_book c.args.policy c.new-round.result.policy scripts (lists c.new-round.result.scripts.now) c.loop-phase._phase c.loop-phase.running c.in_ok-running-2.running
+    let next = next_runs (opening_of book) (rows_of book) book.is_book c.args.policy c.new-plan.result.policy scripts (lists c.new-plan.result.round.scripts.now) c.loop-phase._phase c.loop-phase.running c.in_ok-running-2.running
     same.policy (ap lists same.scripts) c.loop-phase.invariant.running c.in_ok-running-2.ensures.running in
     can_show (opening_of book) (rows_of book) book.is_book c.args.policy scripts c.requires.workers.few c.requires.workers.own c.requires.short c.loop-phase._phase c.in_ok-running-2.running next
     c.loop-phase.running.history.entries c.in_ok-running-2.ensures.grown g.B.Board.has c.loop-phase.board c.loop-phase.invariant.shown c.loop-phase-test.true
 
 pub loop-phase-preserved : goal.loop-phase-preserved
 loop-phase-preserved g c =
-    let same = c.new-round.ensures in
+    let same = c.new-plan.ensures in
     let book = c.args.book.now in
     let scripts = lists c.args.scripts.now in
-    let next = next_runs (opening_of book) (rows_of book) book.is_book c.args.policy c.new-round.result.policy scripts (lists c.new-round.result.scripts.now) c.loop-phase._phase c.loop-phase.running c.in_ok-running-2.running
+    let next = next_runs (opening_of book) (rows_of book) book.is_book c.args.policy c.new-plan.result.policy scripts (lists c.new-plan.result.round.scripts.now) c.loop-phase._phase c.loop-phase.running c.in_ok-running-2.running
     same.policy (ap lists same.scripts) c.loop-phase.invariant.running c.in_ok-running-2.ensures.running in
     let one_more : suc c.loop-phase._phase ≡ c.loop-phase._phase + 1 = omega arith in
     record {
@@ -81,4 +81,4 @@ unreachable-requires g c =
 pub returns-in_err-running-2-clause-fault : goal.returns-in_err-running-2-clause-fault
 returns-in_err-running-2-clause-fault g c =
     err_as c.from_residual-in_err-running-2.result c.in_err-running-2.field-0.0 (IsMet (lists c.args.scripts.now)) c.from_residual-in_err-running-2.ensures.1
-    (subst (λ scripts. IsMet (lists scripts) c.in_err-running-2.field-0.0) c.new-round.ensures.scripts c.in_err-running-2.ensures.fault)
+    (subst (λ scripts. IsMet (lists scripts) c.in_err-running-2.field-0.0) c.new-plan.ensures.scripts c.in_err-running-2.ensures.fault)
