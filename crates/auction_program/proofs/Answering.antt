@@ -1,11 +1,10 @@
 -- What is said of an input, from what its parts answered.
-use Rattle.std.proofs.Common.{◌≡◌, ℕ, ◌<◌, List, length, Option, Some, None, IfSome, Result, Ok, Err, IfErr, sym, ap, subst, ◌∙◌}
-use Rattle.std.specs.Prelude.{◌↔◌, IsTrue}
+use Rattle.std.proofs.Common.{◌≡◌, ℕ, ◌<◌, List, length, Option, IfSome, Result, Ok, Err, IfErr, sym, ap, subst, ◌∙◌}
+use Rattle.std.specs.Prelude.{◌↔◌}
 use Rattle.std.specs.Result.{IsErr, IsErrAnd}
-use Rattle.auction_rows.specs.declared.ids.Object.{Object}
+use Rattle.std.proofs.lemmas.Option.{IfSome_then}
 use Rattle.auction_rows.specs.declared.numbers.Opening.{Opening}
 use Rattle.auction_rows.specs.declared.requests.Request.{Request}
-use Rattle.auction_rows.specs.declared.rows.Entry.{Entry}
 use Rattle.auction_rows.specs.Book.{Book}
 use Rattle.auction_text.specs.Scripts.{input_of}
 use Rattle.item_shards.specs.OpeningRows.{AreRows, IsFirstBad, IsTooLong, opening_rows}
@@ -16,15 +15,16 @@ use Rattle.run_serving.specs.Answers.{IsAnswer}
 use Rattle.run_serving.specs.Serving.{script_of}
 use Rattle.run_serving.specs.declared.policy.Policy.{Policy}
 use Rattle.auction_text.specs.declared.faults.WriteFault.{WriteFault}
-use Rattle.auction_program.specs.Execution.{added_text, commits_text, Answers, IsAllowed, IsCausedBy, IsNotPerformed, IsNotRun, IsRefused, OfInput}
+use Rattle.auction_program.specs.Execution.{added_text, commits_text, Answers, IsAllowed, IsCausedBy, IsNotPerformed, IsNotRun, IsRefused, OfInput, Performs}
 use Rattle.auction_program.specs.Options.{opening_of, policy_of}
 use Rattle.auction_run.specs.Beginning.{HaveWorkers, HasShards, HasQuotas, AreShort}
-use Rattle.auction_run.specs.Phases.{HasMetTheEnd}
+use Rattle.auction_run.specs.Phases.{hot_sets, HasMetTheEnd}
 use Rattle.auction_run.specs.declared.fault.RunFault.{RunFault}
 use Rattle.auction_run.specs.declared.fault.RunFault.TheVariants as run
 use Rattle.auction_program.specs.declared.faults.Fault.{Fault}
 use Rattle.auction_program.specs.declared.faults.Fault.TheVariants.{Usage, Read, Resume, Make, Run, Write}
 use Rattle.auction_program.specs.declared.options.Options.{Options}
+use Rattle.auction_program.specs.declared.performing.Performed.{Performed}
 
 -- what holds of the error that there is
 pub error_is : {T E : Type 0} (r : Result T E) (e : E) (Q : E → Type 0) → IsErr r × IsErrAnd r (λ x. x ≡ e) → Q e → IfErr r Q
@@ -38,11 +38,6 @@ is_error (Err y) e x is same = let one : y ≡ x = cc in sym one ∙ is.1
 -- the fault of writing that a fault is
 pub write_is : {T : Type 0} (r : Result T Fault) (fault is : WriteFault) → IsErr r × IsErrAnd r (λ e. e ≡ Write fault) → r ≡ Err (Write is) → fault ≡ is
 write_is r fault is told same = let one = is_error r (Write fault) (Write is) told same in cc
-
--- what follows for the input that a reader tells
-pub for_input : (remaining : Option (List ℕ)) (P Q : List ℕ → Type 0) → ((input : List ℕ) → P input → Q input) → IfSome remaining P → IfSome remaining Q
-for_input None P Q follows holds = tt
-for_input (Some input) P Q follows holds = follows input holds
 
 -- why the rows were refused
 pub refused : {T : Type 0} (start : Opening) (rows : List Opened) (result : Result T ResumeFault) (fault : ResumeFault) → result ≡ Err fault
@@ -77,8 +72,7 @@ module _ (options : Options) (rows : List Opened) (scripts : List (List Request)
     (reads : IfSome remaining (λ input. input_of options.workers input ≡ Ok (record { rows = rows; scripts = scripts }))) where
   pub of_input : (Holds : List Opened → List (List Request) → Type 0) → Holds rows scripts → IfSome remaining (λ input. OfInput options input Holds)
   of_input Holds holds =
-      for_input remaining (λ input. input_of options.workers input ≡ Ok (record { rows = rows; scripts = scripts })) (λ input. OfInput options input Holds)
-      (λ input asks. record { rows = rows; scripts = scripts; reads = asks; holds = holds }) reads
+      IfSome_then remaining reads (λ input asks. record { rows = rows; scripts = scripts; reads = asks; holds = holds })
 
   -- why the scripts were not performed
   pub not_performed : (fault : Fault) → AreRows (opening_of options) rows → IsNotPerformed options fault (opening_rows (opening_of options) rows) scripts
@@ -87,25 +81,24 @@ module _ (options : Options) (rows : List Opened) (scripts : List (List Request)
   not_performed (Read fault) are why = absurd why
   not_performed (Resume fault) are why = absurd why
   not_performed (Make fault) are why =
-      for_input remaining (λ input. OfInput options input (λ rs ss. AreRows (opening_of options) rs))
-      (λ input. IsTrue options.report × OfInput options input (λ rs ss. AreRows (opening_of options) rs)) (λ input holds. (why, holds))
-      (of_input (λ rs ss. AreRows (opening_of options) rs) are)
+      IfSome_then remaining (of_input (λ rs ss. AreRows (opening_of options) rs) are) (λ input holds. (why, holds))
   not_performed (Run fault) are why = of_input (λ rs ss. AreRows (opening_of options) rs × IsNotRun (policy_of options) fault (opening_rows (opening_of options) rs) ss) (are, why)
   not_performed (Write fault) are why = absurd why
 
-  module _ (start : Opening) (book shown : Book) (history : List Entry) (hot : List (List Object)) (starts : start ≡ opening_of options)
+  module _ (start : Opening) (book shown : Book) (performed : Performed) (starts : start ≡ opening_of options)
       (opens : book ≡ opening_rows start rows) (shows : shown ≡ book) (are : AreRows start rows)
-      (runs : IsAnswer (opening_of options) book (policy_of options) scripts hot history)
-      (few : ¬ IsTooLong rows) (allowed : IsAllowed (policy_of options) book scripts) where
+      (few : ¬ IsTooLong rows) (performs : Performs options book scripts performed) where
     opened : book ≡ opening_rows (opening_of options) rows
     opened = opens ∙ ap (λ o. opening_rows o rows) starts
 
     -- what holds of the texts, as what holds of the input
-    pub answered : (Holds : List ℕ → List ℕ → Type 0) → Holds (commits_text options shown history) (added_text options shown history hot)
+    pub answered : (Holds : List ℕ → List ℕ → Type 0)
+        → Holds (commits_text options shown performed.outcome.history.entries) (added_text options shown performed.outcome.history.entries (hot_sets performed.outcome.hot.items))
         → IfSome remaining (λ input. Answers options input Holds)
     answered Holds holds =
-        for_input remaining (λ input. input_of options.workers input ≡ Ok (record { rows = rows; scripts = scripts })) (λ input. Answers options input Holds)
-        (λ input asks. record {
+        let history = performed.outcome.history.entries in
+        let hot = hot_sets performed.outcome.hot.items in
+        IfSome_then remaining reads (λ input asks. record {
           text = commits_text options shown history;
           added = added_text options shown history hot;
           answered = record {
@@ -115,10 +108,10 @@ module _ (options : Options) (rows : List Opened) (scripts : List (List Request)
             hot = hot;
             asks = record { reads = asks; are_rows = subst (λ o. AreRows o rows) starts are };
             few = few;
-            allowed = subst (λ (b : Book). IsAllowed (policy_of options) b scripts) opened allowed;
-            runs = subst (λ (b : Book). IsAnswer (opening_of options) b (policy_of options) scripts hot history) opened runs;
+            allowed = subst (λ (b : Book). IsAllowed (policy_of options) b scripts) opened performs.allowed;
+            runs = subst (λ (b : Book). IsAnswer (opening_of options) b (policy_of options) scripts hot history) opened performs.answer;
             text_is = ap (λ (b : Book). commits_text options b history) (shows ∙ opened);
             added_is = ap (λ (b : Book). added_text options b history hot) (shows ∙ opened);
           };
           holds = holds;
-        }) reads
+        })

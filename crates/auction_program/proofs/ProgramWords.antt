@@ -1,10 +1,11 @@
--- The program's options are simple ones, and those of numbers have each its range.
-use Rattle.std.proofs.Common.{◌≡◌, ◌∙◌, ℕ, true, [], ◌∷◌, Some, codes, refl, sym, ap, subst, arith}
-use Rattle.auction_rows.specs.declared.limits.TheConstants.{MOST_HOT, MOST_SHARDS, MOST_WORKERS}
+-- The program's options are simple ones, and those of numbers are found by their texts.
+use Rattle.std.proofs.Common.{◌≡◌, ◌∙◌, ℕ, true, [], ◌∷◌, Option, Some, refl, sym, ap, subst, arith}
 use Rattle.clap.specs.Faults.{is_simple_and_free}
 use Rattle.clap.specs.Simple.{App, built}
 use Rattle.clap.specs.Walk.{Rule, Text}
-use Rattle.program_options.specs.Words.{HasNumberOption, IsOneNumber, rules_of}
+use Rattle.program_options.specs.Options.{SaysNumber, number_of}
+use Rattle.program_options.specs.Words.{HasNumberOption, HaveNumbers, IsOneNumber, rules_of}
+use Rattle.program_options.proofs.Numerals.{number_said}
 use Rattle.auction_program.specs.Words.{named_rule, program}
 
 free : is_simple_and_free program ≡ true
@@ -26,26 +27,8 @@ module _ (id : Text) (least greatest : ℕ) (usual : Text) where
     filled = subst (IsOneNumber id least greatest) (sym filled) (record { own = refl; simple = refl; action = refl; parser = refl; usual = omega arith }, omega arith);
   }
 
-pub has_workers : HasNumberOption program (codes "workers") 1 MOST_WORKERS
-has_workers = has_number (codes "workers") 1 MOST_WORKERS (codes "1") (λ e. absurd cc) refl refl
-
-pub has_shards : HasNumberOption program (codes "shards") 1 MOST_SHARDS
-has_shards = has_number (codes "shards") 1 MOST_SHARDS (codes "4") (λ e. absurd cc) refl refl
-
-pub has_joined : HasNumberOption program (codes "joined") 1 1000000
-has_joined = has_number (codes "joined") 1 1000000 (codes "64") (λ e. absurd cc) refl refl
-
-pub has_split : HasNumberOption program (codes "split") 1 1000000
-has_split = has_number (codes "split") 1 1000000 (codes "64") (λ e. absurd cc) refl refl
-
-pub has_threshold : HasNumberOption program (codes "threshold") 1 1000000
-has_threshold = has_number (codes "threshold") 1 1000000 (codes "8") (λ e. absurd cc) refl refl
-
-pub has_hot : HasNumberOption program (codes "hot") 0 MOST_HOT
-has_hot = has_number (codes "hot") 0 MOST_HOT (codes "8") (λ e. absurd cc) refl refl
-
-pub has_users : HasNumberOption program (codes "users") 0 1000000
-has_users = has_number (codes "users") 0 1000000 (codes "100") (λ e. absurd cc) refl refl
-
-pub has_categories : HasNumberOption program (codes "categories") 0 1000000
-has_categories = has_number (codes "categories") 0 1000000 (codes "10") (λ e. absurd cc) refl refl
+  -- the number that was found for an option is the one that its text says
+  pub number_is : (id ≡ [] → ⊥) → rules_of program id ≡ named_rule id least greatest usual ∷ [] → rules_of (built program) id ≡ built_rule id least greatest usual ∷ []
+      → (text : Text → Option Text) (number : ℕ) → HaveNumbers program text → SaysNumber least greatest (text id) number → number ≡ number_of (text id)
+  number_is named given filled text number numbers said =
+      number_said least greatest (text id) number (numbers id least greatest (has_number named given filled)) said

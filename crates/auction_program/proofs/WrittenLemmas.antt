@@ -1,5 +1,5 @@
 -- Two texts, written one after the other.
-use Rattle.std.proofs.Common.{◌≡◌, Bool, true, if◌then◌else◌, Some, IfSome, ℕ, ◌+◌, ◌≤◌, min, List, [], ◌++◌, Option, Result, Ok, Err, IfErr, OnOk, length, take, append-nil, sym, subst, ◌∙◌, ap, arith}
+use Rattle.std.proofs.Common.{◌≡◌, Bool, true, if◌then◌else◌, Some, IfSome, ℕ, ◌+◌, ◌≤◌, min, List, [], ◌++◌, Option, length, take, append-nil, sym, subst, ◌∙◌, ap, arith}
 use Rattle.std.proofs.KnownBytes.{Appends-trans}
 use Rattle.std.proofs.Math.Seq.{take-append-add}
 use Rattle.std.proofs.lemmas.List.{take-append-le, take_min}
@@ -14,9 +14,6 @@ use Rattle.auction_text.specs.declared.report.ReportLines.{ReportLines}
 use Rattle.auction_program.specs.Report.{report_of, AreViews}
 
 module _ (old mid new : Option (List ℕ)) (text added : List ℕ) where
-  pub both_written : Appends old mid text → Appends mid new added → Appends old new (text ++ added)
-  both_written first second = Appends-trans old mid new text added first second
-
   pub nothing_added : added ≡ [] → Appends old new text → Appends old new (text ++ added)
   nothing_added none first = subst (Appends old new) (sym (append-nil text) ∙ ap (λ a. text ++ a) (sym none)) first
 
@@ -29,15 +26,6 @@ module _ (old mid new : Option (List ℕ)) (text added : List ℕ) where
   pub part_of_added : Appends old mid text → IsPartWritten mid new added → IsPartWritten old new (text ++ added)
   part_of_added first part =
       (length text + part.0, subst (Appends old new) (sym (take-append-add text added part.0)) (Appends-trans old mid new text (take part.0 added) first part.1))
-
--- what follows of each error
-pub if_err : {T E : Type 0} (r : Result T E) (P Q : E → Type 0) → ((e : E) → P e → Q e) → IfErr r P → IfErr r Q
-if_err (Ok x) P Q follows holds = tt
-if_err (Err e) P Q follows holds = follows e holds
-
-pub on_ok : {T E : Type 0} (r : Result T E) (P Q : Type 0) → (P → Q) → OnOk r P → OnOk r Q
-on_ok (Ok x) P Q follows holds = follows holds
-on_ok (Err e) P Q follows holds = tt
 
 -- the text of a report whose views are those of a book is what is added where one is asked for
 pub report_added : (report : Bool) (opening : Opening) (book : Book) (history : List Entry) (hot given : List (List Object)) (lines : Option ReportLines) (shown : ReportLines)

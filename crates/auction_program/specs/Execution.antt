@@ -31,6 +31,7 @@ use Rattle.auction_run.specs.declared.running.Outcome.{Outcome}
 use Rattle.auction_program.specs.declared.faults.Fault.{Fault}
 use Rattle.auction_program.specs.declared.faults.Fault.TheVariants.{Usage, Read, Resume, Make, Run, Write}
 use Rattle.auction_program.specs.declared.options.Options.{Options}
+use Rattle.auction_program.specs.declared.performing.Performed.{Performed}
 
 -- what the options ask for: the rows, or else the history, or else the replies
 abbrev pub commits_text : Options → Book → List Entry → List ℕ
@@ -125,6 +126,12 @@ AnswersScripts options book scripts outcome =
 abbrev pub HasLastViews : Options → Book → Outcome → Option ReportLines → Type 0
 HasLastViews options book outcome lines = IfSome lines (λ shown.
     AreViews (opening_of options) (book_after (opening_of options) book outcome.history.entries) shown.categories.items shown.users.items)
+
+-- The scripts are performed from a book: the run is within the limits, its outcome answers them, and its lines are the last views.
+pub record Performs (options : Options) (book : Book) (scripts : List (List Request)) (performed : Performed) : Type 0 where
+  pub allowed : IsAllowed (policy_of options) book scripts
+  pub answer : AnswersScripts options book scripts performed.outcome
+  pub lines : HasLastViews options book performed.outcome performed.lines
 
 -- why scripts were not performed: no window could be made for a report, or the run was refused
 abbrev pub IsNotPerformed : Options → Fault → Book → List (List Request) → Type 0

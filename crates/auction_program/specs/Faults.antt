@@ -1,6 +1,6 @@
 -- The exit statuses of faults, and their words.
-use Rattle.std.specs.Prelude.{ℕ, List, Option, Some, None, string_bytes}
-use Rattle.program_options.specs.declared.faults.UsageFault.TheVariants.{Text, Memory}
+use Rattle.std.specs.Prelude.{ℕ, List, Option, None}
+use Rattle.program_options.specs.Words.{usage_words}
 use Rattle.auction_program.specs.declared.faults.Fault.{Fault}
 use Rattle.auction_program.specs.declared.faults.Fault.TheVariants.{Usage, Read, Resume, Make, Run, Write}
 
@@ -14,8 +14,7 @@ status (Write fault) = 4
 
 -- the words of the parser of options, where it refused the program's
 abbrev pub parser_words : Fault → Option (List ℕ)
-parser_words (Usage (Text words)) = Some (string_bytes words)
-parser_words (Usage Memory) = None
+parser_words (Usage fault) = usage_words fault
 parser_words (Read fault) = None
 parser_words (Resume fault) = None
 parser_words (Make fault) = None

@@ -2,6 +2,7 @@
 use Rattle.std.specs.Prelude.{◌≤◌}
 use Rattle.auction_rows.specs.declared.limits.TheConstants.{MOST_HOT, MOST_SHARDS, MOST_WORKERS}
 use Rattle.auction_rows.specs.declared.numbers.Opening.{Opening}
+use Rattle.program_options.specs.declared.options.TheConstants.{MOST_ASKED}
 use Rattle.run_serving.specs.declared.policy.Policy.{Policy}
 use Rattle.auction_program.specs.declared.options.Options.{Options}
 
@@ -26,11 +27,11 @@ pub record AreInRange (options : Options) : Type 0 where
   pub some_shards : 1 ≤ options.shards
   pub shards : options.shards ≤ MOST_SHARDS
   pub some_joined : 1 ≤ options.joined
-  pub joined : options.joined ≤ 1000000
+  pub joined : options.joined ≤ MOST_ASKED
   pub some_split : 1 ≤ options.split
-  pub split : options.split ≤ 1000000
+  pub split : options.split ≤ MOST_ASKED
   pub some_threshold : 1 ≤ options.threshold
-  pub threshold : options.threshold ≤ 1000000
+  pub threshold : options.threshold ≤ MOST_ASKED
   pub hot : options.hot ≤ MOST_HOT
-  pub users : options.users ≤ 1000000
-  pub categories : options.categories ≤ 1000000
+  pub users : options.users ≤ MOST_ASKED
+  pub categories : options.categories ≤ MOST_ASKED

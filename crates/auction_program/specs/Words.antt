@@ -5,6 +5,7 @@ use Rattle.clap.specs.Simple.{App, new_app, on_top, with_rule}
 use Rattle.clap.specs.Walk.{Rule}
 use Rattle.program_options.specs.Options.{flag_rule, is_set, number_of, number_rule}
 use Rattle.program_options.specs.Words.{text_in}
+use Rattle.program_options.specs.declared.options.TheConstants.{MOST_ASKED}
 use Rattle.auction_program.specs.declared.options.Options.{Options}
 
 -- `--id NUMBER`, for which help has a word
@@ -16,12 +17,12 @@ abbrev pub option_rules : List Rule
 option_rules =
     named_rule (codes "workers") 1 MOST_WORKERS (codes "1")
     ∷ named_rule (codes "shards") 1 MOST_SHARDS (codes "4")
-    ∷ named_rule (codes "joined") 1 1000000 (codes "64")
-    ∷ named_rule (codes "split") 1 1000000 (codes "64")
-    ∷ named_rule (codes "threshold") 1 1000000 (codes "8")
+    ∷ named_rule (codes "joined") 1 MOST_ASKED (codes "64")
+    ∷ named_rule (codes "split") 1 MOST_ASKED (codes "64")
+    ∷ named_rule (codes "threshold") 1 MOST_ASKED (codes "8")
     ∷ named_rule (codes "hot") 0 MOST_HOT (codes "8")
-    ∷ named_rule (codes "users") 0 1000000 (codes "100")
-    ∷ named_rule (codes "categories") 0 1000000 (codes "10")
+    ∷ named_rule (codes "users") 0 MOST_ASKED (codes "100")
+    ∷ named_rule (codes "categories") 0 MOST_ASKED (codes "10")
     ∷ flag_rule (codes "history")
     ∷ flag_rule (codes "rows")
     ∷ flag_rule (codes "report")

@@ -12,7 +12,8 @@ use auction_rows::{MOST_HOT, MOST_SHARDS, MOST_WORKERS, Opening};
 use auction_run::Policy;
 use clap::{Arg, ArgMatches, Command};
 use program_options::{
-    NumberRange, UsageFault, flag, flag_of, number_of, number_option, parse_words,
+    FROM_ONE, FROM_ZERO, NumberRange, UsageFault, flag, flag_of, number_of, number_option,
+    parse_words,
 };
 use std::alloc::{AllocError, Global};
 
@@ -80,19 +81,9 @@ const SHARDS: NumberRange = NumberRange {
     greatest: MOST_SHARDS as u32,
 };
 
-const QUOTAS: NumberRange = NumberRange {
-    least: 1,
-    greatest: 1_000_000,
-};
-
 const HOT: NumberRange = NumberRange {
     least: 0,
     greatest: MOST_HOT as u32,
-};
-
-const NUMBERS: NumberRange = NumberRange {
-    least: 0,
-    greatest: 1_000_000,
 };
 
 fn described_number<'a>(
@@ -134,12 +125,12 @@ fn command<'a>(alloc: Global) -> Result<Command<'a>, AllocError>
     let options = vec![in alloc;
         described_number(alloc, "workers", WORKERS, "1", help::WORKERS),
         described_number(alloc, "shards", SHARDS, "4", help::SHARDS),
-        described_number(alloc, "joined", QUOTAS, "64", help::JOINED),
-        described_number(alloc, "split", QUOTAS, "64", help::SPLIT),
-        described_number(alloc, "threshold", QUOTAS, "8", help::THRESHOLD),
+        described_number(alloc, "joined", FROM_ONE, "64", help::JOINED),
+        described_number(alloc, "split", FROM_ONE, "64", help::SPLIT),
+        described_number(alloc, "threshold", FROM_ONE, "8", help::THRESHOLD),
         described_number(alloc, "hot", HOT, "8", help::HOT),
-        described_number(alloc, "users", NUMBERS, "100", help::USERS),
-        described_number(alloc, "categories", NUMBERS, "10", help::CATEGORIES),
+        described_number(alloc, "users", FROM_ZERO, "100", help::USERS),
+        described_number(alloc, "categories", FROM_ZERO, "10", help::CATEGORIES),
         described_flag(alloc, "history", help::HISTORY),
         described_flag(alloc, "rows", help::ROWS),
         described_flag(alloc, "report", help::REPORT),
@@ -154,12 +145,12 @@ fn options_of(matches: &ArgMatches<'_>) -> Options
     Options {
         workers: number_of(matches, "workers", WORKERS),
         shards: number_of(matches, "shards", SHARDS),
-        joined: number_of(matches, "joined", QUOTAS),
-        split: number_of(matches, "split", QUOTAS),
-        threshold: number_of(matches, "threshold", QUOTAS),
+        joined: number_of(matches, "joined", FROM_ONE),
+        split: number_of(matches, "split", FROM_ONE),
+        threshold: number_of(matches, "threshold", FROM_ONE),
         hot: number_of(matches, "hot", HOT),
-        users: number_of(matches, "users", NUMBERS),
-        categories: number_of(matches, "categories", NUMBERS),
+        users: number_of(matches, "users", FROM_ZERO),
+        categories: number_of(matches, "categories", FROM_ZERO),
         history: flag_of(matches, "history"),
         rows: flag_of(matches, "rows"),
         report: flag_of(matches, "report"),

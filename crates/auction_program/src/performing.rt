@@ -1,12 +1,12 @@
 //! The run of the scripts, and what the report shows at its end.
-ghost use Rattle.std.specs.Prelude.{◌≡◌, List, [], false, None, IfOk, IfErr, IfSome, OnOk, IsTrue, MatchOption};
+ghost use Rattle.std.specs.Prelude.{◌≡◌, List, [], false, None, IfOk, IfErr, IfSome, IsTrue, MatchOption};
 ghost use mathlib.Core.List.{IsPrefix};
 ghost use Rattle.auction_rows.specs.declared.rows.Row.{Row as Stored};
 ghost use Rattle.auction_rows.specs.Book.{Book};
 ghost use Rattle.auction_run.specs.Phases.{lists};
 ghost use Rattle.item_shards.specs.OpeningBooks as opened;
-ghost use Rattle.auction_program.specs.Execution.{AnswersScripts, HasLastViews, IsAllowed, IsNotPerformed};
-ghost use Rattle.auction_program.specs.Options.{opening_of, policy_of};
+ghost use Rattle.auction_program.specs.Execution.{IsNotPerformed, Performs};
+ghost use Rattle.auction_program.specs.Options.{opening_of};
 ghost use Rattle.auction_program.specs.Report.{AreViews, IsEnd};
 
 use crate::faults::Fault;
@@ -40,11 +40,7 @@ pub fn perform<R: Threads + Wait + Sync>(
     options: &Options,
 ) -> Result<Performed, Fault>
     requires { opened.opening_of book.now ≡ opening_of options.now }
-    ensures answer { IfOk result (λ performed.
-        AnswersScripts options.now (opened.rows_of book.now) (lists scripts.items) performed.outcome) }
-    ensures allowed { OnOk result (IsAllowed (policy_of options.now) (opened.rows_of book.now) (lists scripts.items)) }
-    ensures lines { IfOk result (λ performed.
-        HasLastViews options.now (opened.rows_of book.now) performed.outcome performed.lines) }
+    ensures performs { IfOk result (Performs options.now (opened.rows_of book.now) (lists scripts.items)) }
     ensures unasked { IfOk result (λ performed. ¬ IsTrue options.now.report → performed.lines ≡ None) }
     ensures cause { IfErr result (λ fault.
         IsNotPerformed options.now fault (opened.rows_of book.now) (lists scripts.items)) }
@@ -73,11 +69,7 @@ fn perform_watched<J: WindowName, R: Threads + Wait + Sync>(
     requires rows { opened.rows_of book.now ≡ J.rows }
     requires options { opened.opening_of book.now ≡ opening_of options.now }
     requires report { IsTrue options.now.report }
-    ensures answer { IfOk result (λ performed.
-        AnswersScripts options.now (opened.rows_of book.now) (lists scripts.items) performed.outcome) }
-    ensures allowed { OnOk result (IsAllowed (policy_of options.now) (opened.rows_of book.now) (lists scripts.items)) }
-    ensures lines { IfOk result (λ performed.
-        HasLastViews options.now (opened.rows_of book.now) performed.outcome performed.lines) }
+    ensures performs { IfOk result (Performs options.now (opened.rows_of book.now) (lists scripts.items)) }
     ensures cause { IfErr result (λ fault.
         IsNotPerformed options.now fault (opened.rows_of book.now) (lists scripts.items)) }
 {
@@ -105,11 +97,7 @@ fn watch<J: WindowName, R: Threads + Wait + Sync>(
     requires opening { opened.opening_of book.now ≡ J.opening }
     requires rows { opened.rows_of book.now ≡ J.rows }
     requires options { opened.opening_of book.now ≡ opening_of options.now }
-    ensures answer { IfOk result (λ performed.
-        AnswersScripts options.now (opened.rows_of book.now) (lists scripts.items) performed.outcome) }
-    ensures allowed { OnOk result (IsAllowed (policy_of options.now) (opened.rows_of book.now) (lists scripts.items)) }
-    ensures lines { IfOk result (λ performed.
-        HasLastViews options.now (opened.rows_of book.now) performed.outcome performed.lines) }
+    ensures performs { IfOk result (Performs options.now (opened.rows_of book.now) (lists scripts.items)) }
     ensures cause { IfErr result (λ fault.
         IsNotPerformed options.now fault (opened.rows_of book.now) (lists scripts.items)) }
 {

@@ -1,8 +1,7 @@
 //! The texts that the program writes of a run.
 ghost use Rattle.std.specs.Prelude.{◌≡◌, IfErr, OnOk};
-ghost use Rattle.std.specs.Io.KnownBytes.{Appends};
 ghost use Rattle.auction_run.specs.Phases.{hot_sets};
-ghost use Rattle.auction_text.specs.Writing.{IsPartWritten};
+ghost use Rattle.auction_text.specs.Writing.{WritesText};
 ghost use Rattle.auction_program.specs.Execution.{added_text, commits_text, AreWritten, ArePartWritten, HasLastViews, IsOneWritten};
 
 use crate::options::Options;
@@ -55,10 +54,7 @@ fn write_commits<W: Write>(
     rows: &[Row],
     history: &History,
 ) -> Result<(), WriteFault>
-    ensures whole { OnOk result (Appends (W.contents writer.old) (W.contents writer.new) (commits_text options.now rows.now history.now.entries)) }
-    ensures part { IfErr result (λ fault. fault ≡ WriteFault.Write →
-        IsPartWritten (W.contents writer.old) (W.contents writer.new) (commits_text options.now rows.now history.now.entries)) }
-    ensures memory { IfErr result (λ fault. fault ≡ WriteFault.Memory → writer.new ≡ writer.old) }
+    ensures { WritesText W.contents writer.old writer.new (commits_text options.now rows.now history.now.entries) result }
 {
     if options.rows {
         write_rows(alloc, writer, rows, history)

@@ -6,23 +6,23 @@ use Rattle.std.proofs.lemmas.List.{append-nil, take_all, take_more}
 use Rattle.std.proofs.lemmas.List.Elements.{filter_map-append}
 use Rattle.std.proofs.lemmas.Option.{slice_get-get_or, slice_get_within}
 
--- a text to which the first elements of a list were added, and the next one
-pub one_listed : {X : Type 0} (f : X → List ℕ) (text now more : List ℕ) (xs : List X) (i : ℕ) (x : X) → i < length xs → x ≡ get_or xs i x
-    → now ≡ text ++ flat_map f (take i xs) → more ≡ now ++ f x → more ≡ text ++ flat_map f (take (i + 1) xs)
-one_listed f text now more xs i x within here listed added =
-    rw (take_more xs i x within, sym here, flat_map-append f (take i xs) (x ∷ []), append-nil (f x), added, listed, append_assoc) refl
+-- a text to which a word and the first elements of a list were added, and the next one
+pub one_listed : {X : Type 0} (f : X → List ℕ) (text word now more : List ℕ) (xs : List X) (i : ℕ) (x : X) → i < length xs → x ≡ get_or xs i x
+    → now ≡ text ++ (word ++ flat_map f (take i xs)) → more ≡ now ++ f x → more ≡ text ++ (word ++ flat_map f (take (i + 1) xs))
+one_listed f text word now more xs i x within here listed added =
+    rw (take_more xs i x within, sym here, flat_map-append f (take i xs) (x ∷ []), append-nil (f x), added, listed, append_assoc, append_assoc) refl
 
--- a text to which all were added
-pub all_listed : {X : Type 0} (f : X → List ℕ) (text now : List ℕ) (xs : List X) (i : ℕ) → length xs ≤ i → now ≡ text ++ flat_map f (take i xs) → now ≡ text ++ flat_map f xs
-all_listed f text now xs i over listed = listed ∙ ap (λ (all : List _). text ++ flat_map f all) (take_all i xs over)
+-- the same where the next one is looked up
+pub shown_listed : {X : Type 0} (f : X → List ℕ) (text word now more : List ℕ) (xs : List X) (i : ℕ) (x : X) → slice_get xs i ≡ Some x
+    → now ≡ text ++ (word ++ flat_map f (take i xs)) → more ≡ now ++ f x → more ≡ text ++ (word ++ flat_map f (take (i + 1) xs))
+shown_listed f text word now more xs i x is =
+    let within = slice_get_within xs i x is in
+    let here : x ≡ get_or xs i x = cc (slice_get-get_or xs i x within, is) in
+    one_listed f text word now more xs i x within here
 
--- what stands before a list, its first elements and the next one
-pub listed_more : {X : Type 0} (f : X → List ℕ) (text word : List ℕ) (xs : List X) (i : ℕ) (x : X) → slice_get xs i ≡ Some x
-    → (text ++ (word ++ flat_map f (take i xs))) ++ f x ≡ text ++ (word ++ flat_map f (take (i + 1) xs))
-listed_more f text word xs i x e =
-    let within : i < length xs = slice_get_within xs i x e in
-    let here : get_or xs i x ≡ x = cc (slice_get-get_or xs i x within, e) in
-    rw (take_more xs i x within, here, flat_map-append f (take i xs) (x ∷ []), append-nil (f x), append_assoc, append_assoc) refl
+-- a text to which the word and all of them were added
+pub all_listed : {X : Type 0} (f : X → List ℕ) (text word now : List ℕ) (xs : List X) (i : ℕ) → length xs ≤ i → now ≡ text ++ (word ++ flat_map f (take i xs)) → now ≡ text ++ (word ++ flat_map f xs)
+all_listed f text word now xs i over listed = listed ∙ ap (λ (all : List _). text ++ (word ++ flat_map f all)) (take_all i xs over)
 
 -- what stands before a list, those that its first elements stand for, and the one of the next, if there is one
 pub listed_some : {X Y : Type 0} (f : Y → List ℕ) (h : X → Option Y) (text : List ℕ) (xs : List X) (i : ℕ) (x : X) (found : Option Y) → i < length xs → x ≡ get_or xs i x → h x ≡ found

@@ -4,6 +4,7 @@ use Rattle.std.specs.List.{list_all, position}
 use Rattle.std.specs.Char.{is_ascii_digit}
 use Rattle.std.specs.Str.Parse.{digits_value}
 use Rattle.auction_rows.specs.declared.ids.ItemId.{ItemId}
+use Rattle.auction_rows.specs.declared.limits.TheConstants.{MOST_QUANTITY}
 
 abbrev pub is_empty : List ℕ → Bool
 is_empty [] = true
@@ -19,9 +20,9 @@ abbrev pub number : ℕ → List ℕ → Option ℕ
 number bits field =
     if is_numeral field && nat_lt (digits_value 10 field) (2 ^ bits) then Some (digits_value 10 field) else None
 
--- a number from 1 to 1,000,000
+-- so many of an item may be put up, or bought
 abbrev pub is_quantity : ℕ → Bool
-is_quantity n = nat_le 1 n && nat_le n 1000000
+is_quantity n = nat_le 1 n && nat_le n MOST_QUANTITY
 
 -- the quantity that a field writes
 abbrev pub quantity : List ℕ → Option ℕ

@@ -1,5 +1,6 @@
 -- The kinds of records.
-use Rattle.std.specs.Prelude.{ℕ, ◌==◌, List, Bool, true, false, ◌||◌, codes, Option, Some, None, if◌then◌else◌}
+use Rattle.std.specs.Prelude.{ℕ, ◌==◌, List, [], ◌∷◌, Bool, true, false, ◌||◌, codes, Option, Some, None, if◌then◌else◌}
+use Rattle.std.specs.Option.{option_map, option_or}
 use Rattle.std.specs.Str.{bytes_eq}
 use Rattle.auction_text.specs.declared.kinds.Kind.{Kind}
 use Rattle.auction_text.specs.declared.kinds.RequestKind.{RequestKind}
@@ -30,22 +31,12 @@ view_of word =
     else if bytes_eq word (codes "viewuser") then Some kind.ViewUser
     else None
 
--- the kind that a word names
+-- the kind that a word names: a row's is a plus, which is 43, and the word of its store
 abbrev pub kind_of : List ℕ → Option Kind
-kind_of word =
-    if bytes_eq word (codes "item") then Some (request kind.Item)
-    else if bytes_eq word (codes "bid") then Some (request kind.Bid)
-    else if bytes_eq word (codes "comment") then Some (request kind.Comment)
-    else if bytes_eq word (codes "buynow") then Some (request kind.BuyNow)
-    else if bytes_eq word (codes "viewitem") then Some (request kind.ViewItem)
-    else if bytes_eq word (codes "viewbids") then Some (request kind.ViewBids)
-    else if bytes_eq word (codes "viewcategory") then Some (request kind.ViewCategory)
-    else if bytes_eq word (codes "viewuser") then Some (request kind.ViewUser)
-    else if bytes_eq word (codes "+item") then Some (row kind.Item)
-    else if bytes_eq word (codes "+bid") then Some (row kind.Bid)
-    else if bytes_eq word (codes "+comment") then Some (row kind.Comment)
-    else if bytes_eq word (codes "+buynow") then Some (row kind.BuyNow)
-    else None
+kind_of [] = None
+kind_of (first ∷ rest) =
+    if first == 43 then option_map row (store_of rest)
+    else option_map request (option_or (store_of (first ∷ rest)) (view_of (first ∷ rest)))
 
 -- whether a record of a request's kind may have so many fields
 abbrev pub has_count : RequestKind → ℕ → Bool

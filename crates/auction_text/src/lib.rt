@@ -1,4 +1,4 @@
-//! The texts of an auction: the scripts that are read, and the replies, histories, rows and reports
+//! The texts of an auction: the rows and scripts that are read, and the replies, histories, rows and reports
 //! that are written.
 #![tactic(auto)]
 

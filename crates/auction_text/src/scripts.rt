@@ -7,14 +7,14 @@ ghost use Rattle.auction_text.specs.Scripts.{asked_by, input_of};
 
 use crate::faults::ReadFault;
 use crate::record::{Record, read_record};
-use auction_rows::Request;
+use auction_rows::{MOST_ROWS, Request};
 use csv::{ByteRecord, ErrorKind, Reader, ReaderBuilder};
 use item_shards::Opened;
 use std::alloc::Global;
 use std::io::Read;
 
-/// The most records of an input.
-pub const MOST_RECORDS: u32 = 16_000_000;
+/// The most records of an input: as many as a book has rows.
+pub const MOST_RECORDS: u32 = MOST_ROWS as u32;
 
 /// What an input asks for: the rows that the auction is opened with, and each worker's script.
 #[derive(Drop)]

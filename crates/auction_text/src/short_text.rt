@@ -26,7 +26,7 @@ impl Model for ShortText {
 }
 
 impl ShortText {
-    /// An empty text.
+    /// An empty text, which grows from its end: a number's last digit is known first.
     pub fn new() -> ShortText
         ensures text { result ≡ [] }
         ensures length { length result ≡ 0 }

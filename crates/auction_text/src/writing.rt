@@ -1,10 +1,10 @@
 //! The writing of texts.
-ghost use Rattle.std.specs.Prelude.{◌≡◌, ◌++◌, ◌↔◌, map, IfOk, IfErr, IsErr, IsOkAnd, OnOk};
+ghost use Rattle.std.specs.Prelude.{◌≡◌, ◌↔◌, map, IfOk, IfErr, IsErr, IsOkAnd, OnOk};
 ghost use Rattle.std.specs.Io.KnownBytes.{Appends};
 ghost use Rattle.auction_text.specs.Replies.{history_text, replies_text};
 ghost use Rattle.auction_text.specs.Report.{report_text};
 ghost use Rattle.auction_text.specs.RowLines.{rows_text};
-ghost use Rattle.auction_text.specs.Writing.{IsPartWritten};
+ghost use Rattle.auction_text.specs.Writing.{IsPartWritten, WritesText};
 
 use crate::faults::WriteFault;
 use crate::replies::push_history_line;
@@ -120,11 +120,7 @@ pub fn write_replies<W: Write>(
     writer: &mut W,
     history: &History,
 ) -> Result<(), WriteFault>
-    ensures whole { OnOk result
-        (Appends (W.contents writer.old) (W.contents writer.new) (replies_text history.now.entries)) }
-    ensures part { IfErr result (λ fault. fault ≡ WriteFault.Write →
-        IsPartWritten (W.contents writer.old) (W.contents writer.new) (replies_text history.now.entries)) }
-    ensures memory { IfErr result (λ fault. fault ≡ WriteFault.Memory → writer.new ≡ writer.old) }
+    ensures { WritesText W.contents writer.old writer.new (replies_text history.now.entries) result }
 {
     write_made(writer, replies_text(alloc, history))
 }
@@ -137,11 +133,7 @@ pub fn write_history<W: Write>(
     writer: &mut W,
     history: &History,
 ) -> Result<(), WriteFault>
-    ensures whole { OnOk result
-        (Appends (W.contents writer.old) (W.contents writer.new) (history_text history.now.entries)) }
-    ensures part { IfErr result (λ fault. fault ≡ WriteFault.Write →
-        IsPartWritten (W.contents writer.old) (W.contents writer.new) (history_text history.now.entries)) }
-    ensures memory { IfErr result (λ fault. fault ≡ WriteFault.Memory → writer.new ≡ writer.old) }
+    ensures { WritesText W.contents writer.old writer.new (history_text history.now.entries) result }
 {
     write_made(writer, history_text(alloc, history))
 }
@@ -156,11 +148,7 @@ pub fn write_rows<W: Write>(
     rows: &[Row],
     history: &History,
 ) -> Result<(), WriteFault>
-    ensures whole { OnOk result
-        (Appends (W.contents writer.old) (W.contents writer.new) (rows_text rows.now history.now.entries)) }
-    ensures part { IfErr result (λ fault. fault ≡ WriteFault.Write →
-        IsPartWritten (W.contents writer.old) (W.contents writer.new) (rows_text rows.now history.now.entries)) }
-    ensures memory { IfErr result (λ fault. fault ≡ WriteFault.Memory → writer.new ≡ writer.old) }
+    ensures { WritesText W.contents writer.old writer.new (rows_text rows.now history.now.entries) result }
 {
     write_made(writer, rows_text(alloc, rows, history))
 }
@@ -178,12 +166,8 @@ pub fn write_report<W: Write>(
     hot: &[IndexSet<Object>],
     lines: &ReportLines,
 ) -> Result<(), WriteFault>
-    ensures whole { OnOk result (Appends (W.contents writer.old) (W.contents writer.new)
-        (report_text history.now.entries (map (λ set. set.keys) hot.now) lines.now.categories.items lines.now.users.items)) }
-    ensures part { IfErr result (λ fault. fault ≡ WriteFault.Write →
-        IsPartWritten (W.contents writer.old) (W.contents writer.new)
-        (report_text history.now.entries (map (λ set. set.keys) hot.now) lines.now.categories.items lines.now.users.items)) }
-    ensures memory { IfErr result (λ fault. fault ≡ WriteFault.Memory → writer.new ≡ writer.old) }
+    ensures { WritesText W.contents writer.old writer.new
+        (report_text history.now.entries (map (λ set. set.keys) hot.now) lines.now.categories.items lines.now.users.items) result }
 {
     write_made(writer, report_text(alloc, history, hot, lines))
 }

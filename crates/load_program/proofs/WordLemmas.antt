@@ -1,6 +1,5 @@
 -- The program's options are simple ones.
-use Rattle.std.proofs.Common.{◌≡◌, ◌∙◌, true, Result, Ok, Err, refl, ap}
-use Rattle.std.specs.Prelude.{OnOk}
+use Rattle.std.proofs.Common.{◌≡◌, ◌∙◌, true, refl, ap}
 use Rattle.clap.specs.Faults.{is_simple_and_free}
 use Rattle.clap.specs.Simple.{App}
 use Rattle.load_program.specs.Words.{program}
@@ -10,7 +9,3 @@ free = refl
 
 pub is_free : (a : App) → a ≡ program → is_simple_and_free a ≡ true
 is_free a same = ap is_simple_and_free same ∙ free
-
-pub on_ok : {T E : Type 0} (r : Result T E) (P : Type 0) → P → OnOk r P
-on_ok (Ok value) P holds = holds
-on_ok (Err error) P holds = tt

@@ -8,6 +8,7 @@ use Rattle.clap.specs.declared.builder.value_parser.ValueParser.TheVariants.{Uns
 use Rattle.clap.specs.Simple.{App, new_app, new_rule, with_rule}
 use Rattle.clap.specs.Walk.{Rule}
 use Rattle.program_options.specs.Options.{SaysNumber, number_rule}
+use Rattle.program_options.specs.declared.options.TheConstants.{MOST_ASKED}
 use Rattle.program_options.specs.declared.faults.UsageFault.TheVariants as usage
 use Rattle.load_program.specs.declared.faults.PlanFault.{PlanFault}
 use Rattle.load_program.specs.declared.faults.PlanFault.TheVariants as fault
@@ -29,9 +30,9 @@ abbrev pub option_rules : List Rule
 option_rules =
     number_rule (codes "requests") 0 MOST_RECORDS (codes "1000")
     ∷ number_rule (codes "workers") 1 MOST_WORKERS (codes "1")
-    ∷ number_rule (codes "items") 1 1000000 (codes "100")
-    ∷ number_rule (codes "users") 1 1000000 (codes "100")
-    ∷ number_rule (codes "categories") 1 1000000 (codes "10")
+    ∷ number_rule (codes "items") 1 MOST_ASKED (codes "100")
+    ∷ number_rule (codes "users") 1 MOST_ASKED (codes "100")
+    ∷ number_rule (codes "categories") 1 MOST_ASKED (codes "10")
     ∷ number_rule (codes "skew") 0 200 (codes "0")
     ∷ number_rule (codes "views") 0 100 (codes "85")
     ∷ number_rule (codes "comments") 0 100 (codes "3")
@@ -47,9 +48,9 @@ program = fold with_rule (new_app (codes "rubis_load")) option_rules
 pub record SayCounts (text : List ℕ → Option (List ℕ)) (counts : Counts) : Type 0 where
   pub requests : SaysNumber 0 MOST_RECORDS (text (codes "requests")) counts.requests
   pub workers : SaysNumber 1 MOST_WORKERS (text (codes "workers")) counts.workers
-  pub items : SaysNumber 1 1000000 (text (codes "items")) counts.items
-  pub users : SaysNumber 1 1000000 (text (codes "users")) counts.users
-  pub categories : SaysNumber 1 1000000 (text (codes "categories")) counts.categories
+  pub items : SaysNumber 1 MOST_ASKED (text (codes "items")) counts.items
+  pub users : SaysNumber 1 MOST_ASKED (text (codes "users")) counts.users
+  pub categories : SaysNumber 1 MOST_ASKED (text (codes "categories")) counts.categories
 
 -- The texts of options say this mix.
 pub record SayMix (text : List ℕ → Option (List ℕ)) (mix : Mix) : Type 0 where

@@ -1,5 +1,6 @@
 //! What rows and requests say, drawn by a plan.
 ghost use Rattle.std.specs.Prelude.{◌≡◌, ◌+◌, ◌<◌, ◌≤◌, IfOk, length};
+ghost use Rattle.auction_rows.specs.declared.limits.TheConstants.{MOST_QUANTITY};
 ghost use Rattle.load_program.specs.Loads.{EachFrom};
 ghost use Rattle.load_program.specs.Stored.{HasShare, IsLineAt, IsRowAt, IsStored, NamesStored, item_at};
 
@@ -31,7 +32,7 @@ pub struct Market {
 }
 
 fn quantity_of(count: u64) -> Quantity
-    requires { (1 ≤ count) × (count ≤ 1000000) }
+    requires { (1 ≤ count) × (count ≤ MOST_QUANTITY) }
 {
     Quantity::new(count).unwrap()
 }

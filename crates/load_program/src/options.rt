@@ -10,7 +10,7 @@ use crate::plan::{Counts, Mix, Plan};
 use auction_rows::{MOST_OF_A_WORKER, MOST_WORKERS};
 use auction_text::MOST_RECORDS;
 use clap::{Arg, ArgAction, ArgMatches, Command};
-use program_options::{NumberRange, UsageFault, number_of, number_option, parse_words};
+use program_options::{FROM_ONE, NumberRange, UsageFault, number_of, number_option, parse_words};
 use std::alloc::{AllocError, Global};
 
 const REQUESTS: NumberRange = NumberRange {
@@ -21,11 +21,6 @@ const REQUESTS: NumberRange = NumberRange {
 const WORKERS: NumberRange = NumberRange {
     least: 1,
     greatest: MOST_WORKERS as u32,
-};
-
-const NUMBERS: NumberRange = NumberRange {
-    least: 1,
-    greatest: 1_000_000,
 };
 
 const SKEWS: NumberRange = NumberRange {
@@ -77,9 +72,9 @@ fn command<'a>(alloc: Global) -> Result<Command<'a>, AllocError>
     let options = vec![in alloc;
         described(alloc, "requests", REQUESTS, "1000", "How many requests"),
         described(alloc, "workers", WORKERS, "1", "How many workers"),
-        described(alloc, "items", NUMBERS, "100", items),
-        described(alloc, "users", NUMBERS, "100", "How many users"),
-        described(alloc, "categories", NUMBERS, "10", "How many categories"),
+        described(alloc, "items", FROM_ONE, "100", items),
+        described(alloc, "users", FROM_ONE, "100", "How many users"),
+        described(alloc, "categories", FROM_ONE, "10", "How many categories"),
         described(alloc, "skew", SKEWS, "0", skew),
         described(alloc, "views", SHARES, "85", "Percent of views"),
         described(alloc, "comments", SHARES, "3", "Percent of comments"),
@@ -102,9 +97,9 @@ fn counts_of(matches: &ArgMatches<'_>) -> Counts
     Counts {
         requests: number_of(matches, "requests", REQUESTS),
         workers: number_of(matches, "workers", WORKERS),
-        items: number_of(matches, "items", NUMBERS),
-        users: number_of(matches, "users", NUMBERS),
-        categories: number_of(matches, "categories", NUMBERS),
+        items: number_of(matches, "items", FROM_ONE),
+        users: number_of(matches, "users", FROM_ONE),
+        categories: number_of(matches, "categories", FROM_ONE),
     }
 }
 

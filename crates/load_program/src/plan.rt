@@ -2,6 +2,7 @@
 ghost use Rattle.std.specs.Prelude.{◌≡◌, ◌+◌, ◌<◌, ◌≤◌, IfSome, MatchOption};
 ghost use Rattle.auction_rows.specs.declared.limits.TheConstants.{MOST_WORKERS};
 ghost use Rattle.auction_text.specs.declared.scripts.TheConstants.{MOST_RECORDS};
+ghost use Rattle.program_options.specs.declared.options.TheConstants.{MOST_ASKED};
 
 /// The shares of the kinds of requests in percent, at most 100 together. The rest are bids.
 #[derive(Clone, Copy)]
@@ -58,11 +59,11 @@ pub struct Counts {
     ghost some_workers: { 1 ≤ workers },
     ghost workers_limit: { workers ≤ MOST_WORKERS },
     ghost some_items: { 1 ≤ items },
-    ghost items_limit: { items ≤ 1000000 },
+    ghost items_limit: { items ≤ MOST_ASKED },
     ghost some_users: { 1 ≤ users },
-    ghost users_limit: { users ≤ 1000000 },
+    ghost users_limit: { users ≤ MOST_ASKED },
     ghost some_categories: { 1 ≤ categories },
-    ghost categories_limit: { categories ≤ 1000000 },
+    ghost categories_limit: { categories ≤ MOST_ASKED },
 }
 
 impl Counts {

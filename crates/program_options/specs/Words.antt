@@ -1,5 +1,5 @@
 -- What a program's words say of its options, by the parser of words (`clap`).
-use Rattle.std.specs.Prelude.{◌≡◌, ◌<◌, ◌≤◌, ℕ, true, List, [], ◌∷◌, length, Option, Some, pos}
+use Rattle.std.specs.Prelude.{◌≡◌, ◌<◌, ◌≤◌, ℕ, true, List, [], ◌∷◌, length, Option, Some, None, pos, string_bytes}
 use Rattle.std.specs.List.{filter}
 use Rattle.std.specs.Str.{bytes_eq}
 use Rattle.clap.specs.declared.builder.action.ArgAction.TheVariants.{Set}
@@ -9,6 +9,8 @@ use Rattle.clap.specs.Faults.{fault_of}
 use Rattle.clap.specs.Simple.{App, built, matches_of}
 use Rattle.clap.specs.Walk.{Rule, one_of}
 use Rattle.program_options.specs.Options.{IsNumberIn}
+use Rattle.program_options.specs.declared.faults.UsageFault.{UsageFault}
+use Rattle.program_options.specs.declared.faults.UsageFault.TheVariants.{Text, Memory}
 
 -- The parser finds no fault in the words: after the program's name they are options of it, each once at most, with its number in its range.
 abbrev pub AreTaken : App → List (List ℕ) → Type 0
@@ -50,3 +52,8 @@ pub record HasNumberOption (program : App) (id : List ℕ) (least greatest : ℕ
 -- each such option has a number of its range
 abbrev pub HaveNumbers : App → (List ℕ → Option (List ℕ)) → Type 0
 HaveNumbers program text = (id : List ℕ) (least greatest : ℕ) → HasNumberOption program id least greatest → IsNumberIn least greatest (text id)
+
+-- the parser's words, where the program's are refused by it
+abbrev pub usage_words : UsageFault → Option (List ℕ)
+usage_words (Text words) = Some (string_bytes words)
+usage_words Memory = None

@@ -7,5 +7,7 @@ mod options;
 mod words;
 
 pub use faults::{UsageFault, words_fault};
-pub use options::{NumberRange, flag, flag_of, number_of, number_option};
+pub use options::{
+    FROM_ONE, FROM_ZERO, MOST_ASKED, NumberRange, flag, flag_of, number_of, number_option,
+};
 pub use words::{parse_words, program_words};

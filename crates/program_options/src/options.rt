@@ -8,6 +8,9 @@ use clap::builder::ValueParser;
 use clap::{Arg, ArgAction, ArgMatches};
 use std::alloc::Global;
 
+/// The greatest number that an option takes where nothing else limits it: of users, categories, items, or requests of a phase.
+pub const MOST_ASKED: u32 = 1_000_000;
+
 /// The least and the greatest number that an option takes.
 #[derive(Clone, Copy)]
 pub struct NumberRange {
@@ -17,6 +20,18 @@ pub struct NumberRange {
     pub greatest: u32,
     ghost ordered: { least ≤ greatest },
 }
+
+/// The numbers from 0 to `MOST_ASKED`.
+pub const FROM_ZERO: NumberRange = NumberRange {
+    least: 0,
+    greatest: MOST_ASKED,
+};
+
+/// The numbers from 1 to `MOST_ASKED`.
+pub const FROM_ONE: NumberRange = NumberRange {
+    least: 1,
+    greatest: MOST_ASKED,
+};
 
 /// `--id NUMBER`, with a number of a range; the usual one where the words don't have it.
 pub fn number_option<'a>(alloc: Global, id: &'a str, range: NumberRange, usual: &'a str) -> Arg<'a>

@@ -1,12 +1,12 @@
 -- The exit statuses of faults and of what is found, and the words of faults.
-use Rattle.std.specs.Prelude.{ℕ, List, Option, Some, None, string_bytes}
+use Rattle.std.specs.Prelude.{ℕ, List, Option, None}
 use Rattle.history_check.specs.declared.lines.CheckFault.{CheckFault}
 use Rattle.history_check.specs.declared.lines.CheckFault.TheVariants as checking
 use Rattle.history_check.specs.declared.lines.Verdict.{Verdict}
 use Rattle.history_check.specs.declared.lines.Verdict.TheVariants.{Replays, WrongAt, Lacks}
 use Rattle.history_check.specs.declared.lines.Wrong.{Wrong}
 use Rattle.history_check.specs.declared.lines.Wrong.TheVariants.{Unreadable, NoRequest, Again, Late, Due}
-use Rattle.program_options.specs.declared.faults.UsageFault.TheVariants.{Text, Memory}
+use Rattle.program_options.specs.Words.{usage_words}
 use Rattle.rubis_check.specs.declared.faults.Fault.{Fault}
 use Rattle.rubis_check.specs.declared.faults.Fault.TheVariants.{Usage, Read, Resume, Check, Write}
 
@@ -36,8 +36,7 @@ verdict_status (Lacks worker index) = 6
 
 -- the words of the parser of options, where it refused the program's
 abbrev pub parser_words : Fault → Option (List ℕ)
-parser_words (Usage (Text words)) = Some (string_bytes words)
-parser_words (Usage Memory) = None
+parser_words (Usage fault) = usage_words fault
 parser_words (Read fault) = None
 parser_words (Resume fault) = None
 parser_words (Check fault) = None

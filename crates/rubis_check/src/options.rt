@@ -5,7 +5,7 @@ use auction_rows::{MOST_WORKERS, Opening};
 use clap::{Arg, ArgAction, ArgMatches, Command};
 use history_check::Order;
 use program_options::{
-    NumberRange, UsageFault, flag, flag_of, number_of, number_option, parse_words,
+    FROM_ZERO, NumberRange, UsageFault, flag, flag_of, number_of, number_option, parse_words,
 };
 use std::alloc::{AllocError, Global};
 
@@ -28,11 +28,6 @@ const WORKERS: NumberRange = NumberRange {
     greatest: MOST_WORKERS as u32,
 };
 
-const NUMBERS: NumberRange = NumberRange {
-    least: 0,
-    greatest: 1_000_000,
-};
-
 fn command<'a>(alloc: Global) -> Result<Command<'a>, AllocError> {
     let history = Arg::new(alloc, "history")
         .long("history")
@@ -41,8 +36,8 @@ fn command<'a>(alloc: Global) -> Result<Command<'a>, AllocError> {
     let options = vec![in alloc;
         history,
         number_option(alloc, "workers", WORKERS, "1"),
-        number_option(alloc, "users", NUMBERS, "100"),
-        number_option(alloc, "categories", NUMBERS, "10"),
+        number_option(alloc, "users", FROM_ZERO, "100"),
+        number_option(alloc, "categories", FROM_ZERO, "10"),
         flag(alloc, "order"),
         flag(alloc, "strict"),
     ]?;
@@ -70,8 +65,8 @@ fn options_of(alloc: Global, matches: &ArgMatches<'_>) -> Result<Options, UsageF
     Ok(Options {
         workers: number_of(matches, "workers", WORKERS),
         opening: Opening {
-            users: number_of(matches, "users", NUMBERS),
-            categories: number_of(matches, "categories", NUMBERS),
+            users: number_of(matches, "users", FROM_ZERO),
+            categories: number_of(matches, "categories", FROM_ZERO),
         },
         order: order_of(flag_of(matches, "order"), flag_of(matches, "strict")),
         history,

@@ -33,17 +33,17 @@ returns-in_err-performed-clause-cause g c =
 
 pub returns-in_err-write_texts-clause-part : goal.returns-in_err-write_texts-clause-part
 returns-in_err-write_texts-clause-part g c = λ is.
-    answered c.args.options.now _ _ (g.I.Read.remaining c.args.reader) c.in_ok-input.ensures.input _ _ _ _ _ c.opening.ensures c.in_ok-book.ensures.rows c.rows.ensures.rows
-    c.in_ok-book.ensures.accepted c.in_ok-performed.ensures.answer
-    (not_long c.in_ok-input.input.rows.items c.new.result c.in_ok-book.book c.in_ok-book.was c.new.ensures.too_long) c.in_ok-performed.ensures.allowed (ArePartWritten (g.W.Write.contents c.args.writer.now) (g.W.Write.contents c.write_texts.new.writer))
+    answered c.args.options.now _ _ (g.I.Read.remaining c.args.reader) c.in_ok-input.ensures.input _ _ _ _ c.opening.ensures c.in_ok-book.ensures.rows c.rows.ensures.rows
+    c.in_ok-book.ensures.accepted (not_long c.in_ok-input.input.rows.items c.new.result c.in_ok-book.book c.in_ok-book.was c.new.ensures.too_long)
+    c.in_ok-performed.ensures.performs (ArePartWritten (g.W.Write.contents c.args.writer.now) (g.W.Write.contents c.write_texts.new.writer))
     (c.in_err-write_texts.ensures.part (write_is _ _ _ c.from_residual-in_err-write_texts.ensures is))
 
 pub returns-in_err-write_texts-clause-memory : goal.returns-in_err-write_texts-clause-memory
 returns-in_err-write_texts-clause-memory g c = λ is.
     let options = c.args.options.now in
-    answered options _ _ (g.I.Read.remaining c.args.reader) c.in_ok-input.ensures.input _ _ _ _ _ c.opening.ensures c.in_ok-book.ensures.rows c.rows.ensures.rows
-    c.in_ok-book.ensures.accepted c.in_ok-performed.ensures.answer
-    (not_long c.in_ok-input.input.rows.items c.new.result c.in_ok-book.book c.in_ok-book.was c.new.ensures.too_long) c.in_ok-performed.ensures.allowed (IsOneWritten options (g.W.Write.contents c.args.writer.now) (g.W.Write.contents c.write_texts.new.writer))
+    answered options _ _ (g.I.Read.remaining c.args.reader) c.in_ok-input.ensures.input _ _ _ _ c.opening.ensures c.in_ok-book.ensures.rows c.rows.ensures.rows
+    c.in_ok-book.ensures.accepted (not_long c.in_ok-input.input.rows.items c.new.result c.in_ok-book.book c.in_ok-book.was c.new.ensures.too_long)
+    c.in_ok-performed.ensures.performs (IsOneWritten options (g.W.Write.contents c.args.writer.now) (g.W.Write.contents c.write_texts.new.writer))
     (c.in_err-write_texts.ensures.memory (write_is _ _ _ c.from_residual-in_err-write_texts.ensures is))
 
 pub returns-in_err-write_texts-clause-cause : goal.returns-in_err-write_texts-clause-cause
@@ -52,13 +52,13 @@ returns-in_err-write_texts-clause-cause g c =
     let remaining = g.I.Read.remaining c.args.reader in
     error_is c.from_residual-in_err-write_texts.result (Write c.in_err-write_texts.field-0.0) (λ f. IfSome remaining (λ input. IsCausedBy options input f))
     c.from_residual-in_err-write_texts.ensures
-    (answered options _ _ remaining c.in_ok-input.ensures.input _ _ _ _ _ c.opening.ensures c.in_ok-book.ensures.rows c.rows.ensures.rows
-    c.in_ok-book.ensures.accepted c.in_ok-performed.ensures.answer
-    (not_long c.in_ok-input.input.rows.items c.new.result c.in_ok-book.book c.in_ok-book.was c.new.ensures.too_long) c.in_ok-performed.ensures.allowed (λ text added. Unit {0}) tt)
+    (answered options _ _ remaining c.in_ok-input.ensures.input _ _ _ _ c.opening.ensures c.in_ok-book.ensures.rows c.rows.ensures.rows
+    c.in_ok-book.ensures.accepted (not_long c.in_ok-input.input.rows.items c.new.result c.in_ok-book.book c.in_ok-book.was c.new.ensures.too_long)
+    c.in_ok-performed.ensures.performs (λ text added. Unit {0}) tt)
 
 pub returns-clause-answers : goal.returns-clause-answers
 returns-clause-answers g c =
-    answered c.args.options.now _ _ (g.I.Read.remaining c.args.reader) c.in_ok-input.ensures.input _ _ _ _ _ c.opening.ensures c.in_ok-book.ensures.rows c.rows.ensures.rows
-    c.in_ok-book.ensures.accepted c.in_ok-performed.ensures.answer
-    (not_long c.in_ok-input.input.rows.items c.new.result c.in_ok-book.book c.in_ok-book.was c.new.ensures.too_long) c.in_ok-performed.ensures.allowed (AreWritten (g.W.Write.contents c.args.writer.now) (g.W.Write.contents c.write_texts.new.writer))
+    answered c.args.options.now _ _ (g.I.Read.remaining c.args.reader) c.in_ok-input.ensures.input _ _ _ _ c.opening.ensures c.in_ok-book.ensures.rows c.rows.ensures.rows
+    c.in_ok-book.ensures.accepted (not_long c.in_ok-input.input.rows.items c.new.result c.in_ok-book.book c.in_ok-book.was c.new.ensures.too_long)
+    c.in_ok-performed.ensures.performs (AreWritten (g.W.Write.contents c.args.writer.now) (g.W.Write.contents c.write_texts.new.writer))
     c.in_ok-write_texts.ensures.whole

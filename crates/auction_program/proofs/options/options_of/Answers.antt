@@ -1,18 +1,20 @@
+use Rattle.std.proofs.Common.{codes, refl}
 use Rattle.auction_rows.specs.declared.limits.TheConstants.{MOST_HOT, MOST_SHARDS, MOST_WORKERS}
-use Rattle.program_options.proofs.Numerals.{number_said}
-use Rattle.auction_program.proofs.ProgramWords as program
+use Rattle.clap.specs.Matches.{found_of, one_text}
+use Rattle.program_options.specs.declared.options.TheConstants.{MOST_ASKED}
+use Rattle.auction_program.proofs.ProgramWords.{number_is}
 use Rattle.auction_program.proofs.options.options_of.Goals as goal
 
 pub returns-clause-given : goal.returns-clause-given
-returns-clause-given c = λ numbers i. record {
-  workers = number_said 1 MOST_WORKERS _ _ (numbers _ 1 MOST_WORKERS program.has_workers) c.number_of.ensures.said i;
-  shards = number_said 1 MOST_SHARDS _ _ (numbers _ 1 MOST_SHARDS program.has_shards) c.number_of-2.ensures.said i;
-  joined = number_said 1 1000000 _ _ (numbers _ 1 1000000 program.has_joined) c.number_of-3.ensures.said i;
-  split = number_said 1 1000000 _ _ (numbers _ 1 1000000 program.has_split) c.number_of-4.ensures.said i;
-  threshold = number_said 1 1000000 _ _ (numbers _ 1 1000000 program.has_threshold) c.number_of-5.ensures.said i;
-  hot = number_said 0 MOST_HOT _ _ (numbers _ 0 MOST_HOT program.has_hot) c.number_of-6.ensures.said i;
-  users = number_said 0 1000000 _ _ (numbers _ 0 1000000 program.has_users) c.number_of-7.ensures.said i;
-  categories = number_said 0 1000000 _ _ (numbers _ 0 1000000 program.has_categories) c.number_of-8.ensures.said i;
+returns-clause-given c = λ numbers i. let text = one_text (found_of c.args.matches.now) in record {
+  workers = number_is (codes "workers") 1 MOST_WORKERS (codes "1") (λ e. absurd cc) refl refl text _ numbers c.number_of.ensures.said i;
+  shards = number_is (codes "shards") 1 MOST_SHARDS (codes "4") (λ e. absurd cc) refl refl text _ numbers c.number_of-2.ensures.said i;
+  joined = number_is (codes "joined") 1 MOST_ASKED (codes "64") (λ e. absurd cc) refl refl text _ numbers c.number_of-3.ensures.said i;
+  split = number_is (codes "split") 1 MOST_ASKED (codes "64") (λ e. absurd cc) refl refl text _ numbers c.number_of-4.ensures.said i;
+  threshold = number_is (codes "threshold") 1 MOST_ASKED (codes "8") (λ e. absurd cc) refl refl text _ numbers c.number_of-5.ensures.said i;
+  hot = number_is (codes "hot") 0 MOST_HOT (codes "8") (λ e. absurd cc) refl refl text _ numbers c.number_of-6.ensures.said i;
+  users = number_is (codes "users") 0 MOST_ASKED (codes "100") (λ e. absurd cc) refl refl text _ numbers c.number_of-7.ensures.said i;
+  categories = number_is (codes "categories") 0 MOST_ASKED (codes "10") (λ e. absurd cc) refl refl text _ numbers c.number_of-8.ensures.said i;
   history = c.flag_of.ensures i;
   rows = c.flag_of-2.ensures i;
   report = c.flag_of-3.ensures i;

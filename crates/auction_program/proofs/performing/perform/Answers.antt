@@ -1,4 +1,5 @@
-use Rattle.std.proofs.Common.{Result, Ok, Err, IfOk, subst}
+use Rattle.std.proofs.Common.{subst}
+use Rattle.std.proofs.lemmas.Result.{IfOk-weaker}
 use Rattle.auction_run.specs.Phases.{lists}
 use Rattle.item_shards.specs.OpeningBooks as opened
 use Rattle.auction_program.specs.Execution.{IsNotPerformed, IsNotRun}
@@ -6,16 +7,11 @@ use Rattle.auction_program.specs.declared.faults.Fault.TheVariants.{Run}
 use Rattle.auction_program.proofs.Answering.{error_is, not_run}
 use Rattle.auction_program.proofs.performing.perform.Goals as goal
 
--- what holds of each answer
-if_ok : {T E : Type 0} (r : Result T E) (P : T → Type 0) → ((x : T) → P x) → IfOk r P
-if_ok (Ok x) P holds = holds x
-if_ok (Err e) P holds = tt
-
 pub perform_watched-requires-clause-report : goal.perform_watched-requires-clause-report
 perform_watched-requires-clause-report g c = λ _ _. c.if-options.true
 
 pub returns-then-options-clause-unasked : goal.returns-then-options-clause-unasked
-returns-then-options-clause-unasked g c = if_ok c.perform_watched.result _ (λ performed not. absurd (not c.if-options.true))
+returns-then-options-clause-unasked g c = IfOk-weaker c.perform_watched.result _ _ (λ performed is not. absurd (not c.if-options.true)) c.perform_watched.ensures.performs
 
 pub returns-in_err-outcome-clause-cause : goal.returns-in_err-outcome-clause-cause
 returns-in_err-outcome-clause-cause g c =

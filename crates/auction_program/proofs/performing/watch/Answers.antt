@@ -1,4 +1,4 @@
-use Rattle.std.proofs.Common.{◌≡◌, ◌∙◌, [], List, length, ap, sym, subst, MatchOption}
+use Rattle.std.proofs.Common.{rules, ◌≡◌, ◌∙◌, [], List, length, ap, sym, subst, MatchOption}
 use Rattle.std.proofs.lemmas.Option.{IfSome_then}
 use base.Growing.{prefix_refl}
 use Rattle.auction_rows.specs.declared.rows.Row.{Row}
@@ -18,8 +18,8 @@ use Rattle.auction_program.specs.declared.faults.Fault.TheVariants.{Run}
 use Rattle.auction_program.proofs.Answering.{error_is, not_run}
 use Rattle.auction_program.proofs.performing.watch.Goals as goal
 
-pub returns-clause-lines : goal.returns-clause-lines
-returns-clause-lines g c =
+pub returns-clause-performs : goal.returns-clause-performs
+returns-clause-performs g c =
     let W = g.J.WindowName in
     let options = c.args.options.now in
     let rows = opened.rows_of c.args.book.now in
@@ -38,8 +38,12 @@ returns-clause-lines g c =
       stands = subst (λ o. StandsFor outcome.state (book_after o rows history)) c.requires.options answers.outcome.stands;
     } in
     let told = subst (λ o. MatchOption o (all ≡ []) (λ last. last ≡ all)) (sym c.take-told.ensures.value) shown.has_them.told_last in
-    IfSome_then c.last_lines-lines.result c.last_lines-lines.ensures
-    (λ lines holds. subst (λ o. AreViews o book lines.categories.items lines.users.items) (sym c.requires.opening ∙ c.requires.options) (holds all book told end))
+    record {
+      allowed = search rules;
+      answer = search rules;
+      lines = IfSome_then c.last_lines-lines.result c.last_lines-lines.ensures
+          (λ lines holds. subst (λ o. AreViews o book lines.categories.items lines.users.items) (sym c.requires.opening ∙ c.requires.options) (holds all book told end));
+    }
 
 pub returns-in_err-outcome-clause-cause : goal.returns-in_err-outcome-clause-cause
 returns-in_err-outcome-clause-cause g c =

@@ -1,14 +1,8 @@
-use Rattle.std.proofs.Common.{arith, ◌∙◌, ◌≡◌, ℕ, List, ◌-◌, ◌++◌, take, take-add, drop, length, length-drop, Option, Some, None, append_assoc}
-use Rattle.std.proofs.lemmas.List.{take_all}
+use Rattle.std.proofs.Common.{arith, ◌≡◌, ℕ, List, ◌-◌, take, take-add, drop, length, length-drop, subst, sym}
 use Rattle.std.specs.Io.KnownBytes.{Appends}
+use Rattle.std.proofs.KnownBytes.{Appends-trans}
+use Rattle.std.proofs.lemmas.List.{take_all}
 use Rattle.auction_text.proofs.writing.write_text.Goals as goal
-
--- two writes, one after the other
-appends_both : (a b c : Option (List ℕ)) (xs ys : List ℕ) → Appends a b xs → Appends b c ys → Appends a c (xs ++ ys)
-appends_both None b c xs ys p q = tt
-appends_both (Some m) None c xs ys p q = absurd p
-appends_both (Some m) (Some n) None xs ys p q = absurd q
-appends_both (Some m) (Some n) (Some o) xs ys p q = q ∙ (rw p (append_assoc m xs ys))
 
 -- the rest of a text is all that it has from a place on
 all_of_rest : (i : ℕ) (text : List ℕ) → take (length text - i) (drop i text) ≡ drop i text
@@ -23,5 +17,5 @@ loop-written-preserved g c =
     let within = inv.within in
     record {
       within = omega (arith, bound, within, length-drop c.loop-written.written c.args.text.now);
-      wrote = rw (take-add c.loop-written.written c.in-Ok.count c.args.text.now) (appends_both _ _ _ _ _ inv.wrote bytes);
+      wrote = subst (Appends _ _) (sym (take-add c.loop-written.written c.in-Ok.count c.args.text.now)) (Appends-trans _ _ _ _ _ inv.wrote bytes);
     }

@@ -30,68 +30,50 @@ perform-requires-clause-taken g c = record {
   taken = c.loop-number.invariant.taken;
 }
 
-pub returns-in-Some-clause-verdict : goal.returns-in-Some-clause-verdict
-returns-in-Some-clause-verdict g c =
+pub returns-in-Some : goal.returns-in-Some
+returns-in-Some g c =
     let old = g.R.Read.remaining c.loop-number.reader in
     let new = g.R.Read.remaining c.read_next.new.reader in
     let line = c.read_next.new.line.items in
     let next : ReadsLine old new false line = subst (λ b. ReadsLine old new b line) c.if-not-branch.true c.in_ok-read_next.ensures.line in
-    lack_found (opening_of c.args.book.now) (rows_of c.args.book.now) c.args.scripts.now c.args.order (g.R.Read.remaining c.args.reader.now) old new c.loop-number.replay
-    c.loop-number.number line c.loop-number.invariant c.in-Some.worker c.in-Some.index next c.in-Some.ensures.some
+    let found = lack_found (opening_of c.args.book.now) (rows_of c.args.book.now) c.args.scripts.now c.args.order (g.R.Read.remaining c.args.reader.now) old new c.loop-number.replay
+    c.loop-number.number line c.loop-number.invariant c.in-Some.worker c.in-Some.index next c.in-Some.ensures.some in
+    record {
+      verdict = found;
+      accepted = finds (opening_of c.args.book.now) (rows_of c.args.book.now) c.args.scripts.now c.args.order (g.R.Read.remaining c.args.reader.now) (Lacks c.in-Some.worker c.in-Some.index) found;
+      too_long = λ is. absurd cc;
+    }
 
-pub returns-in-Some-clause-accepted : goal.returns-in-Some-clause-accepted
-returns-in-Some-clause-accepted g c =
+pub returns-then-not-branch : goal.returns-then-not-branch
+returns-then-not-branch g c =
     let old = g.R.Read.remaining c.loop-number.reader in
     let new = g.R.Read.remaining c.read_next.new.reader in
     let line = c.read_next.new.line.items in
     let next : ReadsLine old new false line = subst (λ b. ReadsLine old new b line) c.if-not-branch.true c.in_ok-read_next.ensures.line in
-    finds (opening_of c.args.book.now) (rows_of c.args.book.now) c.args.scripts.now c.args.order (g.R.Read.remaining c.args.reader.now) (Lacks c.in-Some.worker c.in-Some.index)
-    (lack_found (opening_of c.args.book.now) (rows_of c.args.book.now) c.args.scripts.now c.args.order (g.R.Read.remaining c.args.reader.now) old new c.loop-number.replay
-    c.loop-number.number line c.loop-number.invariant c.in-Some.worker c.in-Some.index next c.in-Some.ensures.some)
+    let found = all_found (opening_of c.args.book.now) (rows_of c.args.book.now) c.args.scripts.now c.args.order (g.R.Read.remaining c.args.reader.now) old new c.loop-number.replay
+    c.loop-number.number line c.loop-number.invariant c.requires.workers next c.in_default.ensures.none in
+    record {
+      verdict = found;
+      accepted = finds (opening_of c.args.book.now) (rows_of c.args.book.now) c.args.scripts.now c.args.order (g.R.Read.remaining c.args.reader.now) Replays found;
+      too_long = λ is. absurd cc;
+    }
 
-pub returns-then-not-branch-clause-verdict : goal.returns-then-not-branch-clause-verdict
-returns-then-not-branch-clause-verdict g c =
-    let old = g.R.Read.remaining c.loop-number.reader in
-    let new = g.R.Read.remaining c.read_next.new.reader in
-    let line = c.read_next.new.line.items in
-    let next : ReadsLine old new false line = subst (λ b. ReadsLine old new b line) c.if-not-branch.true c.in_ok-read_next.ensures.line in
-    all_found (opening_of c.args.book.now) (rows_of c.args.book.now) c.args.scripts.now c.args.order (g.R.Read.remaining c.args.reader.now) old new c.loop-number.replay
-    c.loop-number.number line c.loop-number.invariant c.requires.workers next c.in_default.ensures.none
-
-pub returns-then-not-branch-clause-accepted : goal.returns-then-not-branch-clause-accepted
-returns-then-not-branch-clause-accepted g c =
-    let old = g.R.Read.remaining c.loop-number.reader in
-    let new = g.R.Read.remaining c.read_next.new.reader in
-    let line = c.read_next.new.line.items in
-    let next : ReadsLine old new false line = subst (λ b. ReadsLine old new b line) c.if-not-branch.true c.in_ok-read_next.ensures.line in
-    finds (opening_of c.args.book.now) (rows_of c.args.book.now) c.args.scripts.now c.args.order (g.R.Read.remaining c.args.reader.now) Replays
-    (all_found (opening_of c.args.book.now) (rows_of c.args.book.now) c.args.scripts.now c.args.order (g.R.Read.remaining c.args.reader.now) old new c.loop-number.replay
-    c.loop-number.number line c.loop-number.invariant c.requires.workers next c.in_default.ensures.none)
-
-pub returns-in-Some-2-clause-verdict : goal.returns-in-Some-2-clause-verdict
-returns-in-Some-2-clause-verdict g c =
+pub returns-in-Some-2 : goal.returns-in-Some-2
+returns-in-Some-2 g c =
     let old = g.R.Read.remaining c.loop-number.reader in
     let new = g.R.Read.remaining c.read_next.new.reader in
     let line = c.read_next.new.line.items in
     let next : ReadsLine old new true line = subst (λ b. ReadsLine old new b line) c.if-not-branch.false c.in_ok-read_next.ensures.line in
     let wrong = rw c.in-Some-2.is at c.in_ok-wrong.ensures.wrong in
-    wrong_found (opening_of c.args.book.now) (rows_of c.args.book.now) c.args.scripts.now c.args.order (g.R.Read.remaining c.args.reader.now) old new c.loop-number.replay
+    let found = wrong_found (opening_of c.args.book.now) (rows_of c.args.book.now) c.args.scripts.now c.args.order (g.R.Read.remaining c.args.reader.now) old new c.loop-number.replay
     c.loop-number.number line c.loop-number.invariant c.in-Some-2.wrong next
     (subst (λ seen. IsWrong (opening_of c.args.book.now) (rows_of c.args.book.now) (lists c.args.scripts.now) c.args.order c.loop-number.invariant.history seen c.in-Some-2.wrong)
-    c.deref.ensures.value (wrong (opening_of c.args.book.now) (rows_of c.args.book.now) c.args.order c.loop-number.invariant.history c.loop-number.invariant.taken))
-
-pub returns-in-Some-2-clause-accepted : goal.returns-in-Some-2-clause-accepted
-returns-in-Some-2-clause-accepted g c =
-    let old = g.R.Read.remaining c.loop-number.reader in
-    let new = g.R.Read.remaining c.read_next.new.reader in
-    let line = c.read_next.new.line.items in
-    let next : ReadsLine old new true line = subst (λ b. ReadsLine old new b line) c.if-not-branch.false c.in_ok-read_next.ensures.line in
-    let wrong = rw c.in-Some-2.is at c.in_ok-wrong.ensures.wrong in
-    finds (opening_of c.args.book.now) (rows_of c.args.book.now) c.args.scripts.now c.args.order (g.R.Read.remaining c.args.reader.now) (WrongAt (c.loop-number.number + 1) c.in-Some-2.wrong)
-    (wrong_found (opening_of c.args.book.now) (rows_of c.args.book.now) c.args.scripts.now c.args.order (g.R.Read.remaining c.args.reader.now) old new c.loop-number.replay
-    c.loop-number.number line c.loop-number.invariant c.in-Some-2.wrong next
-    (subst (λ seen. IsWrong (opening_of c.args.book.now) (rows_of c.args.book.now) (lists c.args.scripts.now) c.args.order c.loop-number.invariant.history seen c.in-Some-2.wrong)
-    c.deref.ensures.value (wrong (opening_of c.args.book.now) (rows_of c.args.book.now) c.args.order c.loop-number.invariant.history c.loop-number.invariant.taken)))
+    c.deref.ensures.value (wrong (opening_of c.args.book.now) (rows_of c.args.book.now) c.args.order c.loop-number.invariant.history c.loop-number.invariant.taken)) in
+    record {
+      verdict = found;
+      accepted = finds (opening_of c.args.book.now) (rows_of c.args.book.now) c.args.scripts.now c.args.order (g.R.Read.remaining c.args.reader.now) (WrongAt (c.loop-number.number + 1) c.in-Some-2.wrong) found;
+      too_long = λ is. absurd cc;
+    }
 
 pub loop-number-preserved : goal.loop-number-preserved
 loop-number-preserved g c =
