@@ -15,10 +15,9 @@ use Rattle.shard_boxes.specs.Keys.{KeyState, no_key}
 use Rattle.shard_boxes.specs.States.{ShardState, state_at}
 use Rattle.phase_contexts.specs.declared.counters.Counters.{Counters}
 use Rattle.phase_contexts.specs.Txns.{Setting, Txn, hot_in}
-use Rattle.phase_contexts.specs.Contexts.{new_context}
-use Rattle.phase_transactions.specs.Permits.{PermitState, IsExplained, joined, no_counters, first_of}
+use Rattle.phase_transactions.specs.Permits.{PermitState, IsExplained, permit, no_counters, first_of}
 use Rattle.phase_contexts.specs.Slicing.{IsStocked}
-use Rattle.phase_contexts.specs.Splits.{setting_of}
+use Rattle.phase_contexts.specs.Splits.{new_split, setting_of}
 use Rattle.phase_closing.specs.Standing.{counters_at}
 
 -- its setting; the shards and each worker's counters as it began; each worker's receipt; the shards that the boxes gave back,
@@ -39,11 +38,8 @@ pub record Phase : Type 0 where
 
 -- of a worker that is none of the phase's: it has done nothing
 abbrev pub no_receipt : PermitState
-no_receipt = record {
-  split = joined
-      (new_context (record { users = 0; categories = 0 }) no_counters (empty_journal 0 0 0) (record { requests = []; done = []; room = 0 }) 0 0);
-  key = no_key;
-}
+no_receipt =
+    permit (new_split (record { users = 0; categories = 0 }) no_counters (empty_journal 0 0 0) (record { requests = []; done = []; room = 0 }) [] 0 0) no_key
 
 abbrev pub receipt_at : List PermitState → ℕ → PermitState
 receipt_at receipts worker = slice_index_or receipts worker no_receipt

@@ -1,8 +1,11 @@
--- A commit keeps the room of a context.
+-- The room of a context, which a commit keeps.
 use Rattle.std.specs.Prelude.{nat_lt, if◌then◌else◌}
 use Rattle.item_shards.specs.CommitNumbers.{next_number, last_number}
-use Rattle.std.proofs.Common.{Bool, true, false, Some, None, max, ◌≡◌, ℕ, suc, ◌+◌, ◌-◌, ◌<◌, ◌≤◌, [], ◌∷◌, refl, ◌∙◌, arith, length-append}
+use Rattle.std.proofs.Common.{Bool, true, false, Some, None, max, ◌≡◌, ℕ, suc, ◌+◌, ◌-◌, ◌<◌, ◌≤◌, List, [], ◌∷◌, length, refl, ap, ◌∙◌, arith, length-append}
+use Rattle.phase_laws.specs.Numbers.{last_by}
 use Rattle.phase_laws.proofs.NumberLemmas.{last-push}
+use Rattle.auction_rows.specs.declared.ids.Object.{Object}
+use Rattle.auction_rows.specs.declared.numbers.Opening.{Opening}
 use Rattle.auction_rows.specs.declared.replies.Reply.{Reply}
 use Rattle.auction_rows.specs.declared.replies.Reply.TheVariants.{ItemStored, BidStored, CommentStored, Bought, ItemSeen, BidsSeen, CategorySeen, UserSeen, Refused}
 use Rattle.auction_rows.specs.declared.requests.Request.{Request}
@@ -11,7 +14,9 @@ use Rattle.phase_contexts.specs.declared.counters.Counters.{Counters}
 use Rattle.phase_contexts.specs.Txns.{counted}
 use Rattle.phase_contexts.specs.declared.read_set.ReadSet.{ReadSet}
 use Rattle.phase_contexts.specs.Contexts.{ContextState, AreCounted, HasRoom, after_commit, with_one_less}
-use Rattle.phase_contexts.specs.Splits.{nothing}
+use Rattle.phase_contexts.specs.declared.slices.Hot.{Hot}
+use Rattle.phase_contexts.specs.Splits.{CanStart, new_split, nothing}
+use Rattle.phase_contexts.specs.Stashes.{StashState}
 
 -- What a commit counts: itself, and at most one store.
 pub record CountsOne (old new : Counters) : Type 0 where
@@ -73,3 +78,13 @@ pub own_commit : (context new : ContextState) (number index : ℕ) (given reques
     → new ≡ with_one_less (after_commit context number index given answer found) → new ≡ with_one_less (after_commit context (suc context.clock) index request answer nothing)
 own_commit context new number index given request answer found next is none committed =
     committed ∙ (λ i. with_one_less (after_commit context (next_of_own context.clock number next i) index (is i) answer (none i)))
+
+-- a worker that can start has room
+pub room_at_start : (opening : Opening) (counters : Counters) (journal : JournalView) (stash : StashState) (hots : List (Object × Hot)) (quota clock : ℕ)
+    → CanStart (new_split opening counters journal stash hots quota clock) → HasRoom counters journal (length stash.requests) quota clock
+room_at_start opening counters journal stash hots quota clock can = record {
+  counted = can.counted;
+  limit = can.limit;
+  room = omega (arith, ap length can.empty, can.room);
+  latest = omega (arith, ap (last_by entry_number 0) can.empty);
+}

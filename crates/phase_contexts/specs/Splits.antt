@@ -1,8 +1,10 @@
 -- What a split permit has beside its key, and what a commit with an empty footprint does to it.
-use Rattle.std.specs.Prelude.{◌≡◌, ℕ, ◌<◌, ◌≤◌, suc, true, List, [], ◌∷◌, Option, None, ⊤}
+use Rattle.std.specs.Prelude.{◌≡◌, ℕ, ◌+◌, ◌<◌, ◌≤◌, suc, true, List, [], ◌∷◌, length, Option, None, ⊤}
 use Rattle.auction_rows.specs.declared.ids.ItemId.{ItemId}
 use Rattle.auction_rows.specs.declared.ids.Object.{Object}
 use Rattle.auction_rows.specs.declared.ids.Object.TheVariants.{Item}
+use Rattle.auction_rows.specs.declared.limits.TheConstants.{MOST_OF_A_WORKER}
+use Rattle.auction_rows.specs.declared.numbers.Opening.{Opening}
 use Rattle.auction_rows.specs.declared.replies.Reply.{Reply}
 use Rattle.auction_rows.specs.declared.requests.Facts.{Facts}
 use Rattle.auction_rows.specs.declared.requests.Request.{Request}
@@ -11,12 +13,14 @@ use Rattle.auction_rows.specs.Footprint.{is_hot}
 use Rattle.auction_rows.specs.Replies.{reply, row_of}
 use Rattle.item_shards.specs.Values.{stock_in}
 use Rattle.item_shards.specs.Writing.{writes_if}
+use Rattle.worker_journals.specs.Journals.{JournalView}
 use Rattle.phase_contexts.specs.declared.counters.Counters.{Counters}
 use Rattle.phase_contexts.specs.declared.read_set.ReadSet.{ReadSet}
 use Rattle.phase_contexts.specs.declared.slices.Hot.{Hot}
-use Rattle.phase_contexts.specs.Slicing.{objects_of, stocks_of, stock_of, after_acts}
+use Rattle.phase_contexts.specs.Slicing.{objects_of, slices_of, stocks_of, stock_of, after_acts}
+use Rattle.phase_contexts.specs.Stashes.{StashState}
 use Rattle.phase_contexts.specs.Txns.{Setting, Txn, IsAnswered}
-use Rattle.phase_contexts.specs.Contexts.{ContextState, next_entry, after_commit, with_one_less}
+use Rattle.phase_contexts.specs.Contexts.{ContextState, AreCounted, new_context, next_entry, after_commit, with_one_less}
 
 -- a worker's context, and its slices of what is hot
 pub record SplitState : Type 0 where
@@ -37,6 +41,27 @@ IsHot split object = is_hot (objects_of split.slices) object ≡ true
 -- no hot item is one that the worker has still to store: of its own the serials are less than its count of items
 abbrev pub AreStored : ℕ → Counters → List (Object × Hot) → Type 0
 AreStored worker counters hots = (item : ItemId) → is_hot (objects_of hots) (Item item) ≡ true → item.worker ≡ worker → item.serial < counters.items
+
+-- a worker's context and slices as a phase begins
+abbrev pub new_split : Opening → Counters → JournalView → StashState → List (Object × Hot) → ℕ → ℕ → SplitState
+new_split opening counters journal stash slices left clock = record { context = new_context opening counters journal stash left clock; slices = slices }
+
+-- A worker can start a phase with this: nothing is committed or applied in it yet, there is room for what waits and for the quota, and no hot
+-- item is one that the worker has still to store.
+pub record CanStart (split : SplitState) : Type 0 where
+  -- nothing is committed in the phase
+  pub empty : split.context.journal.entries ≡ []
+  -- nothing is applied to the slices
+  pub identities : split.slices ≡ slices_of (stocks_of split.slices) []
+  -- the journal has room for what waits and for the quota
+  pub room : length split.context.stash.requests + split.context.left ≤ split.context.journal.room
+  -- so has the stash for the quota, where something is hot
+  pub stash_room : HasStashRoom split.slices split.context.left split.context.stash.room
+  -- and so have the counters, which count no more stores of a kind than commits
+  pub limit : split.context.counters.commits + length split.context.stash.requests + split.context.left ≤ MOST_OF_A_WORKER
+  pub counted : AreCounted split.context.counters
+  -- no hot item is one that the worker has still to store
+  pub stored : AreStored split.context.journal.worker split.context.counters split.slices
 
 -- the phase with so many shards
 abbrev pub setting_of : SplitState → ℕ → Setting

@@ -42,7 +42,7 @@ impl Model for Context {
 
 impl Context {
     ghost use Rattle.phase_contexts.specs.Txns.{refusal_by};
-    ghost use Rattle.phase_contexts.specs.Contexts.{AreCounted, HasRoom, last_reply, new_context, after_commit, after_putting_off, after_calling_first, with_one_less};
+    ghost use Rattle.phase_contexts.specs.Contexts.{HasRoom, last_reply, new_context, after_commit, after_putting_off, after_calling_first, with_one_less};
 
     /// A worker's context as a phase begins. It takes no memory.
     pub fn new(
@@ -53,10 +53,7 @@ impl Context {
         quota: u32,
         clock: u64,
     ) -> Context
-        requires empty { journal.entries ≡ [] }
-        requires room { length stash.requests + quota ≤ journal.room }
-        requires limit { counters.commits + length stash.requests + quota ≤ MOST_OF_A_WORKER }
-        requires counted { AreCounted counters }
+        requires { HasRoom counters journal (length stash.requests) quota clock }
         ensures { result ≡ new_context opening counters journal stash quota clock }
     {
         Context {

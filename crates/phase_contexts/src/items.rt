@@ -87,9 +87,11 @@ impl SplitContext {
         ensures slices { self.new.slices ≡ after_acts self.old.slices
             (writes_if (row_of self.old.context.journal.worker (item_request item.now) result)) }
     {
+        // Fewer commits than a worker may make.
+        let _room = self.context.left;
         let id = self.context.next_item();
         if let Some(place) = self.slices.place_of(Object::Category(item.facts.category)) {
-            self.slices.list_item(place, item.entry(id));
+            self.slices.apply(place, item.entry(id));
         }
         let reply = Answer {
             told: Told::Store(StoreReply::ItemStored(id)),

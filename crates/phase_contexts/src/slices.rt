@@ -1,6 +1,8 @@
 //! A worker's slices of the objects that are split.
 ghost use Rattle.std.specs.Prelude.{◌≡◌, ◌-◌, ◌↔◌, ◌++◌, ◌∷◌, [], IfOk, IfSome, IsNone, ℕ, length, take, is_some};
 ghost use Rattle.std.specs.List.{IsDistinct, AllByRecursion};
+ghost use Rattle.item_shards.specs.declared.slices.Slice.{Slice as SliceValue};
+ghost use Rattle.phase_contexts.specs.Slicing.{HasAtMost};
 
 use auction_rows::{BidEntry, Facts, ItemEntry, MOST_OF_A_WORKER, Object, Stars};
 use indexmap::IndexMap;
@@ -8,6 +10,55 @@ use item_shards::{CategorySlice, ItemSlice, Slice, UserSlice};
 use split_records::Splittable;
 use std::alloc::{AllocError, Global};
 use std::marker::Model;
+
+/// An operation on the slices of one kind of objects.
+pub(crate) trait Operation: Copy {
+    /// A slice after it, where that is of its kind.
+    ghost applied: { Self → SliceValue → SliceValue };
+
+    /// Applies it, where the slice is of its kind.
+    fn apply_to(self, slice: &mut Slice)
+        requires { HasAtMost MOST_OF_A_WORKER slice.old }
+        ensures { slice.new ≡ applied self slice.old };
+}
+
+impl Operation for BidEntry {
+    ghost use Rattle.phase_contexts.specs.Slicing.{bid_on};
+
+    ghost applied = { bid_on };
+
+    fn apply_to(self, slice: &mut Slice) {
+        if let Slice::Item(bids) = slice {
+            bids.apply(self);
+        }
+    }
+}
+
+impl Operation for Stars {
+    ghost use Rattle.phase_contexts.specs.Slicing.{comment_about};
+
+    ghost applied = { comment_about };
+
+    fn apply_to(self, slice: &mut Slice) {
+        // From -5 to 5, so that the rating fits.
+        let _known = self.value();
+        if let Slice::User(comments) = slice {
+            comments.apply(self);
+        }
+    }
+}
+
+impl Operation for ItemEntry {
+    ghost use Rattle.phase_contexts.specs.Slicing.{item_listed};
+
+    ghost applied = { item_listed };
+
+    fn apply_to(self, slice: &mut Slice) {
+        if let Slice::Category(items) = slice {
+            items.apply(self);
+        }
+    }
+}
 
 /// What a worker holds of a hot object: of an item its facts and how many are left, which are fixed while it is
 /// split, and the slice.
@@ -19,7 +70,7 @@ pub struct Hot {
 
 impl Hot {
     ghost use Rattle.item_shards.specs.Values.{blank};
-    ghost use Rattle.phase_contexts.specs.Slicing.{slice_of, bid_on, comment_about, item_listed, HasAtMost};
+    ghost use Rattle.phase_contexts.specs.Slicing.{slice_of};
 
     // Of an object to which nothing is applied.
     fn new(object: Object, stock: Option<(Facts, u32)>) -> Hot
@@ -31,34 +82,6 @@ impl Hot {
             Object::Category(_) => Slice::Category(CategorySlice::identity()),
         };
         Hot { stock, slice }
-    }
-
-    fn bid(&mut self, bid: BidEntry)
-        requires { HasAtMost MOST_OF_A_WORKER self.old.slice }
-        ensures { self.new ≡ record self.old { slice = bid_on bid self.old.slice } }
-    {
-        if let Slice::Item(slice) = &mut self.slice {
-            slice.apply(bid);
-        }
-    }
-
-    fn comment(&mut self, stars: Stars)
-        requires { HasAtMost MOST_OF_A_WORKER self.old.slice }
-        ensures { self.new ≡ record self.old { slice = comment_about stars self.old.slice } }
-    {
-        // From -5 to 5, so that the rating fits.
-        let _known = stars.value();
-        if let Slice::User(slice) = &mut self.slice {
-            slice.apply(stars);
-        }
-    }
-
-    fn list_item(&mut self, item: ItemEntry)
-        ensures { self.new ≡ record self.old { slice = item_listed item self.old.slice } }
-    {
-        if let Slice::Category(slice) = &mut self.slice {
-            slice.apply(item);
-        }
     }
 }
 
@@ -85,12 +108,9 @@ impl Model for Slices {
 
 impl Slices {
     ghost use Rattle.auction_rows.specs.declared.ids.Object.{Object};
-    ghost use Rattle.auction_rows.specs.declared.ids.ItemId.{ItemId};
-    ghost use Rattle.auction_rows.specs.declared.ids.Object.TheVariants.{Item, User, Category};
     ghost use Rattle.auction_rows.specs.Requests.{same_object};
     ghost use Rattle.auction_rows.specs.Footprint.{is_hot};
-    ghost use Rattle.item_shards.specs.declared.acts.Act.TheVariants.{Bid, Comment, ListItem};
-    ghost use Rattle.phase_contexts.specs.Slicing.{objects_of, slices_of, stocks_of, stock_of, slices_in, after_act, IsAt, IsStocked, AreFew};
+    ghost use Rattle.phase_contexts.specs.Slicing.{objects_of, slices_of, stocks_of, stock_of, slices_in, changed, IsAt, IsStocked, AreFew};
 
     /// No slice: nothing is hot. It takes no memory.
     pub(crate) fn none(alloc: Global) -> Slices
@@ -150,32 +170,13 @@ impl Slices {
         }
     }
 
-    /// Applies a bid to the slice of the item at a place.
-    pub(crate) fn bid(&mut self, place: usize, bid: BidEntry)
+    /// Applies an operation to the slice at a place, where that is of its kind.
+    pub(crate) fn apply<O: Operation>(&mut self, place: usize, operation: O)
         requires { AreFew MOST_OF_A_WORKER self.old }
-        ensures { (item : ItemId) → IsAt self.old place (Item item) → self.new ≡ after_act self.old (Bid item bid) }
+        ensures { (object : Object) → IsAt self.old place object → self.new ≡ changed object (O.applied operation) self.old }
     {
         if let Some(hot) = self.hot.get_index_mut(place) {
-            hot.bid(bid);
-        }
-    }
-
-    /// Applies a comment to the slice of the user at a place.
-    pub(crate) fn comment(&mut self, place: usize, stars: Stars)
-        requires { AreFew MOST_OF_A_WORKER self.old }
-        ensures { (user : ℕ) → IsAt self.old place (User user) → self.new ≡ after_act self.old (Comment user stars) }
-    {
-        if let Some(hot) = self.hot.get_index_mut(place) {
-            hot.comment(stars);
-        }
-    }
-
-    /// Applies a new item to the slice of the category at a place.
-    pub(crate) fn list_item(&mut self, place: usize, item: ItemEntry)
-        ensures { (category : ℕ) → IsAt self.old place (Category category) → self.new ≡ after_act self.old (ListItem category item) }
-    {
-        if let Some(hot) = self.hot.get_index_mut(place) {
-            hot.list_item(item);
+            operation.apply_to(&mut hot.slice);
         }
     }
 }

@@ -37,19 +37,18 @@ impl Model for SplitContext {
 impl SplitContext {
     ghost use Rattle.auction_rows.specs.declared.ids.Object.TheVariants.{Item, User};
     ghost use Rattle.auction_rows.specs.declared.requests.Request.TheVariants.{StoreBid, StoreComment};
-    ghost use Rattle.phase_contexts.specs.Slicing.{AreFew, IsAt, IsStocked, objects_of, stocks_of, slices_of};
+    ghost use Rattle.phase_contexts.specs.Slicing.{AreFew, IsAt, IsStocked, objects_of, stocks_of};
     ghost use Rattle.auction_rows.specs.Footprint.{is_hot};
     ghost use Rattle.std.specs.Prelude.{false};
     ghost use Rattle.std.specs.Option.{option_map_or};
     ghost use Rattle.auction_rows.specs.Refusals.{number_refusal};
     ghost use Rattle.phase_contexts.specs.Txns.{is_put_off};
-    ghost use Rattle.phase_contexts.specs.Contexts.{AreCounted, last_reply, new_context, after_calling_first, after_putting_off};
+    ghost use Rattle.phase_contexts.specs.Contexts.{last_reply, after_calling_first, after_putting_off};
     ghost use Rattle.std.specs.List.{AllByRecursion};
     ghost use Rattle.phase_contexts.specs.Bids.{bid_request, comment_request};
-    ghost use Rattle.phase_contexts.specs.Splits.{IsHot, AreStored, HasStored};
+    ghost use Rattle.phase_contexts.specs.Splits.{CanStart, IsHot, HasStored, new_split};
 
-    /// A context as a split phase begins, with room in the stash for the whole quota. No hot item is one that the worker has
-    /// still to store.
+    /// A context as a split phase begins. It takes no memory.
     pub fn new(
         opening: Opening,
         counters: Counters,
@@ -59,15 +58,8 @@ impl SplitContext {
         quota: u32,
         clock: u64,
     ) -> SplitContext
-        requires empty { journal.entries ≡ [] }
-        requires stash { stash.requests ≡ [] }
-        requires identities { slices ≡ slices_of (stocks_of slices) [] }
-        requires room { quota ≤ journal.room }
-        requires stash_room { quota ≤ stash.room }
-        requires limit { counters.commits + quota ≤ MOST_OF_A_WORKER }
-        requires counted { AreCounted counters }
-        requires stored { AreStored journal.worker counters slices }
-        ensures { result ≡ record { context = new_context opening counters journal stash quota clock; slices = slices } }
+        requires { CanStart (new_split opening counters journal stash slices quota clock) }
+        ensures { result ≡ new_split opening counters journal stash slices quota clock }
     {
         SplitContext {
             context: Context::new(opening, counters, journal, stash, quota, clock),
@@ -84,11 +76,8 @@ impl SplitContext {
         quota: u32,
         clock: u64,
     ) -> SplitContext
-        requires empty { journal.entries ≡ [] }
-        requires room { length stash.requests + quota ≤ journal.room }
-        requires limit { counters.commits + length stash.requests + quota ≤ MOST_OF_A_WORKER }
-        requires counted { AreCounted counters }
-        ensures { result ≡ record { context = new_context opening counters journal stash quota clock; slices = [] } }
+        requires { CanStart (new_split opening counters journal stash [] quota clock) }
+        ensures { result ≡ new_split opening counters journal stash [] quota clock }
     {
         let slices = Slices::none(stash.alloc());
         SplitContext {
@@ -367,7 +356,7 @@ impl Context {
             },
             None => {
                 let id = self.next_bid();
-                slices.bid(place, bid.entry(id));
+                slices.apply(place, bid.entry(id));
                 Answer {
                     told: Told::Store(StoreReply::BidStored(id)),
                 }
@@ -400,7 +389,7 @@ impl Context {
             None => {
                 // From -5 to 5.
                 let _known = comment.stars.value();
-                slices.comment(place, comment.stars);
+                slices.apply(place, comment.stars);
                 Answer {
                     told: Told::Store(StoreReply::CommentStored(self.next_comment())),
                 }

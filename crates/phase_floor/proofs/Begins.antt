@@ -1,24 +1,28 @@
 -- What a phase begins with.
-use Rattle.std.proofs.Common.{◌≡◌, ◌+◌, ◌<◌, ◌≤◌, ℕ, zero, suc, Bool, true, false, IsTrue, List, [], ◌∷◌, ◌++◌, append_assoc, map, length, get_or, drop, refl, sym, ap, ◌∙◌, subst, arith}
+use Rattle.std.proofs.Common.{◌≡◌, ◌+◌, ◌<◌, ◌≤◌, ℕ, zero, suc, Bool, true, false, IsTrue, Option, List, [], ◌∷◌, ◌++◌, append_assoc, map, length, get_or, drop, refl, sym, ap, ◌∙◌, subst, arith}
 use Rattle.std.specs.List.{AllByRecursion}
 use Rattle.std.proofs.lemmas.Bool.{false≢true}
 use Rattle.std.proofs.lemmas.List.{get_or-map}
 use Rattle.auction_rows.specs.declared.numbers.Opening.{Opening}
+use Rattle.auction_rows.specs.declared.ids.Object.{Object}
 use Rattle.auction_rows.specs.declared.ids.Object.TheVariants.{Item}
+use Rattle.auction_rows.specs.declared.requests.Facts.{Facts}
 use Rattle.auction_rows.specs.Footprint.{is_hot}
 use Rattle.shard_boxes.specs.Keys.{KeyState, SeatState, no_key, IsNewKey, AreNewKeys}
 use Rattle.shard_boxes.specs.States.{ShardState}
 use Rattle.shard_boxes.proofs.Each.{at_head}
 use Rattle.phase_contexts.specs.declared.counters.Counters.{Counters}
+use Rattle.phase_contexts.specs.declared.slices.Hot.{Hot}
 use Rattle.phase_contexts.specs.Slicing.{slices_of}
+use Rattle.phase_contexts.specs.Splits.{HasStashRoom}
 use Rattle.phase_contexts.specs.Stashes.{StashState}
 use Rattle.phase_contexts.proofs.Places.{stocks_of_rows}
-use Rattle.phase_transactions.specs.Permits.{PermitState}
+use Rattle.phase_transactions.specs.Permits.{PermitState, IsNewPermit}
 use Rattle.phase_closing.specs.Phases.{no_receipt}
 use Rattle.phase_closing.specs.Standing.{counters_at}
 use Rattle.phase_floor.specs.declared.fault.BeginFault.TheVariants.{UnknownHot, TooLong, Memory}
 use Rattle.phase_floor.specs.declared.kits.Kit.{Kit}
-use Rattle.phase_floor.specs.Begins.{IsTooLong, asked_in_all, empty_stash, IsKit, AreKits, start_of, CanStart, HasNoSlices, HasOwnStash}
+use Rattle.phase_floor.specs.Begins.{IsTooLong, asked_in_all, empty_stash, IsKit, AreKits, start_of, HasNoSlices, HaveStashRoom}
 use Rattle.phase_floor.specs.Floors.{FloorState, IsOpen, IsBegun, AreBegun, no_stash, stash_at}
 use Rattle.phase_floor.proofs.HotItems.{objects_of_slices, hot_is_stored}
 use Rattle.phase_floor.proofs.StoredItems.{stored_before}
@@ -79,23 +83,26 @@ passed_on done now left next all x made pushed same took was =
 
 -- a worker can start with what is begun, where it asks for no more than 1,000,000
 pub can_start : (opening : List ShardState) (workers : ℕ) (floor : FloorState) → IsOpen opening workers floor → (w quota : ℕ) (stash : StashState) (start : PermitState) → w < workers
-    → (counters_at floor.counters w).commits + length stash.requests + quota ≤ 1000000 → IsBegun floor w quota stash start → CanStart start
-can_start opening workers floor is_open w quota stash start below fits begun =
+    → (counters_at floor.counters w).commits + length stash.requests + quota ≤ 1000000 → HasStashRoom (slices_of floor.stocks []) quota stash.room → IsBegun floor w quota stash start → IsNewPermit start
+can_start opening workers floor is_open w quota stash start below fits room begun =
     let low : w < length floor.counters = omega (arith, below, is_open.workers_are) in
     let limit = is_open.kept.limits w low in
-    subst CanStart (sym begun.new) (record {
+    subst IsNewPermit (sym begun.new) (record {
       key = λ s. (ap (λ (seat : SeatState). seat.holds) (begun.key.unused s), ap (λ (seat : SeatState). seat.lines) (begun.key.unused s));
       worker = sym begun.key.worker_is;
-      empty = refl;
-      identities = sym (ap (λ s. slices_of s []) (stocks_of_rows floor.stocks []));
-      room = omega arith;
-      limit = fits;
-      counted = record { items = omega (arith, limit.stored); bids = omega (arith, limit.stored); comments = omega (arith, limit.stored); buys = omega (arith, limit.stored) };
-      stored = λ item hot own.
-          let some = hot_is_stored opening floor.stocks is_open.stocks_are.stocked is_open.stocks_are.read item
-          (sym (ap (λ os. is_hot os (Item item)) (objects_of_slices floor.stocks [])) ∙ hot) in
-          let before = stored_before floor.opening opening floor.counters is_open.kept item some (omega (arith, own, low)) in
-          omega (arith, before, ap (λ v. (counters_at floor.counters v).items) own);
+      start = record {
+        empty = refl;
+        identities = sym (ap (λ s. slices_of s []) (stocks_of_rows floor.stocks []));
+        room = omega arith;
+        stash_room = room;
+        limit = fits;
+        counted = record { items = omega (arith, limit.stored); bids = omega (arith, limit.stored); comments = omega (arith, limit.stored); buys = omega (arith, limit.stored) };
+        stored = λ item hot own.
+            let some = hot_is_stored opening floor.stocks is_open.stocks_are.stocked is_open.stocks_are.read item
+            (sym (ap (λ os. is_hot os (Item item)) (objects_of_slices floor.stocks [])) ∙ hot) in
+            let before = stored_before floor.opening opening floor.counters is_open.kept item some (omega (arith, own, low)) in
+            omega (arith, before, ap (λ v. (counters_at floor.counters v).items) own);
+      };
     })
 
 -- where nothing is hot no worker has slices
@@ -115,11 +122,16 @@ not_too_long counters quotas short (w, low, more) =
     let none : length (stash_at [] w).requests ≡ 0 = refl in
     short (w, low, omega (arith, more, nothing_waits quotas w, none))
 
--- with empty stashes each worker has one for its quota
-pub own_stashes : (floor : FloorState) (quotas : List ℕ) (starts : List PermitState) → length quotas ≡ length floor.counters → AreBegun floor quotas (map empty_stash quotas) starts
-    → AllByRecursion HasOwnStash starts
-own_stashes floor quotas starts many are =
-    every_from HasOwnStash starts no_receipt (λ w low.
-    let at : w < length floor.counters = omega (arith, low, are.0) in
-    let there = get_or-map empty_stash quotas w 0 no_stash (omega (arith, at, many)) in
-    subst HasOwnStash (sym (are.1 w no_receipt at).new) (ap (λ (s : StashState). s.requests) there, omega (arith, ap (λ (s : StashState). s.room) there)))
+-- an empty stash for each quota has room for it, whatever is hot
+room_for_all : (hots : List (Object × Hot)) (left room : ℕ) → left ≤ room → HasStashRoom hots left room
+room_for_all [] left room is = tt
+room_for_all (hot ∷ hots) left room is = is
+
+pub own_stashes : (stocks : List (Object × Option (Facts × ℕ))) (quotas : List ℕ) → HaveStashRoom stocks (map empty_stash quotas) quotas
+own_stashes stocks quotas w low =
+    room_for_all (slices_of stocks []) (get_or quotas w 0) (stash_at (map empty_stash quotas) w).room
+    (omega (arith, ap (λ (s : StashState). s.room) (get_or-map empty_stash quotas w 0 no_stash low)))
+
+-- and where nothing is hot none is needed
+pub no_stashes : (stocks : List (Object × Option (Facts × ℕ))) (stashes : List StashState) (quotas : List ℕ) → stocks ≡ [] → HaveStashRoom stocks stashes quotas
+no_stashes stocks stashes quotas cold = subst (λ (s : List (Object × Option (Facts × ℕ))). HaveStashRoom s stashes quotas) (sym cold) (λ w low. tt)

@@ -61,22 +61,6 @@ module _ (states : List ShardState) (numbered : AreNumbered states) (place : ℕ
           ap (state_at (set states place new)) (sym same) ∙ get_or-set_same states place new no_shard below ∙ is ∙ ap (λ k. acted act (state_at states k)) same ∙ sym (with_is s low true e)
       at false e = get_or-set_other states place s new no_shard (λ same. false≢true (sym e ∙ eq-eqb place s (sym same))) ∙ sym (with_is s low false e)
 
-both_done : (p : Act → Bool) (sh : Contents) (one : Act) (rest : List Act) (t : Bool) → after_acts (after_acts sh (cond t (one ∷ []) [])) rest ≡ after_acts sh (cond t (one ∷ rest) rest)
-both_done p sh one rest true = refl
-both_done p sh one rest false = refl
-
--- one act and then another
-pub two_done : (old mid new : List ShardState) (one other : Act) → HaveDone old mid (one ∷ []) → HaveDone mid new (other ∷ []) → HaveDone old new (one ∷ other ∷ [])
-two_done old mid new one other first second = record {
-  len = second.len ∙ first.len;
-  each = λ s low.
-      second.each s (omega (arith, low, first.len))
-      ∙ ap (λ n. with_acts n (other ∷ []) (state_at mid s)) first.len
-      ∙ ap (with_acts (length old) (other ∷ [])) (first.each s low)
-      ∙ ap (λ (sh : Contents). record (state_at old s) { contents = sh }) (both_done (is_done_on (state_at old s).number (length old) []) (state_at old s).contents one
-      (done_on (state_at old s).number (length old) [] (other ∷ [])) (is_done_on (state_at old s).number (length old) [] one));
-}
-
 module _ (opening : Opening) (old new : List ShardState) (r : Row) (ready : AreReady opening old) where
   -- after the acts of a row the shards are ready, and stand for the book with the row
   pub ready_next : HaveDone old new (writes_of r) → AreReady opening new

@@ -1,5 +1,5 @@
 -- When a phase begins, and when it does not.
-use Rattle.std.specs.Prelude.{◌≡◌, ℕ, ◌+◌, ◌<◌, ◌≤◌, List, [], Option, length, slice_index, slice_index_or}
+use Rattle.std.specs.Prelude.{◌≡◌, ℕ, ◌+◌, ◌<◌, List, [], Option, length, slice_index, slice_index_or}
 use Rattle.auction_rows.specs.declared.limits.TheConstants.{MOST_OF_A_WORKER}
 use Rattle.auction_rows.specs.declared.ids.Object.{Object}
 use Rattle.auction_rows.specs.declared.numbers.Opening.{Opening}
@@ -8,11 +8,10 @@ use Rattle.shard_boxes.specs.Keys.{KeyState}
 use Rattle.worker_journals.specs.Journals.{JournalView, empty_journal}
 use Rattle.phase_contexts.specs.declared.counters.Counters.{Counters}
 use Rattle.phase_contexts.specs.declared.slices.Hot.{Hot}
-use Rattle.phase_contexts.specs.Contexts.{AreCounted, new_context}
-use Rattle.phase_contexts.specs.Slicing.{slices_of, stocks_of}
-use Rattle.phase_contexts.specs.Splits.{AreStored}
+use Rattle.phase_contexts.specs.Slicing.{slices_of}
+use Rattle.phase_contexts.specs.Splits.{HasStashRoom, new_split}
 use Rattle.phase_contexts.specs.Stashes.{StashState}
-use Rattle.phase_transactions.specs.Permits.{PermitState, IsUnused}
+use Rattle.phase_transactions.specs.Permits.{PermitState, permit}
 use Rattle.phase_closing.specs.Standing.{counters_at}
 use Rattle.phase_floor.specs.declared.kits.Kit.{Kit}
 use Rattle.phase_floor.specs.Floors.{stash_at}
@@ -42,27 +41,12 @@ AreKits phase stocks stashes quotas count kits = (w : ℕ) (d : Kit) → w < cou
 
 -- the permit of a worker who has done nothing in the phase, of its parts
 abbrev pub start_of : KeyState → Opening → Counters → JournalView → StashState → List (Object × Hot) → ℕ → PermitState
-start_of key opening counters journal stash slices quota = record {
-  split = record { context = new_context opening counters journal stash quota 0; slices = slices };
-  key = key;
-}
+start_of key opening counters journal stash slices quota = permit (new_split opening counters journal stash slices quota 0) key
 
--- A worker can start: its key and its journal are new and its own, nothing is applied to its slices, there is room for what waits and for its quota, and no
--- hot item is one that the worker has still to store.
-pub record CanStart (start : PermitState) : Type 0 where
-  pub key : IsUnused start.key
-  pub worker : start.split.context.journal.worker ≡ start.key.worker
-  pub empty : start.split.context.journal.entries ≡ []
-  pub identities : start.split.slices ≡ slices_of (stocks_of start.split.slices) []
-  pub room : length start.split.context.stash.requests + start.split.context.left ≤ start.split.context.journal.room
-  pub limit : start.split.context.counters.commits + length start.split.context.stash.requests + start.split.context.left ≤ MOST_OF_A_WORKER
-  pub counted : AreCounted start.split.context.counters
-  pub stored : AreStored start.split.context.journal.worker start.split.context.counters start.split.slices
+-- each worker's stash has room for its quota, where something is hot
+abbrev pub HaveStashRoom : List (Object × Option (Facts × ℕ)) → List StashState → List ℕ → Type 0
+HaveStashRoom stocks stashes quotas = (w : ℕ) → w < length quotas → HasStashRoom (slices_of stocks []) (slice_index quotas w) (stash_at stashes w).room
 
 -- nothing is hot
 abbrev pub HasNoSlices : PermitState → Type 0
 HasNoSlices start = start.split.slices ≡ []
-
--- nothing waits, and there is room to put off the whole quota
-abbrev pub HasOwnStash : PermitState → Type 0
-HasOwnStash start = (start.split.context.stash.requests ≡ []) × (start.split.context.left ≤ start.split.context.stash.room)

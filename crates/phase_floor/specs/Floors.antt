@@ -9,10 +9,10 @@ use Rattle.shard_boxes.specs.Keys.{BoxId, KeyState, IsNewKey}
 use Rattle.shard_boxes.specs.States.{ShardState}
 use Rattle.worker_journals.specs.Journals.{empty_journal}
 use Rattle.phase_contexts.specs.declared.counters.Counters.{Counters}
-use Rattle.phase_contexts.specs.Contexts.{new_context}
 use Rattle.phase_contexts.specs.Slicing.{objects_of, slices_of, IsStocked}
+use Rattle.phase_contexts.specs.Splits.{new_split}
 use Rattle.phase_contexts.specs.Stashes.{StashState}
-use Rattle.phase_transactions.specs.Permits.{PermitState}
+use Rattle.phase_transactions.specs.Permits.{PermitState, permit}
 use Rattle.phase_closing.specs.Phases.{IsReadFrom}
 use Rattle.phase_closing.specs.Standing.{counters_at}
 use Rattle.phase_floor.specs.States.{DoAllExist, IsKept}
@@ -53,14 +53,8 @@ pub record IsOpen (states : List ShardState) (workers : ℕ) (floor : FloorState
 
 -- the permit of a worker who has done nothing in the phase, with this quota, stash and key
 abbrev pub new_permit : FloorState → ℕ → ℕ → StashState → KeyState → PermitState
-new_permit floor worker quota stash key = record {
-  split = record {
-    context = new_context floor.opening (counters_at floor.counters worker) (empty_journal floor.phase worker (length stash.requests + quota))
-        stash quota 0;
-    slices = slices_of floor.stocks [];
-  };
-  key = key;
-}
+new_permit floor worker quota stash key =
+    permit (new_split floor.opening (counters_at floor.counters worker) (empty_journal floor.phase worker (length stash.requests + quota)) stash (slices_of floor.stocks []) quota 0) key
 
 -- the worker's permit is such a new one, with a new key to the phase's boxes
 pub record IsBegun (floor : FloorState) (worker quota : ℕ) (stash : StashState) (permit : PermitState) : Type 0 where

@@ -2,7 +2,7 @@
 ghost use Rattle.std.specs.Prelude.{◌≡◌, ◌+◌, ◌<◌, ◌≤◌, ◌^◌, ℕ, [], length, vec_len, vec_capacity, IfOk, IfErr, ◌↔◌};
 ghost use Rattle.shard_boxes.specs.Keys.{AreNewKeys};
 ghost use Rattle.phase_floor.specs.declared.fault.BeginFault.TheVariants.{UnknownHot, TooLong};
-ghost use Rattle.phase_floor.specs.Begins.{IsTooLong, asked_in_all, AreKits};
+ghost use Rattle.phase_floor.specs.Begins.{IsTooLong, asked_in_all, AreKits, HaveStashRoom};
 ghost use Rattle.phase_floor.specs.Floors.{AreBegun, AreStocksOf};
 
 use crate::fault::BeginFault;
@@ -82,6 +82,7 @@ impl Joined {
         requires phase { self.phase + 1 < 2 ^ 64 }
         requires stocks { AreStocksOf self.opening (states_of self) stocks.items }
         requires fits { ¬ IsTooLong self.counters stashes.items quotas.now }
+        requires rooms { HaveStashRoom stocks.items stashes.items quotas.now }
         ensures opening { IfOk result (λ begun. begun.0.opening ≡ self.opening) }
         ensures phase { IfOk result (λ begun. begun.0.phase ≡ self.phase) }
         ensures counters { IfOk result (λ begun. begun.0.counters ≡ self.counters) }
@@ -129,6 +130,7 @@ impl<N: PhaseName> Floor<N> {
         requires lens { (vec_len kits ≡ N.workers) × (vec_len stashes ≡ N.workers) × (length quotas.now ≡ N.workers) }
         requires kits { AreKits self.now.phase self.now.stocks stashes.items quotas.now N.workers kits.items }
         requires fits { (w : ℕ) → w < N.workers → asked_in_all self.now.counters stashes.items quotas.now w ≤ MOST_OF_A_WORKER }
+        requires rooms { HaveStashRoom self.now.stocks stashes.items quotas.now }
         ensures { AreBegun self.now quotas.now stashes.items result.items }
     {
         let mut w = 0;

@@ -1,7 +1,7 @@
 //! What a worker starts a phase with, and the permit that is made of it.
 ghost use Rattle.std.specs.Prelude.{◌≡◌, ◌≤◌, [], vec_len, vec_capacity};
 ghost use Rattle.std.specs.List.{AllByRecursion};
-ghost use Rattle.phase_floor.specs.Begins.{HasNoSlices, HasOwnStash};
+ghost use Rattle.phase_floor.specs.Begins.{HasNoSlices};
 
 use auction_rows::Opening;
 use phase_transactions::{Counters, JoinedPermit, Slices, SplitPermit, Stash};
@@ -22,14 +22,14 @@ pub(crate) struct Start<N: PhaseName> {
 }
 
 impl<N: PhaseName> Model for Start<N> {
-    ghost use Rattle.phase_transactions.specs.Permits.{PermitState};
-    ghost use Rattle.phase_floor.specs.Begins.{start_of, CanStart};
+    ghost use Rattle.phase_transactions.specs.Permits.{PermitState, IsNewPermit};
+    ghost use Rattle.phase_floor.specs.Begins.{start_of};
 
     ghost Value = { PermitState };
 
     ghost view = { λ s. start_of s.key s.opening s.counters s.journal s.stash s.slices s.quota };
 
-    ghost invariant = { λ s. CanStart (start_of s.key s.opening s.counters s.journal s.stash s.slices s.quota) };
+    ghost invariant = { λ s. IsNewPermit (start_of s.key s.opening s.counters s.journal s.stash s.slices s.quota) };
 }
 
 impl<N: PhaseName> Start<N> {
@@ -51,7 +51,6 @@ impl<N: PhaseName> Start<N> {
 
     // The permit of a split phase.
     fn split(self) -> SplitPermit<N>
-        requires { HasOwnStash self }
         ensures { result ≡ self }
     {
         SplitPermit::new(
@@ -90,7 +89,6 @@ pub(crate) fn split_permits<N: PhaseName>(
 ) -> Vec<SplitPermit<N>>
     requires empty { permits.items ≡ [] }
     requires room { vec_len starts ≤ vec_capacity permits }
-    requires stashes { AllByRecursion HasOwnStash starts.items }
     ensures { result.items ≡ starts.items }
 {
     for start in starts {

@@ -12,7 +12,7 @@ use Rattle.phase_contexts.specs.declared.read_set.ReadSet.{ReadSet}
 use Rattle.phase_contexts.specs.Slicing.{after_acts}
 use Rattle.phase_contexts.specs.Txns.{Txn, greatest_clock, takes, line_on, IsAnswered}
 use Rattle.phase_contexts.specs.Contexts.{ContextState, next_entry, after_commit, with_one_less}
-use Rattle.phase_contexts.specs.Splits.{SplitState, setting_of}
+use Rattle.phase_contexts.specs.Splits.{SplitState, CanStart, setting_of}
 use Rattle.phase_contexts.specs.Works.{Work, IsWorkOf}
 use Rattle.phase_transactions.specs.declared.commit.Commit.{Commit}
 use Rattle.phase_transactions.specs.Putting.{KeepsSeen, HasPut}
@@ -27,10 +27,6 @@ pub record PermitState : Type 0 where
 -- a context with slices, and a key
 abbrev pub permit : SplitState → KeyState → PermitState
 permit split key = record { split = split; key = key }
-
--- a joined permit has no slices
-abbrev pub joined : ContextState → SplitState
-joined context = record { context = context; slices = [] }
 
 abbrev pub no_counters : Counters
 no_counters = record { items = 0; bids = 0; comments = 0; buys = 0; commits = 0 }
@@ -60,6 +56,15 @@ IsIdle key = (shard : ℕ) → holds_at key shard ≡ false
 -- the key holds no shard, and no line was put by it
 abbrev pub IsUnused : KeyState → Type 0
 IsUnused key = (shard : ℕ) → (holds_at key shard ≡ false) × (lines_at key shard ≡ [])
+
+-- with this permit a worker can start a phase: its key is new, its journal is the key's worker's, and it can start with what it has beside the key
+pub record IsNewPermit (new : PermitState) : Type 0 where
+  -- the key holds no shard, and put no line
+  pub key : IsUnused new.key
+  -- the journal is of the key's worker
+  pub worker : new.split.context.journal.worker ≡ new.key.worker
+  -- with its context and its slices it can start
+  pub start : CanStart new.split
 
 -- a permit, or its receipt, is explained by its transactions in a phase with so many shards: its journal is the key's worker's, the key is
 -- idle, and the journal, the key's lines, the clock, the counters and the slices are those of one list of transactions

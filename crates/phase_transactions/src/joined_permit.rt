@@ -47,8 +47,9 @@ impl<N: PhaseName> Model for JoinedReceipt<N> {
 }
 
 impl<N: PhaseName> JoinedPermit<N> {
-    ghost use Rattle.phase_contexts.specs.Contexts.{AreCounted, last_reply, new_context};
-    ghost use Rattle.phase_transactions.specs.Permits.{IsUnused, HasCommitted, joined};
+    ghost use Rattle.phase_contexts.specs.Contexts.{last_reply};
+    ghost use Rattle.phase_contexts.specs.Splits.{new_split};
+    ghost use Rattle.phase_transactions.specs.Permits.{IsNewPermit, HasCommitted, permit};
     ghost use Rattle.phase_transactions.specs.Single.{HaveOpening};
     ghost use Rattle.phase_transactions.specs.Performing.{HasFailed, with_try};
     ghost use Rattle.phase_transactions.specs.Stashed.{HasPerformedFirst, HasFailedFirst};
@@ -63,16 +64,8 @@ impl<N: PhaseName> JoinedPermit<N> {
         quota: u32,
         clock: u64,
     ) -> JoinedPermit<N>
-        requires key { IsUnused key }
-        requires worker { journal.worker ≡ key.worker }
-        requires empty { journal.entries ≡ [] }
-        requires room { length stash.requests + quota ≤ journal.room }
-        requires limit { counters.commits + length stash.requests + quota ≤ MOST_OF_A_WORKER }
-        requires counted { AreCounted counters }
-        ensures { result ≡ record {
-          split = joined (new_context opening counters journal stash quota clock);
-          key = key;
-        } }
+        requires { IsNewPermit (permit (new_split opening counters journal stash [] quota clock) key) }
+        ensures { result ≡ permit (new_split opening counters journal stash [] quota clock) key }
     {
         JoinedPermit {
             split: SplitContext::joined(opening, counters, journal, stash, quota, clock),

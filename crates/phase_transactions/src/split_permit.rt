@@ -51,17 +51,17 @@ impl<N: PhaseName> SplitPermit<N> {
     ghost use Rattle.auction_rows.specs.declared.ids.Object.TheVariants.{Item, User};
     ghost use Rattle.auction_rows.specs.declared.requests.Request.TheVariants.{StoreBid, StoreComment};
     ghost use Rattle.auction_rows.specs.Footprint.{is_hot};
-    ghost use Rattle.phase_contexts.specs.Slicing.{objects_of, stocks_of, slices_of};
-    ghost use Rattle.phase_contexts.specs.Contexts.{AreCounted, last_reply, new_context};
-    ghost use Rattle.phase_contexts.specs.Splits.{IsHot, AreStored};
+    ghost use Rattle.phase_contexts.specs.Slicing.{objects_of, stocks_of};
+    ghost use Rattle.phase_contexts.specs.Contexts.{last_reply};
+    ghost use Rattle.phase_contexts.specs.Splits.{IsHot, new_split};
     ghost use Rattle.phase_contexts.specs.Txns.{is_put_off};
     ghost use Rattle.phase_transactions.specs.declared.fault.Done.TheVariants.{Stashed};
     ghost use Rattle.std.specs.Prelude.{Some, None};
     ghost use Rattle.phase_transactions.specs.Performing.{IsUntouched, HasDealtWith, HasFailed, done_of, with_try};
-    ghost use Rattle.phase_transactions.specs.Permits.{IsUnused, IsExplained, HasCommitted};
+    ghost use Rattle.phase_transactions.specs.Permits.{IsNewPermit, IsExplained, HasCommitted, permit};
     ghost use Rattle.phase_transactions.specs.Single.{HaveOpening};
 
-    /// A permit to perform so many requests. No hot item is one that the worker has still to store. It takes no memory.
+    /// A permit to perform so many requests. It takes no memory.
     pub fn new(
         key: Key<N>,
         opening: Opening,
@@ -72,20 +72,8 @@ impl<N: PhaseName> SplitPermit<N> {
         quota: u32,
         clock: u64,
     ) -> SplitPermit<N>
-        requires key { IsUnused key }
-        requires worker { journal.worker ≡ key.worker }
-        requires empty { journal.entries ≡ [] }
-        requires stash { stash.requests ≡ [] }
-        requires identities { slices ≡ slices_of (stocks_of slices) [] }
-        requires room { quota ≤ journal.room }
-        requires stash_room { quota ≤ stash.room }
-        requires limit { counters.commits + quota ≤ MOST_OF_A_WORKER }
-        requires counted { AreCounted counters }
-        requires stored { AreStored journal.worker counters slices }
-        ensures { result ≡ record {
-          split = record { context = new_context opening counters journal stash quota clock; slices = slices };
-          key = key;
-        } }
+        requires { IsNewPermit (permit (new_split opening counters journal stash slices quota clock) key) }
+        ensures { result ≡ permit (new_split opening counters journal stash slices quota clock) key }
     {
         SplitPermit {
             split: SplitContext::new(opening, counters, journal, stash, slices, quota, clock),

@@ -1,8 +1,6 @@
-use Rattle.std.proofs.Common.{◌++◌, length, sym, ap, ◌∙◌, subst, arith}
-use Rattle.std.specs.List.{AllByRecursion}
+use Rattle.std.proofs.Common.{◌++◌, length, sym, ap, ◌∙◌, arith}
 use Rattle.std.proofs.lemmas.List.{append-nil, nil_from_length}
 use Rattle.std.specs.Vec.Iter.{into_iter_items}
-use Rattle.phase_floor.specs.Begins.{HasOwnStash}
 use Rattle.phase_floor.proofs.Begins.{passed_on}
 use Rattle.phase_floor.proofs.start.split_permits.Goals as goal
 
@@ -12,11 +10,7 @@ loop-start-init g c =
       len = omega (arith, ap length from.0, from.1, c.args.starts.ok.0);
       room = omega (arith, ap length c.requires.empty, c.args.permits.ok.0, from.1, c.requires.room);
       each = ap (λ l. l ++ into_iter_items c.into_iter-start-iterator.result) c.requires.empty ∙ from.0;
-      stashes = subst (AllByRecursion HasOwnStash) (sym from.0) c.requires.stashes;
     }
-
-pub split-requires : goal.split-requires
-split-requires g c = (subst (AllByRecursion HasOwnStash) c.in-Some.ensures.steps.0 c.loop-start.invariant.stashes).0
 
 pub push_reserved-requires : goal.push_reserved-requires
 push_reserved-requires g c = omega (arith, c.in-Some.ensures.steps.1, c.loop-start.invariant.room)
@@ -28,7 +22,6 @@ loop-start-preserved g c =
       room = omega (arith, p.len, p.capacity, step.1, was.room);
       each = passed_on c.loop-start.permits.items c.push_reserved.new.self.items (into_iter_items c.loop-start.start-iterator) (into_iter_items c.next.new.self) c.args.starts.items c.in-Some.start c.split.result
           p.items c.split.ensures step.0 was.each;
-      stashes = (subst (AllByRecursion HasOwnStash) step.0 was.stashes).1;
     }
 
 pub returns : goal.returns

@@ -26,7 +26,7 @@ returns-in-None-clause-slices c =
     let worker = c.args.self.now.journal.worker in
     let id = c.next_bid-id.result in
     let written = bid_written worker bid id (ap (λ (i : BidId). i.worker) c.next_bid-id.ensures) in
-    c.bid.ensures bid.item c.requires.at
+    c.apply.ensures (Item bid.item) c.requires.at
     ∙ ap (after_acts c.args.slices.now)
     (sym (written ∙ ap (λ entry. BidOn bid.item entry ∷ []) (sym c.entry.ensures)))
 
@@ -34,5 +34,5 @@ pub returns-in-None-clause-few : goal.returns-in-None-clause-few
 returns-in-None-clause-few c =
     let n = c.args.self.now.counters.commits in
     let bid = c.args.bid.now in
-    subst (AreFew (n + 1)) (sym (c.bid.ensures bid.item c.requires.at))
+    subst (AreFew (n + 1)) (sym (c.apply.ensures (Item bid.item) c.requires.at))
     (few_changed n (Item bid.item) (bid_on c.entry.result) c.args.slices.now (few_bid n c.entry.result) c.requires.few)

@@ -9,5 +9,5 @@ pub returns-in-None-clause-few : goal.returns-in-None-clause-few
 returns-in-None-clause-few c =
     let n = c.args.self.now.counters.commits in
     let comment = c.args.comment.now in
-    subst (AreFew (n + 1)) (sym (c.comment.ensures comment.about c.requires.at))
+    subst (AreFew (n + 1)) (sym (c.apply.ensures (User comment.about) c.requires.at))
     (few_changed n (User comment.about) (comment_about comment.stars) c.args.slices.now (few_comment n comment.stars (subst AreStars c.value-known.ensures.value (c.value-known.ensures.low, c.value-known.ensures.high))) c.requires.few)

@@ -16,7 +16,7 @@ invariant_of-push_reserved g c =
     let counts : c.index-counters.result.now ≡ counters_at floor.counters w =
     get_or_read c.self.inside.counters.items _ _ (omega (arith, below, c.self.invariant.workers_are)) c.index-counters.ensures no_counters
     ∙ ap (λ (f : FloorState). counters_at f.counters w) c.self.view_is in
-    can_start g.N.PhaseName.opening workers floor (subst (IsOpen g.N.PhaseName.opening workers) c.self.view_is c.self.invariant) w _ (stash_at c.args.stashes.items w) _ below (c.requires.fits w below)
+    can_start g.N.PhaseName.opening workers floor (subst (IsOpen g.N.PhaseName.opening workers) c.self.view_is c.self.invariant) w _ (stash_at c.args.stashes.items w) _ below (c.requires.fits w below) (c.requires.rooms w (omega (arith, below, c.requires.lens)))
     (begun_next floor workers w c.args.quotas.now c.args.keys.items (into_iter_items c.next.new.self) c.args.kits.items (into_iter_items c.next-in-loop-key.new.self)
     c.args.stashes.items (into_iter_items c.next-in-loop-key-2.new.self) c.requires.keys c.requires.kits below c.in-Some.key c.in-Some-next.field-0 c.in-Some-next-2.stash
     (sym step.0 ∙ was.keys) (sym c.in-Some-next.ensures.cases.0 ∙ was.kits) (sym c.in-Some-next-2.ensures.cases.0 ∙ was.stashes)

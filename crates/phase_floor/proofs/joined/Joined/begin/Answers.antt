@@ -86,3 +86,6 @@ returns-in-Ok-new-clause-counters g c = ap (λ (s : JoinedState). s.counters) c.
 
 pub returns-in-Ok-new-clause-starts : goal.returns-in-Ok-new-clause-starts
 returns-in-Ok-new-clause-starts g c = c.give-starts.ensures
+
+pub give-starts-requires-clause-rooms : goal.give-starts-requires-clause-rooms
+give-starts-requires-clause-rooms g c = c.requires.rooms

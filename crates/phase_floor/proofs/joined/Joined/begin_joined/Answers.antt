@@ -4,7 +4,7 @@ use Rattle.auction_rows.specs.Requests.{same_object}
 use Rattle.phase_transactions.specs.Permits.{PermitState}
 use Rattle.phase_floor.specs.Floors.{AreBegun, AreStocksOf}
 use Rattle.phase_floor.specs.States.{JoinedState, states_of}
-use Rattle.phase_floor.proofs.Begins.{fits, long_not_unknown, memory_not_long, memory_not_unknown, no_slices, too_long}
+use Rattle.phase_floor.proofs.Begins.{fits, long_not_unknown, memory_not_long, memory_not_unknown, no_slices, no_stashes, too_long}
 use Rattle.phase_floor.proofs.joined.Joined.begin_joined.Goals as goal
 
 no_two : IsDistinct same_object []
@@ -19,6 +19,9 @@ pub begin-requires-clause-fits : goal.begin-requires-clause-fits
 begin-requires-clause-fits g c =
     fits c.is_too_long.result c.args.self.counters c.deref.result.now c.args.stashes.items c.deref-2.result.now c.args.quotas.now
     (c.deref.ensures.value ∙ ap (λ (s : JoinedState). s.counters) c.self.view_is) c.deref-2.ensures.value c.is_too_long.ensures.1 c.if-is_too_long.false
+
+pub begin-requires-clause-rooms : goal.begin-requires-clause-rooms
+begin-requires-clause-rooms g c = no_stashes c.new.result.items c.args.stashes.items c.args.quotas.now c.new.ensures.items
 
 pub joined_permits-permits-requires-clause-cold : goal.joined_permits-permits-requires-clause-cold
 joined_permits-permits-requires-clause-cold g c =

@@ -1,4 +1,4 @@
-use Rattle.std.proofs.Common.{[], List, length, map, refl, sym, ap, ◌∙◌, subst, arith}
+use Rattle.std.proofs.Common.{[], List, map, refl, sym, ap, ◌∙◌, subst}
 use Rattle.std.proofs.lemmas.Bool.{false≢true}
 use Rattle.std.specs.List.{IsDistinct}
 use Rattle.auction_rows.specs.Requests.{same_object}
@@ -6,7 +6,7 @@ use Rattle.phase_contexts.specs.Slicing.{objects_of}
 use Rattle.phase_contexts.specs.Stashes.{StashState}
 use Rattle.phase_contexts.proofs.Places.{distinct_objects}
 use Rattle.phase_transactions.specs.Permits.{PermitState}
-use Rattle.phase_floor.specs.Begins.{IsTooLong, empty_stash}
+use Rattle.phase_floor.specs.Begins.{HaveStashRoom, IsTooLong, empty_stash}
 use Rattle.phase_floor.specs.Floors.{AreBegun}
 use Rattle.phase_floor.specs.States.{JoinedState, DoAllExist, states_of}
 use Rattle.phase_floor.proofs.Begins.{fits, long_not_unknown, memory_not_long, memory_not_unknown, not_too_long, own_stashes, too_long, unknown_not_long}
@@ -26,11 +26,9 @@ begin-requires-clause-fits g c =
     let short = fits c.is_too_long.result c.args.self.counters c.deref.result.now [] [] c.args.quotas.now (c.deref.ensures.value ∙ ap (λ (s : JoinedState). s.counters) c.self.view_is) refl c.is_too_long.ensures.1 c.if-is_too_long.false in
     subst (λ (stashes : List StashState). ¬ IsTooLong c.args.self.counters stashes c.args.quotas.now) (sym c.in-Ok-new_stashes.ensures) (not_too_long c.args.self.counters c.args.quotas.now short)
 
-pub split_permits-permits-requires-clause-stashes : goal.split_permits-permits-requires-clause-stashes
-split_permits-permits-requires-clause-stashes g c =
-    let e = c.in-Ok-begin.ensures in let floor = c.in-Ok-begin.floor in let quotas = c.args.quotas.now in let starts = c.in-Ok-begin.starts.items in
-    own_stashes floor quotas starts (omega (arith, c.requires.quotas, c.requires.workers, ap length e.counters))
-    (subst (λ (stashes : List StashState). AreBegun floor quotas stashes starts) c.in-Ok-new_stashes.ensures e.starts)
+pub begin-requires-clause-rooms : goal.begin-requires-clause-rooms
+begin-requires-clause-rooms g c =
+    subst (λ (stashes : List StashState). HaveStashRoom c.in-Ok.stocks.items stashes c.args.quotas.now) (sym c.in-Ok-new_stashes.ensures) (own_stashes c.in-Ok.stocks.items c.args.quotas.now)
 
 pub returns-in-Ok-begin-clause-hot : goal.returns-in-Ok-begin-clause-hot
 returns-in-Ok-begin-clause-hot g c = ap objects_of c.in-Ok-begin.ensures.stocks ∙ c.in-Ok.ensures.objects ∙ c.as_slice-objects.ensures.keys

@@ -13,12 +13,12 @@ invariant_of-result g c =
       idle = λ shard. (c.requires.key shard).0;
       work = record {
         own = tt;
-        entries = c.requires.empty;
+        entries = c.requires.start.empty;
         lines = λ shard. (c.requires.key shard).1;
         clocked = refl;
         counts = refl;
         numbered = tt;
         answered = tt;
-        sliced = c.requires.identities ∙ ap (λ entries. slices_of (stocks_of c.args.slices) (rows_of entries)) (sym c.requires.empty);
+        sliced = c.requires.start.identities ∙ ap (λ entries. slices_of (stocks_of c.args.slices) (rows_of entries)) (sym c.requires.start.empty);
       };
     })
