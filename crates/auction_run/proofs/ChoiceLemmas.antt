@@ -1,9 +1,9 @@
 -- Candidates as they are gathered, ranked, and taken from the front.
-use Rattle.std.proofs.Common.{◌≡◌, ℕ, zero, suc, ◌+◌, ◌<◌, ◌≤◌, ◌||◌, min, false, cond, if◌then◌else◌, List, [], ◌∷◌, ◌++◌, map, filter, take, length, get_or, refl, sym, ap, ◌∙◌, arith, add-one, append_assoc}
+use Rattle.std.proofs.Common.{◌≡◌, ℕ, zero, suc, ◌+◌, ◌<◌, ◌≤◌, ◌||◌, min, false, cond, if◌then◌else◌, List, [], ◌∷◌, ◌++◌, map, filter, take, length, get_or, refl, sym, ap, ◌∙◌, arith, add-one}
 use Rattle.std.specs.Prelude.{nat_le}
 use Rattle.std.specs.List.{IsDistinct, AllByRecursion, list_any}
 use Rattle.std.proofs.Math.Seq.{take-suc}
-use Rattle.std.proofs.lemmas.Bool.{le-leb, lt-leb}
+use Rattle.std.proofs.lemmas.Bool.{lt-leb}
 use Rattle.std.proofs.lemmas.List.{get_or-take, get_or-map, length-take, length-map, map-append, take-map, take_min}
 use Rattle.auction_rows.specs.contracts.ids.ObjectPartialEq.TheImpl.{eq-value as object_eq}
 use Rattle.auction_rows.specs.declared.ids.Object.{Object}
@@ -18,12 +18,6 @@ module _ (threshold : ℕ) (items : List Candidate) (row : Object × ℕ) (rows 
   pub row_skipped : row.1 < threshold → items ++ hot_ones threshold rows ≡ items ++ hot_ones threshold left
   row_skipped less =
       ap (λ b. items ++ map candidate (cond b (row ∷ filter (λ r. nat_le threshold r.1) rows) (filter (λ r. nat_le threshold r.1) rows))) (sym (lt-leb threshold row.1 less))
-      ∙ ap (λ rs. items ++ hot_ones threshold rs) (sym is)
-
-  pub row_taken : threshold ≤ row.1 → (items ++ candidate row ∷ []) ++ hot_ones threshold rows ≡ items ++ hot_ones threshold left
-  row_taken le =
-      append_assoc items (candidate row ∷ []) (hot_ones threshold rows)
-      ∙ ap (λ b. items ++ map candidate (cond b (row ∷ filter (λ r. nat_le threshold r.1) rows) (filter (λ r. nat_le threshold r.1) rows))) (sym (le-leb threshold row.1 le))
       ∙ ap (λ rs. items ++ hot_ones threshold rs) (sym is)
 
 -- ---- taking the first

@@ -1,6 +1,5 @@
 -- Where commit numbers end: at a call of a script.
 use Rattle.std.proofs.Common.{◌≡◌, ℕ, suc, ◌+◌, ◌<◌, Bool, true, false, List, [], ◌∷◌, ◌++◌, length, take, drop, slice_get, Some, inl, inr, sym, ap, subst, arith}
-use Rattle.std.specs.Prelude.{Result, IfErr, IsErrAnd}
 use Rattle.std.specs.List.{AllByRecursion}
 use Rattle.std.proofs.lemmas.List.{take-append-drop}
 use Rattle.auction_rows.specs.declared.requests.Request.{Request}
@@ -17,8 +16,6 @@ use Rattle.phase_workers.specs.declared.fault.ServingFault.{ServingFault}
 use Rattle.phase_workers.specs.declared.fault.ServingFault.TheVariants as serving
 use Rattle.phase_workers.specs.Tasks.{task, tasks, to_do, calls_for, CanBeDone, IsFirstFault, IsFaultBy}
 use Rattle.phase_workers.specs.Working.{calls_from, stashed, taken, ArePermitsOf}
-use Rattle.phase_workers.proofs.WorkLemmas.{err_as}
-use Rattle.auction_run.specs.declared.fault.RunFault.{RunFault}
 use Rattle.auction_run.specs.Phases.{IsCallOf, HasMetTheEnd, IsMet, told}
 
 numbered_from : (script : List Request) (k : ℕ) (rs : List Request) → ((i : ℕ) → slice_get script (k + i) ≡ slice_get rs i) → AllByRecursion (IsCallOf script) (numbered k rs)
@@ -80,22 +77,17 @@ pub record AreReady (opening : List ShardState) (boxes : List BoxId) (phase firs
       AllByRecursion (IsCallOf (script_of scripts worker)) (stashed (receipt_at permits worker))
 
 -- where permits were ready, a worker that met the end of numbers met it at a call of its script
-end_met : (takes : Bool) (opening : List ShardState) (boxes : List BoxId) (phase first : ℕ) (scripts : List (List Request)) (permits : List PermitState) →
+end_met : (takes : Bool) {opening : List ShardState} {boxes : List BoxId} {phase first : ℕ} {scripts : List (List Request)} {permits : List PermitState} →
     AreReady opening boxes phase first scripts permits → IsFirstFault takes opening (tasks permits scripts first) permit.NumberFull → (worker : ℕ) × HasMetTheEnd (script_of scripts worker)
-end_met takes opening boxes phase first scripts permits ready = first_end takes opening permits scripts first (λ w below.
+end_met takes {opening} {boxes} {phase} {first} {scripts} {permits} ready = first_end takes opening permits scripts first (λ w below.
     let script : List Request = script_of scripts w in
     let begun : PermitState = receipt_at permits w in
     all-append (IsCallOf script) (taken takes begun) (calls_for (task begun script first)) (taken_is_its script takes begun (ready.own w below)) (calls_of_its first begun.split.context.left script))
 
 -- and what its workers met is told
-fault_met : (takes : Bool) (opening : List ShardState) (boxes : List BoxId) (phase first : ℕ) (scripts : List (List Request)) (permits : List PermitState) →
+pub fault_met : (takes : Bool) {opening : List ShardState} {boxes : List BoxId} {phase first : ℕ} {scripts : List (List Request)} {permits : List PermitState} →
     AreReady opening boxes phase first scripts permits → (fault : ServingFault) → IsFaultBy (length scripts) (IsFirstFault takes opening (tasks permits scripts first)) fault → IsMet scripts (told fault)
-fault_met takes opening boxes phase first scripts permits ready serving.Spawn is = is
-fault_met takes opening boxes phase first scripts permits ready serving.Memory is = tt
-fault_met takes opening boxes phase first scripts permits ready (serving.Worker permit.Memory) is = tt
-fault_met takes opening boxes phase first scripts permits ready (serving.Worker permit.NumberFull) is = end_met takes opening boxes phase first scripts permits ready is
-
-pub is_told : {T : Type 0} (result : Result T RunFault) (fault : ServingFault) (takes : Bool) {opening : List ShardState} {boxes : List BoxId} {phase first : ℕ} {scripts : List (List Request)} {permits : List PermitState} →
-    AreReady opening boxes phase first scripts permits → IsErrAnd result (λ e. e ≡ told fault) → IsFaultBy (length scripts) (IsFirstFault takes opening (tasks permits scripts first)) fault → IfErr result (IsMet scripts)
-is_told result fault takes {opening} {boxes} {phase} {first} {scripts} {permits} ready is met =
-    err_as result (told fault) (IsMet scripts) is (fault_met takes opening boxes phase first scripts permits ready fault met)
+fault_met takes ready serving.Spawn is = is
+fault_met takes ready serving.Memory is = tt
+fault_met takes ready (serving.Worker permit.Memory) is = tt
+fault_met takes ready (serving.Worker permit.NumberFull) is = end_met takes ready is

@@ -1,7 +1,6 @@
 -- Heats as entries are added, and in a table.
-use Rattle.std.proofs.Common.{◌≡◌, ℕ, zero, suc, ◌+◌, ◌≤◌, Bool, true, false, cond, List, [], ◌∷◌, ◌++◌, Option, Some, None, count_by, length, refl, sym, ap, subst, ◌∙◌, arith}
+use Rattle.std.proofs.Common.{◌≡◌, ℕ, zero, suc, ◌+◌, Bool, true, false, cond, List, [], ◌∷◌, ◌++◌, Option, Some, None, count_by, refl, sym, ap, ◌∙◌, arith}
 use Rattle.std.specs.Prelude.{unwrap_or, option_to_list}
-use Rattle.std.specs.List.{cons_option}
 use Rattle.std.proofs.lemmas.List.Elements.{filter_map-append}
 use Rattle.auction_rows.specs.declared.ids.Object.{Object}
 use Rattle.auction_rows.specs.declared.rows.Entry.{Entry}
@@ -35,22 +34,6 @@ heat_more es e written object is = heat-push es e object ∙ ap (λ o. heat es o
 pub heat_read : (n : ℕ) → unwrap_or (heat_shown n) 0 ≡ n
 heat_read zero = refl
 heat_read (suc n) = refl
-
--- no object has more heat than there are entries
-few_written : (p : Object → Bool) (es : List Entry) → how_many p (objects_written es) ≤ length es
-few_written p [] = omega arith
-few_written p (e ∷ es) = go (written_by e) (few_written p es)
-  where
-    one : (b : Bool) → cond b 1 0 ≤ 1
-    one true = omega arith
-    one false = omega arith
-
-    go : (o : Option Object) → how_many p (objects_written es) ≤ length es → how_many p (cons_option o (objects_written es)) ≤ suc (length es)
-    go None again = omega arith
-    go (Some object) again = let most : cond (p object) 1 0 ≤ 1 = one (p object) in omega arith
-
-pub heat-le : (es : List Entry) (object : Object) → heat es object ≤ length es
-heat-le es object = subst (λ n. n ≤ length es) (how_many-is (λ other. same_object other object) (objects_written es)) (few_written (λ other. same_object other object) es)
 
 -- a table of the heats so far and one store more
 pub counted : (es : List Entry) (e : Entry) (written object : Object) (found : Object → Option ℕ) → written_by e ≡ Some written →

@@ -1,17 +1,16 @@
 -- From the floor, the permits and the receipts of a phase to what a run knows of it.
 use Rattle.std.specs.declared.alloc.Global.{Global}
-use Rattle.std.proofs.Common.{Vec, ◌≡◌, ℕ, zero, suc, ◌+◌, ◌-◌, ◌<◌, ◌≤◌, ◌⊎◌, inl, inr, min, Bool, true, false, cond, List, [], ◌∷◌, ◌++◌, map, length, take, drop, refl, sym, ap, subst, ◌∙◌, arith}
-use Rattle.std.specs.Prelude.{Option, slice_index}
+use Rattle.std.proofs.Common.{Vec, ◌≡◌, ℕ, zero, suc, ◌+◌, ◌-◌, ◌%◌, ◌<◌, ◌≤◌, ◌⊎◌, inl, inr, min, Bool, true, false, not, cond, List, [], ◌∷◌, ◌++◌, map, length, take, drop, refl, sym, ap, subst, ◌∙◌, arith}
+use Rattle.std.specs.Prelude.{Option, Result, Ok, Err, IsErrAnd, slice_index}
 use Rattle.std.specs.List.{AllByRecursion, AllZip}
 use Rattle.std.proofs.Math.ListN.{get_or-map}
 use Rattle.std.proofs.Math.Seq.{drop-nil, take-nil}
-use Rattle.std.proofs.lemmas.Bool.{cases_lt}
+use Rattle.std.proofs.lemmas.Bool.{eq-eqb, ne_eqb, cases_lt}
 use Rattle.std.proofs.lemmas.List.{length-map, get_or_past, map-id}
 use Rattle.auction_rows.specs.declared.ids.Object.{Object}
 use Rattle.auction_rows.specs.declared.requests.Facts.{Facts}
 use Rattle.auction_rows.specs.declared.requests.Request.{Request}
 use Rattle.auction_rows.specs.declared.rows.Entry.{Entry}
-use Rattle.auction_rows.specs.Book.{Book}
 use Rattle.auction_rows.specs.History.{ReplaysFrom, book_after}
 use Rattle.auction_rows.specs.Phases.{IsNumbered}
 use Rattle.phase_laws.specs.Order.{part}
@@ -30,16 +29,18 @@ use Rattle.phase_transactions.specs.Permits.{PermitState}
 use Rattle.phase_transactions.specs.Single.{HaveOpening}
 use Rattle.phase_closing.specs.Phases.{no_receipt, receipt_at, journal_of, counters_of}
 use Rattle.phase_closing.specs.Standing.{StandFor, counters_at}
+use Rattle.worker_journals.specs.Histories.{HistoryView}
 use Rattle.worker_journals.specs.Journals.{entry_worker}
 use Rattle.phase_floor.specs.declared.fault.BeginFault.{BeginFault}
 use Rattle.phase_floor.specs.declared.fault.BeginFault.TheVariants.{UnknownHot, TooLong, Memory}
 use Rattle.phase_floor.specs.Begins.{IsTooLong, empty_stash}
-use Rattle.phase_floor.specs.Closings.{AreReceiptsOf, HasClosedLawfully, stash_of}
+use Rattle.phase_floor.specs.Closings.{AreReceiptsOf, Leaves, stash_of}
 use Rattle.phase_floor.specs.Floors.{FloorState, IsBegun, stash_at}
 use Rattle.phase_floor.specs.States.{JoinedState, states_of, StandsFor}
+use Rattle.auction_run.specs.declared.fault.RunFault.{RunFault}
 use Rattle.auction_run.specs.declared.phase.Closed.{Closed}
-use Rattle.auction_run.specs.Closed.{HasClosedPhase}
-use Rattle.auction_run.specs.Phases.{lists, IsCallOf, MayPerform, waiting_in, quota_of}
+use Rattle.auction_run.specs.Closed.{HasClosedPhase, HasPerformedPhase}
+use Rattle.auction_run.specs.Phases.{lists, IsCallOf, IsMet, MayPerform, waiting_in, quota_of}
 use Rattle.auction_run.specs.Serving.{HasBegun}
 use Rattle.phase_workers.specs.Tasks.{Task, task, tasks, to_do, calls_for, CanBeDone, IsDone}
 use Rattle.phase_workers.specs.Working.{committed, stashed, taken, kept, hot_for, put_off, not_put_off, AreOfPhase, IsSamePermit, IsPermitOf, ArePermitsOf}
@@ -97,7 +98,21 @@ given_quotas policy scripts phase first given quotas split is at same are w less
     ∙ ap (λ k. min (cond split policy.split_quota policy.joined_quota) (length (script_of (lists scripts) w) - k)) at
     ∙ ap (λ b. min (cond b policy.split_quota policy.joined_quota) (length (script_of (lists scripts) w) - first_index policy phase)) (sym is)
 
+-- ---- the answer of a phase
+
+pub failed : {policy : Policy} {scripts : List (List Request)} {state : JoinedState} {stashes : List StashState} {hot : List Object} {before after : HistoryView} (result : Result Closed RunFault) (fault : RunFault) →
+    IsErrAnd result (λ e. e ≡ fault) → IsMet scripts fault → HasPerformedPhase policy scripts state stashes hot before after result
+failed (Ok closed) fault is met = absurd is
+failed {scripts = scripts} (Err e) fault is met = record { history = tt; last = tt; closed = tt; fault = subst (IsMet scripts) (sym is) met }
+
 -- ---- small facts
+
+-- a phase of an even number is a joined one
+pub even_joined : {number phase : ℕ} → number ≡ phase → number % 2 ≡ 0 → is_split phase ≡ false
+even_joined {number} {phase} is even = ne_eqb (phase % 2) 1 (λ odd. let e : phase % 2 ≡ 0 = subst (λ n. n % 2 ≡ 0) is even in omega (arith, e, odd))
+
+pub odd_split : {number phase : ℕ} → number ≡ phase → (number % 2 ≡ 0 → ⊥) → is_split phase ≡ true
+odd_split {number} {phase} is odd = let no : phase % 2 ≡ 0 → ⊥ = subst (λ n. n % 2 ≡ 0 → ⊥) is odd in eq-eqb (phase % 2) 1 (omega (arith, no))
 
 stocks_back : (stocks : List (Object × Option (Facts × ℕ))) → stocks_of (slices_of stocks []) ≡ stocks
 stocks_back [] = refl
@@ -147,9 +162,9 @@ pub shown : {policy : Policy} {scripts : List (List Request)} {state : JoinedSta
     HasBegun policy scripts state stashes hot floor permits → HasBegun policy scripts state stashes hot floor (map (λ permit. permit) permits)
 shown {policy} {scripts} {state} {stashes} {hot} {floor} {permits} begun = subst (HasBegun policy scripts state stashes hot floor) (sym (map-id permits)) begun
 
-module _ (policy : Policy) (scripts : List (List Request)) (state : JoinedState) (stashes : List StashState) (hot : List Object) (first : ℕ)
+module _ {policy : Policy} {scripts : List (List Request)} {state : JoinedState} {stashes : List StashState} {hot : List Object} {first : ℕ}
     (first_is : first ≡ first_index policy state.phase) (may : MayPerform policy scripts state stashes hot)
-    (floor : FloorState) (permits : List PermitState) (begun : HasBegun policy scripts state stashes hot floor permits) where
+    {floor : FloorState} {permits : List PermitState} (begun : HasBegun policy scripts state stashes hot floor permits) where
   workers_are : length floor.counters ≡ length scripts
   workers_are = ap length begun.counters_are ∙ sym may.scripts_are
 
@@ -190,9 +205,9 @@ module _ (policy : Policy) (scripts : List (List Request)) (state : JoinedState)
       })
 
   -- the permits are ready to be served, in a round that has the phase's number
-  pub are_ready : (opening : List ShardState) (boxes : List BoxId) (phase : ℕ) → boxes ≡ floor.boxes → HaveOpening opening floor.opening → phase ≡ state.phase →
+  pub are_ready : {opening : List ShardState} {boxes : List BoxId} {phase : ℕ} → boxes ≡ floor.boxes → HaveOpening opening floor.opening → phase ≡ state.phase →
       AreReady opening boxes phase first scripts permits
-  are_ready opening boxes phase same have now = record {
+  are_ready {opening} {boxes} {phase} same have now = record {
     can = can_all opening boxes same have;
     of = of_workers phase 0 permits (λ w below.
         let less : w < length scripts = omega (arith, below, as_many) in record {
@@ -326,31 +341,26 @@ module _ (policy : Policy) (scripts : List (List Request)) (state : JoinedState)
     receipts_are = are_receipts receipts count same
 
     -- all that a run knows of the phase, once it is closed
-    pub closed_phase : (opening : List ShardState) → states_of state ≡ opening → ((w : ℕ) → takes ≡ false → waiting_in stashes w ≡ []) → (after : Closed) (entries : List Entry) →
-        after.state.opening ≡ floor.opening → after.state.phase ≡ floor.phase + 1 → after.state.counters ≡ map counters_of receipts → after.stashes.items ≡ map stash_of receipts →
-        HasClosedLawfully opening floor receipts (states_of after.state) entries →
-        ((w : ℕ) → w < length receipts → (counters_at after.state.counters w).commits ≡ (counters_at floor.counters w).commits + length (journal_of (receipt_at receipts w)).entries) →
-        ((book : Book) → StandFor opening floor.counters book [] → ReplaysFrom floor.opening book entries) →
-        ((book : Book) → StandFor opening floor.counters book [] → StandsFor after.state (book_after floor.opening book entries)) →
-        HasClosedPhase policy scripts state stashes hot entries after
-    closed_phase opening named none after entries opened counted counts waits closed commits replays stands =
-        let law = closed.lawful in
+    pub closed_phase : {opening : List ShardState} → states_of state ≡ opening → is_split state.phase ≡ not takes → (after : Closed) {entries : List Entry} →
+        Leaves opening floor receipts entries after.state after.stashes.items → HasClosedPhase policy scripts state stashes hot entries after
+    closed_phase {opening} named split after {entries} left =
+        let law = left.lawful.lawful in
         let shards : length opening ≡ policy.shards = sym (ap length named) ∙ length-map state.shards state_of ∙ may.shards_are in record {
-          performed = subst (λ ss. HasPerformed policy scripts state.phase hot (waiting_in stashes) (waiting_in ss) entries) (sym waits)
-              (performed receipts count same entries law.parts takes none done);
+          performed = subst (λ ss. HasPerformed policy scripts state.phase hot (waiting_in stashes) (waiting_in ss) entries) (sym left.stashes_are)
+              (performed receipts count same entries law.parts takes (λ w no. may.split (split ∙ ap not no) w) done);
           numbered = subst (λ h. IsNumbered state.opening policy.shards h entries) begun.hot_are
               (subst (λ n. IsNumbered state.opening n (objects_of floor.stocks) entries) shards
               (subst (λ o. IsNumbered o (length opening) (objects_of floor.stocks) entries) begun.opening_is law.numbers));
           replays = λ book is here.
               let stood : StandFor opening floor.counters book [] =
               subst (λ cs. StandFor opening cs book []) (sym begun.counters_are) (subst (λ ss. StandFor ss state.counters book []) named here) in (
-                subst (λ o. ReplaysFrom o book entries) begun.opening_is (replays book stood),
-                subst (λ o. StandsFor after.state (book_after o book entries)) begun.opening_is (stands book stood),
+                subst (λ o. ReplaysFrom o book entries) begun.opening_is (left.replays book stood),
+                subst (λ o. StandsFor after.state (book_after o book entries)) begun.opening_is (left.stands book stood),
               );
-          phase_is = let next : floor.phase + 1 ≡ suc floor.phase = omega arith in counted ∙ next ∙ ap suc begun.phase_is;
-          opening_is = opened ∙ begun.opening_is;
+          phase_is = let next : floor.phase + 1 ≡ suc floor.phase = omega arith in left.phase_is ∙ next ∙ ap suc begun.phase_is;
+          opening_is = left.opening_is ∙ begun.opening_is;
           shards_are = sym (length-map after.state.shards state_of) ∙ law.left ∙ sym (ap length named) ∙ length-map state.shards state_of;
-          workers_are = ap length counts ∙ length-map receipts counters_of ∙ count ∙ begun.new.0 ∙ ap length begun.counters_are;
-          stashes_are = ap length waits ∙ length-map receipts stash_of ∙ count ∙ begun.new.0 ∙ ap length begun.counters_are;
-          commits = commits_are receipts count same entries law.parts (λ w. (counters_at after.state.counters w).commits) commits;
+          workers_are = ap length left.counters_are ∙ length-map receipts counters_of ∙ count ∙ begun.new.0 ∙ ap length begun.counters_are;
+          stashes_are = ap length left.stashes_are ∙ length-map receipts stash_of ∙ count ∙ begun.new.0 ∙ ap length begun.counters_are;
+          commits = commits_are receipts count same entries law.parts (λ w. (counters_at after.state.counters w).commits) left.commits;
         }

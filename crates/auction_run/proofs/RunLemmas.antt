@@ -1,5 +1,6 @@
 -- Where a run begins, one phase more, and its end.
 use Rattle.std.proofs.Common.{◌≡◌, ℕ, zero, suc, ◌+◌, ◌-◌, ◌<◌, ◌≤◌, ◌^◌, ◌⊎◌, not, min, true, false, cond, List, [], ◌∷◌, ◌++◌, length, drop, refl, subst, sym, ap, ◌∙◌, inl, inr, arith}
+use Rattle.std.specs.Prelude.{Ok}
 use Rattle.std.specs.List.{filter, AllByRecursion}
 use Rattle.std.proofs.lemmas.Bool.{cases_Bool, cases_lt, false≢true}
 use Rattle.std.proofs.Math.Seq.{drop-append_seam}
@@ -22,7 +23,7 @@ use Rattle.run_laws.specs.Turns.{numbered}
 use Rattle.run_laws.proofs.QuotaLemmas.{given_length}
 use Rattle.run_laws.proofs.ReachLemmas.{first_next, split_then_joined}
 use Rattle.run_laws.proofs.TurnLemmas.{waiting_none}
-use Rattle.worker_journals.specs.Merged.{merged}
+use Rattle.worker_journals.specs.Merged.{added, merged}
 use Rattle.run_serving.specs.declared.policy.Policy.{Policy}
 use Rattle.run_serving.specs.Books.{HasReplayed, ReplaysOn}
 use Rattle.run_serving.specs.Run.{first_index, calls_of, calls_given, HasRun, HasPerformed, HasLeft, AreChosen}
@@ -33,7 +34,8 @@ use Rattle.run_serving.proofs.EndLemmas.{run_serves, few_phases}
 use Rattle.run_serving.proofs.StepLemmas.{run_begins, phase_runs}
 use Rattle.run_serving.proofs.ScriptLemmas.{past_end}
 use Rattle.auction_run.specs.declared.running.Running.{Running}
-use Rattle.auction_run.specs.Beginning.{AreShort}
+use Rattle.auction_run.specs.Beginning.{HasQuotas, AreShort}
+use Rattle.auction_run.specs.Closed.{HasClosedPhase, HasPerformedPhase}
 use Rattle.auction_run.specs.Outcomes.{IsOutcome}
 use Rattle.auction_run.specs.Phases.{hot_sets, waiting_in, quota_of, MayPerform}
 use Rattle.auction_run.specs.Running.{IsRunning, CanGoOn}
@@ -80,35 +82,32 @@ more_given commits rows done left waited first next len part a b c = omega (arit
 
 -- ---- one phase more
 
-module _ (policy : Policy) (some : 0 < policy.joined_quota + policy.split_quota) (scripts : List (List Request)) (p : ℕ)
-    (opening : Opening) (rows : Book) (is_book : IsBook opening rows)
-    (old new : Running) (hot_now : List Object) (entries : List Entry) (worker : ℕ)
+module _ {policy : Policy} (some : 0 < policy.joined_quota + policy.split_quota) {scripts : List (List Request)} {p : ℕ}
+    {opening : Opening} {rows : Book} (is_book : IsBook opening rows) {old : Running} (new : Running) {hot_now : List Object}
     (run : IsRunning opening rows policy scripts p old)
-    (left : HasLeft policy scripts p (waiting_in old.stashes.items) worker)
-    (performed : HasPerformed policy scripts old.state.phase hot_now (waiting_in old.stashes.items) (waiting_in new.stashes.items) entries)
-    (numbered : IsNumbered old.state.opening policy.shards hot_now entries)
-    (replays : ReplaysOn old.state.opening entries (StandsFor old.state) (StandsFor new.state))
-    (counted : new.state.phase ≡ suc old.state.phase)
-    (same_opening : new.state.opening ≡ old.state.opening)
-    (same_shards : length new.state.shards ≡ length old.state.shards)
-    (same_workers : length new.state.counters ≡ length old.state.counters)
-    (stashes : length new.stashes.items ≡ length old.state.counters)
-    (commits : (w : ℕ) → w < length old.state.counters →
-    (counters_at new.state.counters w).commits ≡ (counters_at old.state.counters w).commits + length (calls_of w entries))
-    (history : new.history.entries ≡ old.history.entries ++ entries)
+    (worker : ℕ) (left : HasLeft policy scripts p (waiting_in old.stashes.items) worker)
+    (performed : HasPerformedPhase policy scripts old.state old.stashes.items hot_now old.history new.history (Ok (record { state = new.state; stashes = new.stashes })))
     (hot : hot_sets new.hot.items ≡ hot_sets old.hot.items ++ hot_now ∷ [])
-    (last : merged new.history.last ≡ entries)
     (not_chosen : is_split old.state.phase ≡ false → hot_now ≡ [])
     (chosen : is_split old.state.phase ≡ true → hot_now ≡ choose (merged old.history.last) policy.threshold policy.hot_max) where
+  abbrev entries : List Entry
+  entries = added old.history.entries new.history.entries
+
+  abbrev closed : HasClosedPhase policy scripts old.state old.stashes.items hot_now entries (record { state = new.state; stashes = new.stashes })
+  closed = performed.closed
+
+  abbrev grown : new.history.entries ≡ old.history.entries ++ entries
+  grown = performed.history
+
   here : HasPerformed policy scripts p hot_now (waiting_in old.stashes.items) (waiting_in new.stashes.items) entries
-  here = subst (λ n. HasPerformed policy scripts n hot_now (waiting_in old.stashes.items) (waiting_in new.stashes.items) entries) run.phase_is performed
+  here = subst (λ n. HasPerformed policy scripts n hot_now (waiting_in old.stashes.items) (waiting_in new.stashes.items) entries) run.phase_is closed.performed
 
   counted_next : (w : ℕ) → w < length scripts →
       (counters_at new.state.counters w).commits + length (waiting_in new.stashes.items w)
       ≤ rows_by rows w + min (first_index policy (suc p)) (length (script_of scripts w))
   counted_next w known =
       subst (λ n. n + length (waiting_in new.stashes.items w) ≤ rows_by rows w + min (first_index policy (suc p)) (length (script_of scripts w)))
-      (sym (commits w (subst (λ n. w < n) (sym run.workers_are) known)))
+      (sym (closed.commits w (subst (λ n. w < n) (sym run.workers_are) known)))
       (more_given (counters_at old.state.counters w).commits (rows_by rows w) (length (calls_of w entries)) (length (waiting_in new.stashes.items w)) (length (waiting_in old.stashes.items w))
       (first_index policy p) (first_index policy (suc p)) (length (script_of scripts w)) (cond (is_split p) policy.split_quota policy.joined_quota)
       (first_next policy.joined_quota policy.split_quota some p)
@@ -117,38 +116,57 @@ module _ (policy : Policy) (some : 0 < policy.joined_quota + policy.split_quota)
 
   pub stepped : IsRunning opening rows policy scripts (suc p) new
   stepped = record {
-    run = subst (λ es. HasRun policy scripts (suc p) (hot_sets new.hot.items) es (waiting_in new.stashes.items)) (sym history)
+    run = subst (λ es. HasRun policy scripts (suc p) (hot_sets new.hot.items) es (waiting_in new.stashes.items)) (sym grown)
         (subst (λ hs. HasRun policy scripts (suc p) hs (old.history.entries ++ entries) (waiting_in new.stashes.items)) (sym hot)
         (phase_runs policy some scripts p (hot_sets old.hot.items) hot_now old.history.entries entries (waiting_in old.stashes.items) (waiting_in new.stashes.items) run.run here worker left));
-    chosen = subst (λ es. AreChosen policy (hot_sets new.hot.items) es) (sym history)
+    chosen = subst (λ es. AreChosen policy (hot_sets new.hot.items) es) (sym grown)
         (subst (λ hs. AreChosen policy hs (old.history.entries ++ entries)) (sym hot)
         (phase_chosen policy scripts p (hot_sets old.hot.items) hot_now old.history.entries entries
         (waiting_in old.stashes.items) (waiting_in new.stashes.items) run.run here run.chosen
         (λ is. not_chosen (ap is_split run.phase_is ∙ is))
         (λ is. chosen (ap is_split run.phase_is ∙ is) ∙ ap (λ es. choose es policy.threshold policy.hot_max) (sym run.last_entries ∙ run.last))));
-    numbers = subst (λ es. AreNumbered opening policy (hot_sets new.hot.items) es) (sym history)
+    numbers = subst (λ es. AreNumbered opening policy (hot_sets new.hot.items) es) (sym grown)
         (subst (λ hs. AreNumbered opening policy hs (old.history.entries ++ entries)) (sym hot)
         (phase_numbered opening policy scripts p (hot_sets old.hot.items) hot_now old.history.entries entries
         (waiting_in old.stashes.items) (waiting_in new.stashes.items) run.run here run.numbers
-        (subst (λ o. IsNumbered o policy.shards hot_now entries) run.opening_is numbered)));
-    replayed = subst (λ es. HasReplayed opening rows es (StandsFor new.state)) (sym history)
+        (subst (λ o. IsNumbered o policy.shards hot_now entries) run.opening_is closed.numbered)));
+    replayed = subst (λ es. HasReplayed opening rows es (StandsFor new.state)) (sym grown)
         (phase_replayed opening rows old.history.entries entries (StandsFor old.state) (StandsFor new.state) is_book run.replayed
-        (subst (λ o. ReplaysOn o entries (StandsFor old.state) (StandsFor new.state)) run.opening_is replays));
-    opening_is = same_opening ∙ run.opening_is;
-    phase_is = counted ∙ ap suc run.phase_is;
-    shards_are = same_shards ∙ run.shards_are;
-    workers_are = same_workers ∙ run.workers_are;
-    stashes_are = stashes ∙ run.workers_are;
+        (subst (λ o. ReplaysOn o entries (StandsFor old.state) (StandsFor new.state)) run.opening_is closed.replays));
+    opening_is = closed.opening_is ∙ run.opening_is;
+    phase_is = closed.phase_is ∙ ap suc run.phase_is;
+    shards_are = closed.shards_are ∙ run.shards_are;
+    workers_are = closed.workers_are ∙ run.workers_are;
+    stashes_are = closed.stashes_are ∙ run.workers_are;
     counted = counted_next;
     from = length old.history.entries;
-    last_within = subst (λ es. length old.history.entries ≤ length es) (sym history) (omega (arith, length-append old.history.entries entries));
-    last_entries = ap (drop (length old.history.entries)) history ∙ drop-append_seam old.history.entries entries ∙ sym last;
-    last = ap (drop (length old.history.entries)) history ∙ drop-append_seam old.history.entries entries
-        ∙ sym (segment_now p old.history.entries entries run.run.phases_before here.phases) ∙ ap (segment_of p) (sym history)
+    last_within = subst (λ es. length old.history.entries ≤ length es) (sym grown) (omega (arith, length-append old.history.entries entries));
+    last_entries = ap (drop (length old.history.entries)) grown ∙ drop-append_seam old.history.entries entries ∙ sym performed.last;
+    last = ap (drop (length old.history.entries)) grown ∙ drop-append_seam old.history.entries entries
+        ∙ sym (segment_now p old.history.entries entries run.run.phases_before here.phases) ∙ ap (segment_of p) (sym grown)
         ∙ (let e : p ≡ suc p - 1 = omega arith in ap (λ n. segment_of n new.history.entries) e);
   }
 
 -- ---- what the next phase may begin with
+
+pub some_given : {policy : Policy} → HasQuotas policy → 0 < policy.joined_quota + policy.split_quota
+some_given quotas = omega (arith, quotas.joined)
+
+-- the number of a phase before the last that a run may have
+pub few_of : {number phase : ℕ} → number ≡ phase → phase < 2000003 → (number < 2147483648) × (number + 1 < 2 ^ 64)
+few_of is few = (omega (arith, is, few), omega (arith, is, few))
+
+-- a run goes on under the names that its plan has for the policy and the scripts
+pub goes_on : {opening : Opening} {rows : Book} → IsBook opening rows → {policy own_policy : Policy} → own_policy ≡ policy → {scripts own_scripts : List (List Request)} → own_scripts ≡ scripts →
+    AreShort rows scripts → {p : ℕ} {running : Running} → IsRunning opening rows policy scripts p running → CanGoOn own_policy own_scripts running
+goes_on {opening} {rows} is_book {policy} same_policy {scripts} {own_scripts} same_scripts short {p} {running} run =
+    subst (λ po. CanGoOn po own_scripts running) (sym same_policy) (subst (λ sc. CanGoOn policy sc running) (sym same_scripts) (record {
+      opening = opening;
+      rows = rows;
+      is_book = is_book;
+      short = short;
+      running_is = subst (λ n. IsRunning opening rows policy scripts n running) (sym run.phase_is) run;
+    }))
 
 all_short : (rows : Book) (scripts : List (List Request)) → AreShort rows scripts → (worker : ℕ) → length (script_of scripts worker) ≤ 1000000
 all_short rows scripts short worker = go (cases_lt worker (length scripts))

@@ -1,5 +1,5 @@
 -- What a phase of a run leaves.
-use Rattle.std.specs.Prelude.{◌≡◌, ℕ, suc, ◌+◌, ◌<◌, List, length}
+use Rattle.std.specs.Prelude.{◌≡◌, ℕ, suc, ◌+◌, ◌<◌, List, ◌++◌, length, Result, IfOk, IfErr, OnOk}
 use Rattle.auction_rows.specs.declared.ids.Object.{Object}
 use Rattle.auction_rows.specs.declared.requests.Request.{Request}
 use Rattle.auction_rows.specs.declared.rows.Entry.{Entry}
@@ -7,11 +7,14 @@ use Rattle.auction_rows.specs.Phases.{IsNumbered}
 use Rattle.phase_contexts.specs.Stashes.{StashState}
 use Rattle.phase_closing.specs.Standing.{counters_at}
 use Rattle.phase_floor.specs.States.{JoinedState, StandsFor}
+use Rattle.worker_journals.specs.Histories.{HistoryView}
+use Rattle.worker_journals.specs.Merged.{added, merged}
 use Rattle.run_serving.specs.declared.policy.Policy.{Policy}
 use Rattle.run_serving.specs.Books.{ReplaysOn}
 use Rattle.run_serving.specs.Run.{HasPerformed, calls_of}
+use Rattle.auction_run.specs.declared.fault.RunFault.{RunFault}
 use Rattle.auction_run.specs.declared.phase.Closed.{Closed}
-use Rattle.auction_run.specs.Phases.{waiting_in}
+use Rattle.auction_run.specs.Phases.{waiting_in, IsMet}
 
 -- The next phase of a state was performed, with these stashes and hot objects, and has closed with these entries.
 pub record HasClosedPhase (policy : Policy) (scripts : List (List Request)) (state : JoinedState) (stashes : List StashState)
@@ -32,3 +35,15 @@ pub record HasClosedPhase (policy : Policy) (scripts : List (List Request)) (sta
   pub commits : (worker : ℕ) → worker < length state.counters →
       (counters_at closed.state.counters worker).commits
       ≡ (counters_at state.counters worker).commits + length (calls_of worker entries)
+
+-- What the next phase of a state answers, with these stashes and hot objects, and what it makes of a history.
+pub record HasPerformedPhase (policy : Policy) (scripts : List (List Request)) (state : JoinedState) (stashes : List StashState)
+    (hot : List Object) (before after : HistoryView) (result : Result Closed RunFault) : Type 0 where
+  -- entries were added at the end of the history
+  pub history : OnOk result (after.entries ≡ before.entries ++ added before.entries after.entries)
+  -- they are all that its journals have, merged
+  pub last : OnOk result (merged after.last ≡ added before.entries after.entries)
+  -- with them the phase has closed
+  pub closed : IfOk result (HasClosedPhase policy scripts state stashes hot (added before.entries after.entries))
+  -- a fault is one that a phase meets
+  pub fault : IfErr result (IsMet scripts)

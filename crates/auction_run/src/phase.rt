@@ -1,10 +1,9 @@
 //! One phase of a run.
-ghost use Rattle.std.specs.Prelude.{◌≡◌, ◌++◌, IfOk, OnOk, IfErr};
+ghost use Rattle.std.specs.Prelude.{◌≡◌};
 ghost use Rattle.phase_floor.specs.declared.fault.BeginFault.TheVariants.{Memory};
-ghost use Rattle.worker_journals.specs.Merged.{added, merged};
 ghost use Rattle.auction_run.specs.declared.fault.RunFault.{RunFault};
-ghost use Rattle.auction_run.specs.Closed.{HasClosedPhase};
-ghost use Rattle.auction_run.specs.Phases.{lists, IsPlanOf, MayPerform, IsMet};
+ghost use Rattle.auction_run.specs.Closed.{HasPerformedPhase};
+ghost use Rattle.auction_run.specs.Phases.{lists, IsPlanOf, MayPerform};
 
 use crate::fault::RunFault;
 use crate::joined_phase::perform_joined_phase;
@@ -40,11 +39,8 @@ pub(crate) fn perform_phase<R: Threads + Wait + Sync, G: Gate + Sync>(
 ) -> Result<Closed, RunFault>
     requires plan { IsPlanOf plan state.phase }
     requires may { MayPerform plan.policy (lists plan.round.scripts.now) state stashes.items hot.now.keys }
-    ensures history { OnOk result (history.new.entries ≡ history.old.entries ++ added history.old.entries history.new.entries) }
-    ensures last { OnOk result (merged history.new.last ≡ added history.old.entries history.new.entries) }
-    ensures closed { IfOk result (HasClosedPhase plan.entry.policy (lists plan.entry.round.scripts.now) state stashes.items hot.now.keys
-        (added history.old.entries history.new.entries)) }
-    ensures fault { IfErr result (IsMet (lists plan.entry.round.scripts.now)) }
+    ensures { HasPerformedPhase plan.entry.policy (lists plan.entry.round.scripts.now) state stashes.items hot.now.keys
+        history.old history.new result }
 {
     if state.phase() % 2 == 0 {
         return perform_joined_phase::<Brand, R, G>(rt, alloc, history, state, stashes, plan);

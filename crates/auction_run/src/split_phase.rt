@@ -1,12 +1,11 @@
 //! A split phase of a run.
-ghost use Rattle.std.specs.Prelude.{◌≡◌, ◌++◌, ℕ, [], true, length, IfOk, OnOk, IfErr};
+ghost use Rattle.std.specs.Prelude.{◌≡◌, ℕ, [], true, length, IfOk, IfErr};
 ghost use Rattle.phase_floor.specs.States.{states_of};
 ghost use Rattle.run_laws.specs.Phases.{is_split};
-ghost use Rattle.worker_journals.specs.Merged.{added, merged};
 ghost use Rattle.run_serving.specs.Run.{first_index};
 ghost use Rattle.auction_run.specs.declared.fault.RunFault.TheVariants.{Memory};
-ghost use Rattle.auction_run.specs.Closed.{HasClosedPhase};
-ghost use Rattle.auction_run.specs.Phases.{lists, waiting_in, IsPlanOf, MayPerform, IsMet};
+ghost use Rattle.auction_run.specs.Closed.{HasPerformedPhase};
+ghost use Rattle.auction_run.specs.Phases.{lists, waiting_in, IsPlanOf, MayPerform};
 ghost use Rattle.auction_run.specs.Serving.{HasBegun};
 
 use crate::fault::RunFault;
@@ -43,11 +42,8 @@ where
     requires split { is_split state.phase ≡ true }
     requires plan { IsPlanOf plan state.phase }
     requires may { MayPerform plan.policy (lists plan.round.scripts.now) state stashes.items hot.now.keys }
-    ensures history { OnOk result (history.new.entries ≡ history.old.entries ++ added history.old.entries history.new.entries) }
-    ensures last { OnOk result (merged history.new.last ≡ added history.old.entries history.new.entries) }
-    ensures closed { IfOk result (HasClosedPhase plan.entry.policy (lists plan.entry.round.scripts.now) state stashes.items hot.now.keys
-        (added history.old.entries history.new.entries)) }
-    ensures fault { IfErr result (IsMet (lists plan.entry.round.scripts.now)) }
+    ensures { HasPerformedPhase plan.entry.policy (lists plan.entry.round.scripts.now) state stashes.items hot.now.keys
+        history.old history.new result }
 {
     let (floor, permits) = begin::<N, R, G>(rt, alloc, state, hot, stashes, &plan)?;
     let receipts = serve_all(rt, alloc, floor.boxes(), permits, plan.round)?;

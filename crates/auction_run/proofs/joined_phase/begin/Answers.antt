@@ -1,7 +1,19 @@
-use Rattle.std.proofs.Common.{false, refl, ap}
+use Rattle.std.proofs.Common.{false, length, refl, sym, ap, ◌∙◌}
 use Rattle.phase_contexts.specs.Slicing.{objects_of}
 use Rattle.auction_run.proofs.PhaseLemmas.{only_memory, not_too_long, given_quotas}
+use Rattle.run_serving.proofs.ScriptLemmas.{lists_length}
 use Rattle.auction_run.proofs.joined_phase.begin.Goals as goal
+
+pub begin_joined-requires : goal.begin_joined-requires
+begin_joined-requires g c =
+    let may = c.requires.may in
+    record {
+      shards = c.requires.shards;
+      workers = c.requires.workers;
+      quotas = ap length c.deref.ensures.value ∙ c.in_ok-quotas.ensures.len ∙ sym (lists_length c.args.plan.now.round.scripts.now) ∙ may.scripts_are ∙ c.requires.workers;
+      stashes = c.args.stashes.ok.0 ∙ may.stashes_are ∙ c.requires.workers;
+      phase = may.counted;
+    }
 
 pub begin_fault-requires : goal.begin_fault-requires
 begin_fault-requires g c =

@@ -1,26 +1,49 @@
-use Rattle.std.proofs.Common.{true, sym}
-use Rattle.std.proofs.lemmas.Bool.{false≢true}
-use Rattle.worker_journals.specs.Merged.{added}
-use Rattle.auction_run.proofs.EndLemmas.{is_told}
-use Rattle.auction_run.proofs.PhaseLemmas.{shown, are_ready, receipts_are, closed_phase}
+use Rattle.std.proofs.Common.{true, ◌∙◌, sym, subst}
+use Rattle.auction_run.specs.declared.fault.RunFault.TheVariants.{Memory}
+use Rattle.auction_run.specs.Phases.{IsMet, lists, told}
+use Rattle.auction_run.proofs.EndLemmas.{fault_met}
+use Rattle.auction_run.proofs.PhaseLemmas.{failed, as_many, shown, are_ready, receipts_are, closed_phase}
+use Rattle.run_serving.proofs.ScriptLemmas.{lists_length}
 use Rattle.auction_run.proofs.joined_phase.perform_joined_phase.Goals as goal
 
+pub begin-requires : goal.begin-requires
+begin-requires g c = record { shards = c.requires.shards; workers = c.requires.workers; joined = c.requires.joined; first = c.requires.plan.1; may = c.requires.may }
+
+pub returns-in_err-floor : goal.returns-in_err-floor
+returns-in_err-floor g c =
+    failed c.from_residual.result c.in_err-floor.field-0.0 c.from_residual.ensures.1 (subst (IsMet (lists c.args.plan.round.scripts.now)) (sym c.in_err-floor.ensures.fault) tt)
+
+pub serve_all-requires-clause-workers : goal.serve_all-requires-clause-workers
+serve_all-requires-clause-workers g c κs within =
+    c.in_ok-floor.permits.ok.0 ∙ as_many c.requires.plan.1 c.requires.may c.in_ok-floor.ensures.begun ∙ lists_length c.args.plan.round.scripts.now
+
 pub serve_all-requires-clause-can : goal.serve_all-requires-clause-can
-serve_all-requires-clause-can g c κs within = (are_ready c.args.plan.policy _ c.args.state _ _ _ c.requires.plan.1 c.requires.may _ _ (shown c.in_ok-floor.ensures.begun) g.N.PhaseName.opening _ _ c.boxes.ensures.boxes c.boxes.ensures.opening c.requires.plan.0).can
+serve_all-requires-clause-can g c κs within =
+    (are_ready c.requires.plan.1 c.requires.may (shown c.in_ok-floor.ensures.begun) c.boxes.ensures.boxes c.boxes.ensures.opening c.requires.plan.0).can
 
 pub serve_all-requires-clause-of : goal.serve_all-requires-clause-of
-serve_all-requires-clause-of g c κs within = (are_ready c.args.plan.policy _ c.args.state _ _ _ c.requires.plan.1 c.requires.may _ _ (shown c.in_ok-floor.ensures.begun) g.N.PhaseName.opening _ _ c.boxes.ensures.boxes c.boxes.ensures.opening c.requires.plan.0).of
-
-pub returns-in_err-receipts-clause-fault : goal.returns-in_err-receipts-clause-fault
-returns-in_err-receipts-clause-fault g c =
-    is_told c.from_residual-in_err-receipts.result c.in_err-receipts.field-0.0 true (are_ready c.args.plan.policy _ c.args.state _ _ _ c.requires.plan.1 c.requires.may _ _ (shown c.in_ok-floor.ensures.begun) g.N.PhaseName.opening _ _ c.boxes.ensures.boxes c.boxes.ensures.opening c.requires.plan.0) c.from_residual-in_err-receipts.ensures.1 c.in_err-receipts.ensures.fault
+serve_all-requires-clause-of g c κs within =
+    (are_ready c.requires.plan.1 c.requires.may (shown c.in_ok-floor.ensures.begun) c.boxes.ensures.boxes c.boxes.ensures.opening c.requires.plan.0).of
 
 pub close-requires : goal.close-requires
-close-requires g c = receipts_are c.args.plan.policy _ c.args.state _ _ _ c.requires.plan.1 c.requires.may _ _ (shown c.in_ok-floor.ensures.begun) true c.in_ok-receipts.receipts.items c.in_ok-receipts.ensures.done
+close-requires g c = receipts_are c.requires.plan.1 c.requires.may (shown c.in_ok-floor.ensures.begun) true c.in_ok-receipts.receipts.items c.in_ok-receipts.ensures.done
 
-pub returns-clause-closed : goal.returns-clause-closed
-returns-clause-closed g c =
-    let left = c.in_ok-state.ensures.leaves in
-    closed_phase c.args.plan.policy _ c.args.state _ _ _ c.requires.plan.1 c.requires.may _ _ (shown c.in_ok-floor.ensures.begun) true c.in_ok-receipts.receipts.items c.in_ok-receipts.ensures.done g.N.PhaseName.opening c.requires.shards (λ w no. absurd (false≢true (sym no)))
-    (record { state = c.in_ok-state.state; stashes = c.in_ok-state.stashes }) (added c.args.history.now.entries c.close.new.history.entries)
-    left.opening_is left.phase_is left.counters_are left.stashes_are left.lawful left.commits left.replays left.stands
+pub returns-in_err-receipts : goal.returns-in_err-receipts
+returns-in_err-receipts g c =
+    let ready = are_ready c.requires.plan.1 c.requires.may (shown c.in_ok-floor.ensures.begun) c.boxes.ensures.boxes c.boxes.ensures.opening c.requires.plan.0 in
+    let fault = c.in_err-receipts.field-0.0 in
+    failed c.from_residual-in_err-receipts.result (told fault) c.from_residual-in_err-receipts.ensures.1 (fault_met true ready fault c.in_err-receipts.ensures.fault)
+
+pub returns-in_err-state : goal.returns-in_err-state
+returns-in_err-state g c = failed c.from_residual-in_err-state.result Memory c.from_residual-in_err-state.ensures.1 tt
+
+pub returns : goal.returns
+returns g c =
+    let closed = c.in_ok-state.ensures in
+    record {
+      history = c.close.ensures.history;
+      last = closed.last;
+      closed = closed_phase c.requires.plan.1 c.requires.may (shown c.in_ok-floor.ensures.begun) true c.in_ok-receipts.receipts.items c.in_ok-receipts.ensures.done c.requires.shards c.requires.joined
+          (record { state = c.in_ok-state.state; stashes = c.in_ok-state.stashes }) closed.leaves;
+      fault = tt;
+    }

@@ -2,7 +2,6 @@ use Rattle.std.proofs.Common.{ap, sym, List, ◌++◌, ◌∷◌, [], ◌∙◌}
 use Rattle.std.proofs.lemmas.List.{map-append}
 use Rattle.auction_rows.specs.declared.rows.Entry.{Entry}
 use Rattle.auction_run.specs.Phases.{lists, hot_sets}
-use Rattle.worker_journals.specs.Merged.{added}
 use Rattle.auction_run.proofs.RunLemmas.{stepped, may_perform}
 use Rattle.auction_run.proofs.running.next_phase.Goals as goal
 
@@ -13,21 +12,8 @@ perform_phase-requires-clause-may g c κs within =
 
 pub returns-clause-running : goal.returns-clause-running
 returns-clause-running g c = λ opening rows is_book run.
-    let closed = c.in_ok-closed.ensures.closed in
-    stepped c.args.plan.policy c.requires.quotas (lists c.args.plan.round.scripts.now) c.args.running.state.phase opening rows is_book c.args.running _ c.in_ok-hot_now.hot_now.keys
-    (added c.args.running.history.entries c.perform_phase.new.history.entries) c.requires.left.0 run c.requires.left.1
-    closed.performed
-    closed.numbered
-    closed.replays
-    closed.phase_is
-    closed.opening_is
-    closed.shards_are
-    closed.workers_are
-    closed.stashes_are
-    closed.commits
-    c.in_ok-closed.ensures.history
+    stepped c.requires.quotas is_book _ run c.requires.left.0 c.requires.left.1 c.in_ok-closed.ensures
     (ap hot_sets c.in_ok-push.ensures.items ∙ map-append (λ set. set.keys) c.args.running.hot.items (c.in_ok-hot_now.hot_now ∷ []))
-    c.in_ok-closed.ensures.last
     c.in_ok-hot_now.ensures.joined
     c.in_ok-hot_now.ensures.split
 

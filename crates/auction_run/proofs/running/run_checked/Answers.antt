@@ -1,13 +1,15 @@
 use Rattle.std.proofs.Common.{rules, arith, ◌≡◌, ◌≤◌, ◌+◌, ℕ, suc, length, subst, sym, ap, ◌∙◌}
 use Rattle.item_shards.specs.OpeningBooks.{opening_of, rows_of}
-use Rattle.run_serving.specs.Run.{HasLeft}
+use Rattle.run_serving.specs.Run.{HasLeft, first_index}
 use Rattle.run_serving.specs.Serving.{script_of}
+use Rattle.run_serving.proofs.ScriptLemmas.{lists_length}
+use Rattle.auction_run.specs.Beginning.{HasShards, HasQuotas}
 use Rattle.auction_run.specs.Boards.{HasShown}
 use Rattle.auction_run.specs.Phases.{lists, waiting_in, IsMet}
 use Rattle.auction_run.specs.Running.{IsRunning}
 use Rattle.auction_run.proofs.BoardLemmas.{begins_shown, can_show, has_shown, next_runs}
 use Rattle.phase_workers.proofs.WorkLemmas.{err_as}
-use Rattle.auction_run.proofs.RunLemmas.{left_over, few_phases_so_far, ended, phases_counted}
+use Rattle.auction_run.proofs.RunLemmas.{some_given, few_of, goes_on, left_over, few_phases_so_far, ended, phases_counted}
 use Rattle.auction_run.proofs.running.run_checked.Goals as goal
 
 pub returns-then-not-is_left-clause-outcome : goal.returns-then-not-is_left-clause-outcome
@@ -15,7 +17,7 @@ returns-then-not-is_left-clause-outcome g c =
     let plan = c.new-plan.ensures in
     let running = c.loop-phase.invariant.running in
     let phase = running.phase_is in
-    ended (opening_of c.args.book.now) (rows_of c.args.book.now) c.args.policy (omega (arith, c.requires.quotas.joined)) (lists c.args.scripts.now) c.requires.short c.loop-phase._phase c.loop-phase.running
+    ended (opening_of c.args.book.now) (rows_of c.args.book.now) c.args.policy (some_given c.requires.quotas) (lists c.args.scripts.now) c.requires.short c.loop-phase._phase c.loop-phase.running
     running c.new-plan.result.round.first (search rules)
     (subst (λ stashes. (worker : ℕ) → (length (script_of (lists c.args.scripts.now) worker) ≤ c.new-plan.result.round.first) × (length (waiting_in stashes worker) ≡ 0)) c.deref.ensures.value
     (c.is_left.ensures.none (search rules)))
@@ -23,9 +25,34 @@ returns-then-not-is_left-clause-outcome g c =
 pub returns-then-not-is_left-clause-board : goal.returns-then-not-is_left-clause-board
 returns-then-not-is_left-clause-board g c =
     let running = c.loop-phase.invariant.running in
-    let counted = phases_counted (opening_of c.args.book.now) (rows_of c.args.book.now) c.args.policy (omega (arith, c.requires.quotas.joined)) (lists c.args.scripts.now) c.requires.short c.loop-phase._phase c.loop-phase.running running in
+    let counted = phases_counted (opening_of c.args.book.now) (rows_of c.args.book.now) c.args.policy (some_given c.requires.quotas) (lists c.args.scripts.now) c.requires.short c.loop-phase._phase c.loop-phase.running running in
     subst (λ n. HasShown g.B.Board.has (opening_of c.args.book.now) (rows_of c.args.book.now) n c.loop-phase.running.history.entries c.loop-phase.board) (sym running.phase_is ∙ counted)
     c.loop-phase.invariant.shown
+
+pub new-plan-requires : goal.new-plan-requires
+new-plan-requires g c = (few_of (c.phase.ensures ∙ c.loop-phase.invariant.running.phase_is) c.loop-phase-test.true).0
+
+pub is_left-requires : goal.is_left-requires
+is_left-requires g c = ap length c.deref.ensures.value ∙ c.loop-phase.invariant.running.stashes_are ∙ lists_length c.args.scripts.now
+
+pub next_phase-requires-clause-shards : goal.next_phase-requires-clause-shards
+next_phase-requires-clause-shards g c κs within = subst HasShards (sym c.new-plan.ensures.policy) c.requires.shards
+
+pub next_phase-requires-clause-quotas : goal.next_phase-requires-clause-quotas
+next_phase-requires-clause-quotas g c κs within = some_given (subst HasQuotas (sym c.new-plan.ensures.policy) c.requires.quotas)
+
+pub next_phase-requires-clause-counted : goal.next_phase-requires-clause-counted
+next_phase-requires-clause-counted g c κs within = (few_of c.loop-phase.invariant.running.phase_is c.loop-phase-test.true).1
+
+pub next_phase-requires-clause-plan : goal.next_phase-requires-clause-plan
+next_phase-requires-clause-plan g c κs within =
+    let plan = c.new-plan.ensures.plan in
+    (plan.0 ∙ c.phase.ensures, plan.1 ∙ ap (first_index c.new-plan.result.policy) c.phase.ensures)
+
+pub next_phase-requires-clause-running : goal.next_phase-requires-clause-running
+next_phase-requires-clause-running g c κs within =
+    let same = c.new-plan.ensures in
+    goes_on c.args.book.now.is_book same.policy (ap lists same.scripts) c.requires.short c.loop-phase.invariant.running
 
 pub next_phase-requires-clause-left : goal.next_phase-requires-clause-left
 next_phase-requires-clause-left g c κs within =
@@ -36,7 +63,7 @@ next_phase-requires-clause-left g c κs within =
       subst (λ policy. HasLeft policy (lists c.new-plan.result.round.scripts.now) c.loop-phase.running.state.phase (waiting_in c.loop-phase.running.stashes.items) some.0) (sym same.policy)
           (subst (λ scripts. HasLeft c.args.policy (lists scripts) c.loop-phase.running.state.phase (waiting_in c.loop-phase.running.stashes.items) some.0) (sym same.scripts)
           (subst (λ p. HasLeft c.args.policy (lists c.args.scripts.now) p (waiting_in c.loop-phase.running.stashes.items) some.0) (sym running.phase_is)
-          (left_over (opening_of c.args.book.now) (rows_of c.args.book.now) c.args.policy (omega (arith, c.requires.quotas.joined)) (lists c.args.scripts.now) c.requires.short c.loop-phase._phase c.loop-phase.running
+          (left_over (opening_of c.args.book.now) (rows_of c.args.book.now) c.args.policy (some_given c.requires.quotas) (lists c.args.scripts.now) c.requires.short c.loop-phase._phase c.loop-phase.running
           running c.new-plan.result.round.first some.0 (search rules) (search rules)))),
     )
 
@@ -74,7 +101,7 @@ loop-phase-preserved g c =
 
 pub unreachable-requires : goal.unreachable-requires
 unreachable-requires g c =
-    let few = few_phases_so_far (opening_of c.args.book.now) (rows_of c.args.book.now) c.args.policy (omega (arith, c.requires.quotas.joined)) (lists c.args.scripts.now) c.requires.short c.loop-phase._phase c.loop-phase.running
+    let few = few_phases_so_far (opening_of c.args.book.now) (rows_of c.args.book.now) c.args.policy (some_given c.requires.quotas) (lists c.args.scripts.now) c.requires.short c.loop-phase._phase c.loop-phase.running
     c.loop-phase.invariant.running in
     omega (arith, few, c.loop-phase-test.false)
 

@@ -1,7 +1,18 @@
-use Rattle.std.proofs.Common.{true, [], map, sym, ◌∙◌}
+use Rattle.std.proofs.Common.{true, [], map, length, sym, ap, ◌∙◌}
 use Rattle.phase_floor.specs.Begins.{empty_stash}
 use Rattle.auction_run.proofs.PhaseLemmas.{only_memory, not_too_long, given_quotas, empty_at}
+use Rattle.run_serving.proofs.ScriptLemmas.{lists_length}
 use Rattle.auction_run.proofs.split_phase.begin.Goals as goal
+
+pub begin_split-requires : goal.begin_split-requires
+begin_split-requires g c =
+    let may = c.requires.may in
+    record {
+      shards = c.requires.shards;
+      workers = c.requires.workers;
+      quotas = ap length c.deref.ensures.value ∙ c.in_ok-quotas.ensures.len ∙ sym (lists_length c.args.plan.now.round.scripts.now) ∙ may.scripts_are ∙ c.requires.workers;
+      phase = may.counted;
+    }
 
 pub begin_fault-requires : goal.begin_fault-requires
 begin_fault-requires g c =
