@@ -1,5 +1,5 @@
 -- One view more.
-use Rattle.std.proofs.Common.{◌≡◌, ℕ, length, zero, suc, ◌+◌, List, [], ◌∷◌, ◌++◌, Option, Some, Result, Ok, Err, IfOk, IfSome, map, ap, sym, subst, ◌∙◌, arith}
+use Rattle.std.proofs.Common.{◌≡◌, ℕ, zero, suc, ◌+◌, List, [], ◌∷◌, ◌++◌, Option, Result, Ok, Err, IfOk, IfSome, map, ap, sym, subst, ◌∙◌, arith}
 use base.Growing.{prefix_trans}
 use mathlib.Core.List.{IsPrefix}
 use Rattle.std.specs.List.{range_with_len}
@@ -11,10 +11,7 @@ use Rattle.auction_rows.specs.declared.requests.Request.{Request}
 use Rattle.auction_rows.specs.Book.{Book}
 use Rattle.auction_rows.specs.Replies.{reply}
 use Rattle.auction_rows.specs.declared.rows.Row.{Row}
-use Rattle.auction_window.specs.declared.window.Seen.{Seen}
-use Rattle.auction_window.specs.Published.{book_of}
-use Rattle.auction_window.proofs.Prefixes.{prefix_whole}
-use Rattle.phase_floor.specs.States.{JoinedState, StandsFor}
+use Rattle.phase_floor.specs.States.{JoinedState}
 use Rattle.auction_program.specs.Report.{views, IsEnd}
 
 range_more : (a n : ℕ) → range_with_len a (suc n) ≡ range_with_len a n ++ (a + n) ∷ []
@@ -41,20 +38,6 @@ module _ (opening : Opening) (rows : Book) (old all : List (List Row)) (state : 
   pub still_end : (new : List (List Row)) → IsPrefix old new → IsEnd opening rows new all state book
   still_end new onward =
       record { known = prefix_trans all old new end.known onward; counted = end.counted; book_is = end.book_is; opening_is = end.opening_is; stands = end.stands }
-
-  -- what a window shows of as many phases is of all
-  pub seen_at_end : (new : List (List Row)) (request : Request) (seen : Seen) → IsPrefix old new → seen.reply ≡ reply opening (book_of rows new) 0 request → seen.phases ≡ length new
-      → seen.phases ≡ state.phase → seen.reply ≡ reply opening book 0 request
-  seen_at_end new request seen onward shows counted same =
-      let whole : all ≡ new = prefix_whole all new (prefix_trans all old new end.known onward) (omega (arith, counted, same, end.counted)) in
-      shows ∙ ap (λ (b : Book). reply opening b 0 request) (ap (book_of rows) (sym whole) ∙ end.book_is)
-
-  -- and what the state shows is of the book
-  pub shown_at_end : (request : Request) (answered : Option Reply) (seen : Reply) → answered ≡ Some seen
-      → IfSome answered (λ r. (b : Book) (worker : ℕ) → StandsFor state b → r ≡ reply state.opening b worker request) → seen ≡ reply opening book 0 request
-  shown_at_end request answered seen some shows =
-      subst (λ o. IfSome o (λ r. (b : Book) (worker : ℕ) → StandsFor state b → r ≡ reply state.opening b worker request)) some shows book 0 end.stands
-      ∙ ap (λ o. reply o book 0 request) end.opening_is
 
 -- what follows of what was answered, where something was
 pub if_ok_some : {T E : Type 0} (r : Result T E) (o : Option T) (P Q R : T → Type 0) → o ≡ result_ok r → IfOk r P → IfOk r Q → ((x : T) → P x → Q x → R x) → IfSome o R

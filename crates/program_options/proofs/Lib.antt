@@ -1,4 +1,5 @@
 pub mod AddedRules
+pub mod NumberOptions
 pub mod Numerals
 pub mod OneRule
 pub mod Parsed

@@ -6,9 +6,9 @@ use Rattle.clap.specs.Built.{BuildsOrBreaks, is_broken}
 use Rattle.clap.specs.Facts.{IsParsed, args_of, groups_of}
 use Rattle.clap.specs.Faults.{fault_of, is_simple_and_free}
 use Rattle.clap.specs.Kinds.{HasKind, IsAmong}
-use Rattle.clap.specs.Matches.{one_text}
+use Rattle.clap.specs.Matches.{first_value, one_text}
 use Rattle.clap.specs.Simple.{App, HasMatchesOf, app_of, built, is_buildable, is_simple}
-use Rattle.clap.specs.Walk.{Rule, Text, one_of, rule_of}
+use Rattle.clap.specs.Walk.{Rule, Text, first_of, one_of, rule_of}
 use Rattle.clap.specs.Words.{found_of, kind_of}
 use Rattle.clap.specs.declared.builder.command.Command.{Command}
 use Rattle.clap.specs.declared.builder.command.Command.TheViews.{out-Command}
@@ -17,9 +17,9 @@ use Rattle.clap.specs.declared.error.kind.ErrorKind.TheVariants.{OutOfMemory}
 use Rattle.clap.specs.declared.parser.matches.ArgMatches.{ArgMatches}
 use Rattle.clap.specs.declared.parser.matches.Found.{Found}
 use Rattle.clap.proofs.SimpleLemmas.{is_false, is_nil}
-use Rattle.clap.proofs.WalkLemmas.{both, one_text-rows}
+use Rattle.clap.proofs.WalkLemmas.{both, first_value-rows, one_text-rows}
 use Rattle.program_options.specs.Options.{IsNumberIn}
-use Rattle.program_options.specs.Words.{AreTaken, HaveNumbers, IsOneNumber, text_in}
+use Rattle.program_options.specs.Words.{AreTaken, HaveNumbers, IsOneNumber, text_in, value_in}
 use Rattle.program_options.proofs.Parsed.{number_found}
 
 module _ (program : App) (free : is_simple_and_free program ≡ true) where
@@ -40,6 +40,11 @@ module _ (program : App) (free : is_simple_and_free program ≡ true) where
       → one_text (found_of m) id ≡ text_in program words id
   texts_found words given m matches same id =
       one_text-rows (found_of m) id ∙ ap (one_of id) (matches simple).0 ∙ ap (λ ws. text_in program ws id) same
+
+  pub values_found : (words given : List Text) (m : ArgMatches) → HasMatchesOf program given m → given ≡ words → (id : Text)
+      → first_value (found_of m) id ≡ value_in program words id
+  values_found words given m matches same id =
+      first_value-rows (found_of m) id ∙ ap (first_of id) (matches simple).0 ∙ ap (λ ws. value_in program ws id) same
 
   -- words that are taken fail for want of memory alone
   pub only_memory : (words given : List Text) (error : Error) → HasKind (fault_of program given) error → given ≡ words → AreTaken program words

@@ -7,7 +7,7 @@ use Rattle.clap.specs.declared.builder.value_parser.ValueParser.TheVariants.{Sig
 use Rattle.clap.specs.Facts.{unwrap_or_range}
 use Rattle.clap.specs.Faults.{fault_of}
 use Rattle.clap.specs.Simple.{App, built, matches_of}
-use Rattle.clap.specs.Walk.{Rule, one_of}
+use Rattle.clap.specs.Walk.{Rule, first_of, one_of}
 use Rattle.program_options.specs.Options.{IsNumberIn}
 use Rattle.program_options.specs.declared.faults.UsageFault.{UsageFault}
 use Rattle.program_options.specs.declared.faults.UsageFault.TheVariants.{Text, Memory}
@@ -19,6 +19,10 @@ AreTaken program words = fault_of program words ≡ []
 -- the text of an option: what the words give, or else its usual one
 abbrev pub text_in : App → List (List ℕ) → List ℕ → Option (List ℕ)
 text_in program words id = one_of id (matches_of program words)
+
+-- the same, as it stands in the words
+abbrev pub value_in : App → List (List ℕ) → List ℕ → Option (List ℕ)
+value_in program words id = first_of id (matches_of program words)
 
 -- The option takes one number of a range, and has a usual one.
 pub record IsNumberRule (id : List ℕ) (least greatest : ℕ) (rule : Rule) : Type 0 where

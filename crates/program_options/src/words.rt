@@ -1,8 +1,8 @@
 //! What a parse finds in a program's words.
 ghost use Rattle.std.specs.Prelude.{◌≡◌, ℕ, List, IfOk, IfErr, OnOk, true, map, string_bytes};
 ghost use Rattle.clap.specs.Faults.{is_simple_and_free};
-ghost use Rattle.clap.specs.Words.{app_of, found_of, one_text};
-ghost use Rattle.program_options.specs.Words.{AreTaken, HaveNumbers, text_in};
+ghost use Rattle.clap.specs.Words.{app_of, first_value, found_of, one_text};
+ghost use Rattle.program_options.specs.Words.{AreTaken, HaveNumbers, text_in, value_in};
 ghost use Rattle.program_options.specs.declared.faults.UsageFault.{UsageFault};
 
 use crate::faults::{UsageFault, parse_fault, words_fault};
@@ -20,6 +20,8 @@ pub fn parse_words<'a>(
 ) -> Result<ArgMatches<'a>, UsageFault>
     ensures texts { is_simple_and_free (app_of command.entry) ≡ true
         → IfOk result (λ matches. (id : List ℕ) → one_text (found_of matches) id ≡ text_in (app_of command.entry) (map string_bytes words.now) id) }
+    ensures values { is_simple_and_free (app_of command.entry) ≡ true
+        → IfOk result (λ matches. (id : List ℕ) → first_value (found_of matches) id ≡ value_in (app_of command.entry) (map string_bytes words.now) id) }
     ensures numbers { is_simple_and_free (app_of command.entry) ≡ true
         → IfOk result (λ matches. HaveNumbers (app_of command.entry) (one_text (found_of matches))) }
     ensures taken { is_simple_and_free (app_of command.entry) ≡ true

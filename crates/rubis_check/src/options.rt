@@ -1,5 +1,9 @@
 //! The options of the program.
-ghost use Rattle.std.specs.Prelude.{◌≤◌, IfOk};
+ghost use Rattle.std.specs.Prelude.{◌≡◌, ◌≤◌, IfOk, IfErr, OnOk, false, map, string_bytes};
+ghost use Rattle.clap.specs.Words.{app_of, first_value, found_of, one_text, rule_of};
+ghost use Rattle.program_options.specs.Words.{AreTaken, HaveNumbers, text_in, value_in};
+ghost use Rattle.program_options.specs.declared.faults.UsageFault.{UsageFault};
+ghost use Rattle.rubis_check.specs.Words.{AreSaid, history_rule, order_of, program};
 
 use auction_rows::{MOST_WORKERS, Opening};
 use clap::{Arg, ArgAction, ArgMatches, Command};
@@ -28,13 +32,21 @@ const WORKERS: NumberRange = NumberRange {
     greatest: MOST_WORKERS as u32,
 };
 
-fn command<'a>(alloc: Global) -> Result<Command<'a>, AllocError> {
-    let history = Arg::new(alloc, "history")
+fn history_option<'a>(alloc: Global) -> Arg<'a>
+    ensures rule { rule_of result ≡ history_rule }
+    ensures local { result.global ≡ false }
+{
+    Arg::new(alloc, "history")
         .long("history")
         .action(ArgAction::Set)
-        .required(true);
+        .required(true)
+}
+
+fn command<'a>(alloc: Global) -> Result<Command<'a>, AllocError>
+    ensures { IfOk result (λ command. app_of command ≡ program) }
+{
     let options = vec![in alloc;
-        history,
+        history_option(alloc),
         number_option(alloc, "workers", WORKERS, "1"),
         number_option(alloc, "users", FROM_ZERO, "100"),
         number_option(alloc, "categories", FROM_ZERO, "10"),
@@ -45,7 +57,9 @@ fn command<'a>(alloc: Global) -> Result<Command<'a>, AllocError> {
 }
 
 // The order that flags ask for.
-fn order_of(first: bool, strict: bool) -> Order {
+fn order_of(first: bool, strict: bool) -> Order
+    ensures { result ≡ order_of first strict }
+{
     if strict {
         Order::Strict
     } else if first {
@@ -56,10 +70,13 @@ fn order_of(first: bool, strict: bool) -> Order {
 }
 
 fn options_of(alloc: Global, matches: &ArgMatches<'_>) -> Result<Options, UsageFault>
-    ensures { IfOk result (λ options. options.workers ≤ MOST_WORKERS) }
+    ensures given { IfOk result (λ options. HaveNumbers program (one_text (found_of matches.now))
+        → AreSaid (one_text (found_of matches.now)) (first_value (found_of matches.now)) options) }
+    ensures workers { IfOk result (λ options. options.workers ≤ MOST_WORKERS) }
+    ensures memory { IfErr result (λ fault. fault ≡ UsageFault.Memory) }
 {
     let name = matches.get_str("history").unwrap_or("");
-    let Ok(history) = format!(in alloc; "{name}") else {
+    let Ok(history) = name.to_owned(alloc) else {
         return Err(UsageFault::Memory);
     };
     Ok(Options {
@@ -77,7 +94,10 @@ fn options_of(alloc: Global, matches: &ArgMatches<'_>) -> Result<Options, UsageF
 /// 10 categories, any order; a file with a history has to be named. Words that are refused, or that ask for help, are answered
 /// in `clap`'s words.
 pub fn read_options(alloc: Global, words: &[String]) -> Result<Options, UsageFault>
-    ensures { IfOk result (λ options. options.workers ≤ MOST_WORKERS) }
+    ensures given { IfOk result (AreSaid (text_in program (map string_bytes words.now)) (value_in program (map string_bytes words.now))) }
+    ensures workers { IfOk result (λ options. options.workers ≤ MOST_WORKERS) }
+    ensures taken { OnOk result (AreTaken program (map string_bytes words.now)) }
+    ensures memory { IfErr result (λ fault. AreTaken program (map string_bytes words.now) → fault ≡ UsageFault.Memory) }
 {
     let Ok(command) = command(alloc) else {
         return Err(UsageFault::Memory);
