@@ -2,7 +2,6 @@
 use Rattle.std.proofs.Common.{◌≡◌, ℕ, suc, ◌<◌, ◌≤◌, ◌==◌, Bool, true, false, cond, List, [], ◌∷◌, ◌++◌, Option, Some, None, length, take, append_assoc, refl, sym, ap, ◌∙◌, arith}
 use Rattle.std.specs.Prelude.{decimal, codes, IfSome}
 use Rattle.std.specs.Io.BufRead.{take_through, drop_through, DropsThrough}
-use Rattle.std.specs.Io.KnownBytes.{IsAtEnd}
 use Rattle.std.proofs.lemmas.List.{length-append}
 use Rattle.auction_rows.specs.declared.rows.Entry.{Entry}
 use Rattle.auction_text.specs.Replies.{history_line, reply_text}
@@ -46,10 +45,6 @@ next_read old new cleared line empty takes drops some = line_read old new line (
   at : (old : Option (List ℕ)) → IfSome old (λ text. line ≡ cleared ++ take_through 10 text) → IfSome old (λ text. line ≡ take_through 10 text)
   at None takes = tt
   at (Some text) takes = takes ∙ ap (λ xs. xs ++ take_through 10 text) empty
-
-pub none_read : (old new : Option (List ℕ)) (line : List ℕ) → IsAtEnd old → ReadsLine old new false line
-none_read None new line end = tt
-none_read (Some text) new line end = ap lines_of end
 
 -- ---- the lines that were read
 

@@ -40,8 +40,8 @@ module _ (scripts : List (List Request)) (old new : Replay) (line text : List �
       let told = right opening start order history taken in (told.0, line_is told.0 told.1 told.2, told.3)
 
 -- a fault that is handed on is that fault
-pub fault_is : (result : Result Verdict CheckFault) (fault other : CheckFault) → IsErrAnd result (λ e. e ≡ fault) → IsErrOf result other → IsErrOf {T = Option Wrong} (Err fault) other
-fault_is (Ok verdict) fault other handed is = absurd (cc is)
+pub fault_is : {T U : Type 0} (result : Result T CheckFault) (fault other : CheckFault) → IsErrAnd result (λ e. e ≡ fault) → IsErrOf result other → IsErrOf {T = U} (Err fault) other
+fault_is (Ok found) fault other handed is = absurd (cc is)
 fault_is (Err e) fault other handed is = let same : e ≡ other = cc is in ap Err (sym handed ∙ same)
 
 none_yet : (first : Option (List ℕ)) → HasRead first first []

@@ -2,7 +2,6 @@
 use Rattle.std.specs.declared.alloc.Global.{Global}
 use Rattle.std.proofs.Common.{Vec, ◌≡◌, ℕ, zero, suc, ◌+◌, ◌<◌, ◌≤◌, ◌==◌, ◌&&◌, ◌⊎◌, Bool, true, false, cond, List, [], ◌∷◌, Some, length, get_or, set, refl, subst, sym, ap, ◌∙◌, inl, inr, arith}
 use Rattle.std.specs.Prelude.{replicate}
-use Rattle.std.proofs.Math.ListN.{length-set}
 use Rattle.std.proofs.lemmas.Bool.{cases_lt, eqb-true, eq-eqb, false≢true, and_left, and_right}
 use Rattle.std.proofs.lemmas.List.{get_or_default, get_or-set_same, get_or-set_other}
 use Rattle.std.proofs.lemmas.Option.{slice_get_within}
@@ -95,17 +94,19 @@ unmarked rows worker index row is within = ap (λ r. get_or r worker false) (is 
 pub wide_at : (rows : List (List Bool)) (i : ℕ) (row : List Bool) → AreWide rows → i < length rows → row ≡ get_or rows i row → length row ≡ 16
 wide_at rows i row wide less is = ap length (is ∙ get_or_default rows i row [] less) ∙ wide i less
 
-pub wide_set : (rows : List (List Bool)) (i : ℕ) (row : List Bool) → AreWide rows → i < length rows → length row ≡ 16 → AreWide (set rows i row)
-wide_set rows i row wide within len k less = at (i == k) refl where
-  at : (b : Bool) → (i == k) ≡ b → length (get_or (set rows i row) k []) ≡ 16
-  at true e = ap (λ k. length (get_or (set rows i row) k [])) (sym (eqb-true i k e)) ∙ ap length (get_or-set_same rows i row [] within) ∙ len
-  at false e =
-      ap length (get_or-set_other rows i k row [] (λ same. false≢true (sym e ∙ eq-eqb i k (sym same)))) ∙ wide k (omega (arith, less, length-set rows i row))
-
-pub wide_row : (row : List Bool) (w : ℕ) → length row ≡ 16 → length (set row w true) ≡ 16
-wide_row row w len = length-set row w true ∙ len
+-- ---- rows with no mark
 
 pub wide_new : (n : ℕ) (row : List Bool) → length row ≡ 16 → AreWide (replicate n row)
 wide_new zero row len k less = absurd (omega arith)
 wide_new (suc n) row len zero less = len
 wide_new (suc n) row len (suc k) less = wide_new n row len k (omega arith)
+
+none_marked : (n worker : ℕ) → get_or (replicate n false) worker false ≡ false
+none_marked zero worker = refl
+none_marked (suc n) zero = refl
+none_marked (suc n) (suc worker) = none_marked n worker
+
+pub unmarked_new : (n wide worker index : ℕ) → is_marked (replicate n (replicate wide false)) worker index ≡ false
+unmarked_new zero wide worker index = refl
+unmarked_new (suc n) wide worker zero = none_marked wide worker
+unmarked_new (suc n) wide worker (suc index) = unmarked_new n wide worker index

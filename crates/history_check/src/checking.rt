@@ -1,11 +1,15 @@
 //! The check of a whole history, line by line.
-ghost use Rattle.std.specs.Prelude.{◌≡◌, ◌<◌, ◌≤◌, ◌+◌, length, IfOk, IfSome, IsErrOf};
+ghost use Rattle.std.specs.Prelude.{◌≡◌, ◌<◌, ◌≤◌, ◌+◌, List, Option, length, ℕ, IfNone, IfOk, IfSome, IsErrOf};
+ghost use Rattle.auction_rows.specs.Book.{Book as Rows};
+ghost use Rattle.auction_rows.specs.declared.numbers.Opening.{Opening};
 ghost use Rattle.item_shards.specs.OpeningBooks.{opening_of, rows_of};
 ghost use Rattle.history_check.specs.declared.lines.CheckFault.TheVariants.{TooLong};
+ghost use Rattle.history_check.specs.declared.lines.Order.{Order as Asked};
 ghost use Rattle.history_check.specs.declared.lines.Verdict.TheVariants.{Replays};
 ghost use Rattle.history_check.specs.Scripts.{lists};
 ghost use Rattle.history_check.specs.Texts.{lines_of, ReadsLine};
 ghost use Rattle.history_check.specs.Checking.{IsAccepted, IsVerdict};
+ghost use Rattle.history_check.specs.Taking.{CanTake, IsReading};
 
 use crate::lines::{CheckFault, Order, Verdict};
 use crate::replay::Replay;
@@ -38,6 +42,39 @@ fn read_next<R: BufRead>(reader: &mut R, line: &mut Vec<u8>) -> Result<bool, Che
     }
 }
 
+// Reads the next line and performs it. What is found is known where there is no next line, and where it is wrong.
+fn find_next<R: BufRead>(
+    replay: &mut Replay,
+    scripts: &[Vec<Request>],
+    number: usize,
+    reader: &mut R,
+    line: &mut Vec<u8>,
+) -> Result<Option<Verdict>, CheckFault>
+    requires workers { length scripts.now ≤ MOST_WORKERS }
+    requires number { number ≤ MOST_ROWS }
+    requires taken { CanTake (lists scripts.now) replay.old }
+    ensures goes_on { IfOk result (λ found. IfNone found ((opening : Opening) (start : Rows) (order : Asked) (first : Option (List ℕ)) →
+        IsReading opening start (lists scripts.now) order first (R.remaining reader.old) replay.old number →
+        IsReading opening start (lists scripts.now) order first (R.remaining reader.new) replay.new (number + 1))) }
+    ensures verdict { IfOk result (λ found. IfSome found (λ verdict. (opening : Opening) (start : Rows) (order : Asked) (first : Option (List ℕ)) →
+        IsReading opening start (lists scripts.now) order first (R.remaining reader.old) replay.old number →
+        IfSome first (λ text. IsVerdict opening start (lists scripts.now) order text verdict))) }
+    ensures too_long { IsErrOf result TooLong → (opening : Opening) (start : Rows) (order : Asked) (first : Option (List ℕ)) →
+        IsReading opening start (lists scripts.now) order first (R.remaining reader.old) replay.old number →
+        IfSome first (λ text. MOST_ROWS < length start + length (lines_of text)) }
+{
+    if !read_next(reader, line)? {
+        if let Some((worker, index)) = replay.lacks(scripts) {
+            return Ok(Some(Verdict::Lacks(worker, index)));
+        }
+        return Ok(Some(Verdict::Replays));
+    }
+    match replay.perform(scripts, line)? {
+        Some(wrong) => Ok(Some(Verdict::WrongAt(number + 1, wrong))),
+        None => Ok(None),
+    }
+}
+
 /// Replays a text, line by line, on an auction of one thread from the book that it is opened with, and compares each reply with
 /// that of the line. `scripts` are those of at most 16 workers. Where a line is wrong, `line` holds it. It takes time in
 /// proportion to the text, the rows, the requests, the users and the categories, and memory for the rows, the scripts and a line.
@@ -59,14 +96,8 @@ pub fn check_history<R: BufRead>(
 {
     let mut replay = Replay::new(alloc, book, scripts, order)?;
     for number in 0..MOST_ROWS + 1 {
-        if !read_next(reader, line)? {
-            if let Some((worker, index)) = replay.lacks(scripts) {
-                return Ok(Verdict::Lacks(worker, index));
-            }
-            return Ok(Verdict::Replays);
-        }
-        if let Some(wrong) = replay.perform(scripts, line)? {
-            return Ok(Verdict::WrongAt(number + 1, wrong));
+        if let Some(verdict) = find_next(&mut replay, scripts, number, reader, line)? {
+            return Ok(verdict);
         }
     }
     Err(CheckFault::TooLong)

@@ -1,12 +1,12 @@
 //! How fast windows are, alone and beside a run, and what a run pays for them.
-ghost use Rattle.std.specs.Prelude.{◌≡◌, ◌<◌, ◌≤◌};
+ghost use Rattle.std.specs.Prelude.{◌≡◌, ◌<◌, ◌≤◌, []};
 ghost use Rattle.item_shards.specs.OpeningBooks.{opening_of, rows_of};
 
 use crate::VIEW;
 use crate::timed::Timed;
 use anyhow::Result;
 use auction_rows::{ItemId, MOST_WORKERS, Opening, Request};
-use auction_run::{FreeGate, Policy, WindowBoard, run, run_shown};
+use auction_run::{Board, FreeGate, NoBoard, Policy, WindowBoard, run_shown};
 use auction_text::read_scripts;
 use auction_window::{PhaseLog, Publisher, Window, WindowName};
 use item_shards::OpeningBook;
@@ -53,16 +53,50 @@ where
     R: Threads + Wait + Sync + Clock + Print,
 {
     let book = OpeningBook::new(alloc, OPENING, read_scripts(alloc, ROWS, 1)?.rows)?;
-    measure_alone(rt, alloc, &book)?;
-    println!(rt; "a run of {WORKERS} workers, {BIDS} bids each on one item")?;
-    let all = scripts(alloc)?;
-    let begun = Instant::now(rt)?;
-    drop(run(rt, alloc, &book, all, POLICY, &FreeGate)?);
-    println!(rt; "shown to nobody: {:?}", begun.elapsed(rt)?)?;
+    measure_from(rt, alloc, &book)
+}
+
+// Prints the figures of an auction that is opened with a book.
+fn measure_from<R>(rt: &R, alloc: Global, book: &OpeningBook) -> Result<()>
+where
+    R: Threads + Wait + Sync + Clock + Print,
+{
+    measure_alone(rt, alloc, book)?;
+    measure_unshown(rt, alloc, book)?;
     for (windows, most) in [(1, 0), (1, MOST_VIEWS), (4, MOST_VIEWS), (16, MOST_VIEWS)] {
-        show_run(rt, alloc, &book, windows, most)?;
+        show_run(rt, alloc, book, windows, most)?;
     }
     Ok(())
+}
+
+// Prints how long a run takes at which nobody looks.
+fn measure_unshown<R>(rt: &R, alloc: Global, book: &OpeningBook) -> Result<()>
+where
+    R: Threads + Wait + Sync + Clock + Print,
+{
+    println!(rt; "a run of {WORKERS} workers, {BIDS} bids each on one item")?;
+    let all = scripts(alloc)?;
+    let spent = time_run(rt, alloc, book, all, &mut NoBoard)?;
+    println!(rt; "shown to nobody: {spent:?}")?;
+    Ok(())
+}
+
+// How long a run takes that a board is told of.
+fn time_run<R, B>(
+    rt: &R,
+    alloc: Global,
+    book: &OpeningBook,
+    all: Vec<Vec<Request>>,
+    board: &mut B,
+) -> Result<Duration>
+where
+    R: Threads + Wait + Sync + Clock,
+    B: Board,
+    requires { B.has board.old (opening_of book.now) (rows_of book.now) [] }
+{
+    let begun = Instant::now(rt)?;
+    run_shown(rt, alloc, book, all, POLICY, &FreeGate, board)?;
+    Ok(begun.elapsed(rt)?)
 }
 
 // Prints how fast windows are where nothing happens.
@@ -219,15 +253,12 @@ where
     let (publisher, made) = Publisher::<J>::new(rt, alloc, log, book, windows)?;
     let started = start_all(rt, alloc, made, most);
     let mut board = Timed::new(WindowBoard::new(publisher), rt);
-    let begun = Instant::now(rt);
-    let performed = run_shown(rt, alloc, book, all, POLICY, &FreeGate, &mut board);
-    let done = Instant::now(rt);
+    let spent = time_run(rt, alloc, book, all, &mut board);
     let (board, phases, publishing) = board.parts();
     let WindowBoard { publisher, told: _ } = board;
     publisher.end(rt);
     let views = join_all(rt, started?);
-    performed?;
-    let spent = done?.duration_since(begun?);
+    let spent = spent?;
     println!(rt;
         "shown to {windows} windows: {spent:?}, {publishing:?} of it to publish {phases} phases"
     )?;
