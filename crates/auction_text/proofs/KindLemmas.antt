@@ -1,8 +1,8 @@
 -- A word names a row where it begins with a plus, and else a request.
-use Rattle.std.proofs.Common.{◌≡◌, ◌==◌, ◌≤◌, ◌-◌, ◌∙◌, ℕ, List, [], ◌∷◌, Option, Some, None, cond, drop, get_or, length, length-drop, take, ap, arith, refl, sym}
+use Rattle.std.proofs.Common.{◌≡◌, ◌==◌, ◌≤◌, ◌-◌, ◌∙◌, ℕ, List, [], ◌∷◌, Option, Some, None, cond, drop, get_or, length, take, ap, arith, refl, sym}
 use Rattle.std.specs.Option.{option_map, option_or}
 use Rattle.std.proofs.lemmas.Bool.{eqb-true, false_from_ne_true}
-use Rattle.std.proofs.lemmas.List.{take_all}
+use Rattle.std.proofs.lemmas.List.{take_rest}
 use Rattle.auction_text.specs.Kinds.{kind_of, request, row, store_of, view_of}
 use Rattle.auction_text.specs.declared.kinds.RequestKind.{RequestKind}
 
@@ -18,8 +18,7 @@ pub row_is : (word : List ℕ) (found : Option RequestKind) → 1 ≤ length wor
 row_is [] found some plus is = absurd (omega (arith, some))
 row_is (first ∷ rest) found some plus is =
     let word = first ∷ rest in
-    let all = take_all (length word - 1) (drop 1 word) (omega (arith, length-drop 1 word)) in
-    ap (option_map row) (is ∙ ap store_of all) ∙ sym (ap (λ x. kind_of (x ∷ rest)) plus)
+    ap (option_map row) (is ∙ ap store_of (take_rest word 1)) ∙ sym (ap (λ x. kind_of (x ∷ rest)) plus)
 
 module _ (word : List ℕ) (plain : 1 ≤ length word → get_or word 0 0 ≡ 43 → ⊥) where
   pub store_is : (found : RequestKind) → Some found ≡ store_of word → Some (request found) ≡ kind_of word

@@ -1,5 +1,6 @@
 pub mod KindLemmas
 pub mod ListedLemmas
+pub mod MadeTexts
 pub mod NameLemmas
 pub mod NumberLemmas
 pub mod NumberedLemmas

@@ -1,6 +1,6 @@
 -- A text that lists the elements of a list by their numbers.
-use Rattle.std.proofs.Common.{arith, ◌≡◌, ◌++◌, ◌+◌, ◌<◌, ℕ, List, [], ◌∷◌, map, take, get_or, length, suc, append_assoc, refl, sym, ap}
-use Rattle.std.proofs.lemmas.List.{append-nil, length-map, length-take-le, map-append, take_more}
+use Rattle.std.proofs.Common.{arith, ◌≡◌, ◌++◌, ◌+◌, ◌<◌, ◌≤◌, ◌∙◌, ℕ, List, [], ◌∷◌, map, take, get_or, length, suc, append_assoc, refl, sym, ap}
+use Rattle.std.proofs.lemmas.List.{append-nil, length-map, length-take-le, map-append, take_all, take_more}
 use Rattle.auction_text.specs.Report.{numbered_lines}
 
 -- the line of one more element
@@ -28,3 +28,8 @@ numbered_more-map line h text xs i x within here =
     let size : 0 + length (map h (take i xs)) ≡ i = omega (arith, length-map (take i xs) h, length-take-le i xs (omega (arith, within))) in
     let next : line (0 + length (map h (take i xs))) (h x) ≡ line i (h x) = ap (λ (n : ℕ). line n (h x)) size in
     rw (take_more xs i x within, sym here, map-append h (take i xs) (x ∷ []), numbered_lines-append line 0 (map h (take i xs)) (h x), next, append_assoc) refl
+
+-- all of them
+pub numbered_all : {X Y : Type 0} (line : ℕ → Y → List ℕ) (all : List X → List Y) (text now : List ℕ) (xs : List X) (i : ℕ) → length xs ≤ i
+    → now ≡ text ++ numbered_lines line 0 (all (take i xs)) → now ≡ text ++ numbered_lines line 0 (all xs)
+numbered_all line all text now xs i over told = told ∙ ap (λ (taken : List _). text ++ numbered_lines line 0 (all taken)) (take_all i xs over)

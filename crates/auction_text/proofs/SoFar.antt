@@ -133,10 +133,6 @@ pub known_all : {Q : List ℕ → Type 0} (o : Option (List ℕ)) → ((bytes : 
 known_all None f = tt
 known_all (Some bytes) f = f bytes refl
 
-pub known_map : {P Q : List ℕ → Type 0} (o : Option (List ℕ)) → IfSome o P → ((bytes : List ℕ) → o ≡ Some bytes → P bytes → Q bytes) → IfSome o Q
-known_map None p f = tt
-known_map (Some bytes) p f = f bytes refl p
-
 -- a reader of the whole input
 pub reading_none : {R : Type 0} (rem : R → Option (List ℕ)) (workers : ℕ) (bytes : List ℕ) (reader : Reader R)
     → source_of rem reader ≡ Some (strip_bom bytes) → reader.state ≡ st.StartRecord → IsReading rem workers bytes 0 false reader (nothing_asked workers)

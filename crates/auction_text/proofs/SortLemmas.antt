@@ -1,5 +1,5 @@
 -- There is one list in order, and a sort finds it.
-use Rattle.std.proofs.Common.{◌≡◌, ◌∷◌, ◌∙◌, ◌<◌, ◌≤◌, ◌+◌, ℕ, zero, suc, Bool, true, false, cond, List, [], map, length, refl, sym, ap, subst, arith, get_or, inl, inr, not}
+use Rattle.std.proofs.Common.{◌≡◌, ◌∷◌, ◌∙◌, ◌<◌, ◌≤◌, ◌+◌, ℕ, zero, suc, Bool, true, false, cond, List, [], length, refl, sym, ap, subst, arith, get_or, inl, inr, not}
 use Rattle.std.specs.Cmp.{IsStrictWeakOrder}
 use Rattle.std.specs.List.{AllByRecursion, filter}
 use Rattle.std.specs.List.Sorted.{IsPermutation, IsSortedBy, IsStableBy, ties}
@@ -164,18 +164,3 @@ module _ {X : Type 0} (lt : X → X → Bool) where
   unfolding sorted
   permutation-sorted [] = IsPermutation-refl []
   permutation-sorted (x ∷ xs) = IsPermutation-trans _ _ _ (IsPermutation-cons x _ _ (permutation-sorted xs)) (permutation-put_in x (sorted lt xs))
-
--- a list put in order by what each stands for
-module _ {X Y : Type 0} (f : X → Y) (lt : Y → Y → Bool) where
-  map-put_in : (x : X) (xs : List X) → map f (put_in (λ a b. lt (f a) (f b)) x xs) ≡ put_in lt (f x) (map f xs)
-  unfolding put_in
-  map-put_in x [] = refl
-  map-put_in x (y ∷ ys) = elim (cases_Bool (lt (f y) (f x))) [
-    | inl before ↦ rw before (ap (λ (l : List Y). f y ∷ l) (map-put_in x ys))
-    | inr after ↦ rw after refl
-  ]
-
-  pub map-sorted : (xs : List X) → map f (sorted (λ a b. lt (f a) (f b)) xs) ≡ sorted lt (map f xs)
-  unfolding sorted
-  map-sorted [] = refl
-  map-sorted (x ∷ xs) = map-put_in x (sorted (λ a b. lt (f a) (f b)) xs) ∙ ap (put_in lt (f x)) (map-sorted xs)

@@ -26,13 +26,14 @@ fn is_late(last: &Option<EntryRef<'_>>, entry: &EntryRef<'_>) -> bool
     }
 }
 
-// The entries of a worker that were committed after a later request of its script, as those put off are, in order: they are few.
-fn late_entries(
+// The entries of a worker that were committed after a later request of its script, as those put off are, in the order of their
+// commits: they are few.
+fn late_as_committed(
     alloc: Global,
     history: &History,
     worker: u32,
 ) -> Result<Vec<EntryRef<'_>>, AllocError>
-    ensures { IfOk result (λ entries. entries.items ≡ in_order (late comes_before None (part entry_worker worker history.now.entries))) }
+    ensures { IfOk result (λ entries. entries.items ≡ late comes_before None (part entry_worker worker history.now.entries)) }
 {
     let mut entries = Vec::new(alloc);
     let mut last = None;
@@ -43,6 +44,18 @@ fn late_entries(
             last = Some(entry);
         }
     }
+    Ok(entries)
+}
+
+// The same in order.
+fn late_entries(
+    alloc: Global,
+    history: &History,
+    worker: u32,
+) -> Result<Vec<EntryRef<'_>>, AllocError>
+    ensures { IfOk result (λ entries. entries.items ≡ in_order (late comes_before None (part entry_worker worker history.now.entries))) }
+{
+    let mut entries = late_as_committed(alloc, history, worker)?;
     entries.sort_by_cached_key(|entry| (entry.worker(), entry.index()))?;
     Ok(entries)
 }
@@ -79,9 +92,30 @@ fn push_lines(text: &mut Vec<u8>, entries: &[EntryRef<'_>]) -> Result<(), AllocE
     Ok(())
 }
 
+// Adds the lines of a worker's entries. They are read where they lie, in the order of their commits, and those that are late,
+// which are given in order, are put in between.
+fn push_in_turn(
+    text: &mut Vec<u8>,
+    history: &History,
+    worker: u32,
+    delayed: &[EntryRef<'_>],
+) -> Result<(), AllocError>
+    requires { delayed.now ≡ in_order (late comes_before None (part entry_worker worker history.now.entries)) }
+    ensures { OnOk result (text.new.items ≡ text.old.items ++ lines reply_line (in_order (part entry_worker worker history.now.entries))) }
+{
+    let mut told = 0;
+    let mut last = None;
+    for entry in history.of_worker(worker) {
+        if !is_late(&last, &entry) {
+            told = push_before(text, delayed, told, &entry)?;
+            push_reply_line(text, &entry)?;
+            last = Some(entry);
+        }
+    }
+    push_lines(text, &delayed[told..])
+}
+
 /// Adds the line of each of a worker's entries among the replies, by index, then place.
-///
-/// They are read where they lie, in the order of their commits, and those that are late are put in between.
 pub fn push_replies_of(
     alloc: Global,
     text: &mut Vec<u8>,
@@ -91,14 +125,5 @@ pub fn push_replies_of(
     ensures { OnOk result (text.new.items ≡ text.old.items ++ lines reply_line (in_order (part entry_worker worker history.now.entries))) }
 {
     let late = late_entries(alloc, history, worker)?;
-    let mut told = 0;
-    let mut last = None;
-    for entry in history.of_worker(worker) {
-        if !is_late(&last, &entry) {
-            told = push_before(text, late.as_slice(), told, &entry)?;
-            push_reply_line(text, &entry)?;
-            last = Some(entry);
-        }
-    }
-    push_lines(text, &late[told..])
+    push_in_turn(text, history, worker, late.as_slice())
 }

@@ -108,14 +108,15 @@ pub fn push_category_lines(text: &mut Vec<u8>, categories: &[Reply]) -> Result<(
 fn push_user_line(text: &mut Vec<u8>, user: u64, seen: &Reply) -> Result<(), AllocError>
     ensures { OnOk result (text.new.items ≡ text.old.items ++ user_line user seen.now) }
 {
-    match seen {
-        Reply::UserSeen { rating, comments } if *comments != 0 => {
-            push_labelled(text, b"user ", user)?;
-            push_score(text, *rating, *comments)?;
-            push_text(text, b"\n")
-        }
-        _ => Ok(()),
+    let Reply::UserSeen { rating, comments } = seen else {
+        return Ok(());
+    };
+    if *comments == 0 {
+        return Ok(());
     }
+    push_labelled(text, b"user ", user)?;
+    push_score(text, *rating, *comments)?;
+    push_text(text, b"\n")
 }
 
 /// Adds the line of each user with comments.

@@ -1,5 +1,5 @@
 //! The writing of texts.
-ghost use Rattle.std.specs.Prelude.{◌≡◌, ◌↔◌, map, IfOk, IfErr, IsErr, IsOkAnd, OnOk};
+ghost use Rattle.std.specs.Prelude.{◌≡◌, ◌↔◌, ◌++◌, map, IfOk, IfErr, IsErr, IsOkAnd, OnOk};
 ghost use Rattle.std.specs.Io.KnownBytes.{Appends};
 ghost use Rattle.auction_text.specs.Replies.{history_text, replies_text};
 ghost use Rattle.auction_text.specs.Report.{report_text};
@@ -93,7 +93,22 @@ fn rows_text(alloc: Global, rows: &[Row], history: &History) -> Result<Vec<u8>, 
     Ok(text)
 }
 
-#[tactic(auto, unfolding(crate::specs::Report::report_text))]
+// Adds the parts of a report, one after the other.
+fn push_report(
+    text: &mut Vec<u8>,
+    history: &History,
+    hot: &[IndexSet<Object>],
+    lines: &ReportLines,
+) -> Result<(), AllocError>
+    ensures { OnOk result (text.new.items ≡ text.old.items ++ report_text history.now.entries (map (λ set. set.keys) hot.now)
+        lines.now.categories.items lines.now.users.items) }
+{
+    push_counts(text, hot.len(), history)?;
+    push_hot_lines(text, hot)?;
+    push_category_lines(text, lines.categories.as_slice())?;
+    push_user_lines(text, lines.users.as_slice())
+}
+
 fn report_text(
     alloc: Global,
     history: &History,
@@ -105,10 +120,7 @@ fn report_text(
 {
     let sure = lines.categories.len().saturating_add(COUNT_LINES);
     let mut text = Vec::with_capacity(alloc, sure.saturating_mul(ROOM_OF_A_LINE))?;
-    push_counts(&mut text, hot.len(), history)?;
-    push_hot_lines(&mut text, hot)?;
-    push_category_lines(&mut text, lines.categories.as_slice())?;
-    push_user_lines(&mut text, lines.users.as_slice())?;
+    push_report(&mut text, history, hot, lines)?;
     Ok(text)
 }
 

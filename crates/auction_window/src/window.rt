@@ -103,7 +103,9 @@ impl<J: WindowName> Window<J> {
         let shown = replace_with(&mut self.reader, &self.phases, |reader, known| {
             look(reader, known, request)
         });
-        let (phases, reply) = shown.ok_or(NoGuard)?;
+        let Some((phases, reply)) = shown else {
+            return Err(NoGuard);
+        };
         let count = phases.len();
         self.phases = phases;
         Ok(Some(Seen {

@@ -1,5 +1,5 @@
 -- Numbers of commits, and two acts in turn.
-use Rattle.std.proofs.Common.{◌≡◌, ℕ, suc, max, ◌<◌, Bool, List, [], ◌∷◌, Some, length, get_or, refl, sym, subst, arith}
+use Rattle.std.proofs.Common.{◌≡◌, ℕ, suc, max, ◌<◌, ◌≤◌, Bool, List, [], ◌∷◌, Some, length, get_or, refl, sym, subst, arith}
 use Rattle.std.specs.Prelude.{nat_lt}
 use Rattle.std.proofs.lemmas.Bool.{ltb-true}
 use Rattle.std.proofs.lemmas.Option.{cond_some}
@@ -17,6 +17,10 @@ pub next_found : (a b number : ℕ) → Some number ≡ next_number a b → (max
 next_found a b number is =
     let chosen = cond_some (nat_lt (max a b) last_number) (suc (max a b)) number (sym is) in
     (ltb-true (max a b) last_number chosen.0, omega (arith, chosen.1))
+
+-- it comes after both, up to the last one
+pub comes_after : (a b number : ℕ) → (max a b < last_number) × (number ≡ suc (max a b)) → (b < number) × (number ≤ last_number)
+comes_after a b number found = (omega (arith, found.1), omega (arith, found.0, found.1))
 
 -- a list of two is its two elements
 pub two_of : (acts : List Act) (a b : Act) → length acts ≡ 2 → acts ≡ get_or acts 0 a ∷ get_or acts 1 b ∷ []

@@ -156,7 +156,7 @@ module _ (start : Opening) (all : List Opened) (fits : ¬ IsTooLong all) (i : �
       let few : total 16 part ≤ 16 * 1000000 = total_at_most 16 part (λ worker under. omega (arith, part_asks all (i + 1) worker, few_of_each all fits worker under)) in
       omega (arith, rows_counted start [] (take i all) are, all_counted part known, few, ap length longer, length-append (take i all) (opened ∷ []))
 
-  pub not_last : opened.worker < 16 → i < 16000000
+  pub not_last : opened.worker < 16 → i + 1 ≤ 16000000
   not_last below = omega (arith, not_full below, rows_counted start [] (take i all) are, length-take-le i all (omega (arith, within)))
 
   pub rows_more : IsRow start (opening_rows start (take i all)) opened → AreRows start (take (i + 1) all)
@@ -252,6 +252,15 @@ number_of Memory = 0
 abbrev fault_in : {T : Type 0} → Result T ResumeFault → ResumeFault
 fault_in (Ok x) = Memory
 fault_in (Err fault) = fault
+
+pub not_long : {T : Type 0} (n : ℕ) → IsErrOf {T = T} (Err (BadRow n)) TooLong → ⊥
+not_long n e = absurd (cc e)
+
+pub not_row : {T : Type 0} (n : ℕ) → IsErrOf {T = T} (Err TooLong) (BadRow n) → ⊥
+not_row n e = absurd (cc e)
+
+pub no_fault : {T : Type 0} (x : T) (fault : ResumeFault) → IsErrOf (Ok x) fault → ⊥
+no_fault x fault e = absurd (cc e)
 
 pub same_number : {T : Type 0} (n m : ℕ) → IsErrOf {T = T} (Err (BadRow n)) (BadRow m) → n ≡ m
 same_number n m e = ap (λ result. number_of (fault_in result)) e

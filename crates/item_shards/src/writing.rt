@@ -28,8 +28,8 @@ impl Shard {
                     id: row.id,
                 };
                 self.prepare_item(row.id)?;
-                self.act(&Act::AddItem(row.id, row.facts));
-                self.act(&Act::ListItem(row.facts.category, entry));
+                self.add_item(row.id, row.facts);
+                self.list_item(row.facts.category, entry);
             }
             Row::Bid(row) => {
                 let entry = BidEntry {

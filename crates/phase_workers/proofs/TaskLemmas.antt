@@ -27,6 +27,12 @@ next_script (x ∷ xs) (suc n) m script less is one =
     let e : suc (n + 1) ≡ m = omega (arith, one) in
     next_script xs n (n + 1) script (omega (arith, less)) is refl ∙ ap (λ k. script.items ∷ drop k (lists (x ∷ xs))) e
 
+pub next_within : (n left rest all : ℕ) → left + 1 ≡ rest → n + rest ≡ all → n < all
+next_within n left rest all one so_far = omega (arith, one, so_far)
+
+pub one_made : (n m left rest all : ℕ) → m ≡ n + 1 → left + 1 ≡ rest → n + rest ≡ all → m + left ≡ all
+one_made n m left rest all longer one so_far = omega (arith, longer, one, so_far)
+
 pub next_task : {P : Type 0} (shows : P → PermitState) (first : ℕ) (left next : List P) (permit : P) (rest after : List (List Request)) (script : List Request) →
     left ≡ permit ∷ next → rest ≡ script ∷ after → tasks (map shows left) rest first ≡ task (shows permit) script first ∷ tasks (map shows next) after first
 next_task shows first left next permit rest after script is are =

@@ -1,5 +1,5 @@
 -- What a permit's calls are after one more request.
-use Rattle.std.proofs.Common.{◌≡◌, ℕ, zero, suc, ◌+◌, ◌-◌, ◌<◌, Bool, true, false, cond, List, [], ◌∷◌, ◌++◌, length, map, take, drop, Some, None, refl, sym, ap, subst, ◌∙◌, append_assoc, arith}
+use Rattle.std.proofs.Common.{◌≡◌, ℕ, zero, suc, ◌+◌, ◌-◌, ◌<◌, ◌≤◌, Bool, true, false, cond, List, [], ◌∷◌, ◌++◌, length, map, take, drop, Some, None, refl, sym, ap, subst, ◌∙◌, append_assoc, arith}
 use Rattle.std.specs.Prelude.{Option, IfSome, IfNone, Result, Ok, Err, OnOk, IfErr, IsErrAnd, slice_get, not, unwrap_or}
 use Rattle.std.specs.List.{filter, AllByRecursion}
 use Rattle.std.proofs.Math.Seq.{drop-nil}
@@ -158,6 +158,19 @@ dealt_next opening old new request index Stashed h = record {
   left = ap (λ d. d.left) h.context;
   tries = ap (λ d. d.tries) h.context;
 }
+
+-- a place of the quota is one of the script
+pub within_script : (first place left long : ℕ) → place < left → left ≤ long - first → first + place < long
+within_script first place left long less given = omega (arith, less, given)
+
+pub some_left : (now place left : ℕ) → now + place ≡ left → place < left → 0 < now
+some_left now place left so_far less = omega (arith, so_far, less)
+
+pub try_left : (now old place left most : ℕ) → now ≤ old + place → place < left → old + left ≤ most → now < most
+try_left now old place left most so_far less given = omega (arith, so_far, less, given)
+
+pub tries_by : (now old place left : ℕ) → now ≤ old + place → place ≤ left → now ≤ old + left
+tries_by now old place left so_far within = omega (arith, so_far, within)
 
 -- one call more of those from an index on, where some of each are kept
 pub kept_more : (p : ℕ × Request → Bool) (done so_far now front : List (ℕ × Request)) (next : List (ℕ × Request)) (call : ℕ × Request) →

@@ -7,7 +7,7 @@ use Rattle.std.specs.declared.cmp.Ordering.TheVariants.{Less, Equal, Greater}
 use Rattle.std.specs.FinMap.Entries.{by_order}
 use Rattle.std.proofs.lemmas.Option.{slice_get-get_or, none-some, same_Some}
 use Rattle.std.proofs.lemmas.List.{take_all, take_at, length-take}
-use Rattle.std.proofs.lemmas.List.Edits.{length-insert, insert-append_left}
+use Rattle.std.proofs.lemmas.List.Edits.{length-insert, insert_end, insert-append_left}
 use Rattle.phase_laws.specs.Placing.{placed}
 use Rattle.phase_laws.specs.Ranking.{IsDescending, top}
 use Rattle.phase_laws.proofs.DescendingLemmas.{greater_from_less, less_from_greater}
@@ -34,6 +34,12 @@ module _ {E : Type 0} {order : E → E → Ordering} (o : IsTotalOrder order) wh
       let first : order w x ≡ Greater = greater_from_less o x w (o.trans x y w (less_from_greater o y x g) above) in
       ap (λ r. by_order r (x ∷ w ∷ ws) (w ∷ ws) (w ∷ placed order x ws)) first ∙ ap (λ l. w ∷ l) (placed_behind x ws i y at g d.1 after)
 
+  -- where the entry at i is less, one goes before it and those after it
+  pub placed_before : (x : E) (xs : List E) (i : ℕ) (y : E) → slice_get xs i ≡ Some y → order y x ≡ Less → placed order x (drop i xs) ≡ x ∷ drop i xs
+  placed_before x [] i y at l = absurd (none-some y at)
+  placed_before x (w ∷ ws) zero y at l = ap (λ r. by_order r (x ∷ w ∷ ws) (w ∷ ws) (w ∷ placed order x ws)) (ap (λ v. order v x) (same_Some w y at) ∙ l)
+  placed_before x (w ∷ ws) (suc i) y at l = placed_before x ws i y at l
+
   -- where the entry at i ties, nothing changes
   pub placed_at_tie : (x : E) (xs : List E) (i : ℕ) (y : E) → slice_get xs i ≡ Some y → order y x ≡ Equal → IsDescending order xs → placed order x xs ≡ xs
   placed_at_tie x [] i y at tie d = absurd (none-some y at)
@@ -52,6 +58,10 @@ module _ {E : Type 0} {order : E → E → Ordering} (o : IsTotalOrder order) wh
 -- with room, all stay
 pub put_within : {E : Type 0} (k i : ℕ) (xs : List E) (x : E) → i ≤ length xs → length xs < k → insert xs i x ≡ take k (insert xs i x)
 put_within k i xs x h room = sym (take_all k (insert xs i x) (omega (arith, length-insert xs i x h)))
+
+-- where the list is full, what goes after it is dropped
+pub put_past : {E : Type 0} (k i : ℕ) (xs : List E) (x : E) → i ≡ length xs → length xs ≡ k → xs ≡ take k (insert xs i x)
+put_past k i xs x at full = sym (ap (λ j. take k (insert xs j x)) at ∙ ap (take k) (insert_end xs x) ∙ take_at xs (x ∷ []) k full)
 
 -- where the list is full, the last goes
 pub put_for_last : {E : Type 0} (k i : ℕ) (xs : List E) (x : E) → i < k → length xs ≡ k → insert (take (length xs - 1) xs) i x ≡ take k (insert xs i x)

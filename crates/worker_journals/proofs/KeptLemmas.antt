@@ -1,5 +1,6 @@
 -- Loops that put the values of a list at the end of another one.
-use Rattle.std.proofs.Common.{◌≡◌, ℕ, ◌+◌, ◌-◌, ◌<◌, ◌≤◌, List, [], ◌∷◌, ◌++◌, Some, length, take, take_all, drop, get_or, slice_get, arith, ap, subst, sym, ◌∙◌, append_assoc}
+use Rattle.std.proofs.Common.{◌≡◌, ℕ, zero, suc, ◌+◌, ◌-◌, ◌<◌, ◌≤◌, List, [], ◌∷◌, ◌++◌, Some, length, take, take_all, drop, get_or, slice_get, arith, refl, ap, subst, sym, ◌∙◌, append_assoc, length-append}
+use Rattle.std.specs.Prelude.{IsSome}
 use Rattle.std.proofs.lemmas.List.{length-take, take_more}
 use Rattle.std.proofs.lemmas.Option.{get_or_from_slice_get}
 use Rattle.auction_rows.specs.declared.replies.BidShown.{BidShown}
@@ -22,9 +23,21 @@ module _ {X : Type 0} (start shown : List X) (place : ℕ) where
       ∙ append_assoc start (take place shown) (value ∷ [])
       ∙ ap (λ ys. start ++ ys) (sym more)
 
+  -- there is room for one of at most ten more
+  pub room_left : (list : List X) (len capacity len' capacity' : ℕ) → place < 10 → list ≡ start ++ take place shown →
+      len ≡ length start → len' ≡ length list → capacity' ≡ capacity → len + 10 ≤ capacity → len' < capacity'
+  room_left list len capacity len' capacity' few so_far long long' same room =
+      omega (arith, ap length so_far, length-append start (take place shown), length-take place shown, few, long, long', same, room)
+
   -- all values are
   pub all_there : (list : List X) → length shown ≤ place → list ≡ start ++ take place shown → list ≡ start ++ shown
   all_there list past so_far = so_far ∙ ap (λ ys. start ++ ys) (take_all place shown past)
+
+-- a place within a list has a value
+pub some_there : {X : Type 0} (xs : List X) (place : ℕ) → place < length xs → IsSome (slice_get xs place)
+some_there [] place within = absurd (omega arith)
+some_there (x ∷ xs) zero within = refl
+some_there (x ∷ xs) (suc place) within = some_there xs place (omega arith)
 
 -- The same of a loop that begins with an empty list.
 pub one_read : {X : Type 0} (all : List X) (place : ℕ) (before after : List X) (value : X) → place < length all → value ≡ get_or all place value →

@@ -37,6 +37,10 @@ only_item (CategorySeen items) seen e = absurd (cc)
 only_item (UserSeen rating comments) seen e = absurd (cc)
 only_item (Refused reason) seen e = absurd (cc)
 
+-- a reply that shows an item shows one
+pub not_none : {X : Type 0} (xs : List X) (x : X) → [] ≡ xs → xs ≡ x ∷ [] → ⊥
+not_none xs x none one = absurd (cc)
+
 -- no value more
 pub none_more : {X : Type 0} (xs more : List X) → [] ≡ more → xs ≡ xs ++ more
 none_more xs more none = sym (append-nil xs) ∙ ap (λ m. xs ++ m) none

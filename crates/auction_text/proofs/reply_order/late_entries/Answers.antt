@@ -1,38 +1,14 @@
-use Rattle.std.proofs.Common.{rules, ◌≡◌, ◌∙◌, ◌∷◌, ◌++◌, List, [], ap, sym, append_assoc}
-use Rattle.std.proofs.lemmas.List.{append-nil}
+use Rattle.std.proofs.Common.{rules, ◌∙◌, List, ap}
 use Rattle.std.proofs.lemmas.List.Sorted.{answers_always}
 use Rattle.auction_rows.specs.declared.rows.Entry.{Entry}
 use Rattle.auction_text.specs.Order.{comes_before, in_order}
-use Rattle.auction_text.specs.Turns.{late}
 use Rattle.auction_text.proofs.PartLemmas.{entry_order}
 use Rattle.auction_text.proofs.SortLemmas.{sorted_once}
-use Rattle.auction_text.proofs.TurnLemmas.{late-late, late-in_turn}
 use Rattle.auction_text.proofs.reply_order.late_entries.Goals as goal
 
-pub loop-entry-preserved-in-Continue-1 : goal.loop-entry-preserved-in-Continue-1
-loop-entry-preserved-in-Continue-1 c =
-    let pushed : c.push.new.self.items ≡ c.loop-entry.entries.items ++ c.in-Some.entry ∷ [] = search rules in
-    ap (λ (es : List Entry). es ++ late comes_before c.loop-entry.last c.next.new.self) pushed
-    ∙ append_assoc c.loop-entry.entries.items (c.in-Some.entry ∷ []) (late comes_before c.loop-entry.last c.next.new.self)
-    ∙ ap (λ (es : List Entry). c.loop-entry.entries.items ++ es)
-    (sym (late-late comes_before c.loop-entry.last c.in-Some.entry c.next.new.self (search rules))
-    ∙ ap (late comes_before c.loop-entry.last) (sym c.in-Some.ensures.steps))
-    ∙ c.loop-entry.invariant
-
-pub loop-entry-preserved : goal.loop-entry-preserved
-loop-entry-preserved c =
-    ap (λ (es : List Entry). c.loop-entry.entries.items ++ es)
-    (sym (late-in_turn comes_before c.loop-entry.last c.in-Some.entry c.next.new.self (search rules))
-    ∙ ap (late comes_before c.loop-entry.last) (sym c.in-Some.ensures.steps))
-    ∙ c.loop-entry.invariant
-
 pub returns : goal.returns
-unfolding late
 returns c =
     let up = c.in_ok-sort_by_cached_key.ensures.sorted (λ (e : Entry). (e.worker, e.index)) (answers_always _ _ _ (λ f a r g called. search rules)) in
     let stable = c.in_ok-sort_by_cached_key.ensures.stable (λ (e : Entry). (e.worker, e.index)) (answers_always _ _ _ (λ f a r g called. search rules)) in
-    sorted_once comes_before entry_order c.loop-entry.entries.items c.sort_by_cached_key.new.self.items up stable
-    ∙ ap (λ (es : List Entry). in_order es)
-    (sym (append-nil c.loop-entry.entries.items)
-    ∙ ap (λ (es : List Entry). c.loop-entry.entries.items ++ late comes_before c.loop-entry.last es) (sym c.in-None.ensures.steps.0)
-    ∙ c.loop-entry.invariant)
+    sorted_once comes_before entry_order c.in_ok-entries.entries.items c.sort_by_cached_key.new.self.items up stable
+    ∙ ap (λ (es : List Entry). in_order es) c.in_ok-entries.ensures

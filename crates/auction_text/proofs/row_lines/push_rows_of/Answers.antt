@@ -1,4 +1,4 @@
-use Rattle.std.proofs.Common.{rules, ◌≡◌, ◌∙◌, ◌++◌, ◌∷◌, option_to_list, List, ℕ, Option, Some, None, ap, refl, sym, append_assoc}
+use Rattle.std.proofs.Common.{◌≡◌, ◌∙◌, ◌++◌, ◌∷◌, option_to_list, List, ℕ, Option, Some, None, ap, refl, sym, append_assoc}
 use Rattle.std.proofs.lemmas.Grind.{flat_map-append}
 use Rattle.std.proofs.lemmas.List.{append-nil}
 use Rattle.auction_rows.specs.declared.rows.Entry.{Entry}
@@ -26,8 +26,7 @@ line_more text e rest left is =
 pub loop-entry-preserved : goal.loop-entry-preserved
 loop-entry-preserved c =
     let e = c.in-Some.entry in
-    let more : c.push_row_of.new.text.items ≡ c.loop-entry.text.items ++ lines row_line (option_to_list (row_of_entry e)) = search rules in
-    ap (λ (text : List ℕ). text ++ lines row_line (rows_of c.next.new.self)) more
+    ap (λ (text : List ℕ). text ++ lines row_line (rows_of c.next.new.self)) c.in_ok-push_row_of.ensures
     ∙ line_more c.loop-entry.text.items e c.next.new.self c.loop-entry.entry-iterator c.in-Some.ensures.steps
     ∙ c.loop-entry.invariant
 

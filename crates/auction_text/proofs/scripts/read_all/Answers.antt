@@ -1,4 +1,5 @@
-use Rattle.std.proofs.Common.{rules, arith, sym, ◌∙◌, ◌≡◌, true, false, Err}
+use Rattle.std.proofs.Common.{ap, arith, sym, ◌∙◌, ◌≡◌, true, false, Err}
+use Rattle.std.proofs.lemmas.Result.{IfOk-from_err, err_from_is_err_and}
 use Rattle.csv.specs.Records.{fields_of}
 use Rattle.auction_text.specs.declared.scripts.TheConstants.{MOST_RECORDS}
 use Rattle.auction_text.specs.Scripts.{asked_by}
@@ -15,15 +16,16 @@ loop-count-init g c = record {
 pub returns-then-not-branch-clause-input : goal.returns-then-not-branch-clause-input
 returns-then-not-branch-clause-input g c = λ bytes at.
     let inv = c.loop-count.invariant in
-    let found : c.in_ok-read_next.field-0 ≡ false = search rules in
+    let found : c.in_ok-read_next.field-0 ≡ false = c.if-not-branch.true in
     reading_end g.R.Read.remaining c.args.workers bytes c.loop-count.count c.loop-count.begun c.loop-count.records c.read_next.new.records _ (fields_of c.read_next.new.fields)
     (inv.reads bytes at) inv.plain.0 (rw found at c.in_ok-read_next.ensures.reads)
 
 pub returns-in_err-said-clause-fault : goal.returns-in_err-said-clause-fault
 returns-in_err-said-clause-fault g c =
     let inv = c.loop-count.invariant in
-    let found : c.in_ok-read_next.field-0 ≡ true = search rules in
-    let fault : c.from_residual-in_err-said.result ≡ Err c.in_err-said.field-0.0 = search rules in
+    let found : c.in_ok-read_next.field-0 ≡ true = c.if-not-branch.false in
+    let failed = err_from_is_err_and c.from_residual-in_err-said.result c.from_residual-in_err-said.ensures.1 in
+    let fault : c.from_residual-in_err-said.result ≡ Err c.in_err-said.field-0.0 = failed.1 ∙ ap Err failed.2 in
     rw fault (λ input bytes at.
     reading_fault g.R.Read.remaining c.args.workers bytes c.loop-count.count c.loop-count.begun c.loop-count.records c.read_next.new.records _ (fields_of c.read_next.new.fields) _
     (inv.reads bytes at) inv.plain.0 (rw found at c.in_ok-read_next.ensures.reads) c.loop-count-test.true (sym c.in_err-said.ensures.value))
@@ -31,7 +33,7 @@ returns-in_err-said-clause-fault g c =
 pub loop-count-preserved : goal.loop-count-preserved
 loop-count-preserved g c =
     let inv = c.loop-count.invariant in
-    let found : c.in_ok-read_next.field-0 ≡ true = search rules in
+    let found : c.in_ok-read_next.field-0 ≡ true = c.if-not-branch.false in
     record {
       plain = c.in_ok-read_next.ensures.plain found;
       counts = c.add_record.ensures.count ∙ inv.counts;
@@ -45,7 +47,7 @@ pub returns-then-branch-clause-fault : goal.returns-then-branch-clause-fault
 returns-then-branch-clause-fault g c = λ input bytes at.
     let inv = c.loop-count.invariant in
     let reads = inv.reads bytes at in
-    let found : c.in_ok-read_next-2.field-0 ≡ true = search rules in
+    let found : c.in_ok-read_next-2.field-0 ≡ true = c.if-branch.true in
     let all : c.loop-count.count ≡ MOST_RECORDS = omega arith in
     reading_long g.R.Read.remaining c.args.workers bytes c.loop-count.begun c.loop-count.records c.read_next-2.new.records _ (fields_of c.read_next-2.new.fields)
     (rw all at reads) inv.plain.0 (rw found at c.in_ok-read_next-2.ensures.reads)
@@ -53,6 +55,30 @@ returns-then-branch-clause-fault g c = λ input bytes at.
 pub returns-clause-input : goal.returns-clause-input
 returns-clause-input g c = λ bytes at.
     let inv = c.loop-count.invariant in
-    let found : c.in_ok-read_next-2.field-0 ≡ false = search rules in
+    let found : c.in_ok-read_next-2.field-0 ≡ false = c.if-branch.false in
     reading_end g.R.Read.remaining c.args.workers bytes c.loop-count.count c.loop-count.begun c.loop-count.records c.read_next-2.new.records _ (fields_of c.read_next-2.new.fields)
     (inv.reads bytes at) inv.plain.0 (rw found at c.in_ok-read_next-2.ensures.reads)
+
+pub returns-in_err-read_next-clause-input : goal.returns-in_err-read_next-clause-input
+returns-in_err-read_next-clause-input g c = IfOk-from_err c.from_residual.result _ c.from_residual.ensures.0
+
+pub returns-in_err-read_next-clause-count : goal.returns-in_err-read_next-clause-count
+returns-in_err-read_next-clause-count g c = IfOk-from_err c.from_residual.result _ c.from_residual.ensures.0
+
+pub returns-in_err-said-clause-input : goal.returns-in_err-said-clause-input
+returns-in_err-said-clause-input g c = IfOk-from_err c.from_residual-in_err-said.result _ c.from_residual-in_err-said.ensures.0
+
+pub returns-in_err-said-clause-count : goal.returns-in_err-said-clause-count
+returns-in_err-said-clause-count g c = IfOk-from_err c.from_residual-in_err-said.result _ c.from_residual-in_err-said.ensures.0
+
+pub returns-in_err-add_record-clause-input : goal.returns-in_err-add_record-clause-input
+returns-in_err-add_record-clause-input g c = IfOk-from_err c.from_residual-in_err-add_record.result _ c.from_residual-in_err-add_record.ensures.0
+
+pub returns-in_err-add_record-clause-count : goal.returns-in_err-add_record-clause-count
+returns-in_err-add_record-clause-count g c = IfOk-from_err c.from_residual-in_err-add_record.result _ c.from_residual-in_err-add_record.ensures.0
+
+pub returns-in_err-read_next-2-clause-input : goal.returns-in_err-read_next-2-clause-input
+returns-in_err-read_next-2-clause-input g c = IfOk-from_err c.from_residual-in_err-read_next-2.result _ c.from_residual-in_err-read_next-2.ensures.0
+
+pub returns-in_err-read_next-2-clause-count : goal.returns-in_err-read_next-2-clause-count
+returns-in_err-read_next-2-clause-count g c = IfOk-from_err c.from_residual-in_err-read_next-2.result _ c.from_residual-in_err-read_next-2.ensures.0

@@ -1,4 +1,4 @@
-use Rattle.std.proofs.Common.{rules, ◌≡◌, ◌∙◌, ◌++◌, ◌∷◌, List, ℕ, ap, sym, append_assoc}
+use Rattle.std.proofs.Common.{◌≡◌, ◌∙◌, ◌++◌, ◌∷◌, List, ℕ, ap, sym, append_assoc}
 use Rattle.std.proofs.lemmas.List.{append-nil}
 use Rattle.auction_rows.specs.declared.rows.Entry.{Entry}
 use Rattle.auction_text.specs.Replies.{history_line, lines}
@@ -10,8 +10,7 @@ line_more text e rest left is = append_assoc text (history_line e) (lines histor
 
 pub loop-entry-preserved : goal.loop-entry-preserved
 loop-entry-preserved c =
-    let more : c.push_history_line.new.text.items ≡ c.loop-entry.text.items ++ history_line c.in-Some.entry = search rules in
-    ap (λ (text : List ℕ). text ++ lines history_line c.next.new.self) more
+    ap (λ (text : List ℕ). text ++ lines history_line c.next.new.self) c.in_ok-push_history_line.ensures
     ∙ line_more c.loop-entry.text.items c.in-Some.entry c.next.new.self c.loop-entry.entry-iterator c.in-Some.ensures.steps
     ∙ c.loop-entry.invariant
 

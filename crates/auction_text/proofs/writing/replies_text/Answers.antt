@@ -1,4 +1,4 @@
-use Rattle.std.proofs.Common.{rules, ◌≡◌, ◌+◌, ◌∙◌, ◌++◌, ℕ, List, ap, arith, refl, sym}
+use Rattle.std.proofs.Common.{◌+◌, ◌∙◌, ◌++◌, ℕ, List, ap, arith, refl, sym}
 use Rattle.std.proofs.lemmas.Grind.{flat_map-append}
 use Rattle.phase_laws.specs.Order.{part}
 use Rattle.auction_rows.specs.declared.rows.Entry.{Entry}
@@ -18,8 +18,7 @@ pub loop-worker-preserved : goal.loop-worker-preserved
 loop-worker-preserved c =
     let worker = c.loop-worker.worker in
     let entries = c.args.history.now.entries in
-    let told : c.push_replies_of.new.text.items ≡ c.loop-worker.text.items ++ lines reply_line (in_order (part entry_worker worker entries)) = search rules in
-    told
+    c.in_ok-push_replies_of.ensures
     ∙ ap (λ (bytes : List ℕ). bytes ++ lines reply_line (in_order (part entry_worker worker entries))) c.loop-worker.invariant
     ∙ sym (flat_map-append reply_line (in_order (below worker entries)) (in_order (part entry_worker worker entries)))
     ∙ ap (lines reply_line) (in_order_more worker (worker + 1) entries refl)

@@ -1,4 +1,4 @@
-use Rattle.std.proofs.Common.{◌≡◌, map, length, arith}
+use Rattle.std.proofs.Common.{◌≡◌, ◌≤◌, map, length, vec_capacity, sym, subst, ◌∙◌, arith}
 use Rattle.std.proofs.lemmas.List.{length-map}
 use Rattle.phase_workers.specs.declared.fault.ServingFault.TheVariants.{Worker}
 use Rattle.phase_workers.specs.Tasks.{lists, task, tasks, IsFirstFault, IsFaultBy}
@@ -10,7 +10,7 @@ pub receipts_of-requires-clause-room : goal.receipts_of-requires-clause-room
 receipts_of-requires-clause-room g c =
     let answered = as_many (λ own. task (g.P.Permit.shows own.permit) own.script.now own.first) g.P.Permit.leaves g.P.Permit.takes_stash g.N.PhaseName.opening
     c.in_ok-own_tasks.own_tasks.items c.in_ok-answers.answers.items c.in_ok-answers.ensures.answers in
-    omega (arith, answered, c.in_ok-answers.answers.ok.0, c.in_ok-own_tasks.own_tasks.ok.0, c.len.ensures, c.in_ok-room.ensures.capacity)
+    subst (λ n. n ≤ vec_capacity c.in_ok-room.room) (sym (c.in_ok-answers.answers.ok.0 ∙ answered ∙ sym c.in_ok-own_tasks.own_tasks.ok.0 ∙ sym c.len.ensures)) c.in_ok-room.ensures.capacity
 
 pub returns-clause-done : goal.returns-clause-done
 returns-clause-done g c =

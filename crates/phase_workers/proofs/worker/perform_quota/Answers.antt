@@ -1,11 +1,14 @@
-use Rattle.std.proofs.Common.{◌≡◌, false, ◌+◌, ◌<◌, ◌++◌, ◌∷◌, [], ℕ, not, List, take, subst, arith}
+use Rattle.std.proofs.Common.{◌≡◌, false, ◌+◌, ◌<◌, ◌≤◌, ◌++◌, ◌∷◌, [], ℕ, not, List, take, take_all, drop, add-zero, append-nil, le_of_eq, sym, ap, subst, ◌∙◌, arith}
+use Rattle.std.proofs.lemmas.List.{length-take}
 use Rattle.auction_rows.specs.declared.ids.Object.{Object}
 use Rattle.auction_rows.specs.declared.requests.Request.{Request}
 use Rattle.auction_rows.specs.Phases.{is_put_off}
 use Rattle.phase_transactions.specs.Permits.{PermitState}
+use Rattle.phase_transactions.specs.Single.{HaveOpening}
+use Rattle.run_laws.specs.Turns.{numbered}
 use Rattle.run_laws.proofs.QuotaLemmas.{next_call}
 use Rattle.phase_workers.specs.Working.{calls_from, committed, stashed, hot_for, put_off, not_put_off, HasStopped}
-use Rattle.phase_workers.proofs.WorkLemmas.{same_after, kept_more, err_as, stopped_next}
+use Rattle.phase_workers.proofs.WorkLemmas.{same, same_after, kept_more, within_script, some_left, try_left, err_as, stopped_next}
 use Rattle.phase_workers.proofs.worker.perform_quota.Goals as goal
 
 pub loop-place-preserved : goal.loop-place-preserved
@@ -19,7 +22,7 @@ loop-place-preserved g c =
     let k : ℕ = c.loop-place.place in
     let request : Request = c.index-script-index.result in
     let calls : List (ℕ × Request) = calls_from c.args.first old.split.context.left c.args.script.now in
-    let less : c.loop-place.place < old.split.context.left = omega (arith, c.loop-place-test.true, c.quota_left-place-end.ensures) in
+    let less : c.loop-place.place < old.split.context.left = subst (λ n. c.loop-place.place < n) c.quota_left-place-end.ensures c.loop-place-test.true in
     let next : take (k + 1) calls ≡ take k calls ++ (first + k, request) ∷ [] =
     next_call first old.split.context.left k c.args.script.now request less c.requires.given c.index-script-index.is in (
       same_after old mid new was.0 step.same,
@@ -39,10 +42,50 @@ returns-in_err-perform_next-clause-stopped g c =
     let k : ℕ = c.loop-place.place in
     let request : Request = c.index-script-index.result in
     let calls : List (ℕ × Request) = calls_from c.args.first old.split.context.left c.args.script.now in
-    let less : c.loop-place.place < old.split.context.left = omega (arith, c.loop-place-test.true, c.quota_left-place-end.ensures) in
+    let less : c.loop-place.place < old.split.context.left = subst (λ n. c.loop-place.place < n) c.quota_left-place-end.ensures c.loop-place-test.true in
     let next : take (k + 1) calls ≡ take k calls ++ (first + k, request) ∷ [] =
     next_call first old.split.context.left k c.args.script.now request less c.requires.given c.index-script-index.is in
     let new : PermitState = g.P.Permit.shows c.perform_next.new.permit in
     err_as c.from_residual.result c.in_err-perform_next.field-0.0 (HasStopped false g.N.PhaseName.opening calls old new) c.from_residual.ensures.1
     (stopped_next g.N.PhaseName.opening old (g.P.Permit.shows c.loop-place.permit) new c.in_err-perform_next.field-0.0 k calls (first + k, request) next
     was.1 was.2 c.in_err-perform_next.ensures.failed)
+
+pub loop-place-init : goal.loop-place-init
+loop-place-init g c =
+    let old : PermitState = g.P.Permit.shows c.args.permit.now in
+    (same old, sym (append-nil (committed old)), sym (append-nil (stashed old)), add-zero _, sym (add-zero _))
+
+pub bounds-script-index : goal.bounds-script-index
+bounds-script-index g c =
+    let old : PermitState = g.P.Permit.shows c.args.permit.now in
+    within_script _ _ _ _ (subst (λ n. c.loop-place.place < n) c.quota_left-place-end.ensures c.loop-place-test.true) c.requires.given
+
+pub perform_next-requires-clause-of : goal.perform_next-requires-clause-of
+perform_next-requires-clause-of g c = c.loop-place.invariant.0.boxes ∙ c.requires.of
+
+pub perform_next-requires-clause-opening : goal.perform_next-requires-clause-opening
+perform_next-requires-clause-opening g c = subst (HaveOpening g.N.PhaseName.opening) (sym c.loop-place.invariant.0.opening) c.requires.opening
+
+pub perform_next-requires-clause-left : goal.perform_next-requires-clause-left
+perform_next-requires-clause-left g c = some_left _ _ _ c.loop-place.invariant.3 (subst (λ n. c.loop-place.place < n) c.quota_left-place-end.ensures c.loop-place-test.true)
+
+pub perform_next-requires-clause-tries : goal.perform_next-requires-clause-tries
+perform_next-requires-clause-tries g c = try_left _ _ _ _ _ (le_of_eq c.loop-place.invariant.4) (subst (λ n. c.loop-place.place < n) c.quota_left-place-end.ensures c.loop-place-test.true) c.requires.tries
+
+whole : (place left : ℕ) (calls : List (ℕ × Request)) → left ≤ place → take place (take left calls) ≡ take left calls
+whole place left calls past = take_all place (take left calls) (omega (arith, length-take left calls, past))
+
+pub returns-clause-same : goal.returns-clause-same
+returns-clause-same g c = c.loop-place.invariant.0
+
+pub returns-clause-calls : goal.returns-clause-calls
+returns-clause-calls g c =
+    let old : PermitState = g.P.Permit.shows c.args.permit.now in
+    c.loop-place.invariant.1 ∙ ap (λ calls. committed old ++ not_put_off (hot_for old) calls)
+    (whole c.loop-place.place old.split.context.left (drop c.args.first (numbered 0 c.args.script.now)) (subst (λ n. n ≤ c.loop-place.place) c.quota_left-place-end.ensures c.loop-place-test.false))
+
+pub returns-clause-stash : goal.returns-clause-stash
+returns-clause-stash g c =
+    let old : PermitState = g.P.Permit.shows c.args.permit.now in
+    c.loop-place.invariant.2 ∙ ap (λ calls. stashed old ++ put_off (hot_for old) calls)
+    (whole c.loop-place.place old.split.context.left (drop c.args.first (numbered 0 c.args.script.now)) (subst (λ n. n ≤ c.loop-place.place) c.quota_left-place-end.ensures c.loop-place-test.false))

@@ -1,9 +1,10 @@
-use Rattle.std.proofs.Common.{◌≡◌, ℕ, ◌+◌, Bool, true, List, ◌++◌, ◌∙◌, sym, ap, subst, take, drop, arith}
+use Rattle.std.proofs.Common.{◌≡◌, ℕ, ◌+◌, ◌<◌, ◌≤◌, Bool, true, false, cond, List, [], ◌++◌, ◌∙◌, refl, sym, ap, subst, take, drop, add-zero, le_of_eq, arith}
 use Rattle.std.proofs.lemmas.List.{append-nil, take_all, drop_all}
 use Rattle.auction_rows.specs.declared.requests.Request.{Request}
 use Rattle.phase_transactions.specs.Permits.{PermitState}
+use Rattle.phase_transactions.specs.Single.{HaveOpening}
 use Rattle.phase_workers.specs.Working.{committed, stashed, taken, kept, hot_for, put_off, HasPerformedWaiting, HasStopped}
-use Rattle.phase_workers.proofs.WorkLemmas.{same_after, takes_some, stash_goes, stash_more, stash_less, err_as, stopped_first}
+use Rattle.phase_workers.proofs.WorkLemmas.{same, same_after, takes_some, stash_goes, stash_more, stash_less, err_as, stopped_first, try_left, tries_by}
 use Rattle.phase_workers.proofs.worker.perform_stash.Goals as goal
 
 pub loop-call-preserved : goal.loop-call-preserved
@@ -15,7 +16,7 @@ loop-call-preserved g c =
     let new : PermitState = g.P.Permit.shows c.perform_first.new.permit in
     let k : ℕ = c.loop-call._call in
     let own : List (ℕ × Request) = taken takes old in
-    let yes : takes ≡ true = takes_some takes old k (omega (arith, c.loop-call-test.true, c.waiting-call-end.ensures)) in
+    let yes : takes ≡ true = takes_some takes old k (subst (λ n. c.loop-call._call < n) c.waiting-call-end.ensures c.loop-call-test.true) in
     let step : HasPerformedWaiting true mid new = subst (λ t. HasPerformedWaiting t mid new) yes c.in_ok-perform_first.ensures.performed in
     let waits : stashed mid ≡ drop k own = was.2 ∙ ap (λ t. kept t old ++ drop k own) yes in (
       same_after old mid new was.0 step.same,
@@ -30,20 +31,20 @@ pub returns-clause-go : goal.returns-clause-go
 returns-clause-go g c =
     let old : PermitState = g.P.Permit.shows c.args.permit.now in
     let own : List (ℕ × Request) = taken g.P.Permit.takes_stash old in
-    ap (put_off (hot_for old)) (sym (take_all c.loop-call._call own (omega (arith, c.loop-call-test.false, c.waiting-call-end.ensures)))) ∙ c.loop-call.invariant.5
+    ap (put_off (hot_for old)) (sym (take_all c.loop-call._call own (subst (λ n. n ≤ c.loop-call._call) c.waiting-call-end.ensures c.loop-call-test.false))) ∙ c.loop-call.invariant.5
 
 pub returns-clause-calls : goal.returns-clause-calls
 returns-clause-calls g c =
     let old : PermitState = g.P.Permit.shows c.args.permit.now in
     let own : List (ℕ × Request) = taken g.P.Permit.takes_stash old in
-    c.loop-call.invariant.1 ∙ ap (λ ss. committed old ++ ss) (take_all c.loop-call._call own (omega (arith, c.loop-call-test.false, c.waiting-call-end.ensures)))
+    c.loop-call.invariant.1 ∙ ap (λ ss. committed old ++ ss) (take_all c.loop-call._call own (subst (λ n. n ≤ c.loop-call._call) c.waiting-call-end.ensures c.loop-call-test.false))
 
 pub returns-clause-stash : goal.returns-clause-stash
 returns-clause-stash g c =
     let old : PermitState = g.P.Permit.shows c.args.permit.now in
     let own : List (ℕ × Request) = taken g.P.Permit.takes_stash old in
     let rest : List (ℕ × Request) = kept g.P.Permit.takes_stash old in
-    c.loop-call.invariant.2 ∙ ap (λ ss. rest ++ ss) (drop_all c.loop-call._call own (omega (arith, c.loop-call-test.false, c.waiting-call-end.ensures))) ∙ append-nil rest
+    c.loop-call.invariant.2 ∙ ap (λ ss. rest ++ ss) (drop_all c.loop-call._call own (subst (λ n. n ≤ c.loop-call._call) c.waiting-call-end.ensures c.loop-call-test.false)) ∙ append-nil rest
 
 pub returns-in_err-perform_first-clause-stopped : goal.returns-in_err-perform_first-clause-stopped
 returns-in_err-perform_first-clause-stopped g c =
@@ -53,5 +54,26 @@ returns-in_err-perform_first-clause-stopped g c =
     let new : PermitState = g.P.Permit.shows c.perform_first.new.permit in
     err_as c.from_residual.result c.in_err-perform_first.field-0.0 (HasStopped takes g.N.PhaseName.opening (taken takes old) old new) c.from_residual.ensures.1
     (stopped_first g.N.PhaseName.opening old (g.P.Permit.shows c.loop-call.permit) new c.in_err-perform_first.field-0.0 takes c.loop-call._call
-    (takes_some takes old c.loop-call._call (omega (arith, c.loop-call-test.true, c.waiting-call-end.ensures)))
+    (takes_some takes old c.loop-call._call (subst (λ n. c.loop-call._call < n) c.waiting-call-end.ensures c.loop-call-test.true))
     was.1 was.2 was.5 c.in_err-perform_first.ensures.failed)
+
+pub perform_first-requires-clause-of : goal.perform_first-requires-clause-of
+perform_first-requires-clause-of g c = c.loop-call.invariant.0.boxes ∙ c.requires.of
+
+pub perform_first-requires-clause-opening : goal.perform_first-requires-clause-opening
+perform_first-requires-clause-opening g c = subst (HaveOpening g.N.PhaseName.opening) (sym c.loop-call.invariant.0.opening) c.requires.opening
+
+pub perform_first-requires-clause-tries : goal.perform_first-requires-clause-tries
+perform_first-requires-clause-tries g c = try_left _ _ _ _ _ c.loop-call.invariant.4 (subst (λ n. c.loop-call._call < n) c.waiting-call-end.ensures c.loop-call-test.true) c.requires.tries
+
+both_parts : (takes : Bool) (calls : List (ℕ × Request)) → calls ≡ cond takes [] calls ++ cond takes calls []
+both_parts true calls = refl
+both_parts false calls = sym (append-nil calls)
+
+pub loop-call-init : goal.loop-call-init
+loop-call-init g c =
+    let old : PermitState = g.P.Permit.shows c.args.permit.now in
+    (same old, sym (append-nil (committed old)), both_parts g.P.Permit.takes_stash (stashed old), refl, le_of_eq (sym (add-zero _)), refl)
+
+pub returns-clause-tries : goal.returns-clause-tries
+returns-clause-tries g c = tries_by _ _ _ _ c.loop-call.invariant.4 (subst (λ n. c.loop-call._call ≤ n) c.waiting-call-end.ensures c.loop-call.auto._call-end)

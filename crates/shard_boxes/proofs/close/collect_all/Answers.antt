@@ -1,7 +1,8 @@
-use Rattle.std.proofs.Common.{◌≡◌, ◌+◌, ◌∷◌, length, sym, ap, ◌∙◌, subst, arith}
-use Rattle.shard_boxes.specs.Keys.{lines_at}
+use Rattle.std.proofs.Common.{◌≡◌, ◌+◌, ◌<◌, List, [], ◌∷◌, length, append-nil, sym, ap, ◌∙◌, subst}
+use Rattle.shard_boxes.specs.Keys.{BoxId, lines_at}
 use Rattle.shard_boxes.specs.Leaves.{AreFree}
 use Rattle.shard_boxes.proofs.Leaves.{spent_at, whole_is, one_more, as_many}
+use Rattle.shard_boxes.proofs.Each.{shorter}
 use Rattle.shard_boxes.proofs.close.collect_all.Goals as goal
 
 pub collect-leaves-requires-clause-of : goal.collect-leaves-requires-clause-of
@@ -30,5 +31,24 @@ loop-key-preserved g c =
       subst (λ n. AreFree places n c.collect-leaves.result.items) spent.worker_is made.free,
       λ s d low.
           let same : length c.collect-leaves.result.items ≡ length c.loop-key.leaves.items = as_many c.collect-leaves.result.items places made.free.0 ∙ sym (as_many c.loop-key.leaves.items places was.2.0) in
-          made.own s d low ∙ ap (λ l. lines_at key s ∷ l) (was.3 s d (omega (arith, low, same))),
+          made.own s d low ∙ ap (λ l. lines_at key s ∷ l) (was.3 s d (subst (λ n. s < n) same low)),
     )
+
+pub leaves-leaves-requires : goal.leaves-leaves-requires
+leaves-leaves-requires g c =
+    let keys = c.args.keys.items in
+    (spent_at c.args.places.now g.N.PhaseName.workers c.pop.new.self.items keys [] keys c.in-Some.last c.requires.spent c.in-Some.ensures.items (append-nil keys)).idle
+
+pub loop-key-init : goal.loop-key-init
+loop-key-init g c =
+    let places = c.args.places.now in let keys = c.args.keys.items in let last = c.in-Some.last in
+    let spent = spent_at places g.N.PhaseName.workers c.pop.new.self.items keys [] keys last c.requires.spent c.in-Some.ensures.items (append-nil keys) in
+    let leaves = c.leaves-leaves.result.items in let made = c.leaves-leaves.ensures in (
+      last ∷ [],
+      sym c.in-Some.ensures.items,
+      subst (λ n. AreFree places n leaves) spent.worker_is (subst (λ (boxes : List BoxId). AreFree boxes last.worker leaves) spent.boxes_are made.free),
+      made.own,
+    )
+
+pub loop-key-smaller : goal.loop-key-smaller
+loop-key-smaller g c = shorter _ _ c.in-Some-pop.ensures.len

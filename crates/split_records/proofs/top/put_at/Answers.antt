@@ -1,8 +1,13 @@
 use Rattle.std.proofs.Common.{◌≡◌, ◌<◌, ap, sym, ◌∙◌, insert, length, eqb-true, arith}
 use Rattle.std.proofs.lemmas.Bool.{eqb-false}
-use Rattle.split_records.proofs.Places.{put_within, put_for_last}
+use Rattle.split_records.proofs.Places.{put_within, put_for_last, put_past}
 use Rattle.split_records.proofs.top.put_at.Goals as goal
 use Rattle.split_records.proofs.top.put_at.Goals.{then-is_full+else-index, else-is_full}
+
+pub returns-then-index : goal.returns-then-index
+returns-then-index g c =
+    let full : length c.args.entries.now.items ≡ g.row.K = eqb-true _ _ (sym c.is_full.ensures.value ∙ c.if-is_full.true) in
+    put_past g.row.K c.args.index c.args.entries.now.items c.args.entry (c.if-index.true ∙ sym full) full
 
 pub returns : goal.returns
 returns g c =

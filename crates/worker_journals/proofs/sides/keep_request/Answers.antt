@@ -1,4 +1,4 @@
-use Rattle.std.proofs.Common.{arith, sym, ap, ◌++◌, ◌∙◌}
+use Rattle.std.proofs.Common.{sym, ap, ◌++◌, ◌∙◌}
 use Rattle.worker_journals.specs.Sides.{facts_in}
 use Rattle.worker_journals.proofs.SaidLemmas.{says_facts}
 use Rattle.worker_journals.proofs.sides.keep_request.Goals as goal
@@ -12,5 +12,5 @@ returns-in-StoreItem-clause-kept c =
 
 pub returns-in-StoreItem-clause-says : goal.returns-in-StoreItem-clause-says
 returns-in-StoreItem-clause-says c =
-    says_facts _ c.args.all.now.items c.in-StoreItem.facts _ _ _ c.keep_one.ensures.kept (omega (arith, c.keep_one.ensures.place, c.args.all.now.ok.0))
+    says_facts _ c.args.all.now.items c.in-StoreItem.facts _ _ _ c.keep_one.ensures.kept (c.keep_one.ensures.place ∙ c.args.all.now.ok.0)
     (sym c.in-StoreItem.is)

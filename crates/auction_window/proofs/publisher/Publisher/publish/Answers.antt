@@ -1,13 +1,33 @@
-use Rattle.std.proofs.Common.{sym, ap, ◌∙◌}
+use Rattle.std.proofs.Common.{true, sym, ap, ◌∙◌}
 use Rattle.std.proofs.lemmas.Bool.{false≢true}
+use Rattle.std.proofs.lemmas.Result.{IfOk-from_err, MatchResult-from_err}
 use Rattle.auction_window.specs.Published.{Published}
 use Rattle.auction_window.proofs.publisher.Publisher.publish.Goals as goal
+
+-- the same phases, and that it was refused memory
+abbrev failing : Published → Published
+failing p = record { phases = p.phases; failed = true }
 
 pub returns-then-self-clause-refused : goal.returns-then-self-clause-refused
 returns-then-self-clause-refused g c = λ i. record {
   phases = c.args.self.now.phases;
   failed = (ap (λ (p : Published). p.failed) (sym c.self.view_is) ∙ c.if-self.true) i;
 }
+
+pub returns-then-not-add-clause-refused : goal.returns-then-not-add-clause-refused
+returns-then-not-add-clause-refused g c = ap failing c.self.view_is
+
+pub returns-in_err-replace_with-clause-published : goal.returns-in_err-replace_with-clause-published
+returns-in_err-replace_with-clause-published g c = IfOk-from_err c.from_residual.result _ c.from_residual.ensures.0
+
+pub returns-in_err-replace_with-clause-told : goal.returns-in_err-replace_with-clause-told
+returns-in_err-replace_with-clause-told g c = IfOk-from_err c.from_residual.result _ c.from_residual.ensures.0
+
+pub returns-in_err-replace_with-clause-refused : goal.returns-in_err-replace_with-clause-refused
+returns-in_err-replace_with-clause-refused g c = MatchResult-from_err c.from_residual.result _ _ c.from_residual.ensures.0 (λ _. ap failing c.self.view_is)
+
+pub returns-in_err-replace_with-clause-for_good : goal.returns-in_err-replace_with-clause-for_good
+returns-in_err-replace_with-clause-for_good g c failed = absurd (false≢true (sym c.if-self.false ∙ ap (λ (p : Published). p.failed) c.self.view_is ∙ failed))
 
 pub returns-clause-for_good : goal.returns-clause-for_good
 returns-clause-for_good g c failed = absurd (false≢true (sym c.if-self.false ∙ ap (λ (p : Published). p.failed) c.self.view_is ∙ failed))

@@ -1,11 +1,10 @@
-use Rattle.std.proofs.Common.{◌≡◌, ◌+◌, ◌<◌, ◌∷◌, [], ◌++◌, refl, sym, ap, subst, ◌∙◌, arith, length, take, ℕ, ◌≤◌, All}
-use Rattle.std.proofs.Math.Seq.{take-length}
+use Rattle.std.proofs.Common.{◌≡◌, ◌+◌, ◌<◌, ◌∷◌, [], ◌++◌, refl, sym, ap, subst, ◌∙◌, length, take, take_all, ℕ, ◌≤◌, All}
 use Rattle.auction_rows.specs.Book.{Book}
 use Rattle.auction_rows.specs.History.{IsBook}
 use Rattle.item_shards.specs.Counting.{worker_of}
 use Rattle.item_shards.specs.OpeningRows.{rows_by, opening_rows, with_opened, IsRow, AreRows, IsFirstBad, IsTooLong}
 use Rattle.item_shards.specs.Serial.{opening_of, HoldsBook}
-use Rattle.item_shards.proofs.OpeningBookLemmas.{not_full, not_last, rows_more, book_more, first_bad, is_book, has_workers, has_few, row_moved, not_rows, fits_in, neither, for_memory, same_number}
+use Rattle.item_shards.proofs.OpeningBookLemmas.{not_full, not_last, rows_more, book_more, first_bad, is_book, has_workers, has_few, row_moved, not_rows, fits_in, neither, not_long, not_row, no_fault, for_memory, same_number}
 use Rattle.item_shards.proofs.opening_book.OpeningBook.new.Goals as goal
 
 pub add_opened-requires : goal.add_opened-requires
@@ -43,7 +42,7 @@ returns-in-None-clause-accepted c = tt
 
 pub returns-in-None-clause-too_long : goal.returns-in-None-clause-too_long
 returns-in-None-clause-too_long c =
-    neither (λ e. absurd cc)
+    neither (not_long _)
     (fits_in c.is_too_long.result c.deref.result.now c.args.rows.items c.if-is_too_long.false c.is_too_long.ensures c.deref.ensures.value)
 
 pub returns-then-is_too_long : goal.returns-then-is_too_long
@@ -55,7 +54,7 @@ returns-then-is_too_long c =
       accepted = tt;
       ok = λ are fits. absurd (fits long);
       too_long = (λ e. long, λ known. refl);
-      bad_row = λ n e. absurd cc;
+      bad_row = λ n e. absurd (not_row n e);
     }
 
 pub returns : goal.returns
@@ -63,14 +62,14 @@ returns c =
     let all = c.deref-opened-items.result.now in
     let before = c.loop-index.invariant in
     let start = c.args.opening in
-    let whole : take c.loop-index.index all ≡ all = ap (λ n. take n all) (omega (arith, c.loop-index-test.false, c.loop-index.auto.index-end)) ∙ take-length all in
+    let whole : take c.loop-index.index all ≡ all = take_all c.loop-index.index all c.loop-index-test.false in
     record {
       rows = before.rows_are ∙ ap (opening_rows start) (whole ∙ c.deref-opened-items.ensures.value);
       opening = refl;
       accepted = subst (AreRows start) (whole ∙ c.deref-opened-items.ensures.value) before.accepted;
       ok = λ are fits. tt;
-      too_long = neither (λ e. absurd cc) (fits_in c.is_too_long.result c.deref.result.now c.args.rows.items c.if-is_too_long.false c.is_too_long.ensures c.deref.ensures.value);
-      bad_row = λ n e. absurd cc;
+      too_long = neither (no_fault _ _) (fits_in c.is_too_long.result c.deref.result.now c.args.rows.items c.if-is_too_long.false c.is_too_long.ensures c.deref.ensures.value);
+      bad_row = λ n e. absurd (no_fault _ _ e);
     }
 
 pub returns-in-None-clause-bad_row : goal.returns-in-None-clause-bad_row
@@ -111,7 +110,7 @@ loop-index-preserved c =
       rows_are = pushed ∙ sym added.1 ∙ ap (λ o. with_opened o b opened) before.opening_is ∙ ap (λ book. with_opened start book opened) before.rows_are
           ∙ sym (book_more start all fits i opened c.loop-index-test.true c.opened-item.is before.accepted);
       accepted = rows_more start all fits i opened c.loop-index-test.true c.opened-item.is before.accepted row;
-      few = omega (arith, not_last start all fits i opened c.loop-index-test.true c.opened-item.is before.accepted row.worker);
+      few = not_last start all fits i opened c.loop-index-test.true c.opened-item.is before.accepted row.worker;
     }
 
 pub invariant_of-result : goal.invariant_of-result
@@ -120,7 +119,7 @@ invariant_of-result c =
     let before = c.loop-index.invariant in
     let start = c.args.opening in
     let fits = fits_in c.is_too_long.result c.deref.result.now all c.if-is_too_long.false c.is_too_long.ensures (c.deref.ensures.value ∙ sym c.deref-opened-items.ensures.value) in
-    let whole : take c.loop-index.index all ≡ all = ap (λ n. take n all) (omega (arith, c.loop-index-test.false, c.loop-index.auto.index-end)) ∙ take-length all in
+    let whole : take c.loop-index.index all ≡ all = take_all c.loop-index.index all c.loop-index-test.false in
     let are : AreRows start all = subst (AreRows start) whole before.accepted in
     let rows : opening_rows start all ≡ c.loop-index.book.items = ap (opening_rows start) (sym whole) ∙ sym before.rows_are in
     record {

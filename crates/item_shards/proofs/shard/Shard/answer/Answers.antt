@@ -1,10 +1,10 @@
-use Rattle.std.proofs.Common.{◌∷◌, [], suc, max, sym, ap, subst, ◌∙◌, arith}
+use Rattle.std.proofs.Common.{◌<◌, ◌∷◌, [], suc, max, sym, ap, subst, ◌∙◌, arith}
 use Rattle.item_shards.specs.declared.acts.Act.TheVariants.{Look}
 use Rattle.item_shards.specs.declared.acts.Shown.TheVariants as shown
 use Rattle.item_shards.specs.Answering.{CanActAt, refusal_with}
 use Rattle.item_shards.specs.ShardContents.{clock}
 use Rattle.item_shards.proofs.AnsweringLemmas.{can_act_at}
-use Rattle.item_shards.proofs.CommitLemmas.{next_found}
+use Rattle.item_shards.proofs.CommitLemmas.{comes_after, next_found}
 use Rattle.item_shards.proofs.shard.Shard.answer.Goals as goal
 
 pub act_at-requires : goal.act_at-requires
@@ -35,3 +35,10 @@ returns-clause-answered c =
       rooms = set.rooms ∙ acted.rooms;
       same = record { number = set.same.number ∙ acted.same.number; shards = set.same.shards ∙ acted.same.shards; opening = set.same.opening ∙ acted.same.opening };
     }
+
+pub set_clock-before-requires : goal.set_clock-before-requires
+set_clock-before-requires c =
+    let own = c.args.own in
+    let shard = c.args.self.now in
+    let after = comes_after own (clock shard) c.in_ok-number.number (next_found own (clock shard) c.in_ok-number.number (rw c.deref.ensures at c.in_ok-number.ensures.number)) in
+    record { later = subst (λ n. n < c.in_ok-number.number) (sym c.act_at.ensures.clock) after.0; within = after.1 }

@@ -1,4 +1,4 @@
-use Rattle.std.proofs.Common.{◌≡◌, ◌<◌, ◌^◌, List, length, sym, ap, ◌∙◌, subst, arith}
+use Rattle.std.proofs.Common.{◌≡◌, ◌<◌, ◌≤◌, ◌^◌, List, length, get_or, vec_capacity, sym, ap, ◌∙◌, subst}
 use Rattle.shard_boxes.specs.Keys.{BoxId, AreNewKeys}
 use Rattle.shard_boxes.specs.Leaves.{makers, AreReady}
 use Rattle.shard_boxes.proofs.Leaves.{as_many_states}
@@ -6,7 +6,7 @@ use Rattle.shard_boxes.proofs.boxes.Boxes.new.Goals as goal
 
 pub open_all-leaves-requires : goal.open_all-leaves-requires
 open_all-leaves-requires g c =
-    let count : c.len-count.result ≡ length g.N.PhaseName.opening = omega (arith, as_many_states c.args.shards.items g.N.PhaseName.opening c.requires.opening, c.args.shards.ok.0, c.len-count.ensures) in
+    let count : c.len-count.result ≡ length g.N.PhaseName.opening = c.len-count.ensures ∙ c.args.shards.ok.0 ∙ as_many_states c.args.shards.items g.N.PhaseName.opening c.requires.opening in
     record {
       opening = c.requires.opening;
       opened = c.requires.opened;
@@ -17,20 +17,25 @@ open_all-leaves-requires g c =
 pub deal_all-keys-requires : goal.deal_all-keys-requires
 deal_all-keys-requires g c =
     let workers = g.N.PhaseName.workers in
-    let count : c.len-count.result ≡ length g.N.PhaseName.opening = omega (arith, as_many_states c.args.shards.items g.N.PhaseName.opening c.requires.opening, c.args.shards.ok.0, c.len-count.ensures) in
+    let count : c.len-count.result ≡ length g.N.PhaseName.opening = c.len-count.ensures ∙ c.args.shards.ok.0 ∙ as_many_states c.args.shards.items g.N.PhaseName.opening c.requires.opening in
     record {
       places = c.deref-2.ensures.len ∙ c.in-Ok.ensures.len ∙ count;
       leaves = subst (λ (places : List BoxId). AreReady places 0 workers c.open_all-leaves.result.items) (c.deref.ensures.value ∙ sym c.deref-2.ensures.value) c.open_all-leaves.ensures;
       workers = subst (λ n. n < 2 ^ 32) c.requires.workers c.ranges.workers.fits;
       rooms = c.in-Ok-make_rooms.ensures.len ∙ c.requires.workers;
-      each = λ w d low. let room = c.in-Ok-make_rooms.ensures.each w d (omega (arith, low, c.requires.workers)) in (room.0, omega (arith, room.1, count));
-      keys = (c.in-Ok-with_capacity.ensures.len, omega (arith, c.in-Ok-with_capacity.ensures.capacity, c.requires.workers));
+      each = λ w d low. let room = c.in-Ok-make_rooms.ensures.each w d (subst (λ n. w < n) (sym c.requires.workers) low) in (room.0, subst (λ n. n ≤ vec_capacity (get_or c.in-Ok-make_rooms.rooms.items w d)) count room.1);
+      keys = (c.in-Ok-with_capacity.ensures.len, subst (λ n. n ≤ vec_capacity c.in-Ok-with_capacity.keys) c.requires.workers c.in-Ok-with_capacity.ensures.capacity);
     }
 
 pub invariant_of-result : goal.invariant_of-result
 invariant_of-result g c =
-    let count : c.len-count.result ≡ length g.N.PhaseName.opening = omega (arith, as_many_states c.args.shards.items g.N.PhaseName.opening c.requires.opening, c.args.shards.ok.0, c.len-count.ensures) in
-    (c.in-Ok.ensures.len ∙ count, c.requires.few.1, c.requires.some.0, c.in-Ok-with_capacity-2.ensures.len, omega (arith, c.in-Ok-with_capacity-2.ensures.capacity, count), c.requires.few.0)
+    let count : c.len-count.result ≡ length g.N.PhaseName.opening = c.len-count.ensures ∙ c.args.shards.ok.0 ∙ as_many_states c.args.shards.items g.N.PhaseName.opening c.requires.opening in
+    (c.in-Ok.ensures.len ∙ count, c.requires.few.1, c.requires.some.0, c.in-Ok-with_capacity-2.ensures.len, subst (λ n. n ≤ vec_capacity c.in-Ok-with_capacity-2.answer) count c.in-Ok-with_capacity-2.ensures.capacity, c.requires.few.0)
 
 pub returns-clause-keys : goal.returns-clause-keys
 returns-clause-keys g c = subst (λ (places : List BoxId). AreNewKeys places g.N.PhaseName.workers c.deal_all-keys.result.items) c.deref-2.ensures.value c.deal_all-keys.ensures
+
+pub returns-clause-boxes : goal.returns-clause-boxes
+returns-clause-boxes g c =
+    sym c.in-Ok.places.ok.0 ∙ c.in-Ok.ensures.len ∙ c.len-count.ensures ∙ c.args.shards.ok.0
+    ∙ as_many_states c.args.shards.items g.N.PhaseName.opening c.requires.opening

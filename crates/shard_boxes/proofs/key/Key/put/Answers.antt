@@ -12,22 +12,37 @@ use Rattle.shard_boxes.proofs.Sweeps.{each_set}
 use Rattle.shard_boxes.proofs.BoxSteps.{length-with_first}
 use Rattle.shard_boxes.proofs.key.Key.put.Goals as goal
 
-pub put-requires : goal.put-requires
-put-requires g c =
+pub put-requires-clause-place : goal.put-requires-clause-place
+put-requires-clause-place g c =
+    let inside = c.self.inside in
+    let leaves = inside.leaves.items in
+    let below : c.args.s < length leaves = subst (λ n. c.args.s < n) (sym (sym inside.leaves.ok.0 ∙ c.self.invariant.1)) c.requires.known in
+    place_is leaves c.args.self.now.boxes c.args.s c.index_mut-leave.result.now c.args.place.now (ap (λ (x : KeyState). x.boxes) c.self.view_is) below c.index_mut-leave.ensures.value c.requires.place
+
+pub put-requires-clause-line : goal.put-requires-clause-line
+put-requires-clause-line g c = refl
+
+pub put-requires-clause-holds : goal.put-requires-clause-holds
+put-requires-clause-holds g c =
+    let inside = c.self.inside in
+    let leaves = inside.leaves.items in
+    let below : c.args.s < length leaves = subst (λ n. c.args.s < n) (sym (sym inside.leaves.ok.0 ∙ c.self.invariant.1)) c.requires.known in
+    let seat = read inside.worker leaves c.args.s c.index_mut-leave.result.now c.args.self.now c.self.view_is below c.index_mut-leave.ensures.value in
+    ap (λ (t : SeatState). t.holds) (sym seat) ∙ c.requires.holds
+
+pub put-requires-clause-stars : goal.put-requires-clause-stars
+put-requires-clause-stars g c = c.requires.stars
+
+pub put-requires-clause-may : goal.put-requires-clause-may
+put-requires-clause-may g c =
     let inside = c.self.inside in
     let leaves = inside.leaves.items in
     let leave = c.index_mut-leave.result.now in
-    let below : c.args.s < length leaves = omega (arith, inside.leaves.ok.0, c.self.invariant.1, c.requires.known) in
+    let below : c.args.s < length leaves = subst (λ n. c.args.s < n) (sym (sym inside.leaves.ok.0 ∙ c.self.invariant.1)) c.requires.known in
     let at = c.index_mut-leave.ensures.value in
     let number = ap (λ (l : LeaveState). l.knows.number) at ∙ (c.self.invariant.2 c.args.s leave below).numbered in
     let seat = read inside.worker leaves c.args.s leave c.args.self.now c.self.view_is below at in
-    record {
-      place = place_is leaves c.args.self.now.boxes c.args.s leave c.args.place.now (ap (λ (x : KeyState). x.boxes) c.self.view_is) below at c.requires.place;
-      line = refl;
-      holds = ap (λ (t : SeatState). t.holds) (sym seat) ∙ c.requires.holds;
-      stars = c.requires.stars;
-      may = subst (λ (y : ℕ × List (ℕ × Line)). MayPut (after (state_at g.N.PhaseName.opening y.0) y.1) (state_of c.args.shard) c.args.line.now) (λ i. (sym number i, (seat i).seen)) c.requires.may;
-    }
+    subst (λ (y : ℕ × List (ℕ × Line)). MayPut (after (state_at g.N.PhaseName.opening y.0) y.1) (state_of c.args.shard) c.args.line.now) (λ i. (sym number i, (seat i).seen)) c.requires.may
 
 pub returns : goal.returns
 returns g c =

@@ -1,7 +1,8 @@
-use Rattle.std.proofs.Common.{ap, ◌∙◌}
+use Rattle.std.proofs.Common.{sym, ap, ◌∙◌, subst, length}
 use Rattle.shard_boxes.specs.declared.rule.View.{View}
 use Rattle.shard_boxes.specs.Passes.{LeaveState}
-use Rattle.std.proofs.Common.{length}
+use Rattle.shard_boxes.specs.Rule.{TakenBy}
+use Rattle.std.proofs.lemmas.List.{nil_from_length}
 use Rattle.crossbeam_queue.specs.Passes.{view}
 use Rattle.shard_boxes.proofs.BoxSteps.{takes, learns_full, all_speak}
 use Rattle.shard_boxes.proofs.place.Place.take_last.Goals as goal
@@ -12,3 +13,15 @@ pop_as-requires-clause-rule g c =
     let first = ap (λ (v : View). v.first) knows ∙ c.requires.all.0 in
     let all = ap (λ (v : View). length v.own) knows ∙ c.requires.all.1 in
     (takes _ _ _ _ (all_speak (view c.leave.inside.pass) _ c.requires.workers all), learns_full _ _ _ _ first all (ap (λ (v : View). v.holds) knows ∙ c.requires.free))
+
+pub pop_as-requires-clause-queue : goal.pop_as-requires-clause-queue
+pop_as-requires-clause-queue g c = (ap (λ (l : LeaveState). l.place) c.leave.view_is ∙ c.requires.place ∙ sym c.self.view_is, c.leave.invariant)
+
+pub returns : goal.returns
+returns g c =
+    subst (λ (v : View). TakenBy g.N.PhaseName.opening g.N.PhaseName.workers v c.in-Some.shard (view c.pop_as.new.pass)) (ap (λ (l : LeaveState). l.knows) c.leave.view_is) c.in-Some.ensures.rule
+
+pub unreachable-requires : goal.unreachable-requires
+unreachable-requires g c =
+    let none = c.in-None.ensures.rule.1 in
+    none.2 (nil_from_length none.0 none.1)

@@ -1,4 +1,4 @@
-use Rattle.std.proofs.Common.{sym, ap, subst, ◌∙◌, ◌∷◌, take}
+use Rattle.std.proofs.Common.{refl, sym, ap, subst, ◌∙◌, ◌∷◌, take}
 use Rattle.phase_laws.specs.Ranking.{top, IsDescending}
 use Rattle.phase_laws.proofs.TopLemmas.{IsDescending-top, top-placed, top-top, top_present, take_of_top}
 use Rattle.split_records.specs.TopLaws.{IsOwnTop}
@@ -39,6 +39,12 @@ pub returns-then-is_past-clause-value : goal.returns-then-is_past-clause-value
 returns-then-is_past-clause-value g c =
     let kept = past_least g.met.E.Ord.total g.row.K c.args.entry c.self.inside.entries.items c.self.inside.least c.self.invariant.0 c.self.invariant.1 c.if-is_past.ensures in
     sym (ap (λ l. top g.E.Ord.cmp g.row.K (c.args.entry ∷ l)) (sym c.self.view_is) ∙ kept ∙ c.self.view_is)
+
+pub returns-in_default-clause-present : goal.returns-in_default-clause-present
+returns-in_default-clause-present g c there = refl
+
+pub returns-then-is_past-clause-present : goal.returns-then-is_past-clause-present
+returns-then-is_past-clause-present g c there = refl
 
 pub place-requires : goal.place-requires
 place-requires g c =

@@ -3,7 +3,7 @@ use Rattle.phase_laws.specs.Order.{part}
 use Rattle.worker_journals.specs.Journals.{entry_worker}
 use Rattle.auction_text.specs.Order.{comes_before}
 use Rattle.auction_text.specs.Turns.{late}
-use Rattle.auction_text.proofs.reply_order.late_entries.Given as goal
+use Rattle.auction_text.proofs.reply_order.late_as_committed.Given as goal
 
 -- the late entries so far, and those of the entries that are left
 abbrev pub invariant-loop-entry : goal.invariant-loop-entry
