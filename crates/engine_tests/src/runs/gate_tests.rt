@@ -4,6 +4,7 @@ use crate::runs::testing::{LOOK, Threaded, bid_on, bid_stored, buy_one, item, ru
 use crate::testing::bid;
 use auction_rows::{BuyId, Refusal, Reply};
 use auction_run::{FreeGate, Gate};
+use std::process::Abort;
 use std::sync::atomic::{AtomicU64, Ordering};
 use std::test::Fail;
 use worker_journals::History;
@@ -18,6 +19,16 @@ struct Turns {
     met: AtomicU64,
     arrived: AtomicU64,
     left: AtomicU64,
+}
+
+fn no_turns() -> Turns {
+    Turns {
+        has_left: AtomicU64::new(0),
+        has_gone_on: AtomicU64::new(0),
+        met: AtomicU64::new(0),
+        arrived: AtomicU64::new(0),
+        left: AtomicU64::new(0),
+    }
 }
 
 fn tell_phase(phases: &AtomicU64, phase: u64) {
@@ -95,19 +106,8 @@ fn reply_at(history: &History, worker: u32, index: u32) -> Option<Reply> {
     None
 }
 
-#[test]
-fn gate_is_told_of_each_request_of_workers_side_by_side(rt: HostRuntime) -> Result<(), Fail> {
-    let buy = buy_one()?;
-    let first = [item()?, LOOK, item()?, buy];
-    let second = [bid(1, 10, 1), LOOK, bid_on(1, 1, 10), LOOK, buy, LOOK];
-    let turns = Turns {
-        has_left: AtomicU64::new(0),
-        has_gone_on: AtomicU64::new(0),
-        met: AtomicU64::new(0),
-        arrived: AtomicU64::new(0),
-        left: AtomicU64::new(0),
-    };
-    let outcome = run_of(&rt, rt.alloc(), &[&first, &second], 2, 2, &turns)?;
+// Asserts what those are answered that went on only once the other worker had left, or before it did.
+fn assert_replies(rt: &impl Abort, history: &History) {
     let bought = Reply::Bought(BuyId {
         worker: 0,
         serial: 0,
@@ -118,13 +118,30 @@ fn gate_is_told_of_each_request_of_workers_side_by_side(rt: HostRuntime) -> Resu
         (0, 3, bought),
         (1, 4, Reply::Refused(Refusal::NotEnough)),
     ] {
-        let answered = reply_at(&outcome.history, worker, index);
-        assert_same(&rt, &answered, &Some(reply));
+        assert_same(rt, &reply_at(history, worker, index), &Some(reply));
     }
+}
+
+// Asserts that each turn was met, and each arrival told as it came and as it left.
+fn assert_told(rt: &impl Abort, turns: &Turns) {
     let told = told();
-    assert_same(&rt, &turns.met.load(Ordering::SeqCst), &6);
-    assert_same(&rt, &turns.arrived.load(Ordering::SeqCst), &told);
-    assert_same(&rt, &turns.left.load(Ordering::SeqCst), &told);
+    let counts = [
+        turns.met.load(Ordering::SeqCst),
+        turns.arrived.load(Ordering::SeqCst),
+        turns.left.load(Ordering::SeqCst),
+    ];
+    assert_same(rt, &counts, &[6, told, told]);
+}
+
+#[test]
+fn gate_is_told_of_each_request_of_workers_side_by_side(rt: HostRuntime) -> Result<(), Fail> {
+    let buy = buy_one()?;
+    let first = [item()?, LOOK, item()?, buy];
+    let second = [bid(1, 10, 1), LOOK, bid_on(1, 1, 10), LOOK, buy, LOOK];
+    let turns = no_turns();
+    let outcome = run_of(&rt, rt.alloc(), &[&first, &second], 2, 2, &turns)?;
+    assert_replies(&rt, &outcome.history);
+    assert_told(&rt, &turns);
     Ok(())
 }
 

@@ -77,6 +77,14 @@ fn histories_replay_on_the_auction_of_one_thread(rt: HostRuntime) -> Result<(), 
     Ok(())
 }
 
+// The indices and the replies of the entries of the last phase, if there are two.
+fn last_two(history: &History) -> Option<[(u32, Reply); 2]> {
+    let mut last = history.last_entries();
+    let (first, second) = (last.next()?.to_entry(), last.next()?.to_entry());
+    let two = [(first.index, first.reply), (second.index, second.reply)];
+    last.next().is_none().then_some(two)
+}
+
 // Two of three vases are bought in a joined phase. A bid makes them hot, and a purchase of the third is put off.
 #[test]
 fn what_was_put_off_is_performed_first(rt: HostRuntime) -> Result<(), Fail> {
@@ -92,23 +100,15 @@ fn what_was_put_off_is_performed_first(rt: HostRuntime) -> Result<(), Fail> {
     ];
     let second = [LOOK, LOOK, LOOK, bid(3, 18, 7)];
     let outcome = run_of(&rt, rt.alloc(), &[&first, &second], 3, 2, &Threaded)?;
-    let mut last = outcome.history.last_entries();
-    let (Some(waited), Some(looked), None) = (last.next(), last.next(), last.next()) else {
-        return Err(Fail::from("two entries"));
-    };
     let bought = Reply::Bought(BuyId {
         worker: 0,
         serial: 1,
     });
     let item = item_seen(&facts, Some((19, 2)), 3, 0);
-    assert_same(&rt, &(waited.index(), looked.index()), &(4, 5));
-    let replies = [waited.to_entry().reply, looked.to_entry().reply];
-    assert_same(&rt, &replies, &[bought, item]);
+    let last = last_two(&outcome.history);
+    assert_same(&rt, &last, &Some([(4, bought), (5, item)]));
     assert_same(&rt, &outcome.state.view(&VIEW), &Some(item));
-    assert_same(
-        &rt,
-        &(outcome.state.phase(), outcome.history.len()),
-        &(3, 10),
-    );
+    let counts = (outcome.state.phase(), outcome.history.len());
+    assert_same(&rt, &counts, &(3, 10));
     Ok(())
 }

@@ -86,9 +86,8 @@ fn two_replies(alloc: Global) -> Result<History, AllocError> {
     Ok(history)
 }
 
-// A write that fails is the last call. A text that was written whole is flushed once.
 #[test]
-fn writes_end_with_the_first_that_fails(rt: HostRuntime) -> Result<(), Fail> {
+fn a_write_that_fails_is_the_last_call(rt: HostRuntime) -> Result<(), Fail> {
     let alloc = rt.alloc();
     let history = two_replies(alloc)?;
     let cut = Err(WriteFault::Write);
@@ -97,8 +96,16 @@ fn writes_end_with_the_first_that_fails(rt: HostRuntime) -> Result<(), Fail> {
         let right = replies_leave(alloc, &history, writer, cut, &OUTPUT[..call], (call + 1, 0));
         assert_same(&rt, &(call, right), &(call, true));
     }
+    Ok(())
+}
+
+// A flush that fails is told as a write that does.
+#[test]
+fn a_text_that_was_written_whole_is_flushed_once(rt: HostRuntime) -> Result<(), Fail> {
+    let alloc = rt.alloc();
+    let history = two_replies(alloc)?;
     let calls = (OUTPUT.len(), 1);
-    for (is_stuck, answer) in [(false, Ok(())), (true, cut)] {
+    for (is_stuck, answer) in [(false, Ok(())), (true, Err(WriteFault::Write))] {
         let writer = lapse_at(alloc, OUTPUT.len(), is_stuck);
         let right = replies_leave(alloc, &history, writer, answer, OUTPUT, calls);
         assert_same(&rt, &(is_stuck, right), &(is_stuck, true));

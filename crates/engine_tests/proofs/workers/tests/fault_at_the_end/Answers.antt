@@ -1,4 +1,5 @@
-use Rattle.std.proofs.Common.{◌≡◌, ℕ, ◌+◌, ◌-◌, ◌≤◌, List, [], ◌∷◌, ◌++◌, length, map, sym, ap, subst, ◌∙◌, arith}
+use Rattle.std.proofs.Common.{◌≡◌, ℕ, ◌+◌, ◌-◌, ◌≤◌, List, [], ◌∷◌, ◌++◌, length, map, refl, sym, ap, subst, ◌∙◌, arith}
+use Rattle.std.proofs.lemmas.Bool.{false≢true}
 use Rattle.std.specs.List.{AllByRecursion}
 use Rattle.auction_rows.specs.declared.requests.Request.{Request}
 use Rattle.shard_boxes.specs.Keys.{BoxId}
@@ -62,10 +63,22 @@ serve_all-requires-clause-of g c = λ lifetimes within.
       worker_is = ap (λ (p : PermitState). p.key.worker) made ∙ c.requires.worker;
     })
 
-pub new-permit-requires-clause-room : goal.new-permit-requires-clause-room
-new-permit-requires-clause-room g c =
-    omega (arith, one_waits _ _ _ c.in_ok-stash.ensures.empty c.push.ensures.added, ap (λ (j : JournalView). j.room) c.in_ok-journal.ensures)
-
-pub new-permit-requires-clause-limit : goal.new-permit-requires-clause-limit
-new-permit-requires-clause-limit g c =
-    omega (arith, one_waits _ _ _ c.in_ok-stash.ensures.empty c.push.ensures.added, c.default-counters.ensures.1.1.1.1)
+pub new-permit-requires : goal.new-permit-requires
+new-permit-requires g c =
+    let journal = c.in_ok-journal.ensures in
+    let waits = one_waits _ _ _ c.in_ok-stash.ensures.empty c.push.ensures.added in
+    let zero = c.default-counters.ensures in
+    let none = zero.1.1.1.1 in
+    record {
+      key = c.requires.unused;
+      worker = ap (λ (j : JournalView). j.worker) journal ∙ sym c.requires.worker;
+      start = record {
+        empty = ap (λ (j : JournalView). j.entries) journal;
+        identities = refl;
+        room = omega (arith, waits, ap (λ (j : JournalView). j.room) journal);
+        stash_room = tt;
+        limit = omega (arith, waits, none);
+        counted = record { items = omega (arith, zero.0, none); bids = omega (arith, zero.1.0, none); comments = omega (arith, zero.1.1.0, none); buys = omega (arith, zero.1.1.1.0, none) };
+        stored = λ item hot own. absurd (false≢true hot);
+      };
+    }
