@@ -23,7 +23,6 @@ DEFINITIONS = (DOCUMENTS / "DEFINITIONS.md", DOCUMENTS / "ENGINE_DEFINITIONS.md"
 FORMATS = DOCUMENTS / "FORMATS.md"
 PRINTED = "## From a printed line to its definition\n"
 # What that table says in place of a folder.
-SPECS_OF = {"": "crates/auction_rows/specs", "Text": "crates/auction_text/specs"}
 # A block before which no file is named is the reader's own.
 THE_READERS = ""
 # What a page shows whole.
@@ -196,18 +195,14 @@ def printed_lines(tally: Tally) -> None:
     section = FORMATS.read_text().partition(PRINTED)[2].partition("\n## ")[0]
     for line in re.findall(r"(?m)^\| .* \|$", section)[1:]:
         printed, _, names, files = line.strip("| ").split(" | ")
-        places = list(places_of(files))
+        places = places_of(files)
         for name in re.findall(r"`(\w+)`", names):
             tally.check(any(stands_in(place, name) for place in places), f"FORMATS.md, {printed}: {name} stands in {files}")
 
 
-def places_of(files: str) -> Iterator[Path]:
-    """The files of a cell: paths, and names before the folder that they are of."""
-    for part in files.split(";"):
-        names, _, folder = part.partition(" of ")
-        folder = SPECS_OF.get(folder, folder.strip("`"))
-        paths = re.findall(r"`([^`]+)`", names)
-        yield from (ROOT / path for path in paths or [f"{folder}/{name.strip()}.antt" for name in names.split(",")])
+def places_of(files: str) -> list[Path]:
+    """The files to which a cell leads."""
+    return [FORMATS.parent / path for path in re.findall(r"\]\(([^)]+)\)", files)]
 
 
 def stands_in(place: Path, name: str) -> bool:
