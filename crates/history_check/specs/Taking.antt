@@ -56,3 +56,8 @@ pub record IsReading (opening : Opening) (start : Book) (scripts : List (List Re
   pub taken : HasTaken opening start scripts order history replay
   pub has_read : HasRead first now history
   pub number_is : number ≡ length history
+
+-- it is so with each reading of a text that this replay may be at, after so many lines
+abbrev pub ForEachReading : List (List Request) → Option (List ℕ) → Replay → ℕ → (Opening → Book → Order → Option (List ℕ) → Type 0) → Type 0
+ForEachReading scripts now replay number IsSo = (opening : Opening) (start : Book) (order : Order) (first : Option (List ℕ)) →
+    IsReading opening start scripts order first now replay number → IsSo opening start order first

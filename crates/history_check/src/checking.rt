@@ -1,15 +1,12 @@
 //! The check of a whole history, line by line.
-ghost use Rattle.std.specs.Prelude.{◌≡◌, ◌<◌, ◌≤◌, ◌+◌, List, Option, length, ℕ, IfNone, IfOk, IfSome, IsErrOf};
-ghost use Rattle.auction_rows.specs.Book.{Book as Rows};
-ghost use Rattle.auction_rows.specs.declared.numbers.Opening.{Opening};
+ghost use Rattle.std.specs.Prelude.{◌≡◌, ◌<◌, ◌≤◌, ◌+◌, length, IfNone, IfOk, IfSome, IsErrOf};
 ghost use Rattle.item_shards.specs.OpeningBooks.{opening_of, rows_of};
 ghost use Rattle.history_check.specs.declared.lines.CheckFault.TheVariants.{TooLong};
-ghost use Rattle.history_check.specs.declared.lines.Order.{Order as Asked};
 ghost use Rattle.history_check.specs.declared.lines.Verdict.TheVariants.{Replays};
 ghost use Rattle.history_check.specs.Scripts.{lists};
 ghost use Rattle.history_check.specs.Texts.{lines_of, ReadsLine};
 ghost use Rattle.history_check.specs.Checking.{IsAccepted, IsVerdict};
-ghost use Rattle.history_check.specs.Taking.{CanTake, IsReading};
+ghost use Rattle.history_check.specs.Taking.{CanTake, ForEachReading, IsReading};
 
 use crate::lines::{CheckFault, Order, Verdict};
 use crate::replay::Replay;
@@ -53,15 +50,12 @@ fn find_next<R: BufRead>(
     requires workers { length scripts.now ≤ MOST_WORKERS }
     requires number { number ≤ MOST_ROWS }
     requires taken { CanTake (lists scripts.now) replay.old }
-    ensures goes_on { IfOk result (λ found. IfNone found ((opening : Opening) (start : Rows) (order : Asked) (first : Option (List ℕ)) →
-        IsReading opening start (lists scripts.now) order first (R.remaining reader.old) replay.old number →
-        IsReading opening start (lists scripts.now) order first (R.remaining reader.new) replay.new (number + 1))) }
-    ensures verdict { IfOk result (λ found. IfSome found (λ verdict. (opening : Opening) (start : Rows) (order : Asked) (first : Option (List ℕ)) →
-        IsReading opening start (lists scripts.now) order first (R.remaining reader.old) replay.old number →
-        IfSome first (λ text. IsVerdict opening start (lists scripts.now) order text verdict))) }
-    ensures too_long { IsErrOf result TooLong → (opening : Opening) (start : Rows) (order : Asked) (first : Option (List ℕ)) →
-        IsReading opening start (lists scripts.now) order first (R.remaining reader.old) replay.old number →
-        IfSome first (λ text. MOST_ROWS < length start + length (lines_of text)) }
+    ensures goes_on { IfOk result (λ found. IfNone found (ForEachReading (lists scripts.now) (R.remaining reader.old) replay.old number
+        (λ opening start order first. IsReading opening start (lists scripts.now) order first (R.remaining reader.new) replay.new (number + 1)))) }
+    ensures verdict { IfOk result (λ found. IfSome found (λ verdict. ForEachReading (lists scripts.now) (R.remaining reader.old) replay.old number
+        (λ opening start order first. IfSome first (λ text. IsVerdict opening start (lists scripts.now) order text verdict)))) }
+    ensures too_long { IsErrOf result TooLong → ForEachReading (lists scripts.now) (R.remaining reader.old) replay.old number
+        (λ opening start order first. IfSome first (λ text. MOST_ROWS < length start + length (lines_of text))) }
 {
     if !read_next(reader, line)? {
         if let Some((worker, index)) = replay.lacks(scripts) {

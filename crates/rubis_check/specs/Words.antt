@@ -34,8 +34,8 @@ order_of first true = Strict
 order_of true false = StoresFirst
 order_of false false = Any
 
--- The options are those that the texts say, and the file is the one that is named.
-pub record AreSaid (text value : List ℕ → Option (List ℕ)) (options : Options) : Type 0 where
+-- Texts say the options: each number and flag by its own text; the file is the one that is named.
+pub record SayOptions (text value : List ℕ → Option (List ℕ)) (options : Options) : Type 0 where
   pub workers : options.workers ≡ number_of (text (codes "workers"))
   pub users : options.opening.users ≡ number_of (text (codes "users"))
   pub categories : options.opening.categories ≡ number_of (text (codes "categories"))

@@ -3,7 +3,7 @@ ghost use Rattle.std.specs.Prelude.{◌≡◌, ◌≤◌, IfOk, IfErr, OnOk, fal
 ghost use Rattle.clap.specs.Words.{app_of, first_value, found_of, one_text, rule_of};
 ghost use Rattle.program_options.specs.Words.{AreTaken, HaveNumbers, text_in, value_in};
 ghost use Rattle.program_options.specs.declared.faults.UsageFault.{UsageFault};
-ghost use Rattle.rubis_check.specs.Words.{AreSaid, history_rule, order_of, program};
+ghost use Rattle.rubis_check.specs.Words.{SayOptions, history_rule, order_of, program};
 
 use auction_rows::{MOST_WORKERS, Opening};
 use clap::{Arg, ArgAction, ArgMatches, Command};
@@ -71,7 +71,7 @@ fn order_of(first: bool, strict: bool) -> Order
 
 fn options_of(alloc: Global, matches: &ArgMatches<'_>) -> Result<Options, UsageFault>
     ensures given { IfOk result (λ options. HaveNumbers program (one_text (found_of matches.now))
-        → AreSaid (one_text (found_of matches.now)) (first_value (found_of matches.now)) options) }
+        → SayOptions (one_text (found_of matches.now)) (first_value (found_of matches.now)) options) }
     ensures workers { IfOk result (λ options. options.workers ≤ MOST_WORKERS) }
     ensures memory { IfErr result (λ fault. fault ≡ UsageFault.Memory) }
 {
@@ -94,7 +94,7 @@ fn options_of(alloc: Global, matches: &ArgMatches<'_>) -> Result<Options, UsageF
 /// 10 categories, any order; a file with a history has to be named. Words that are refused, or that ask for help, are answered
 /// in `clap`'s words.
 pub fn read_options(alloc: Global, words: &[String]) -> Result<Options, UsageFault>
-    ensures given { IfOk result (AreSaid (text_in program (map string_bytes words.now)) (value_in program (map string_bytes words.now))) }
+    ensures given { IfOk result (SayOptions (text_in program (map string_bytes words.now)) (value_in program (map string_bytes words.now))) }
     ensures workers { IfOk result (λ options. options.workers ≤ MOST_WORKERS) }
     ensures taken { OnOk result (AreTaken program (map string_bytes words.now)) }
     ensures memory { IfErr result (λ fault. AreTaken program (map string_bytes words.now) → fault ≡ UsageFault.Memory) }

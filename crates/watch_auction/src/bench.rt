@@ -81,7 +81,7 @@ where
     Ok(())
 }
 
-// How long a run takes that a board is told of.
+// How long a run takes that a board is told of, until what it leaves is freed.
 fn time_run<R, B>(
     rt: &R,
     alloc: Global,

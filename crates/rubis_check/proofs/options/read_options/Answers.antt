@@ -5,7 +5,7 @@ use Rattle.clap.specs.Matches.{first_value, found_of, one_text}
 use Rattle.clap.specs.Simple.{app_of}
 use Rattle.program_options.specs.Words.{AreTaken, HaveNumbers, text_in, value_in}
 use Rattle.program_options.specs.declared.faults.UsageFault.TheVariants.{Memory}
-use Rattle.rubis_check.specs.Words.{AreSaid, program}
+use Rattle.rubis_check.specs.Words.{SayOptions, program}
 use Rattle.rubis_check.proofs.OptionLemmas.{is_free}
 use Rattle.rubis_check.proofs.options.read_options.Goals as goal
 
@@ -20,9 +20,9 @@ returns c =
     let values = subst (λ a. (id : List ℕ) → first_value found id ≡ value_in a words id) c.in-Ok.ensures (parse.ensures.values free) in
     let taken = subst (λ a. AreTaken a words) c.in-Ok.ensures (parse.ensures.taken free) in
     record {
-      given = IfOk-weaker c.options_of.result _ (AreSaid (text_in program words) (value_in program words))
-          (λ options said. subst (λ text. AreSaid text (value_in program words) options) (λ i id. texts id i)
-          (subst (λ value. AreSaid (one_text found) value options) (λ i id. values id i) (said numbers))) c.options_of.ensures.given;
+      given = IfOk-weaker c.options_of.result _ (SayOptions (text_in program words) (value_in program words))
+          (λ options said. subst (λ text. SayOptions text (value_in program words) options) (λ i id. texts id i)
+          (subst (λ value. SayOptions (one_text found) value options) (λ i id. values id i) (said numbers))) c.options_of.ensures.given;
       workers = c.options_of.ensures.workers;
       taken = IfOk-weaker c.options_of.result _ _ (λ options few. taken) c.options_of.ensures.workers;
       memory = IfErr-weaker c.options_of.result _ _ (λ fault is taken. is) c.options_of.ensures.memory;
