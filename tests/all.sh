@@ -4,7 +4,7 @@
 #     tests/all.sh            all tests
 #     tests/all.sh --built    the scripts alone, on programs and tests that are built
 #
-# The comparer and the tutorial run beside the other scripts; what they said is printed after them.
+# Three scripts run beside the others; what they said is printed after them.
 set -euo pipefail
 cd "$(dirname "$0")/.."
 said=$(mktemp -d)
@@ -15,7 +15,7 @@ if [ "${1:-}" != --built ]; then
     lanes=$(awk -v most="$(nproc)" '/^MemAvailable/ { fits = int($2 / 4000000); print fits < 1 ? 1 : fits < most ? fits : most }' /proc/meminfo)
     RT_JOBS=${RT_JOBS:-$lanes} rt ci | tee "$said/rt_ci"
 fi
-beside="second_opinion tutorial"
+beside="second_opinion tutorial must_be_spent"
 for script in $beside; do
     python3 -B "tests/$script.py" > "$said/$script" 2>&1 &
 done
