@@ -11,7 +11,7 @@ import figures
 import lite
 import measures
 import plots
-from figures import (ANSWER, AUCTION, HISTORY_SIZE, INSTRUCTIONS, MEMORY, PUBLISHING, RUN, SCRIPT_SIZE, SCRIPTS, SECONDS, SQLITE, SYSTEMS,
+from figures import (ANSWER, AUCTION, HISTORY_SIZE, INSTRUCTIONS, MEMORY, PUBLISHING, RUN, SCRIPT_SIZE, SCRIPTS, SECONDS, SYSTEMS,
                      UNSPLIT, VIEW, Figure)
 from measures import BIDDING, LARGE, ONE_ITEM, UNIFORM, Policy
 from programs import ROOT
@@ -79,7 +79,7 @@ def by_workers(rows):
     counts = sorted({row.workers for row in rows})
     for load in dict.fromkeys(row.load for row in rows):
         lines = [[system, *(number(value(rows, load=load, system=system, workers=count)) for count in counts)] for system in present(rows)]
-        text += f"\n{load[0].upper()}{load[1:]}:\n\n" + table(["Requests answered a second, by workers", *map(str, counts)], lines)
+        text += f"\n{load[0].upper()}{load[1:]}:\n\n" + table(["Requests per second, by workers", *map(str, counts)], lines)
     return text
 
 
@@ -88,7 +88,7 @@ def by_skew(rows):
     names = list(dict.fromkeys(row.load for row in rows))
     heads = [name.split("exponent ")[-1].replace("bids on ", "") for name in names]
     lines = [[system, *(number(value(rows, load=name, system=system)) for name in names)] for system in present(rows)]
-    return table(["Requests answered a second, by the exponent of Zipf's law", *heads], lines)
+    return table(["Requests per second, by the exponent of Zipf's law", *heads], lines)
 
 
 def by_quotas(rows):
@@ -97,9 +97,9 @@ def by_quotas(rows):
     for load in dict.fromkeys(row.load for row in rows):
         for joined, split in dict.fromkeys((row.joined, row.split) for row in rows):
             same = values(rows, load=load, joined=joined, split=split)
-            cells = [value(same, hot=hot, measure=measure) for hot in (8, 0) for measure in (ANSWER, SECONDS)]
+            cells = [value(same, hot=hot, measure=ANSWER) for hot in (8, 0)]
             lines.append([load, f"{joined} / {split}", *map(number, cells)])
-    heads = ["Load", "Quotas, joined / split", "Answering, s", "Whole command, s", "Answering, nothing split, s", "Whole command, nothing split, s"]
+    heads = ["Load", "Quotas, joined / split", "Answering, s", "Answering, nothing split, s"]
     return table(heads, lines)
 
 
@@ -120,7 +120,19 @@ def whole(rows):
         for system in present(rows):
             cells = [value(rows, load=load, system=system, measure=measure) for measure in (SECONDS, ANSWER, MEMORY)]
             lines.append([load, system, *map(number, cells)])
-    return table(["Load", "System", "Whole command, s", "Answering, s", "Memory at most, MB"], lines)
+    return table(["Load", "System", "Whole command, s", "Answering, s", "Peak memory, MB"], lines)
+
+
+def growth(rows):
+    """By how much the auction's memory grows with each request."""
+    grown = []
+    for load in (UNIFORM, BIDDING):
+        found = values(rows, load=load.name, system=AUCTION)
+        if len(found) < 2:
+            return ""
+        least, most = min(found, key=lambda row: row.requests), max(found, key=lambda row: row.requests)
+        grown.append(round((most.value - least.value) * 1e6 / (most.requests - least.requests), -1))
+    return f"\nThe auction's memory grows by about {grown[0]:.0f} bytes per bid and {grown[1]:.0f} per request of the bidding mix.\n"
 
 
 def memory(rows):
@@ -128,7 +140,7 @@ def memory(rows):
     counts = sorted({row.requests for row in rows})
     lines = [[f"{system}, {load}", *(number(value(rows, load=load, system=system, requests=count)) for count in counts)]
              for load in dict.fromkeys(row.load for row in rows) for system in present(rows)]
-    return table(["Megabytes at most, by requests", *(f"{count:,}" for count in counts)], lines)
+    return table(["Peak memory in MB, by requests", *(f"{count:,}" for count in counts)], lines) + growth(rows)
 
 
 def checking(rows):
@@ -138,24 +150,28 @@ def checking(rows):
         rate = requests / (told[SECONDS] - told[SCRIPTS]) if told[SECONDS] > told[SCRIPTS] else None
         cells = (told[SCRIPT_SIZE], told[HISTORY_SIZE], told[SECONDS], told[SCRIPTS], rate, told[MEMORY])
         lines.append([load, f"{requests:,}", *map(number, cells)])
-    return table(["Load", "Requests", "Scripts, MB", "History, MB", "Whole command, s", "Of it the scripts, s", "Entries a second after that",
-                  "Memory at most, MB"], lines)
+    return table(["Load", "Requests", "Scripts, MB", "History, MB", "Whole command, s", "Reading scripts, s", "Entries per second after that",
+                  "Peak memory, MB"], lines)
+
+
+# What the page calls these instructions.
+NAMED = {"of it the kit's reader of records": "of which the kit's CSV reader", "performing": "executing"}
 
 
 def instructions(rows):
     rows = values(rows, table="instructions")
     loads = list(dict.fromkeys(row.load for row in rows))
     heads = [f"{load}{', nothing split' * (system == UNSPLIT)}" for load in loads for system in (AUCTION, UNSPLIT)]
-    lines = [[measure, *(number(value(rows, load=load, system=system, measure=measure)) for load in loads for system in (AUCTION, UNSPLIT))]
+    lines = [[NAMED.get(measure, measure), *(number(value(rows, load=load, system=system, measure=measure)) for load in loads for system in (AUCTION, UNSPLIT))]
              for measure in INSTRUCTIONS]
-    return table(["Instructions a request, one worker", *heads], lines)
+    return table(["Instructions per request, one worker", *heads], lines)
 
 
 def windows(rows):
     rows = values(rows, table="windows")
     alone, beside = (values(rows, load=f"windows {where}") for where in ("alone", "beside a run"))
     lines = [[str(row.workers), number(row.value), number(row.workers * 1e9 / row.value)] for row in alone]
-    text = table(["Windows, a thread each, nothing happens", "Nanoseconds a view, for each thread", "Views a second, all together"], lines)
+    text = table(["Windows, one thread each, no run", "Nanoseconds per view", "Views per second, all windows"], lines)
     lines = []
     for row in values(beside, measure=RUN):
         at = beside.index(row)
@@ -163,11 +179,11 @@ def windows(rows):
         own = beside[at:end]
         shown = "nobody" if row.workers == 0 else f"{row.workers} window{'s' * (row.workers > 1)}" + ("" if value(own, measure=VIEW) else ", no views")
         lines.append([shown, number(row.value), number(value(own, measure=PUBLISHING)), number(value(own, measure=VIEW))])
-    return text + "\n" + table(["A million bids of four workers on one item, shown to", "Seconds", "Of it publishing", "Nanoseconds a view beside it"], lines)
+    return text + "\n" + table(["A million bids by four workers on one item, published to", "Seconds", "Publishing, s", "Nanoseconds per view meanwhile"], lines)
 
 
-# What the plots show, which stand above the tables of their names.
-PLOTS = {"workers": "Requests answered a second by the number of workers", "skew": "Requests answered a second by skew", "memory": "Memory by requests"}
+# What the plots show, each above the table of its name.
+PLOTS = {"workers": "Requests per second by number of workers", "skew": "Requests per second by skew", "memory": "Memory by requests"}
 
 TABLES = {"workers": by_workers, "skew": by_skew, "quotas": by_quotas, "shards": by_shards, "threshold": by_threshold, "whole": whole,
           "memory": memory, "checking": checking, "instructions": instructions, "windows": windows}
@@ -180,39 +196,49 @@ def tables(rows, is_drawn):
         yield name, plot + made(rows).lstrip("\n") if values(rows, table=name) else LEFT_OUT
 
 
-# What README.md leaves to docs/PERFORMANCE.md.
-ELSEWHERE = (figures.LOCK,)
+# The systems that README.md shows, with their names there.
+SHOWN = {AUCTION: "Fundreivo", UNSPLIT: "Fundreivo, nothing split", figures.PHASES: "the same algorithm in plain Rust",
+         figures.ALONE: "plain Rust, one thread, no locks"}
+
+
+def of_most_workers(rows):
+    """The rates at the greatest number of workers."""
+    rows = values(rows, table="workers")
+    return values(rows, workers=max((row.workers for row in rows), default=None))
 
 
 def rates(rows):
-    """The table of README.md: each system at each load, by one worker on one item and by the greatest number of workers."""
-    rows = [row for row in values(rows, table="workers") if row.system not in ELSEWHERE]
+    """The table of README.md: four systems at each load, by the greatest number of workers."""
+    rows = of_most_workers(rows)
     if not rows:
         return LEFT_OUT
-    counts = sorted({row.workers for row in rows})
     loads = list(dict.fromkeys(row.load for row in rows))
-    columns = [(load, count) for load in loads for count in (counts if load == ONE_ITEM.name else counts[-1:]) if count in (counts[0], counts[-1])]
-    heads = [f"{plots.load_title(load)}, {in_workers(count)}" for load, count in columns]
-    lines = [[system, *(in_words(value(rows, load=load, system=system, workers=count)) for load, count in columns)] for system in present(rows)]
-    return table(["Requests answered a second", *heads], lines)
+    lines = [[SHOWN[system], *(in_words(value(rows, load=load, system=system)) for load in loads)] for system in present(rows) if system in SHOWN]
+    return table([f"Requests per second, {in_workers(rows[0].workers)}", *map(plots.load_title, loads)], lines)
 
 
 def in_workers(count):
     return f"{count} worker{'s' * (count > 1)}"
 
 
-def speed(rows):
-    """In README.md: bids on one item."""
-    most = max((row.workers for row in values(rows, table="workers")), default=None)
-    of_most = values(rows, table="workers", load=ONE_ITEM.name, workers=most)
-    split, unsplit, of_sqlite = (value(of_most, system=system) for system in (AUCTION, UNSPLIT, SQLITE))
+def cost(rows):
+    """In README.md: the auction's throughput as a part of plain Rust's with the same phases."""
+    rows = of_most_workers(rows)
+    both = [[value(rows, load=load, system=system) for system in (AUCTION, figures.PHASES)] for load in dict.fromkeys(row.load for row in rows)]
+    if not both or not all(map(all, both)):
+        return LEFT_OUT
+    parts = sorted(own / plain for own, plain in both)
+    return f"With {in_workers(rows[0].workers)}, {parts[0]:.2f} to {parts[-1]:.2f} times the throughput of the same algorithm in plain Rust"
+
+
+def gain(rows):
+    """In README.md: bids on one item, split and not."""
+    rows = values(of_most_workers(rows), load=ONE_ITEM.name)
+    split, unsplit = (value(rows, system=system) for system in (AUCTION, UNSPLIT))
     if not (split and unsplit):
         return LEFT_OUT
-    of_one = value(values(rows, table="workers", load=ONE_ITEM.name, workers=1), system=UNSPLIT)
-    alone = f" (by one worker alone {in_words(of_one)})" if of_one else ""
-    beside = f"; SQLite in memory, one thread, {in_words(of_sqlite)}" if of_sqlite else ""
-    return (f"Bids of {in_workers(most)} on one item, with `--split {LARGE[1]}`: {in_words(split)} answered a second, "
-            f"{in_words(unsplit)} with nothing split{alone}{beside}")
+    return (f"All bids on one item, {in_workers(rows[0].workers)}, `--split {LARGE[1]}`: {in_words(split)} requests per second, "
+            f"{in_words(unsplit)} without splitting")
 
 
 def usual(rows):
@@ -221,32 +247,27 @@ def usual(rows):
     if not all(both):
         return LEFT_OUT
     split, unsplit = (found[0].requests / found[0].value for found in both)
-    return (f"With the program's own quotas, 64 and 64, {in_workers(both[0][0].workers)} answer {in_words(split)} bids on one item a second, "
-            f"and {in_words(unsplit)} with nothing split")
+    return f"{in_words(split)} requests per second with splitting and {in_words(unsplit)} without"
 
 
-def growth(rows):
-    """In README.md: by how much memory grows with each request."""
-    told = []
-    for load in (UNIFORM, BIDDING):
-        found = values(rows, table="memory", load=load.name, system=AUCTION)
-        if len(found) < 2:
-            return LEFT_OUT
-        least, most = min(found, key=lambda row: row.requests), max(found, key=lambda row: row.requests)
-        told.append(round((most.value - least.value) * 1e6 / (most.requests - least.requests), -1))
-    return (f"at its most some {told[0]:.0f} bytes for each bid, with script and history (the text of replies is made once scripts are let go); "
-            f"{told[1]:.0f} for a request of the bidding mix")
+def work(rows):
+    """In README.md: the instructions of a bid on one item, split."""
+    rows = values(rows, table="instructions", load=ONE_ITEM.name, system=AUCTION)
+    reading, _, performing, writing = (value(rows, measure=measure) for measure in INSTRUCTIONS)
+    if not performing:
+        return LEFT_OUT
+    return f"A bid on a hot item takes {number(performing)} instructions to execute, {number(reading)} to read and {number(writing)} to write its reply"
 
 
 # The parts of README.md.
-CLAIMS = {"rates": rates, "speed": speed, "usual": usual, "growth": growth}
+CLAIMS = {"rates": rates, "cost": cost, "gain": gain, "usual": usual, "work": work}
 
 
 def heading(asked, systems, when, seconds):
     """Date, machine, command and how long it took, and what was left out."""
-    lines = [f"Measured on {when}, on {machine()}, in {max(1, round(seconds / 60))} minutes, by", "", f"    {command(asked)}", "",
-             "The best of the tries stands here; windows and instructions are measured once. The commands behind the figures, where LOAD is what "
-             "`rubis_load` wrote and HISTORY what `rubis_auction` did with `--history`:", ""]
+    lines = [f"Measured on {when}, on {machine()}, in {max(1, round(seconds / 60))} minutes, with", "", f"    {command(asked)}", "",
+             "Each figure is the best of its tries; windows and instructions are measured once. LOAD is the output of `rubis_load`, HISTORY the "
+             "output of `rubis_auction --history`:", ""]
     for load in (ONE_ITEM, UNIFORM, BIDDING):
         lines.append(f"    rubis_load --requests={asked.requests} --workers={asked.workers} {' '.join(load.words())}")
     lines.append(f"    rubis_auction {' '.join(Policy().words(asked.workers))} < LOAD")
@@ -256,10 +277,10 @@ def heading(asked, systems, when, seconds):
         lines.append("    watch_auction bench")
     lines.append("")
     if systems.server:
-        lines.append(f"PostgreSQL is {systems.server_version}; it does the first {systems.few():,} requests of each load, or of these as many as it does in "
-                     f"about {asked.seconds:g} s (`figures.csv` says how many).")
+        lines.append(f"PostgreSQL {systems.server_version} executes the first {systems.few():,} requests of each load, or as many of these as it does in "
+                     f"about {asked.seconds:g} s (`figures.csv` has the number).")
     if "sqlite" not in asked.skip:
-        lines.append(f"SQLite is {lite.sqlite3.sqlite_version}; it does the first {systems.few():,}. A statement that asks it for nothing takes "
+        lines.append(f"SQLite {lite.sqlite3.sqlite_version} executes the first {systems.few():,}. An empty statement takes "
                      f"{systems.empty_statement / 1000:.2f} µs from Python and back; a bid is five statements, a view one or four.")
     return "\n".join(lines + systems.said) + "\n"
 

@@ -1,8 +1,8 @@
 #!/usr/bin/env python3
-"""Shows that the documents speak of what there is: a name in backticks stands in the code, a path and a link lead to a file, each block of code of
-docs/TUTORIAL.md stands in the file named above it, each definition that the pages of definitions (docs/DEFINITIONS.md, docs/ENGINE_DEFINITIONS.md) quote is, but
-for layout, that of the file named above it, each definition that they or the table of printed lines of docs/FORMATS.md name with a file stands there, each
-crate and each law has its place, and what bench/run wrote has the figures of figures.csv.
+"""Shows that the documents speak of what there is: a name in backticks is in the code, a path and a link lead to a file, each block of code of
+docs/TUTORIAL.md is in the file named above it, each definition that the pages of definitions (docs/DEFINITIONS.md, docs/ENGINE_DEFINITIONS.md) quote is, except
+for layout, that of the file named above it, each definition that they or the table of printed lines of docs/FORMATS.md name with a file is there, each crate
+and each law has its place, what bench/run wrote has the figures of figures.csv, each picture is what its script draws, and the pages of users are not too long.
 
     tests/documents.py
 """
@@ -22,7 +22,6 @@ TUTORIAL = DOCUMENTS / "TUTORIAL.md"
 DEFINITIONS = (DOCUMENTS / "DEFINITIONS.md", DOCUMENTS / "ENGINE_DEFINITIONS.md")
 FORMATS = DOCUMENTS / "FORMATS.md"
 PRINTED = "## From a printed line to its definition\n"
-# What that table says in place of a folder.
 # A block before which no file is named is the reader's own.
 THE_READERS = ""
 # What a page shows whole.
@@ -30,8 +29,13 @@ SHOWN = {
     ROOT / "README.md": ("examples/first_example.csv", "examples/first_example.replies"),
     DOCUMENTS / "WINDOWS.md": ("crates/watch_auction/stdout",),
 }
-# Where each crate has its place.
-MAPS = (ROOT / "README.md", DOCUMENTS / "ARCHITECTURE.md", DOCUMENTS / "PROVED.md")
+# Where each crate and where each law has its place.
+MAP, LAWS = DOCUMENTS / "ARCHITECTURE.md", DOCUMENTS / "PROVED.md"
+PICTURES = DOCUMENTS / "pictures"
+# The pages of users, and how many words they and the first of them may have.
+OF_USERS = ("README", "docs/GUARANTEES", "docs/EXAMPLE", "docs/PERFORMANCE", "docs/FORMATS", "docs/TUTORIAL", "docs/WINDOWS", "docs/CHECKING", "docs/LOADS",
+            "docs/OUTGROWING", "CONTRIBUTING", "CHANGELOG", "tests/README")
+MOST_WORDS, MOST_OF_THE_FIRST = 20_500, 1_200
 
 NAME = re.compile(r"[A-Za-z_]\w*(::[A-Za-z_]\w*)*(\(\))?|--[a-z]+")
 # What is written in place of a name, a word of SQL, and the folder that builds make.
@@ -107,20 +111,18 @@ def headings(document: Path) -> set[str]:
 
 
 def crates(tally: Tally) -> None:
-    """crates, each in the maps of the documents"""
-    names = re.findall(r"(?m)^(\w+)[^:#\n]*:", (ROOT / "crates.txt").read_text())
-    for document in MAPS:
-        named = set(in_backticks(document))
-        for name in names:
-            tally.check(name in named, f"{document.name} speaks of {name}")
+    """crates, each in docs/ARCHITECTURE.md"""
+    named = set(in_backticks(MAP))
+    for name in re.findall(r"(?m)^(\w+)[^:#\n]*:", (ROOT / "crates.txt").read_text()):
+        tally.check(name in named, f"{MAP.name} speaks of {name}")
 
 
 def laws(tally: Tally) -> None:
     """laws, each in docs/PROVED.md"""
-    named = set(in_backticks(DOCUMENTS / "PROVED.md"))
+    named = set(in_backticks(LAWS))
     for path in ROOT.glob("crates/*/src/**/*.rt"):
         for name in re.findall(r"(?m)^pub fn (\w+)(?:<[^(]*>)?\(\)\n(?:    .*\n)*\{\}", path.read_text()):
-            tally.check(name in named, f"PROVED.md speaks of the law {name}")
+            tally.check(name in named, f"{LAWS.name} speaks of the law {name}")
 
 
 def blocks_of_code(tally: Tally) -> None:
@@ -217,10 +219,24 @@ def figures(tally: Tally) -> None:
     tally.check(got.status == 0, f"bench/run --compare: {described(got)}")
 
 
+def pictures(tally: Tally) -> None:
+    """pictures, as their scripts draw them"""
+    for script in PICTURES.glob("*.py"):
+        got = run([sys.executable, "-B", script, "--print"])
+        tally.check(got.status == 0 and got.stdout == script.with_suffix(".svg").read_bytes(), f"{script.name} draws its picture: {got.stderr!r}")
+
+
+def lengths(tally: Tally) -> None:
+    """lengths of the pages of users"""
+    words = {page: len((ROOT / f"{page}.md").read_text().split()) for page in OF_USERS}
+    tally.check(words[OF_USERS[0]] <= MOST_OF_THE_FIRST, f"{OF_USERS[0]} has {words[OF_USERS[0]]} words, of at most {MOST_OF_THE_FIRST}")
+    tally.check(sum(words.values()) <= MOST_WORDS, f"the pages of users have {sum(words.values())} words, of at most {MOST_WORDS}")
+
+
 def main() -> None:
     tally = Tally()
     of_names = (names_and_paths, links, crates, laws, files_of_specs)
-    of_what_is_shown = (blocks_of_code, shown_files, quoted_definitions, named_definitions, printed_lines, figures)
+    of_what_is_shown = (blocks_of_code, shown_files, quoted_definitions, named_definitions, printed_lines, figures, pictures, lengths)
     for check in (*of_names, *of_what_is_shown):
         passed = tally.passed
         check(tally)
