@@ -11,7 +11,7 @@ import figures
 import lite
 import measures
 import plots
-from figures import (ANSWER, AUCTION, HISTORY_SIZE, INSTRUCTIONS, MEMORY, PUBLISHING, RUN, SCRIPT_SIZE, SCRIPTS, SECONDS, SYSTEMS,
+from figures import (ANSWER, AUCTION, HISTORY_SIZE, INSTRUCTIONS, MEMORY, PUBLISHING, RUN, SCRIPTS, SECONDS, SYSTEMS,
                      UNSPLIT, VIEW, Figure)
 from measures import BIDDING, LARGE, ONE_ITEM, UNIFORM, Policy
 from programs import ROOT
@@ -75,12 +75,10 @@ def present(rows):
 
 
 def by_workers(rows):
-    rows, text = values(rows, table="workers"), ""
-    counts = sorted({row.workers for row in rows})
-    for load in dict.fromkeys(row.load for row in rows):
-        lines = [[system, *(number(value(rows, load=load, system=system, workers=count)) for count in counts)] for system in present(rows)]
-        text += f"\n{load[0].upper()}{load[1:]}:\n\n" + table(["Requests per second, by workers", *map(str, counts)], lines)
-    return text
+    rows = values(rows, table="workers")
+    columns = [(load, count) for load in dict.fromkeys(row.load for row in rows) for count in sorted({row.workers for row in rows})]
+    lines = [[system, *(number(value(rows, load=load, system=system, workers=count)) for load, count in columns)] for system in present(rows)]
+    return table(["Requests per second, by workers", *(f"{load}, {count}" for load, count in columns)], lines)
 
 
 def by_skew(rows):
@@ -92,15 +90,13 @@ def by_skew(rows):
 
 
 def by_quotas(rows):
-    rows = values(rows, table="quotas")
+    rows = values(rows, table="quotas", measure=ANSWER)
+    loads = list(dict.fromkeys(row.load for row in rows))
     lines = []
-    for load in dict.fromkeys(row.load for row in rows):
-        for joined, split in dict.fromkeys((row.joined, row.split) for row in rows):
-            same = values(rows, load=load, joined=joined, split=split)
-            cells = [value(same, hot=hot, measure=ANSWER) for hot in (8, 0)]
-            lines.append([load, f"{joined} / {split}", *map(number, cells)])
-    heads = ["Load", "Quotas, joined / split", "Answering, s", "Answering, nothing split, s"]
-    return table(heads, lines)
+    for joined, split in dict.fromkeys((row.joined, row.split) for row in rows):
+        same = values(rows, joined=joined, split=split)
+        lines.append([f"{joined} / {split}", *(number(value(same, load=load, hot=hot)) for load in loads for hot in (8, 0))])
+    return table(["Answering, s, by quotas", *(f"{load}{', nothing split' * (hot == 0)}" for load in loads for hot in (8, 0))], lines)
 
 
 def by_shards(rows):
@@ -115,12 +111,11 @@ def by_threshold(rows):
 
 def whole(rows):
     rows = values(rows, table="whole")
-    lines = []
-    for load in dict.fromkeys(row.load for row in rows):
-        for system in present(rows):
-            cells = [value(rows, load=load, system=system, measure=measure) for measure in (SECONDS, ANSWER, MEMORY)]
-            lines.append([load, system, *map(number, cells)])
-    return table(["Load", "System", "Whole command, s", "Answering, s", "Peak memory, MB"], lines)
+    loads = list(dict.fromkeys(row.load for row in rows))
+    cells = {(row.system, row.load, row.measure): number(row.value) for row in rows}
+    lines = [[system, *(" / ".join(cells.get((system, load, measure), "-") for measure in (SECONDS, ANSWER, MEMORY)) for load in loads)]
+             for system in present(rows)]
+    return table(["Whole command, s / answering, s / peak memory, MB", *loads], lines)
 
 
 def growth(rows):
@@ -148,9 +143,9 @@ def checking(rows):
     for load, requests in dict.fromkeys((row.load, row.requests) for row in rows):
         told = {row.measure: row.value for row in values(rows, load=load, requests=requests)}
         rate = requests / (told[SECONDS] - told[SCRIPTS]) if told[SECONDS] > told[SCRIPTS] else None
-        cells = (told[SCRIPT_SIZE], told[HISTORY_SIZE], told[SECONDS], told[SCRIPTS], rate, told[MEMORY])
+        cells = (told[HISTORY_SIZE], told[SECONDS], told[SCRIPTS], rate, told[MEMORY])
         lines.append([load, f"{requests:,}", *map(number, cells)])
-    return table(["Load", "Requests", "Scripts, MB", "History, MB", "Whole command, s", "Reading scripts, s", "Entries per second after that",
+    return table(["Load", "Requests", "History, MB", "Whole command, s", "Reading scripts, s", "Entries per second after that",
                   "Peak memory, MB"], lines)
 
 

@@ -2,7 +2,7 @@
 # All tests: `rt ci`, and then the scripts beside this one on the programs that it built. The last line counts them all.
 #
 #     tests/all.sh            all tests
-#     tests/all.sh --built    the scripts alone, on programs and tests that are built
+#     tests/all.sh --built    only the scripts, on programs and tests that are built
 #
 # Three scripts run beside the others; what they said is printed after them.
 set -euo pipefail

@@ -35,7 +35,7 @@ PICTURES = DOCUMENTS / "pictures"
 # The pages of users, and how many words they and the first of them may have.
 OF_USERS = ("README", "docs/GUARANTEES", "docs/EXAMPLE", "docs/PERFORMANCE", "docs/FORMATS", "docs/TUTORIAL", "docs/WINDOWS", "docs/CHECKING", "docs/LOADS",
             "docs/OUTGROWING", "CONTRIBUTING", "CHANGELOG", "tests/README")
-MOST_WORDS, MOST_OF_THE_FIRST = 20_500, 1_200
+MOST_WORDS, MOST_OF_THE_FIRST = 16_000, 1_200
 
 NAME = re.compile(r"[A-Za-z_]\w*(::[A-Za-z_]\w*)*(\(\))?|--[a-z]+")
 # What is written in place of a name, a word of SQL, and the folder that builds make.
