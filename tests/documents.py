@@ -1,5 +1,5 @@
 #!/usr/bin/env python3
-"""Shows that the documents speak of what there is: a name in backticks is in the code, a path and a link lead to a file, each block of code of
+"""Shows that the documents speak of what there is: a name in backticks is in the code, a path and a link lead to a file, in commands too, each block of code of
 docs/TUTORIAL.md is in the file named above it, each definition that the pages of definitions (docs/DEFINITIONS.md, docs/ENGINE_DEFINITIONS.md) quote is, except
 for layout, that of the file named above it, each definition that they or the table of printed lines of docs/FORMATS.md name with a file is there, each crate
 and each law has its place, what bench/run wrote has the figures of figures.csv, each picture is what its script draws, and the pages of users are not too long.
@@ -38,6 +38,8 @@ OF_USERS = ("README", "docs/GUARANTEES", "docs/EXAMPLE", "docs/PERFORMANCE", "do
 MOST_WORDS, MOST_OF_THE_FIRST = 16_000, 1_200
 
 NAME = re.compile(r"[A-Za-z_]\w*(::[A-Za-z_]\w*)*(\(\))?|--[a-z]+")
+# A path from the top, perhaps after steps up.
+IN_A_COMMAND = re.compile(r"(?<![\w./])(?:\.\./)*((?:bench|docs|examples|tests)/\w[\w./-]*\w)")
 # What is written in place of a name, a word of SQL, and the folder that builds make.
 OTHER_WORDS = {"uN", "cN", "SERIALIZABLE"}
 MADE = "out"
@@ -85,6 +87,14 @@ def names_and_paths(tally: Tally) -> None:
                 tally.check(not unknown, f"{document.name}: `{text}` is a name of the code")
             elif "/" in text and " " not in text and not text.startswith("/") and MADE not in Path(text).parts:
                 tally.check(is_there(text), f"{document.name}: `{text}` is there")
+
+
+def paths_in_commands(tally: Tally) -> None:
+    """paths in commands and blocks of code"""
+    for document in documents():
+        for path in IN_A_COMMAND.findall(document.read_text()):
+            if MADE not in Path(path).parts:
+                tally.check((ROOT / path).exists(), f"{document.name}: {path} is there")
 
 
 def files_of_specs(tally: Tally) -> None:
@@ -235,7 +245,7 @@ def lengths(tally: Tally) -> None:
 
 def main() -> None:
     tally = Tally()
-    of_names = (names_and_paths, links, crates, laws, files_of_specs)
+    of_names = (names_and_paths, paths_in_commands, links, crates, laws, files_of_specs)
     of_what_is_shown = (blocks_of_code, shown_files, quoted_definitions, named_definitions, printed_lines, figures, pictures, lengths)
     for check in (*of_names, *of_what_is_shown):
         passed = tally.passed
