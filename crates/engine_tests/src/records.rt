@@ -1,2 +1,2 @@
-//! Tests of `split_records`: slices merged.
+//! Tests of `split_records` and `top_records`: slices merged.
 mod split_tests;

@@ -72,7 +72,8 @@ impl Shard {
         let refused = refusal_with(stock, request);
         let write = unless(refused, write);
         self.act_at(*place, item, &write);
-        let before = self.set_clock(number);
+        let before = self.clock();
+        self.set_clock(number);
         let look = Act::Look(Shown::Left(item, Ghost::of(stock)));
         Some(Answered {
             number,

@@ -7,10 +7,9 @@ ghost use Rattle.item_shards.specs.ShardContents.{LiesIn, contents, opening};
 ghost use Rattle.phase_closing.specs.Merging.{CanMerge, CanTake, after_merge, with_slice};
 ghost use Rattle.phase_floor.specs.Closings.{AreOfOne, AreKnown, IsKnown, opening_in, from_the_last};
 
-use auction_rows::Object;
+use auction_rows::{Object, shard_of};
 use item_shards::{Shard, Slice};
 use phase_transactions::Slices;
-use shard_boxes::shard_of;
 
 // Merges a slice of an object into the shard in which it lies.
 pub(crate) fn merge(shards: &mut Vec<Shard>, object: Object, slice: Slice)

@@ -16,11 +16,10 @@ use crate::joined::Joined;
 use crate::making::{new_shards, nothing_counted};
 use auction_rows::{
     BidEntry, ItemEntry, ItemId, ItemRow, MOST_ROWS, MOST_SHARDS, MOST_WORKERS, Object, Opening,
-    Row,
+    Row, shard_of,
 };
 use item_shards::{Act, OpeningBook, Shard};
 use phase_transactions::Counters;
-use shard_boxes::shard_of;
 use std::alloc::{AllocError, Global};
 
 impl Joined {

@@ -2,9 +2,8 @@
 ghost use Rattle.std.specs.Prelude.{◌≡◌, [], is_some, IfSome, ℕ};
 
 use crate::joined::Joined;
-use auction_rows::{Object, Reply, Request};
+use auction_rows::{Object, Reply, Request, shard_of};
 use item_shards::Shard;
-use shard_boxes::shard_of;
 
 impl Joined {
     ghost use Rattle.auction_rows.specs.Book.{Book};

@@ -19,11 +19,11 @@ use crate::commit::{Commit, commit_done};
 use crate::pairs::{alone, answer_comment, look_and};
 use crate::putting::put_with_line;
 use crate::taking::{found_on, take_next};
-use auction_rows::{Facts, Object, Refusal, Reply};
+use auction_rows::{Facts, Object, Refusal, Reply, shard_of};
 use ghost_log::Ghost;
 use item_shards::{Act, Shown};
 use phase_contexts::{Comment, Context, ReadSet, SplitContext};
-use shard_boxes::{Boxes, Key, PhaseName, shard_of};
+use shard_boxes::{Boxes, Key, PhaseName};
 use std::sync::Wait;
 use worker_journals::Answer;
 

@@ -21,11 +21,11 @@ use crate::fault::PermitFault;
 use crate::pairs::{alone, put_both, put_both_back, take_both_next};
 use crate::putting::put_with_line;
 use crate::taking::{found_on, found_on_both, take_next};
-use auction_rows::{ItemId, Object, Reply, StoreReply};
+use auction_rows::{ItemId, Object, Reply, StoreReply, shard_of};
 use ghost_log::Ghost;
 use item_shards::{Act, Shown};
 use phase_contexts::{Context, NewItem, ReadSet, SplitContext};
-use shard_boxes::{Boxes, Held, Key, PhaseName, shard_of};
+use shard_boxes::{Boxes, Held, Key, PhaseName};
 use std::sync::Wait;
 use worker_journals::{Answer, Told};
 

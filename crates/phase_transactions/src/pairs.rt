@@ -19,11 +19,11 @@ ghost use Rattle.phase_transactions.specs.Taking.{IsReady, HasStayed};
 use crate::commit::Commit;
 use crate::putting::put_with_line;
 use crate::taking::{found_on, found_on_both, take_next};
-use auction_rows::{Facts, Object, StoreReply};
+use auction_rows::{Facts, Object, StoreReply, shard_of};
 use ghost_log::Ghost;
 use item_shards::{Act, Shown};
 use phase_contexts::{Comment, Context};
-use shard_boxes::{Boxes, Held, Key, PhaseName, shard_of};
+use shard_boxes::{Boxes, Held, Key, PhaseName};
 use std::sync::Wait;
 use worker_journals::{Answer, Told};
 

@@ -15,11 +15,11 @@ use crate::commit::Commit;
 use crate::putting::put_with_line;
 use crate::seen::{Seen, see_view};
 use crate::taking::{found_on, take_next};
-use auction_rows::{ItemId, Object, Refusal, Reply, Request, StoreReply};
+use auction_rows::{ItemId, Object, Refusal, Reply, Request, StoreReply, shard_of};
 use ghost_log::Ghost;
 use item_shards::{Act, Answered};
 use phase_contexts::{Context, ItemStore};
-use shard_boxes::{Acts, Boxes, Held, Key, Line, PhaseName, shard_of};
+use shard_boxes::{Acts, Boxes, Held, Key, Line, PhaseName};
 use std::sync::Wait;
 use worker_journals::{Answer, Told};
 

@@ -7,12 +7,11 @@ ghost use Rattle.shard_boxes.specs.Keys.{taking, putting, lines_at, seen_at, hol
 ghost use Rattle.shard_boxes.specs.Helds.{taken_at, MayPut};
 
 use crate::held::Held;
-use crate::home::shard_of;
 use crate::key::Key;
 use crate::line::{Line, is_well_formed};
 use crate::phase::PhaseName;
 use crate::place::Place;
-use auction_rows::Object;
+use auction_rows::{Object, shard_of};
 use item_shards::Shard;
 use std::marker::Model;
 use std::sync::Wait;

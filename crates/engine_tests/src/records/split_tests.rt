@@ -2,9 +2,8 @@
 ghost use Rattle.std.specs.Prelude.{◌≡◌};
 
 use crate::comparing::assert_same;
-use split_records::{
-    AddRec, MaxRec, OPutRec, Splittable, TopRec, merged_slices, value_of_any_history,
-};
+use split_records::{AddRec, MaxRec, OPutRec, Splittable, merged_slices, value_of_any_history};
+use top_records::TopRec;
 
 /// One operation in each of two slices, which are merged. The laws can be had of the record.
 fn in_two_slices<R: Splittable>(first: R::Op, second: R::Op) -> R

@@ -21,8 +21,8 @@ returns-clause-answered c =
     let own = c.args.own in
     let number = next_found own (clock c.args.self.now) c.in_ok-number.number (rw c.deref.ensures at c.in_ok-number.ensures.number) in
     let acted = c.act_at.ensures in
-    let set = c.set_clock-before.ensures in
-    let before = set.found ∙ acted.clock in
+    let set = c.set_clock.ensures in
+    let before = c.clock-before.ensures ∙ acted.clock in
     record {
       before = before;
       numbered = number.1 ∙ ap (λ n. suc (max own n)) (sym before);
@@ -36,8 +36,8 @@ returns-clause-answered c =
       same = record { number = set.same.number ∙ acted.same.number; shards = set.same.shards ∙ acted.same.shards; opening = set.same.opening ∙ acted.same.opening };
     }
 
-pub set_clock-before-requires : goal.set_clock-before-requires
-set_clock-before-requires c =
+pub set_clock-requires : goal.set_clock-requires
+set_clock-requires c =
     let own = c.args.own in
     let shard = c.args.self.now in
     let after = comes_after own (clock shard) c.in_ok-number.number (next_found own (clock shard) c.in_ok-number.number (rw c.deref.ensures at c.in_ok-number.ensures.number)) in

@@ -8,10 +8,10 @@ ghost use Rattle.std.specs.Bool.{OnTrue};
 ghost use Rattle.std.specs.FinMap.{IsAntisymmetric};
 ghost use Rattle.phase_laws.specs.Placing.{placed};
 ghost use Rattle.phase_laws.specs.Ranking.{top, IsDescending};
-ghost use Rattle.split_records.specs.TopLaws.{IsOwnTop, IsLeast, IsPast, top_laws, top_values};
+ghost use Rattle.top_records.specs.TopLaws.{IsOwnTop, IsLeast, IsPast, top_laws, top_values};
 
-use crate::Splittable;
 use arrayvec::ArrayVec;
+use split_records::Splittable;
 use std::cmp::Ordering;
 use std::marker::Model;
 

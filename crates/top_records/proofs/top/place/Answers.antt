@@ -1,8 +1,8 @@
 use Rattle.std.proofs.Common.{◌≡◌, suc, ◌-◌, ◌<◌, ◌∷◌, length, slice_get, drop, insert, Some, refl, sym, subst, ◌∙◌, arith}
 use Rattle.std.proofs.Math.Seq.{drop-length}
 use Rattle.phase_laws.specs.Placing.{placed}
-use Rattle.split_records.proofs.Places.{found_at, placed_before, placed_behind, placed_at_tie}
-use Rattle.split_records.proofs.top.place.Goals as goal
+use Rattle.top_records.proofs.Places.{found_at, placed_before, placed_behind, placed_at_tie}
+use Rattle.top_records.proofs.top.place.Goals as goal
 
 pub loop-index-init : goal.loop-index-init
 loop-index-init g c = (omega arith, rw drop-length refl)

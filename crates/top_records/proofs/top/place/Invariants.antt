@@ -1,6 +1,6 @@
 use Rattle.std.proofs.Common.{◌≡◌, ◌≤◌, ◌∷◌, drop, length}
 use Rattle.phase_laws.specs.Placing.{placed}
-use Rattle.split_records.proofs.top.place.Given as goal
+use Rattle.top_records.proofs.top.place.Given as goal
 
 -- the entry goes before those passed
 abbrev pub invariant-loop-index : goal.invariant-loop-index

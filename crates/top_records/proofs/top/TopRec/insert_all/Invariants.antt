@@ -1,6 +1,6 @@
 use Rattle.std.proofs.Common.{◌≡◌, List, ◌++◌}
 use Rattle.phase_laws.specs.Ranking.{top}
-use Rattle.split_records.proofs.top.TopRec.insert_all.Given as goal
+use Rattle.top_records.proofs.top.TopRec.insert_all.Given as goal
 
 -- the entries that the iterator is past are in
 abbrev pub invariant-loop-entry : goal.invariant-loop-entry

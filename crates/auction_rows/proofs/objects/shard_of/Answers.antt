@@ -1,8 +1,8 @@
 use Rattle.std.proofs.Common.{ap, sym, ◌∙◌, ◌%◌}
 use Rattle.auction_rows.specs.Requests.{shard_of}
 use Rattle.auction_rows.specs.declared.ids.Object.{Object}
-use Rattle.shard_boxes.proofs.home.shard_of.Goals.{in-Item, in-User, in-Category}
-use Rattle.shard_boxes.proofs.home.shard_of.Goals as goal
+use Rattle.auction_rows.proofs.objects.shard_of.Goals.{in-Item, in-User, in-Category}
+use Rattle.auction_rows.proofs.objects.shard_of.Goals as goal
 
 pub returns-clause-shard : goal.returns-clause-shard
 returns-clause-shard c =

@@ -1,7 +1,7 @@
 use Rattle.std.proofs.Common.{sym, subst}
 use Rattle.phase_laws.specs.Ranking.{IsDescending}
 use Rattle.phase_laws.proofs.TopLemmas.{IsDescending-top}
-use Rattle.split_records.proofs.top.TopRec.entries.Goals as goal
+use Rattle.top_records.proofs.top.TopRec.entries.Goals as goal
 
 pub returns-clause-greatest_first : goal.returns-clause-greatest_first
 returns-clause-greatest_first g c =

@@ -1,9 +1,9 @@
 use Rattle.std.proofs.Common.{refl, sym, ap, subst, ◌∙◌, ◌∷◌, take}
 use Rattle.phase_laws.specs.Ranking.{top, IsDescending}
 use Rattle.phase_laws.proofs.TopLemmas.{IsDescending-top, top-placed, top-top, top_present, take_of_top}
-use Rattle.split_records.specs.TopLaws.{IsOwnTop}
-use Rattle.split_records.proofs.Places.{past_least}
-use Rattle.split_records.proofs.top.TopRec.insert.Goals as goal
+use Rattle.top_records.specs.TopLaws.{IsOwnTop}
+use Rattle.top_records.proofs.Places.{past_least}
+use Rattle.top_records.proofs.top.TopRec.insert.Goals as goal
 
 pub returns-in-Some-clause-value : goal.returns-in-Some-clause-value
 returns-in-Some-clause-value g c =

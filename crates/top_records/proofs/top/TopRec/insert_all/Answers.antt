@@ -2,8 +2,8 @@ use Rattle.std.proofs.Common.{◌≡◌, ◌∷◌, [], ◌++◌, sym, subst, ap
 use Rattle.std.proofs.lemmas.List.{nil_from_length}
 use Rattle.phase_laws.specs.Ranking.{top}
 use Rattle.phase_laws.proofs.TopLemmas.{top-cons_top}
-use Rattle.split_records.specs.TopLaws.{IsOwnTop}
-use Rattle.split_records.proofs.top.TopRec.insert_all.Goals as goal
+use Rattle.top_records.specs.TopLaws.{IsOwnTop}
+use Rattle.top_records.proofs.top.TopRec.insert_all.Goals as goal
 
 pub loop-entry-init : goal.loop-entry-init
 loop-entry-init g c = record {
