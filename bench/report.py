@@ -11,8 +11,7 @@ import figures
 import lite
 import measures
 import plots
-from figures import (ANSWER, AUCTION, HISTORY_SIZE, INSTRUCTIONS, MEMORY, PUBLISHING, RUN, SCRIPTS, SECONDS, SYSTEMS,
-                     UNSPLIT, VIEW, Figure)
+from figures import ANSWER, AUCTION, INSTRUCTIONS, MEMORY, PUBLISHING, RUN, SCRIPTS, SECONDS, SYSTEMS, UNSPLIT, VIEW, Figure
 from measures import BIDDING, LARGE, ONE_ITEM, UNIFORM, Policy
 from programs import ROOT
 
@@ -139,14 +138,12 @@ def memory(rows):
 
 
 def checking(rows):
-    rows, lines = values(rows, table="checking"), []
-    for load, requests in dict.fromkeys((row.load, row.requests) for row in rows):
-        told = {row.measure: row.value for row in values(rows, load=load, requests=requests)}
-        rate = requests / (told[SECONDS] - told[SCRIPTS]) if told[SECONDS] > told[SCRIPTS] else None
-        cells = (told[HISTORY_SIZE], told[SECONDS], told[SCRIPTS], rate, told[MEMORY])
-        lines.append([load, f"{requests:,}", *map(number, cells)])
-    return table(["Load", "Requests", "History, MB", "Whole command, s", "Reading scripts, s", "Entries per second after that",
-                  "Peak memory, MB"], lines)
+    rows = values(rows, table="checking")
+    counts = sorted({row.requests for row in rows})
+    cells = {(row.load, row.requests, row.measure): number(row.value) for row in rows}
+    lines = [[load, *(" / ".join(cells.get((load, count, measure), "-") for measure in (SECONDS, SCRIPTS, MEMORY)) for count in counts)]
+             for load in dict.fromkeys(row.load for row in rows)]
+    return table(["Whole command, s / reading scripts, s / peak memory, MB, by requests", *(f"{count:,}" for count in counts)], lines)
 
 
 # What the page calls these instructions.
