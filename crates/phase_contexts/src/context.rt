@@ -258,7 +258,7 @@ impl Context {
             reply: reply.to_reply(),
         };
         self.txns = self.txns.and(&entry, found);
-        self.journal.push(number, index, request, reply);
+        self.journal.push_answer(number, index, request, reply);
         self.clock = number;
     }
 }

@@ -105,7 +105,7 @@ pub own_all : (w : ℕ) (phases : List (List JournalView)) → AllByRecursion Ar
 own_all w [] all = refl
 own_all w (phase ∷ phases) all = sym (own_entries w (phase ∷ phases) all)
 
-get_some : {X : Type 0} (xs : List X) (n : ℕ) (x : X) → slice_get xs n ≡ Some x → drop n xs ≡ x ∷ drop (n + 1) xs
+pub get_some : {X : Type 0} (xs : List X) (n : ℕ) (x : X) → slice_get xs n ≡ Some x → drop n xs ≡ x ∷ drop (n + 1) xs
 get_some [] n x is = cc
 get_some (y ∷ ys) zero x is = cc
 get_some (y ∷ ys) (suc n) x is = let next : suc n + 1 ≡ suc (n + 1) = omega arith in get_some ys n x is ∙ ap (λ k. x ∷ drop k (y ∷ ys)) (sym next)

@@ -1,10 +1,10 @@
 -- One step of the merging of a phase's journals.
-use Rattle.std.proofs.Common.{◌≡◌, ◌<◌, ◌+◌, ℕ, zero, suc, List, [], ◌∷◌, map, length, take, drop, get_or, set, refl, sym, ap, ◌∙◌, subst, arith}
+use Rattle.std.proofs.Common.{◌≡◌, ◌<◌, ◌+◌, ℕ, zero, suc, List, [], ◌∷◌, map, length, take, take_all, drop, get_or, set, refl, sym, ap, ◌∙◌, subst, arith}
 use Rattle.std.specs.Prelude.{Option, None, Some, slice_get, option_map, replicate}
 use Rattle.std.specs.List.{AllByRecursion}
 use Rattle.std.specs.Iterator.{MakesProgress, item_count}
 use Rattle.std.proofs.Math.Seq.{take-set-lt, drop-nil}
-use Rattle.std.proofs.lemmas.List.{length-map, length-set, length-take-le}
+use Rattle.std.proofs.lemmas.List.{length-map, length-replicate, length-set, length-take-le, get_or_read}
 use Rattle.std.proofs.lemmas.Option.{slice_get-map, slice_get_within}
 use Rattle.phase_laws.specs.Order.{IsOrderedBy}
 use Rattle.auction_rows.specs.declared.rows.Entry.{Entry}
@@ -129,9 +129,9 @@ numbers_step (j ∷ journals) (place ∷ places) (suc i) journal within there is
 
 -- The step.
 
-module _ (journals : List JournalView) (places : List ℕ) (numbers : List (Option ℕ)) (kept : AreMerging journals places numbers) where
+module _ (room : ℕ) (journals : List JournalView) (places : List ℕ) (numbers : List (Option ℕ)) (kept : AreMerging room journals places numbers) where
   taken_length : length (take (length journals) numbers) ≡ length journals
-  taken_length = length-take-le (length journals) numbers (omega (arith, kept.each_number, kept.phase.few))
+  taken_length = length-take-le (length journals) numbers (omega (arith, kept.each_number, kept.few))
 
   -- no number is next
   pub all_told : ((k : ℕ) → k < length (take (length journals) numbers) → get_or (take (length journals) numbers) k None ≡ None) →
@@ -144,7 +144,7 @@ module _ (journals : List JournalView) (places : List ℕ) (numbers : List (Opti
     within_journals = omega (arith, of.least.within, taken_length)
 
     within_places : i < length places
-    within_places = omega (arith, within_journals, kept.each_place, kept.phase.few)
+    within_places = omega (arith, within_journals, kept.each_place, kept.few)
 
     next_number : number_at (get_or places i 0) journal ≡ Some of.number
     next_number =
@@ -170,19 +170,70 @@ module _ (journals : List JournalView) (places : List ℕ) (numbers : List (Opti
         let numbered : Some e.number ≡ Some of.number =
         sym (ap (option_map entry_number) is) ∙ sym (slice_get-map entry_number journal.entries (get_or places i 0)) ∙ next_number in
         let same : of.number ≡ e.number = cc in
-        merged_taken (left_of journals places) i e (left_by_worker journals places kept.phase.by_worker)
-        (left_lawful journals places kept.phase.lawful)
+        merged_taken (left_of journals places) i e (left_by_worker journals places kept.by_worker)
+        (left_lawful journals places kept.lawful)
         (lane_first journals places i journal within_journals within_places at ∙ is)
         (subst (IsLeast (map first_number (left_of journals places)) (length (left_of journals places)) i) same least_left)
         ∙ ap (λ js. e ∷ merged js) (sym (lane_step journals places i within_places))
 
     pub merging_on : (number : Option ℕ) → number ≡ number_at (get_or places i 0 + 1) journal →
-        AreMerging journals (set places i (get_or places i 0 + 1)) (set numbers i number)
+        AreMerging room journals (set places i (get_or places i 0 + 1)) (set numbers i number)
     merging_on number is = record {
-      phase = kept.phase;
+      by_worker = kept.by_worker;
+      lawful = kept.lawful;
+      few = kept.few;
       each_place = length-set places i (get_or places i 0 + 1) ∙ kept.each_place;
       each_number = length-set numbers i number ∙ kept.each_number;
       are_next = take-set-lt (length journals) numbers i number within_journals ∙ ap (λ ns. set ns i number) kept.are_next
           ∙ ap (set (map first_number (left_of journals places)) i) is
           ∙ sym (numbers_step journals places i journal within_journals within_places at);
     }
+
+-- Merging into a list, with a place and a number for each journal.
+
+module _ (journals : List JournalView) (places : List ℕ) (numbers : List (Option ℕ)) where
+  pub starts_before : (n : ℕ) → places ≡ replicate n 0 → left_of journals places ≡ journals
+  starts_before n none = ap (left_of journals) none ∙ left_all journals n
+
+  pub starts_merging : (n : ℕ) → n ≡ length journals → AreByWorker journals → AllByRecursion IsLawful journals → places ≡ replicate n 0 →
+      numbers ≡ map first_number journals → AreMerging (length journals) journals places numbers
+  starts_merging n each up lawful none first = record {
+    by_worker = up;
+    lawful = lawful;
+    few = omega arith;
+    each_place = ap length none ∙ length-replicate n 0 ∙ each;
+    each_number = ap length first ∙ length-map journals first_number;
+    are_next = take_all (length journals) numbers (omega (arith, ap length first, length-map journals first_number)) ∙ first
+        ∙ ap (map first_number) (sym (starts_before n none));
+  }
+
+  module _ (kept : AreMerging (length journals) journals places numbers) where
+    all_numbers : numbers ≡ take (length journals) numbers
+    all_numbers = sym (take_all (length journals) numbers (omega (arith, kept.each_number)))
+
+    pub none_left : ((k : ℕ) → k < length numbers → get_or numbers k None ≡ None) → merged (left_of journals places) ≡ []
+    none_left none =
+        all_told (length journals) journals places numbers kept (subst (λ ns. (k : ℕ) → k < length ns → get_or ns k None ≡ None) all_numbers none)
+
+    module _ (i : ℕ) (journal : JournalView) (place : ℕ) (least : IsLeastOf numbers i) (at : journal ≡ get_or journals i journal)
+        (here : place ≡ get_or places i place) where
+      of : IsLeastOf (take (length journals) numbers) i
+      of = subst (λ ns. IsLeastOf ns i) all_numbers least
+
+      place_is : get_or places i 0 ≡ place
+      place_is = sym (get_or_read places i place (omega (arith, least.least.within, kept.each_place, kept.each_number)) here 0)
+
+      pub place_within : place < length journal.entries
+      place_within = subst (λ n. n < length journal.entries) place_is (has_entry (length journals) journals places numbers kept i journal of at)
+
+      pub entry_listed : (e : Entry) → slice_get journal.entries place ≡ Some e →
+          merged (left_of journals places) ≡ e ∷ merged (left_of journals (set places i (place + 1)))
+      entry_listed e is =
+          one_told (length journals) journals places numbers kept i journal of at e (ap (slice_get journal.entries) place_is ∙ is)
+          ∙ ap (λ n. e ∷ merged (left_of journals (set places i (n + 1)))) place_is
+
+      pub still_merging : (number : Option ℕ) → number ≡ number_at (place + 1) journal →
+          AreMerging (length journals) journals (set places i (place + 1)) (set numbers i number)
+      still_merging number is =
+          subst (λ n. AreMerging (length journals) journals (set places i (n + 1)) (set numbers i number)) place_is
+          (merging_on (length journals) journals places numbers kept i journal of at number (is ∙ ap (λ n. number_at (n + 1) journal) (sym place_is)))

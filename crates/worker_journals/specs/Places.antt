@@ -1,7 +1,6 @@
 -- What is left of journals while their entries are told in one order.
 use Rattle.std.specs.Prelude.{◌≡◌, Bool, ℕ, ◌<◌, ◌≤◌, List, [], ◌∷◌, ◌++◌, Option, None, Some, map, take, drop, length, slice_get, slice_index_or, unwrap_or, IfSome, nat_lt, if◌then◌else◌}
-use Rattle.std.specs.List.{flat_map}
-use Rattle.auction_rows.specs.declared.limits.TheConstants.{MOST_WORKERS}
+use Rattle.std.specs.List.{flat_map, AllByRecursion}
 use Rattle.auction_rows.specs.declared.replies.Refusal.TheVariants.{NoSuchItem}
 use Rattle.auction_rows.specs.declared.replies.Reply.{Reply}
 use Rattle.auction_rows.specs.declared.replies.Reply.TheVariants.{Refused}
@@ -10,9 +9,8 @@ use Rattle.auction_rows.specs.declared.requests.Request.{Request}
 use Rattle.auction_rows.specs.declared.requests.Request.TheVariants.{ViewUser}
 use Rattle.auction_rows.specs.declared.rows.Entry.{Entry}
 use Rattle.auction_rows.specs.StoreReplies.{is_refusal, store_reply}
-use Rattle.worker_journals.specs.Journals.{JournalView, entry_number}
-use Rattle.worker_journals.specs.Merged.{entries_of}
-use Rattle.worker_journals.specs.Histories.{ArePhase}
+use Rattle.worker_journals.specs.Journals.{JournalView, entry_number, IsLawful}
+use Rattle.worker_journals.specs.Merged.{entries_of, AreByWorker}
 
 -- the journals with their entries from these places on
 abbrev pub left_of : List JournalView → List ℕ → List JournalView
@@ -40,11 +38,13 @@ pub record IsLeastOf (numbers : List (Option ℕ)) (i : ℕ) : Type 0 where
   pub number : ℕ
   pub least : IsLeast numbers (length numbers) i number
 
--- what is kept while the journals of a phase are merged: the places in them, and the numbers of the entries there
-pub record AreMerging (journals : List JournalView) (places : List ℕ) (numbers : List (Option ℕ)) : Type 0 where
-  pub phase : ArePhase journals
-  pub each_place : length places ≡ MOST_WORKERS
-  pub each_number : length numbers ≡ MOST_WORKERS
+-- what is kept while journals are merged, with room for so many: the places in them, and the numbers of the entries there
+pub record AreMerging (room : ℕ) (journals : List JournalView) (places : List ℕ) (numbers : List (Option ℕ)) : Type 0 where
+  pub by_worker : AreByWorker journals
+  pub lawful : AllByRecursion IsLawful journals
+  pub few : length journals ≤ room
+  pub each_place : length places ≡ room
+  pub each_number : length numbers ≡ room
   pub are_next : take (length journals) numbers ≡ map first_number (left_of journals places)
 
 -- the entries of a worker in phases, from a place on in the first of them

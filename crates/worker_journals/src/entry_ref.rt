@@ -1,11 +1,12 @@
 //! An entry of a journal, where it lies.
-ghost use Rattle.std.specs.Prelude.{◌≡◌, ◌+◌, ◌<◌, ◌^◌, Some, length, slice_get};
+ghost use Rattle.std.specs.Prelude.{◌≡◌, ◌+◌, ◌<◌, ◌^◌, ◌∷◌, ◌++◌, [], Some, OnOk, length, slice_get};
 ghost use Rattle.auction_rows.specs.Choosing.{written_by};
 ghost use Rattle.auction_rows.specs.History.{row_of_entry};
 ghost use Rattle.auction_rows.specs.StoreReplies.{is_refusal, store_reply};
 
 use crate::journal::Journal;
 use auction_rows::{Entry, Object, Reply, Request, Row, StoreReply, row_of_store};
+use std::alloc::AllocError;
 use std::marker::Model;
 
 /// An entry of a journal, where it lies: what is asked of it makes no more than is answered. Contracts see the entry.
@@ -118,5 +119,20 @@ impl<'a> EntryRef<'a> {
         ensures { result ≡ self.now }
     {
         self.journal.to_entry(self.place)
+    }
+
+    /// Puts the entry, made whole, at the end of a list.
+    pub(crate) fn push_to(&self, entries: &mut Vec<Entry>) -> Result<(), AllocError>
+        ensures { OnOk result (entries.new.items ≡ entries.old.items ++ self.now ∷ []) }
+    {
+        entries.push(Entry {
+            phase: self.phase(),
+            number: self.number(),
+            worker: self.worker(),
+            index: self.index(),
+            request: self.request(),
+            reply: self.reply(),
+        })?;
+        Ok(())
     }
 }

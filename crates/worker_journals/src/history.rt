@@ -1,16 +1,16 @@
 //! The commits of all phases that have closed.
-ghost use Rattle.std.specs.Prelude.{◌≡◌, ℕ, ◌+◌, ◌<◌, ◌^◌, ◌==◌, ◌≤◌, length, map, slice_get, vec_len, OnOk, OnErr, OnSome, IfSome};
+ghost use Rattle.std.specs.Prelude.{◌≡◌, ℕ, ◌+◌, ◌<◌, ◌^◌, ◌==◌, ◌≤◌, length, map, slice_get, vec_len, IfOk, OnOk, OnErr, IfSome};
 ghost use Rattle.std.specs.List.{AllByRecursion};
 ghost use Rattle.std.specs.Iterator.{YieldsFirst, item_count};
 ghost use Rattle.phase_laws.specs.Order.{part};
 ghost use Rattle.worker_journals.specs.Journals.{IsLawful, closed_journal, entry_worker};
-ghost use Rattle.worker_journals.specs.Merged.{AreByWorker, entries_of, entry_count, merged};
+ghost use Rattle.worker_journals.specs.Merged.{AreByWorker, entries_of, merged};
 ghost use Rattle.worker_journals.specs.Histories.{ArePhase, no_history, with_phase};
 
 use crate::entry_ref::EntryRef;
 use crate::journal::Journal;
-use crate::merging::Merging;
-use auction_rows::MOST_WORKERS;
+use crate::merging::{Merging, count_of};
+use auction_rows::{Entry, MOST_WORKERS};
 use std::alloc::{AllocError, Global};
 use std::marker::Model;
 
@@ -110,6 +110,17 @@ impl History {
         }
     }
 
+    /// The entries as one list, each made whole, in the order in which `iter` gives them.
+    pub fn to_entries(&self, alloc: Global) -> Result<Vec<Entry>, AllocError>
+        ensures { IfOk result (λ entries. entries.items ≡ self.now.entries) }
+    {
+        let mut entries = Vec::with_capacity(alloc, self.len)?;
+        for entry in self {
+            entry.push_to(&mut entries)?;
+        }
+        Ok(entries)
+    }
+
     /// The entries of the last phase, by number, and those of one number by worker.
     pub fn last_entries(&self) -> Entries<'_>
         ensures { result ≡ merged self.now.last }
@@ -129,6 +140,18 @@ impl History {
             place: 0,
             phases: &self.phases,
         }
+    }
+}
+
+impl<'a> IntoIterator for &'a History {
+    type Item = EntryRef<'a>;
+
+    type IntoIter = Entries<'a>;
+
+    ghost into_iter_gives = { λ history left. left ≡ history.now.entries };
+
+    fn into_iter(self) -> Entries<'a> {
+        self.iter()
     }
 }
 
@@ -255,16 +278,4 @@ fn close_all(journals: &mut [Journal])
     for journal in journals.iter_mut() {
         journal.close();
     }
-}
-
-// How many entries the journals have: None past 64 bits.
-fn count_of(journals: &[Journal]) -> Option<usize>
-    ensures count { IfSome result (λ count. count ≡ entry_count journals.now) }
-    ensures lawful { OnSome result (AllByRecursion IsLawful journals.now) }
-{
-    let mut count: usize = 0;
-    for journal in journals {
-        count = count.checked_add(journal.len())?;
-    }
-    Some(count)
 }

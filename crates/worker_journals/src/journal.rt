@@ -1,5 +1,6 @@
 //! What one worker commits in one phase.
 ghost use Rattle.std.specs.Prelude.{◌≡◌, ◌<◌, ◌+◌, ◌^◌, ◌==◌, Some, length, map, slice_get, IfOk};
+ghost use Rattle.std.specs.Iterator.{YieldsFirst, item_count};
 ghost use Rattle.auction_rows.specs.Choosing.{written_by};
 ghost use Rattle.worker_journals.specs.Journals.{IsLawful, ComesAfter, closed_journal, empty_journal, entry_index, entry_number, with_commit};
 ghost use Rattle.worker_journals.specs.Places.{entry_reply, entry_request, entry_store_reply, is_refused};
@@ -58,7 +59,17 @@ impl Journal {
 
     /// Adds a commit of this worker in this phase, at a number greater than the last one's, where there
     /// is room. It takes no memory.
-    pub fn push(&mut self, number: u64, index: u32, request: &Request, reply: &Answer<'_>)
+    pub fn push(&mut self, number: u64, index: u32, request: Request, reply: Reply)
+        requires room { length self.old.entries < self.old.room }
+        requires after { ComesAfter self.old.entries number }
+        ensures pushed { self.new ≡ with_commit self.old number index request reply }
+    {
+        self.push_answer(number, index, &request, &Answer::of(&reply));
+    }
+
+    /// Adds a commit as `push` does, of which the request is lent and the reply told as an answer: no reply with room for ten
+    /// bids is made of a store's.
+    pub fn push_answer(&mut self, number: u64, index: u32, request: &Request, reply: &Answer<'_>)
         requires room { length self.old.entries < self.old.room }
         requires after { ComesAfter self.old.entries number }
         ensures pushed { self.new ≡ with_commit self.old number index request.now reply.now }
@@ -93,6 +104,16 @@ impl Journal {
         ensures { result ≡ (length self.now.entries == 0) }
     {
         self.heads.is_empty()
+    }
+
+    /// The entries, in the order of their numbers.
+    pub fn entries(&self) -> JournalEntries<'_>
+        ensures { result ≡ self.now.entries }
+    {
+        JournalEntries {
+            journal: self,
+            place: 0,
+        }
     }
 
     /// The entry at a place from 0, where it lies. The place after it is a `usize` too.
@@ -196,5 +217,39 @@ impl Journal {
         ensures { result ≡ self.now.worker }
     {
         self.worker
+    }
+}
+
+/// The entries of a journal that are left. It takes no memory.
+#[derive(Drop)]
+pub struct JournalEntries<'a> {
+    journal: &'a Journal,
+    // The place of the next entry.
+    place: usize,
+}
+
+impl<'a> Model for JournalEntries<'a> {
+    ghost use Rattle.std.specs.Prelude.{List, drop};
+    ghost use Rattle.auction_rows.specs.declared.rows.Entry.{Entry};
+
+    ghost Value = { List Entry };
+
+    ghost view = { λ e. drop e.place e.journal.now.entries };
+}
+
+impl<'a> Iterator for JournalEntries<'a> {
+    type Item = EntryRef<'a>;
+
+    ghost next_gives = { YieldsFirst (λ left. left) };
+
+    ghost remaining = { item_count (λ left. left) };
+
+    fn next(&mut self) -> Option<EntryRef<'a>> {
+        if self.place >= self.journal.len() {
+            return None;
+        }
+        let entry = EntryRef::of(self.journal, self.place);
+        self.place += 1;
+        Some(entry)
     }
 }

@@ -15,5 +15,6 @@ pub use answer::{Answer, Told};
 pub use auction_rows::Entry;
 pub use entry_ref::EntryRef;
 pub use history::{Entries, History, WorkerEntries};
-pub use journal::Journal;
+pub use journal::{Journal, JournalEntries};
 pub use laws::{entries_by_worker, journals_merge, numbers_come_after};
+pub use merging::merge_journals;

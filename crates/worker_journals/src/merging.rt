@@ -1,13 +1,17 @@
-//! The entries of a phase's journals, merged while they are read.
-ghost use Rattle.std.specs.Prelude.{◌≡◌, ◌<◌, ℕ, None, length, slice_index_or, IfSome, IfNone};
+//! The entries of a phase's journals, merged while they are read, or into a list.
+ghost use Rattle.std.specs.Prelude.{◌≡◌, ◌<◌, ℕ, None, length, map, slice_index_or, IfOk, OnOk, IfSome, OnSome, IfNone, IsPermutation};
 ghost use Rattle.std.specs.Iterator.{YieldsFirst, item_count};
+ghost use Rattle.std.specs.List.{AllByRecursion, flat_map};
+ghost use Rattle.phase_laws.specs.Order.{IsAscending, part};
 ghost use Rattle.worker_journals.specs.Histories.{ArePhase};
-ghost use Rattle.worker_journals.specs.Merged.{merged};
-ghost use Rattle.worker_journals.specs.Places.{IsLeastOf, lesser, number_at};
+ghost use Rattle.worker_journals.specs.Journals.{IsLawful, entry_number, entry_worker};
+ghost use Rattle.worker_journals.specs.Merged.{AreByWorker, entries_of, entry_count, merged};
+ghost use Rattle.worker_journals.specs.Places.{IsLeastOf, first_number, lesser, number_at};
 
 use crate::entry_ref::EntryRef;
 use crate::journal::Journal;
-use auction_rows::MOST_WORKERS;
+use auction_rows::{Entry, MOST_WORKERS};
+use std::alloc::{AllocError, Global};
 use std::marker::Model;
 
 /// The entries of a phase's journals that are left, by number, and those of one number by worker. It takes no memory.
@@ -21,6 +25,7 @@ pub(crate) struct Merging<'a> {
 
 impl<'a> Model for Merging<'a> {
     ghost use Rattle.std.specs.Prelude.{List};
+    ghost use Rattle.auction_rows.specs.declared.limits.TheConstants.{MOST_WORKERS};
     ghost use Rattle.auction_rows.specs.declared.rows.Entry.{Entry};
     ghost use Rattle.worker_journals.specs.Merged.{merged};
     ghost use Rattle.worker_journals.specs.Places.{left_of, AreMerging};
@@ -29,7 +34,7 @@ impl<'a> Model for Merging<'a> {
 
     ghost view = { λ m. merged (left_of m.journals.now m.places) };
 
-    ghost invariant = { λ m. AreMerging m.journals.now m.places m.numbers };
+    ghost invariant = { λ m. AreMerging MOST_WORKERS m.journals.now m.places m.numbers };
 }
 
 impl<'a> Merging<'a> {
@@ -70,9 +75,47 @@ impl<'a> Iterator for Merging<'a> {
     }
 }
 
+/// The entries of the journals of one phase as one list: by number, and those of one number by worker.
+pub fn merge_journals(alloc: Global, journals: Vec<Journal>) -> Result<Vec<Entry>, AllocError>
+    requires by_worker { AreByWorker journals.items }
+    ensures merged { IfOk result (λ entries. entries.items ≡ merged journals.items) }
+    ensures ascending { IfOk result (λ entries. IsAscending entry_number entry_worker entries.items) }
+    ensures parts { IfOk result (λ entries. (worker : ℕ) →
+        part entry_worker worker entries.items ≡ entries_of worker journals.items) }
+    ensures permutation { IfOk result (λ entries.
+        IsPermutation (flat_map (λ journal. journal.entries) journals.items) entries.items) }
+{
+    // Past 64 bits there is no such room.
+    let count = count_of(&journals).unwrap_or(usize::MAX);
+    let mut entries = Vec::with_capacity(alloc, count)?;
+    let mut places = vec![in alloc; 0; journals.len()]?;
+    let mut numbers = first_numbers(alloc, &journals)?;
+    while let Some(worker) = least_of(&numbers) {
+        let place = places[worker];
+        let journal = &journals[worker];
+        EntryRef::of(journal, place).push_to(&mut entries)?;
+        places[worker] = place + 1;
+        numbers[worker] = number_at(journal, place + 1);
+    }
+    Ok(entries)
+}
+
+// The number of each journal's first entry, if it has one.
+fn first_numbers(alloc: Global, journals: &[Journal]) -> Result<Vec<Option<u64>>, AllocError>
+    ensures numbers { IfOk result (λ numbers. numbers.items ≡ map first_number journals.now) }
+    ensures lawful { OnOk result (AllByRecursion IsLawful journals.now) }
+{
+    let mut numbers = Vec::with_capacity(alloc, journals.len())?;
+    for journal in journals {
+        numbers.push_reserved(number_at(journal, 0));
+    }
+    Ok(numbers)
+}
+
 // The number of a journal's entry at a place, if there is one.
 fn number_at(journal: &Journal, place: usize) -> Option<u64>
-    ensures { result ≡ number_at place journal.now }
+    ensures number { result ≡ number_at place journal.now }
+    ensures lawful { IsLawful journal.now }
 {
     if place < journal.len() {
         Some(journal.number(place))
@@ -103,4 +146,16 @@ fn lesser(least: Option<(usize, u64)>, i: usize, number: Option<u64>) -> Option<
         (None, Some(next)) => Some((i, next)),
         (Some((_, now)), Some(next)) => if next < now { Some((i, next)) } else { least },
     }
+}
+
+/// How many entries the journals have: None past 64 bits.
+pub(crate) fn count_of(journals: &[Journal]) -> Option<usize>
+    ensures count { IfSome result (λ count. count ≡ entry_count journals.now) }
+    ensures lawful { OnSome result (AllByRecursion IsLawful journals.now) }
+{
+    let mut count: usize = 0;
+    for journal in journals {
+        count = count.checked_add(journal.len())?;
+    }
+    Some(count)
 }

@@ -7,7 +7,7 @@ use std::alloc::{AllocError, Global};
 use std::io;
 use std::io::Write;
 use std::test::Fail;
-use worker_journals::{Answer, History, Journal};
+use worker_journals::{History, Journal};
 
 // Takes one byte a call, but fails at one call of `write`, and takes more after it. Its flush fails where `is_stuck` says so.
 // Counts what is called.
@@ -75,7 +75,7 @@ fn add_reply(
 ) -> Result<(), AllocError> {
     let mut journal = Journal::with_room(alloc, 0, 0, 1)?;
     let request = Request::ViewItem { item: FIRST };
-    journal.push(1, index, &request, &Answer::of(&reply));
+    journal.push(1, index, request, reply);
     history.add_phase(vec![in alloc; journal]?)
 }
 

@@ -10,7 +10,9 @@ invariant_of-result c =
     let journals = c.args.journals.now in
     let end : c.loop-worker.worker ≡ length journals = omega (arith, c.loop-worker-test.false, c.loop-worker.auto.worker-end) in
     record {
-      phase = c.requires;
+      by_worker = c.requires.by_worker;
+      lawful = c.requires.lawful;
+      few = c.requires.few;
       each_place = refl;
       each_number = c.loop-worker.invariant.room;
       are_next = ap (λ n. take n c.loop-worker.numbers) (sym end) ∙ c.loop-worker.invariant.numbers

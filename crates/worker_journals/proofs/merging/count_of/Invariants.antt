@@ -2,7 +2,7 @@ use Rattle.std.proofs.Common.{◌≡◌, take}
 use Rattle.std.specs.List.{AllByRecursion}
 use Rattle.worker_journals.specs.Journals.{IsLawful}
 use Rattle.worker_journals.specs.Merged.{entry_count}
-use Rattle.worker_journals.proofs.history.count_of.Given as goal
+use Rattle.worker_journals.proofs.merging.count_of.Given as goal
 
 abbrev pub invariant-loop-journal : goal.invariant-loop-journal
 invariant-loop-journal l = record {

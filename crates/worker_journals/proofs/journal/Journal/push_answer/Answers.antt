@@ -1,5 +1,5 @@
 use Rattle.worker_journals.proofs.GrowthLemmas.{pushed_shown, pushed_kept, some_left}
-use Rattle.worker_journals.proofs.journal.Journal.push.Goals as goal
+use Rattle.worker_journals.proofs.journal.Journal.push_answer.Goals as goal
 
 pub invariant_of-self : goal.invariant_of-self
 invariant_of-self c =

@@ -1,0 +1,8 @@
+use Rattle.std.proofs.Common.{◌∙◌, sym}
+use Rattle.worker_journals.proofs.HistoryLemmas.{get_some}
+use Rattle.worker_journals.proofs.journal.JournalEntriesIterator.next.Goals as goal
+
+pub returns-clause-steps : goal.returns-clause-steps
+returns-clause-steps c =
+    let e = c.self.inside in
+    sym c.self.view_is ∙ get_some e.journal.now.entries e.place c.of-entry.result c.of-entry.ensures.entry
