@@ -125,6 +125,7 @@ impl<'a> EntryRef<'a> {
     pub(crate) fn push_to(&self, entries: &mut Vec<Entry>) -> Result<(), AllocError>
         ensures { OnOk result (entries.new.items ≡ entries.old.items ++ self.now ∷ []) }
     {
+        // Field by field, so that the check meets the types of its fields in this body.
         entries.push(Entry {
             phase: self.phase(),
             number: self.number(),
