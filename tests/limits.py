@@ -358,7 +358,8 @@ def one_shard(tester: Tester) -> None:
     got = tester.run(first + bids + b"0,viewitem,0.0\n", options)
     tester.same("16,000 bids on one item", replace(got, stdout=b""), Outcome(0, b"", b""))
     *lines, last = got.stdout.splitlines()
-    numbered = [line.split()[:2] for line in lines if b" bid " in line] == [[b"1", b"%d" % number] for number in range(1, 16_001)]
+    second = [line.split() for line in lines if line.startswith(b"1 ")]
+    numbered = [(words[1], words[4]) for words in second] == [(b"%d" % number, b"bid") for number in range(1, 16_001)]
     seen = b"2 1 0 1001 viewitem seller=0 category=0 start=10 closes=100 highest=10 bidder=15 bids=16000 left=1 name=Vase"
     tester.tally.check(numbered and last == seen, "16,000 bids on one item: their numbers, and what is seen of them")
 

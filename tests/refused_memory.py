@@ -21,9 +21,10 @@ from pathlib import Path
 from histories import Difference, check_printed
 from inputs import Text
 from model import Options, Outcome, expected, failed, open_auction
-from program import BUILT, EXAMPLES, Tally, build_shim, described, fault, run
+from program import BUILT, EXAMPLES, TESTS, Tally, build_shim, described, fault, run
 from records import Fault
 from refusing import Refusing
+from worked import examples_of
 
 VASE = b"0,+item,0,0,Vase,10,100,1\n"
 NO_MEMORY = [fault(status, "no memory") for status in (1, 2, 3, 4)]
@@ -84,8 +85,12 @@ def cases() -> list[Case]:
     both = Options(workers=2, joined=2, split=3, threshold=1, users=10, categories=2)
     rows = Options(joined=8, split=8, threshold=1, users=5, categories=3)
     three = replace(both, workers=3)
+    pair = replace(both, split=2)
     return [
         Case("no request", b"", Options(report=True, categories=1)),
+        Case("the first example, with no words", first, Options()),
+        Case("two equal bids, and a view that waits for both", worked("a view of a hot item waits for the merged bids"), pair),
+        Case("comments on a hot user: replies and report", worked("what is hot, and who was commented on"), replace(pair, report=True)),
         *with_each_output("one worker", first, alone),
         *with_each_output("two workers, hot objects and a stash", contended, both),
         *with_each_output("rows and a script", large(rows), rows),
@@ -95,6 +100,12 @@ def cases() -> list[Case]:
         Case("a refused row", b"0,+bid,1,0.0,10,5\n", alone),
         RefusedOptions("refused options", b"", Options(workers=17)),
     ]
+
+
+def worked(name: str) -> bytes:
+    """The input of the worked example of several phases whose name begins so."""
+    examples = examples_of(TESTS / "worked" / "phases.txt")
+    return next(example.text() for example in examples if example.name.startswith(name))
 
 
 def with_each_output(name: str, data: bytes, options: Options) -> list[Case]:

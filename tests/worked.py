@@ -47,6 +47,9 @@ class Example:
             case _:
                 raise ValueError(f"{self.name}: not a line of an example: {line}")
 
+    def text(self) -> bytes:
+        return "".join(f"{line}\n" for line in self.input).encode()
+
     def is_met(self, got: Outcome) -> bool:
         printed = got.stdout.decode()
         lawful = any(re.fullmatch("".join(lines), printed) for lines in self.outputs)
@@ -69,7 +72,7 @@ def main() -> None:
     for path in sorted((TESTS / "worked").glob("*.txt")):
         examples = examples_of(path)
         for example in examples:
-            got = run([program, *example.words], "".join(f"{line}\n" for line in example.input).encode())
+            got = run([program, *example.words], example.text())
             tally.check(example.is_met(got), f"{path.name}: {example.name}: got {described(got)}")
         print(f"{len(examples):6} examples: {path.name}", flush=True)
     tally.finish()
