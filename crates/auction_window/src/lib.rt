@@ -15,5 +15,5 @@ mod window;
 pub use name::WindowName;
 pub use phase_log::PhaseLog;
 pub use publisher::{MakeFault, Publisher};
-pub use rows::last_rows;
+pub use rows::{last_rows, rows_of};
 pub use window::{NoGuard, Seen, Told, Window};

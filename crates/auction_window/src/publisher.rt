@@ -23,7 +23,7 @@ use thiserror::Error;
 type CopyWriter<J> = Writer<AuctionCopy<J>, AddPhase<J>, (), Unruled>;
 
 /// Why no publisher was made.
-#[derive(Clone, Copy, Debug, Drop, Error)]
+#[derive(Clone, Copy, Debug, PartialEq, Eq, Drop, Error)]
 pub enum MakeFault {
     /// No memory was left.
     #[error("no memory")]

@@ -18,7 +18,7 @@ use thiserror::Error;
 type CopyReader<J> = Reader<AuctionCopy<J>, (), Unruled>;
 
 /// A view was refused, since the publisher has ended.
-#[derive(Clone, Copy, Debug, Error)]
+#[derive(Clone, Copy, Debug, PartialEq, Eq, Error)]
 #[error("the publisher has ended")]
 pub struct NoGuard;
 

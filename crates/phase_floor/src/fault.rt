@@ -19,7 +19,7 @@ pub enum BeginFault {
 }
 
 /// Why a phase did not close: then the run is over.
-#[derive(Debug, Drop, Error)]
+#[derive(Clone, Copy, Debug, PartialEq, Eq, Drop, Error)]
 pub enum FloorFault {
     /// No memory was left.
     #[error("no memory")]

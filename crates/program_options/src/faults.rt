@@ -12,7 +12,7 @@ use std::io;
 use thiserror::Error;
 
 /// Why a program's words are refused: in the words of the parser of options, or for want of memory.
-#[derive(Debug, Drop, Error)]
+#[derive(Debug, PartialEq, Eq, Drop, Error)]
 pub enum UsageFault {
     /// What the parser of options says: a word is refused, or help or the version is asked for.
     #[error("{0}")]
