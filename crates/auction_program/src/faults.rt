@@ -13,7 +13,7 @@ use std::io::Write;
 use thiserror::Error;
 
 /// Why the program failed, by the part that failed.
-#[derive(Debug, Drop, Error)]
+#[derive(Debug, PartialEq, Eq, Drop, Error)]
 pub enum Fault {
     /// The options were refused.
     #[error("{0}")]

@@ -10,7 +10,12 @@ mod performing;
 mod views;
 mod writing;
 
+pub use auction_run::RunFault;
+pub use auction_text::{Cause, ReadFault, WriteFault};
+pub use auction_window::MakeFault;
 pub use executing::execute;
 pub use faults::{Fault, status, write_fault};
+pub use item_shards::ResumeFault;
 pub use one_worker::one_worker_has_one_answer;
 pub use options::{Options, read_options};
+pub use program_options::UsageFault;

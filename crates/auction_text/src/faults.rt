@@ -4,7 +4,7 @@ use crate::scripts::MOST_RECORDS;
 use thiserror::Error;
 
 /// What is wrong with a record.
-#[derive(Clone, Copy, Debug, Drop, Error)]
+#[derive(Clone, Copy, Debug, PartialEq, Eq, Drop, Error)]
 pub enum Cause {
     /// A field is not a number of its type.
     #[error("not a number")]
@@ -33,7 +33,7 @@ pub enum Cause {
 }
 
 /// Why an input gives no scripts. Records are counted from 1.
-#[derive(Clone, Copy, Debug, Drop, Error)]
+#[derive(Clone, Copy, Debug, PartialEq, Eq, Drop, Error)]
 pub enum ReadFault {
     /// A record is not what its kind asks for.
     #[error("record {0}: {1}")]
