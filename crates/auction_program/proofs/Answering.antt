@@ -12,13 +12,12 @@ use Rattle.item_shards.specs.declared.opened.Opened.{Opened}
 use Rattle.item_shards.specs.declared.opening_book.ResumeFault.{ResumeFault}
 use Rattle.item_shards.specs.declared.opening_book.ResumeFault.TheVariants as resume
 use Rattle.run_serving.specs.Answers.{IsAnswer}
-use Rattle.run_serving.specs.Serving.{script_of}
 use Rattle.run_serving.specs.declared.policy.Policy.{Policy}
 use Rattle.auction_text.specs.declared.faults.WriteFault.{WriteFault}
 use Rattle.auction_program.specs.Execution.{added_text, commits_text, Answers, IsAllowed, IsCausedBy, IsNotPerformed, IsNotRun, IsRefused, OfInput, Performs}
 use Rattle.auction_program.specs.Options.{opening_of, policy_of}
 use Rattle.auction_run.specs.Beginning.{HaveWorkers, HasShards, HasQuotas, AreShort}
-use Rattle.auction_run.specs.Phases.{hot_sets, HasMetTheEnd}
+use Rattle.auction_run.specs.Phases.{hot_sets}
 use Rattle.auction_run.specs.declared.fault.RunFault.{RunFault}
 use Rattle.auction_run.specs.declared.fault.RunFault.TheVariants as run
 use Rattle.auction_program.specs.declared.faults.Fault.{Fault}
@@ -57,15 +56,14 @@ pub not_run : {T : Type 0} (policy : Policy) (book : Book) (scripts : List (List
     → (result ≡ Err run.Quota ↔ (HaveWorkers book scripts × (HasShards policy × ¬ HasQuotas policy)))
     → (result ≡ Err run.TooLong ↔ (HaveWorkers book scripts × (HasShards policy × (HasQuotas policy × ¬ AreShort book scripts))))
     → (result ≡ Err run.Spawn → 1 < length scripts)
-    → (result ≡ Err run.NumberFull → (worker : ℕ) × HasMetTheEnd (script_of scripts worker))
     → IsNotRun policy fault book scripts
-not_run policy book scripts result run.Workers is workers shards quotas short spawn full = workers.0 is
-not_run policy book scripts result run.Shards is workers shards quotas short spawn full = shards.0 is
-not_run policy book scripts result run.Quota is workers shards quotas short spawn full = quotas.0 is
-not_run policy book scripts result run.TooLong is workers shards quotas short spawn full = short.0 is
-not_run policy book scripts result run.Spawn is workers shards quotas short spawn full = spawn is
-not_run policy book scripts result run.Memory is workers shards quotas short spawn full = tt
-not_run policy book scripts result run.NumberFull is workers shards quotas short spawn full = full is
+not_run policy book scripts result run.Workers is workers shards quotas short spawn = workers.0 is
+not_run policy book scripts result run.Shards is workers shards quotas short spawn = shards.0 is
+not_run policy book scripts result run.Quota is workers shards quotas short spawn = quotas.0 is
+not_run policy book scripts result run.TooLong is workers shards quotas short spawn = short.0 is
+not_run policy book scripts result run.Spawn is workers shards quotas short spawn = spawn is
+not_run policy book scripts result run.Memory is workers shards quotas short spawn = tt
+not_run policy book scripts result run.NumberFull is workers shards quotas short spawn = tt
 
 -- the book of the rows, and the policy, are those of the options
 module _ (options : Options) (rows : List Opened) (scripts : List (List Request)) (remaining : Option (List ℕ))

@@ -18,13 +18,11 @@ use Rattle.item_shards.specs.declared.opened.Opened.{Opened}
 use Rattle.item_shards.specs.declared.opening_book.ResumeFault.{ResumeFault}
 use Rattle.item_shards.specs.declared.opening_book.ResumeFault.TheVariants as resume
 use Rattle.run_serving.specs.Answers.{IsAnswer}
-use Rattle.run_serving.specs.Serving.{script_of}
 use Rattle.run_serving.specs.declared.policy.Policy.{Policy}
 use Rattle.auction_program.specs.Options.{opening_of, policy_of}
 use Rattle.auction_program.specs.Report.{report_of, AreViews}
 use Rattle.auction_run.specs.Beginning.{HaveWorkers, HasShards, HasQuotas, AreShort}
 use Rattle.auction_run.specs.Phases.{hot_sets}
-use Rattle.auction_run.specs.Phases.{HasMetTheEnd}
 use Rattle.auction_run.specs.declared.fault.RunFault.{RunFault}
 use Rattle.auction_run.specs.declared.fault.RunFault.TheVariants as run
 use Rattle.auction_run.specs.declared.running.Outcome.{Outcome}
@@ -107,7 +105,7 @@ IsRefused opening (resume.BadRow n) rows = (¬ IsTooLong rows) × IsFirstBad ope
 IsRefused opening resume.Memory rows = ¬ IsTooLong rows
 
 -- why a run of scripts from a book was refused, by the first that doesn't hold; the last three faults are met while it goes on: Spawn where
--- there is a thread to start, NumberFull at a call of a script
+-- there is a thread to start, and of the other two no clause says when
 abbrev pub IsNotRun : Policy → RunFault → Book → List (List Request) → Type 0
 IsNotRun policy run.Workers book scripts = ¬ HaveWorkers book scripts
 IsNotRun policy run.Shards book scripts = HaveWorkers book scripts × ¬ HasShards policy
@@ -115,7 +113,7 @@ IsNotRun policy run.Quota book scripts = HaveWorkers book scripts × (HasShards 
 IsNotRun policy run.TooLong book scripts = HaveWorkers book scripts × (HasShards policy × (HasQuotas policy × ¬ AreShort book scripts))
 IsNotRun policy run.Spawn book scripts = 1 < length scripts
 IsNotRun policy run.Memory book scripts = Unit {0}
-IsNotRun policy run.NumberFull book scripts = (worker : ℕ) × HasMetTheEnd (script_of scripts worker)
+IsNotRun policy run.NumberFull book scripts = Unit {0}
 
 -- the outcome of a run answers these scripts, from a book
 abbrev pub AnswersScripts : Options → Book → List (List Request) → Outcome → Type 0

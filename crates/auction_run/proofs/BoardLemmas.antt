@@ -30,11 +30,16 @@ use Rattle.worker_journals.specs.Merged.{merged}
 use Rattle.run_serving.specs.declared.policy.Policy.{Policy}
 use Rattle.run_serving.specs.Run.{calls_of}
 use Rattle.run_serving.specs.Serving.{script_of, segment_of, call_of, commit_phase}
+use Rattle.run_serving.proofs.ClosedLemmas.{none_chosen, none_numbered}
 use Rattle.run_serving.proofs.ScriptLemmas.{past_end}
+use Rattle.run_serving.proofs.StepLemmas.{run_begins}
+use Rattle.auction_run.specs.declared.fault.RunFault.{RunFault}
+use Rattle.auction_run.specs.declared.fault.RunFault.TheVariants.{Memory}
 use Rattle.auction_run.specs.declared.running.Running.{Running}
 use Rattle.auction_run.specs.Beginning.{AreShort}
 use Rattle.auction_run.specs.Boards.{CanShow, HasShown, phase_rows}
-use Rattle.auction_run.specs.Phases.{hot_sets}
+use Rattle.auction_run.specs.Outcomes.{HasShownFirst}
+use Rattle.auction_run.specs.Phases.{hot_sets, waiting_in}
 use Rattle.auction_run.specs.Running.{IsRunning}
 
 -- ---- numbers, counted one by one
@@ -259,3 +264,47 @@ begins_shown has opening rows policy scripts running board run has_none = record
   has_them = has_none;
   book_is = sym (append-nil rows) ∙ ap (λ es. rows ++ rows_of es) (sym (none_before running.history.entries run.run.phases_before));
 }
+
+-- ---- the first phases, where a run is refused
+
+module _ {B : Type 0} (has has_refused : B → Opening → Book → List (List Row) → Type 0) (opening : Opening) (rows : Book) (policy : Policy) (scripts : List (List Request)) where
+  -- a board that has no phases has the first none of a run
+  pub none_shown : (board : B) → has board opening rows [] → (fault : RunFault) → HasShownFirst has has_refused opening rows policy scripts board fault
+  none_shown board none fault = record {
+    phase = 0;
+    hot = [];
+    history = [];
+    stashes = λ worker. [];
+    run = run_begins policy scripts;
+    chosen = none_chosen policy;
+    numbers = none_numbered opening policy;
+    replays = tt;
+    shown = inl (record { has_them = none; book_is = sym (append-nil rows) });
+  }
+
+  module _ (p : ℕ) (running : Running) (run : IsRunning opening rows policy scripts p running) where
+    -- a board has those that it was shown, whether or not it refuses the next
+    pub first_shown : (board : B) (fault : RunFault) → HasShown has opening rows p running.history.entries board
+        ⊎ ((fault ≡ Memory) × HasShown has_refused opening rows p running.history.entries board) → HasShownFirst has has_refused opening rows policy scripts board fault
+    first_shown board fault shown = record {
+      phase = p;
+      hot = hot_sets running.hot.items;
+      history = running.history.entries;
+      stashes = waiting_in running.stashes.items;
+      run = run.run;
+      chosen = run.chosen;
+      numbers = run.numbers;
+      replays = run.replayed.replays;
+      shown = shown;
+    }
+
+    -- as when it was not shown the next
+    pub not_shown : (old new : B) → HasShown has opening rows p running.history.entries old →
+        ((opening : Opening) (rows : Book) (phases : List (List Row)) → has old opening rows phases → has new opening rows phases ⊎ has_refused new opening rows phases) →
+        HasShownFirst has has_refused opening rows policy scripts new Memory
+    not_shown old new shown left = first_shown new Memory (at (left opening rows (phase_rows p running.history.entries) shown.has_them))
+      where
+        at : has new opening rows (phase_rows p running.history.entries) ⊎ has_refused new opening rows (phase_rows p running.history.entries) →
+            HasShown has opening rows p running.history.entries new ⊎ ((Memory ≡ Memory) × HasShown has_refused opening rows p running.history.entries new)
+        at (inl kept) = inl (record { has_them = kept; book_is = shown.book_is })
+        at (inr refused) = inr (refl, record { has_them = refused; book_is = shown.book_is })

@@ -3,7 +3,6 @@ pub mod RankLemmas
 pub mod ChoiceLemmas
 pub mod ChosenLemmas
 pub mod QuotaLemmas
-pub mod EndLemmas
 pub mod PhaseLemmas
 pub mod HotThere
 pub mod ScriptLemmas

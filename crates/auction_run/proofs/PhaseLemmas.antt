@@ -25,6 +25,8 @@ use Rattle.shard_boxes.specs.Keys.{BoxId}
 use Rattle.shard_boxes.specs.States.{ShardState, state_of}
 use Rattle.phase_contexts.specs.Slicing.{objects_of, stocks_of, slices_of}
 use Rattle.phase_contexts.specs.Stashes.{StashState}
+use Rattle.phase_transactions.specs.declared.fault.PermitFault.{PermitFault}
+use Rattle.phase_transactions.specs.declared.fault.PermitFault.TheVariants as permit
 use Rattle.phase_transactions.specs.Permits.{PermitState}
 use Rattle.phase_transactions.specs.Single.{HaveOpening}
 use Rattle.phase_closing.specs.Phases.{no_receipt, receipt_at, journal_of, counters_of}
@@ -40,12 +42,13 @@ use Rattle.phase_floor.specs.States.{JoinedState, states_of, StandsFor}
 use Rattle.auction_run.specs.declared.fault.RunFault.{RunFault}
 use Rattle.auction_run.specs.declared.phase.Closed.{Closed}
 use Rattle.auction_run.specs.Closed.{HasClosedPhase, HasPerformedPhase}
-use Rattle.auction_run.specs.Phases.{lists, IsCallOf, IsMet, MayPerform, waiting_in, quota_of}
+use Rattle.auction_run.specs.Phases.{lists, told, IsMet, MayPerform, waiting_in, quota_of}
 use Rattle.auction_run.specs.Serving.{HasBegun}
-use Rattle.phase_workers.specs.Tasks.{Task, task, tasks, to_do, calls_for, CanBeDone, IsDone}
+use Rattle.phase_workers.specs.declared.fault.ServingFault.{ServingFault}
+use Rattle.phase_workers.specs.declared.fault.ServingFault.TheVariants as serving
+use Rattle.phase_workers.specs.Tasks.{Task, task, tasks, to_do, calls_for, CanBeDone, IsDone, IsFaultBy}
 use Rattle.phase_workers.specs.Working.{committed, stashed, taken, kept, hot_for, put_off, not_put_off, AreOfPhase, IsSamePermit, IsPermitOf, ArePermitsOf}
 use Rattle.phase_workers.proofs.WorkLemmas.{cold_kept, cold_off}
-use Rattle.auction_run.proofs.EndLemmas.{AreReady}
 use Rattle.auction_run.proofs.ScriptLemmas.{past_stashes}
 
 -- ---- tasks, by worker
@@ -105,6 +108,13 @@ pub failed : {policy : Policy} {scripts : List (List Request)} {state : JoinedSt
 failed (Ok closed) fault is met = absurd is
 failed {scripts = scripts} (Err e) fault is met = record { history = tt; last = tt; closed = tt; fault = subst (IsMet scripts) (sym is) met }
 
+-- what the workers of a phase met is told
+pub fault_met : (scripts : List (List Request)) (HasMet : PermitFault → Type 0) (fault : ServingFault) → IsFaultBy (length scripts) HasMet fault → IsMet scripts (told fault)
+fault_met scripts HasMet serving.Spawn is = is
+fault_met scripts HasMet serving.Memory is = tt
+fault_met scripts HasMet (serving.Worker permit.Memory) is = tt
+fault_met scripts HasMet (serving.Worker permit.NumberFull) is = tt
+
 -- ---- small facts
 
 -- a phase of an even number is a joined one
@@ -156,6 +166,12 @@ of_workers phase n (p ∷ ps) each =
       of_workers phase (suc n) ps (λ w less. let next : n + suc w ≡ suc n + w = omega arith in
           subst (λ m. IsPermitOf phase m (receipt_at ps w)) next (each (suc w) (omega (arith, less)))),
     )
+
+-- Permits of a phase are ready to be served: each worker can perform what it is given of its script, from this index on.
+pub record AreReady (opening : List ShardState) (boxes : List BoxId) (phase first : ℕ) (scripts : List (List Request))
+    (permits : List PermitState) : Type 0 where
+  pub can : AllByRecursion (CanBeDone opening boxes) (tasks permits scripts first)
+  pub of : ArePermitsOf phase 0 permits
 
 -- permits show themselves
 pub shown : {policy : Policy} {scripts : List (List Request)} {state : JoinedState} {stashes : List StashState} {hot : List Object} {floor : FloorState} {permits : List PermitState} →
@@ -214,8 +230,6 @@ module _ {policy : Policy} {scripts : List (List Request)} {state : JoinedState}
           phase_is = ap (λ (p : PermitState). p.split.context.journal.phase) (begins w less).new ∙ begun.phase_is ∙ sym now;
           worker_is = (begins w less).key.worker_is ∙ (let e : w ≡ 0 + w = omega arith in e);
         });
-    own = λ w below.
-        subst (AllByRecursion (IsCallOf (script_of scripts w))) (sym (stash_is w (omega (arith, below, as_many)))) (may.own w);
   }
 
   module _ (receipts : List PermitState) (count : length receipts ≡ length permits)

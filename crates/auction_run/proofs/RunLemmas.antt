@@ -1,7 +1,7 @@
 -- Where a run begins, one phase more, and its end.
 use Rattle.std.proofs.Common.{◌≡◌, ℕ, zero, suc, ◌+◌, ◌-◌, ◌<◌, ◌≤◌, ◌^◌, ◌⊎◌, not, min, true, false, cond, List, [], ◌∷◌, ◌++◌, length, drop, refl, subst, sym, ap, ◌∙◌, inl, inr, arith}
 use Rattle.std.specs.Prelude.{Ok}
-use Rattle.std.specs.List.{filter, AllByRecursion}
+use Rattle.std.specs.List.{filter}
 use Rattle.std.proofs.lemmas.Bool.{cases_Bool, cases_lt, false≢true}
 use Rattle.std.proofs.Math.Seq.{drop-append_seam}
 use Rattle.std.proofs.lemmas.List.{length-append, length-map}
@@ -17,9 +17,7 @@ use Rattle.auction_rows.specs.Phases.{is_put_off, IsNumbered}
 use Rattle.item_shards.specs.OpeningRows.{rows_by}
 use Rattle.phase_closing.specs.Standing.{counters_at}
 use Rattle.phase_floor.specs.States.{states_of, StandsFor, DoAllExist}
-use Rattle.phase_laws.proofs.OrderLemmas.{all-filter}
 use Rattle.run_laws.specs.Phases.{is_split, quota}
-use Rattle.run_laws.specs.Turns.{numbered}
 use Rattle.run_laws.proofs.QuotaLemmas.{given_length}
 use Rattle.run_laws.proofs.ReachLemmas.{first_next, split_then_joined}
 use Rattle.run_laws.proofs.TurnLemmas.{waiting_none}
@@ -39,8 +37,6 @@ use Rattle.auction_run.specs.Closed.{HasClosedPhase, HasPerformedPhase}
 use Rattle.auction_run.specs.Outcomes.{IsOutcome}
 use Rattle.auction_run.specs.Phases.{hot_sets, waiting_in, quota_of, MayPerform}
 use Rattle.auction_run.specs.Running.{IsRunning, CanGoOn}
-use Rattle.auction_run.specs.Phases.{IsCallOf}
-use Rattle.auction_run.proofs.EndLemmas.{own_calls}
 use Rattle.auction_run.proofs.HotThere.{chosen_exist}
 
 -- ---- what a worker committed, and what waits, after one phase more
@@ -219,8 +215,6 @@ module _ (policy : Policy) (scripts : List (List Request)) (running : Running) (
         (run.counted w own) (on.short w own);
     joined = not_chosen;
     exist = hot_exist;
-    own = λ w. subst (AllByRecursion (IsCallOf (script_of scripts w))) (sym (run.run.stashed w))
-        (all-filter (IsCallOf (script_of scripts w)) _ (numbered 0 (script_of scripts w)) (own_calls (script_of scripts w)));
     split = λ split. nothing_waits policy scripts running.state.phase (hot_sets running.hot.items) running.history.entries (waiting_in running.stashes.items) run.run split;
   }
 

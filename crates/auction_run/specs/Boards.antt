@@ -1,5 +1,5 @@
 -- Boards, and the phases that they are given.
-use Rattle.std.specs.Prelude.{ℕ, zero, suc, ◌≡◌, ◌+◌, ◌<◌, ◌^◌, false, List, [], ◌∷◌, ◌++◌, length, Option, MatchOption}
+use Rattle.std.specs.Prelude.{ℕ, zero, suc, ◌≡◌, ◌+◌, ◌<◌, ◌^◌, Bool, List, [], ◌∷◌, ◌++◌, length, Option, MatchOption}
 use Rattle.auction_rows.specs.declared.numbers.Opening.{Opening}
 use Rattle.auction_rows.specs.declared.rows.Row.{Row}
 use Rattle.auction_rows.specs.declared.rows.Entry.{Entry}
@@ -18,12 +18,12 @@ pub record CanShow {B : Type 0} (has : B → Opening → Book → List (List Row
   pub follow : CanFollow opening (book_of rows phases) last
   pub counted : length phases + 1 < 2 ^ 64
 
--- A publisher of an auction has published these phases, and told them last.
-pub record HasPublished (own_opening : Opening) (own_rows : Book) (opening : Opening) (rows : Book)
+-- A publisher of an auction has published these phases, and told them last; it may have failed at the next.
+pub record HasPublished (failed : Bool) (own_opening : Opening) (own_rows : Book) (opening : Opening) (rows : Book)
     (publisher : Published) (told : Option (List (List Row))) (phases : List (List Row)) : Type 0 where
   pub opening_is : own_opening ≡ opening
   pub rows_are : own_rows ≡ rows
-  pub published : publisher ≡ record { phases = phases; failed = false }
+  pub published : publisher ≡ record { phases = phases; failed = failed }
   pub told_last : MatchOption told (phases ≡ []) (λ last. last ≡ phases)
 
 -- the book rows of the first phases of a history, phase by phase

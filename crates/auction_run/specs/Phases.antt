@@ -1,6 +1,5 @@
 -- What a phase of a run begins with, and the faults that it meets.
-use Rattle.std.specs.Prelude.{ℕ, ◌≡◌, ◌+◌, ◌<◌, ◌≤◌, ◌^◌, true, false, List, [], map, length, slice_get, Some, Result, IsErrOf, ⊤}
-use Rattle.std.specs.List.{AllByRecursion}
+use Rattle.std.specs.Prelude.{ℕ, ◌≡◌, ◌+◌, ◌<◌, ◌≤◌, ◌^◌, true, false, List, [], map, length, ⊤}
 use Rattle.std.specs.HashSet.{HashSet}
 use Rattle.auction_rows.specs.declared.limits.TheConstants.{MOST_OF_A_WORKER}
 use Rattle.auction_rows.specs.declared.ids.Object.{Object}
@@ -14,19 +13,12 @@ use Rattle.run_serving.specs.declared.policy.Policy.{Policy}
 use Rattle.run_serving.specs.Run.{first_index}
 use Rattle.run_serving.specs.Serving.{script_of}
 use Rattle.phase_transactions.specs.declared.fault.PermitFault.TheVariants as worker_fault
-use Rattle.phase_transactions.specs.Performing.{IsCause}
-use Rattle.phase_transactions.specs.Permits.{PermitState}
 use Rattle.phase_workers.specs.declared.fault.ServingFault.{ServingFault}
 use Rattle.phase_workers.specs.declared.fault.ServingFault.TheVariants as serving
-use Rattle.shard_boxes.specs.States.{ShardState}
 use Rattle.auction_run.specs.declared.plan.Plan.{Plan}
 pub use Rattle.run_serving.specs.Serving.{lists}
 use Rattle.auction_run.specs.declared.fault.RunFault.{RunFault}
 use Rattle.auction_run.specs.declared.fault.RunFault.TheVariants.{Workers, Shards, Quota, TooLong, Spawn, Memory, NumberFull}
-
--- a call of a script: its request stands there, at its index
-abbrev pub IsCallOf : List Request → ℕ × Request → Type 0
-IsCallOf script call = slice_get script call.0 ≡ Some call.1
 
 -- the objects of each hot set, in its order
 abbrev pub hot_sets : {S : Type 0} → List (HashSet Object S) → List (List Object)
@@ -60,18 +52,8 @@ pub record MayPerform (policy : Policy) (scripts : List (List Request)) (state :
   -- nothing is hot in a joined phase, and what is hot in a split one is there
   pub joined : is_split state.phase ≡ false → hot ≡ []
   pub exist : DoAllExist state.opening (states_of state) hot
-  -- what waits of a worker is of its script
-  pub own : (worker : ℕ) → AllByRecursion (IsCallOf (script_of scripts worker)) (waiting_in stashes worker)
   -- nothing waits in a split phase
   pub split : is_split state.phase ≡ true → (worker : ℕ) → waiting_in stashes worker ≡ []
-
--- A permit met the end of commit numbers at a call of a script.
-pub record HasMetTheEnd (script : List Request) : Type 0 where
-  pub call : ℕ × Request
-  pub is_its : IsCallOf script call
-  pub opening : List ShardState
-  pub permit : PermitState
-  pub full : IsCause opening permit.split permit.key call.1 worker_fault.NumberFull
 
 -- what a run answers where its workers are not done
 abbrev pub told : ServingFault → RunFault
@@ -80,8 +62,8 @@ told serving.Memory = Memory
 told (serving.Worker worker_fault.Memory) = Memory
 told (serving.Worker worker_fault.NumberFull) = NumberFull
 
--- Why a phase of such scripts fails: a thread, of those of all workers but the first, could not be started; or no memory was left; or
--- numbers ended at a call of a script. None of the faults that are found before a run begins is met.
+-- Why a phase of such scripts fails: a thread, of those of all workers but the first, could not be started; or no memory was left, or
+-- numbers ended, of which no clause says when. None of the faults that are found before a run begins is met.
 abbrev pub IsMet : List (List Request) → RunFault → Type 0
 IsMet scripts Workers = ⊥
 IsMet scripts Shards = ⊥
@@ -89,9 +71,4 @@ IsMet scripts Quota = ⊥
 IsMet scripts TooLong = ⊥
 IsMet scripts Spawn = 1 < length scripts
 IsMet scripts Memory = ⊤
-IsMet scripts NumberFull = (worker : ℕ) × HasMetTheEnd (script_of scripts worker)
-
--- The last faults of a run but Memory, of which no clause can say when it comes, have their causes.
-pub record HasCause {T : Type 0} (result : Result T RunFault) (scripts : List (List Request)) : Type 0 where
-  pub spawn : IsErrOf result Spawn → 1 < length scripts
-  pub number_full : IsErrOf result NumberFull → (worker : ℕ) × HasMetTheEnd (script_of scripts worker)
+IsMet scripts NumberFull = ⊤

@@ -6,7 +6,7 @@ use std::sync::Wait;
 
 /// What is given the rows of each phase of a run, once the phase has closed.
 pub trait Board {
-    ghost use Rattle.std.specs.Prelude.{◌≡◌, ◌++◌, ◌∷◌, [], false, List, OnOk};
+    ghost use Rattle.std.specs.Prelude.{◌≡◌, ◌++◌, ◌∷◌, [], false, List, OnOk, OnErr};
     ghost use Rattle.auction_rows.specs.declared.numbers.Opening.{Opening};
     ghost use Rattle.auction_rows.specs.declared.rows.Row.{Row as Stored};
     ghost use Rattle.auction_rows.specs.Book.{Book};
@@ -14,6 +14,9 @@ pub trait Board {
 
     /// It has these phases, each a list of rows, of an auction that was opened with these rows.
     ghost has: { Self → Opening → Book → List (List Stored) → Type 0 };
+
+    /// It has these phases, and has refused the next.
+    ghost has_refused: { Self → Opening → Book → List (List Stored) → Type 0 };
 
     /// Whether anybody looks at it. Where nobody does, it counts as having every phase, so a run makes no rows for it.
     fn is_watched(&self) -> bool
@@ -23,11 +26,14 @@ pub trait Board {
         true
     }
 
-    /// Takes the rows of one phase. Its only error is want of memory, after which a run ends and calls it no more.
+    /// Takes the rows of one phase. Its only error is want of memory, after which it has refused this phase; a run then ends
+    /// and calls it no more.
     fn publish<R: Wait>(&mut self, rt: &R, last: Vec<Row>) -> Result<(), AllocError>
         requires { CanShow has self.old last.items }
-        ensures { OnOk result ((opening : Opening) (rows : Book) (phases : List (List Stored)) →
-            has self.old opening rows phases → has self.new opening rows (phases ++ last.items ∷ [])) };
+        ensures taken { OnOk result ((opening : Opening) (rows : Book) (phases : List (List Stored)) →
+            has self.old opening rows phases → has self.new opening rows (phases ++ last.items ∷ [])) }
+        ensures refused { OnErr result ((opening : Opening) (rows : Book) (phases : List (List Stored)) →
+            has self.old opening rows phases → has_refused self.new opening rows phases) };
 }
 
 /// A board at which nobody looks.
@@ -36,6 +42,8 @@ pub struct NoBoard;
 
 impl Board for NoBoard {
     ghost has = { λ board opening rows phases. Unit {0} };
+
+    ghost has_refused = { λ board opening rows phases. Unit {0} };
 
     fn is_watched(&self) -> bool {
         false
@@ -69,9 +77,14 @@ impl<J: WindowName> WindowBoard<J, Publisher<J>> {
 }
 
 impl<J: WindowName> Board for WindowBoard<J, Publisher<J>> {
+    ghost use Rattle.std.specs.Prelude.{false, true};
     ghost use Rattle.auction_run.specs.Boards.{HasPublished};
 
-    ghost has = { λ board opening rows phases. HasPublished J.opening J.rows opening rows board.publisher board.told phases };
+    ghost has = { λ board opening rows phases.
+        HasPublished false J.opening J.rows opening rows board.publisher board.told phases };
+
+    ghost has_refused = { λ board opening rows phases.
+        HasPublished true J.opening J.rows opening rows board.publisher board.told phases };
 
     fn publish<R: Wait>(&mut self, rt: &R, last: Vec<Row>) -> Result<(), AllocError> {
         self.told = Some(self.publisher.publish(rt, last)?);

@@ -13,7 +13,7 @@ mod running;
 mod split_phase;
 
 pub use board::{Board, NoBoard, WindowBoard};
-pub use choosing::choose_hot;
+pub use choosing::{choose_hot, choose_hot_after};
 pub use fault::RunFault;
 pub use phase_workers::{FreeGate, Gate};
 pub use run_serving::Policy;

@@ -1,5 +1,5 @@
 //! A run: its phases, one after the other.
-ghost use Rattle.std.specs.Prelude.{◌≡◌, ◌⊎◌, ◌↔◌, ℕ, suc, ◌<◌, ◌≤◌, ◌+◌, ◌^◌, ◌++◌, ◌∷◌, true, false, List, [], length, IfOk, OnOk, IfErr, IsErrOf, IsTrue};
+ghost use Rattle.std.specs.Prelude.{◌≡◌, ◌⊎◌, ◌↔◌, ℕ, suc, ◌<◌, ◌≤◌, ◌+◌, ◌^◌, ◌++◌, ◌∷◌, true, false, List, [], length, IfOk, OnOk, IfErr, OnErr, IsErrOf, IsTrue};
 ghost use Rattle.auction_rows.specs.Choosing.{choose};
 ghost use Rattle.auction_rows.specs.declared.numbers.Opening.{Opening as Numbers};
 ghost use Rattle.auction_rows.specs.declared.rows.Row.{Row as Stored};
@@ -11,16 +11,16 @@ ghost use Rattle.run_laws.specs.Phases.{is_split};
 ghost use Rattle.worker_journals.specs.Merged.{merged};
 ghost use Rattle.run_serving.specs.Run.{HasLeft, AreChosen};
 ghost use Rattle.run_serving.specs.Serving.{script_of, Serves};
-ghost use Rattle.auction_run.specs.declared.fault.RunFault.TheVariants.{Workers, Shards, Quota, TooLong, Spawn, NumberFull};
+ghost use Rattle.auction_run.specs.declared.fault.RunFault.TheVariants.{Workers, Shards, Quota, TooLong, Spawn};
 ghost use Rattle.auction_run.specs.Boards.{CanShow};
 ghost use Rattle.auction_run.specs.Beginning.{HaveWorkers, HasShards, HasQuotas, AreShort, IsRefusedInOrder};
-ghost use Rattle.auction_run.specs.Outcomes.{HasShownAll, IsOutcome};
-ghost use Rattle.auction_run.specs.Phases.{lists, hot_sets, waiting_in, HasMetTheEnd, IsPlanOf, IsMet, HasCause};
+ghost use Rattle.auction_run.specs.Outcomes.{HasShownAll, HasShownFirst, IsOutcome};
+ghost use Rattle.auction_run.specs.Phases.{lists, hot_sets, waiting_in, IsPlanOf, IsMet};
 ghost use Rattle.auction_run.specs.Running.{IsRunning, CanGoOn};
 
 use crate::board::{Board, NoBoard};
 use crate::checking::check;
-use crate::choosing::choose_hot;
+use crate::choosing::choose_hot_after;
 use crate::fault::RunFault;
 use crate::phase::{Closed, perform_phase};
 use crate::plan::Plan;
@@ -54,9 +54,9 @@ pub struct Outcome {
 /// Performs the scripts of 1 to 16 workers in joined and split phases by turns, from an opening book on, each worker but
 /// the first on a thread of its own in each phase. The history serves the scripts, and replays from the book on an auction of one thread.
 /// The first four faults are found first, in their order, exactly for their causes. `Spawn` comes only where there is a thread to
-/// start, `NumberFull` only where a worker met the end of numbers at a request of its script; a fault gives no part of a history.
-/// No clause says when memory is refused, nor which of several faults of a phase is told: it is `Spawn` before that of the
-/// least worker, and this before that of the close.
+/// start; a fault gives no part of a history. No clause says when memory is refused, that `NumberFull` is of a worker that met the
+/// end of numbers, nor which of several faults of a phase is told: it is `Spawn` before that of the least worker, and this before
+/// that of the close.
 pub fn run<R: Threads + Wait + Sync, G: Gate + Sync>(
     rt: &R,
     alloc: Global,
@@ -87,13 +87,13 @@ pub fn run<R: Threads + Wait + Sync, G: Gate + Sync>(
         ↔ (HaveWorkers (rows_of book.now) (lists scripts.items) × (HasShards policy × (HasQuotas policy
         × ¬ AreShort (rows_of book.now) (lists scripts.items)))) }
     ensures spawn { IsErrOf result Spawn → 1 < length (lists scripts.items) }
-    ensures number_full { IsErrOf result NumberFull → (worker : ℕ) × HasMetTheEnd (script_of (lists scripts.items) worker) }
 {
     run_shown(rt, alloc, book, scripts, policy, gate, &mut NoBoard)
 }
 
 /// The same run, of which a board is given the rows of each phase once it has closed, in order. A board that errs ends it with
-/// `Memory`, after the faults of the phase itself; of a board nothing is said after a fault.
+/// `Memory`, after the faults of the phase itself. After a fault the board has the phases that it was given, which are the first
+/// ones of such a run; it may have refused one more.
 pub fn run_shown<R: Threads + Wait + Sync, G: Gate + Sync, B: Board>(
     rt: &R,
     alloc: Global,
@@ -106,8 +106,10 @@ pub fn run_shown<R: Threads + Wait + Sync, G: Gate + Sync, B: Board>(
     requires { B.has board.old (opening_of book.now) (rows_of book.now) [] }
     ensures outcome { IfOk result (IsOutcome (opening_of book.now) (rows_of book.now) policy (lists scripts.items)) }
     ensures refused { IsRefusedInOrder result policy (rows_of book.now) (lists scripts.items) }
-    ensures cause { HasCause result (lists scripts.items) }
+    ensures spawn { IsErrOf result Spawn → 1 < length (lists scripts.items) }
     ensures board { IfOk result (HasShownAll B.has (opening_of book.now) (rows_of book.now) board.new) }
+    ensures board_after_fault { IfErr result (HasShownFirst B.has B.has_refused
+        (opening_of book.now) (rows_of book.now) policy (lists scripts.items) board.new) }
 {
     check(book, &scripts, policy)?;
     run_checked(rt, alloc, book, &scripts, policy, gate, board)
@@ -139,6 +141,8 @@ fn run_checked<R: Threads + Wait + Sync, G: Gate + Sync, B: Board>(
     requires short { AreShort (rows_of book.now) (lists scripts.now) }
     ensures board { IfOk result (HasShownAll B.has (opening_of book.now) (rows_of book.now) board.new) }
     ensures outcome { IfOk result (IsOutcome (opening_of book.now) (rows_of book.now) policy (lists scripts.now)) }
+    ensures board_after_fault { IfErr result (HasShownFirst B.has B.has_refused
+        (opening_of book.now) (rows_of book.now) policy (lists scripts.now) board.new) }
     ensures fault { IfErr result (IsMet (lists scripts.now)) }
 {
     let mut running = begin(alloc, book, scripts, policy)?;
@@ -264,9 +268,12 @@ fn show_phase<R: Wait, B: Board>(
     history: &History,
 ) -> Result<(), AllocError>
     requires { CanShow B.has board.old (stored_rows (merged history.now.last)) }
-    ensures { OnOk result ((opening : Numbers) (rows : Book) (phases : List (List Stored)) →
+    ensures shown { OnOk result ((opening : Numbers) (rows : Book) (phases : List (List Stored)) →
         B.has board.old opening rows phases →
         B.has board.new opening rows (phases ++ stored_rows (merged history.now.last) ∷ [])) }
+    ensures refused { OnErr result ((opening : Numbers) (rows : Book) (phases : List (List Stored)) →
+        B.has board.old opening rows phases →
+        B.has board.new opening rows phases ⊎ B.has_refused board.new opening rows phases) }
 {
     if !board.is_watched() {
         return Ok(());
@@ -288,5 +295,5 @@ fn next_hot(
     if running.state.phase() % 2 == 0 {
         return Ok(IndexSet::new(alloc));
     }
-    choose_hot(alloc, &running.history, policy.threshold, policy.hot_max)
+    choose_hot_after(alloc, &running.history, policy.threshold, policy.hot_max)
 }

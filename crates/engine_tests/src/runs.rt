@@ -1,5 +1,6 @@
-//! Tests of `auction_run`: what gates and boards are told, and the histories of runs on threads.
+//! Tests of `auction_run`: what gates and boards are told, the histories of runs on threads, and what is made of a list of entries.
 mod board_tests;
+mod entry_tests;
 mod gate_tests;
 mod replay_tests;
 pub(crate) mod testing;

@@ -18,6 +18,8 @@ struct Refusing {
 impl Board for Refusing {
     ghost has = { λ board opening rows phases. Unit {0} };
 
+    ghost has_refused = { λ board opening rows phases. Unit {0} };
+
     fn publish<R: Wait>(&mut self, _rt: &R, _last: Vec<Row>) -> Result<(), AllocError> {
         self.calls = self.calls.saturating_add(1);
         if self.calls == 2 {

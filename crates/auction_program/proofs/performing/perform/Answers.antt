@@ -23,4 +23,4 @@ returns-in_err-outcome-clause-cause g c =
     error_is c.from_residual.result (Run fault) (λ f. IsNotPerformed options f rows scripts) c.from_residual.ensures
     (subst (λ p. IsNotRun p fault rows scripts) c.policy.ensures
     (not_run c.policy.result rows scripts c.run.result fault c.in_err-outcome.was refused.workers refused.shards refused.quota refused.too_long
-    refused.spawn refused.number_full))
+    refused.spawn))

@@ -1,8 +1,7 @@
 use Rattle.std.proofs.Common.{true, ◌∙◌, sym, subst}
 use Rattle.auction_run.specs.declared.fault.RunFault.TheVariants.{Memory}
 use Rattle.auction_run.specs.Phases.{IsMet, lists, told}
-use Rattle.auction_run.proofs.EndLemmas.{fault_met}
-use Rattle.auction_run.proofs.PhaseLemmas.{failed, as_many, shown, are_ready, receipts_are, closed_phase}
+use Rattle.auction_run.proofs.PhaseLemmas.{failed, fault_met, as_many, shown, are_ready, receipts_are, closed_phase}
 use Rattle.run_serving.proofs.ScriptLemmas.{lists_length}
 use Rattle.auction_run.proofs.joined_phase.perform_joined_phase.Goals as goal
 
@@ -30,9 +29,8 @@ close-requires g c = receipts_are c.requires.plan.1 c.requires.may (shown c.in_o
 
 pub returns-in_err-receipts : goal.returns-in_err-receipts
 returns-in_err-receipts g c =
-    let ready = are_ready c.requires.plan.1 c.requires.may (shown c.in_ok-floor.ensures.begun) c.boxes.ensures.boxes c.boxes.ensures.opening c.requires.plan.0 in
     let fault = c.in_err-receipts.field-0.0 in
-    failed c.from_residual-in_err-receipts.result (told fault) c.from_residual-in_err-receipts.ensures.1 (fault_met true ready fault c.in_err-receipts.ensures.fault)
+    failed c.from_residual-in_err-receipts.result (told fault) c.from_residual-in_err-receipts.ensures.1 (fault_met (lists c.args.plan.round.scripts.now) _ fault c.in_err-receipts.ensures.fault)
 
 pub returns-in_err-state : goal.returns-in_err-state
 returns-in_err-state g c = failed c.from_residual-in_err-state.result Memory c.from_residual-in_err-state.ensures.1 tt

@@ -15,7 +15,6 @@ of_outcome g c P is = IfOk-weaker c.run_shown.result (IsOutcome (opening_of c.ar
 pub returns : goal.returns
 returns g c =
     let refused = c.run_shown.ensures.refused in
-    let cause = c.run_shown.ensures.cause in
     record {
       ready = refused.ready;
       serves = of_outcome g c _ (λ outcome is. is.serves);
@@ -30,6 +29,5 @@ returns g c =
       shards = refused.shards;
       quota = refused.quota;
       too_long = refused.too_long;
-      spawn = cause.spawn;
-      number_full = cause.number_full;
+      spawn = c.run_shown.ensures.spawn;
     }

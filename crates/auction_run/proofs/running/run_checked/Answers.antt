@@ -1,13 +1,15 @@
-use Rattle.std.proofs.Common.{rules, arith, ◌≡◌, ◌≤◌, ◌+◌, ℕ, suc, length, subst, sym, ap, ◌∙◌}
+use Rattle.std.proofs.Common.{rules, arith, ◌≡◌, ◌≤◌, ◌+◌, ℕ, suc, length, inl, subst, sym, ap, ◌∙◌}
 use Rattle.item_shards.specs.OpeningBooks.{opening_of, rows_of}
 use Rattle.run_serving.specs.Run.{HasLeft, first_index}
 use Rattle.run_serving.specs.Serving.{script_of}
 use Rattle.run_serving.proofs.ScriptLemmas.{lists_length}
 use Rattle.auction_run.specs.Beginning.{HasShards, HasQuotas}
 use Rattle.auction_run.specs.Boards.{HasShown}
+use Rattle.auction_run.specs.Outcomes.{HasShownFirst}
+use Rattle.auction_run.specs.declared.fault.RunFault.TheVariants.{Memory}
 use Rattle.auction_run.specs.Phases.{lists, waiting_in, IsMet}
 use Rattle.auction_run.specs.Running.{IsRunning}
-use Rattle.auction_run.proofs.BoardLemmas.{begins_shown, can_show, has_shown, next_runs}
+use Rattle.auction_run.proofs.BoardLemmas.{begins_shown, can_show, first_shown, has_shown, next_runs, none_shown, not_shown}
 use Rattle.phase_workers.proofs.WorkLemmas.{err_as}
 use Rattle.auction_run.proofs.RunLemmas.{some_given, few_of, goes_on, left_over, few_phases_so_far, ended, phases_counted}
 use Rattle.auction_run.proofs.running.run_checked.Goals as goal
@@ -96,7 +98,7 @@ loop-phase-preserved g c =
       running = subst (λ n. IsRunning (opening_of book) (rows_of book) c.args.policy scripts n c.in_ok-running-2.running) one_more next;
       shown = subst (λ n. HasShown g.B.Board.has (opening_of book) (rows_of book) n c.in_ok-running-2.running.history.entries c.show_phase.new.board) one_more
           (has_shown (opening_of book) (rows_of book) book.is_book c.args.policy scripts c.requires.workers.few c.requires.workers.own c.requires.short c.loop-phase._phase c.in_ok-running-2.running next
-          c.loop-phase.running.history.entries c.in_ok-running-2.ensures.grown g.B.Board.has c.loop-phase.board c.loop-phase.invariant.shown c.show_phase.new.board c.in_ok-show_phase.ensures);
+          c.loop-phase.running.history.entries c.in_ok-running-2.ensures.grown g.B.Board.has c.loop-phase.board c.loop-phase.invariant.shown c.show_phase.new.board c.in_ok-show_phase.ensures.shown);
     }
 
 pub unreachable-requires : goal.unreachable-requires
@@ -109,3 +111,29 @@ pub returns-in_err-running-2-clause-fault : goal.returns-in_err-running-2-clause
 returns-in_err-running-2-clause-fault g c =
     err_as c.from_residual-in_err-running-2.result c.in_err-running-2.field-0.0 (IsMet (lists c.args.scripts.now)) c.from_residual-in_err-running-2.ensures.1
     (subst (λ scripts. IsMet (lists scripts) c.in_err-running-2.field-0.0) c.new-plan.ensures.scripts c.in_err-running-2.ensures.fault)
+
+pub returns-in_err-running-clause-board_after_fault : goal.returns-in_err-running-clause-board_after_fault
+returns-in_err-running-clause-board_after_fault g c =
+    let B = g.B.Board in
+    let book = c.args.book.now in
+    err_as c.from_residual.result Memory (HasShownFirst B.has B.has_refused (opening_of book) (rows_of book) c.args.policy (lists c.args.scripts.now) c.args.board.now) c.from_residual.ensures.1
+    (none_shown B.has B.has_refused (opening_of book) (rows_of book) c.args.policy (lists c.args.scripts.now) c.args.board.now c.requires.board Memory)
+
+pub returns-in_err-running-2-clause-board_after_fault : goal.returns-in_err-running-2-clause-board_after_fault
+returns-in_err-running-2-clause-board_after_fault g c =
+    let B = g.B.Board in
+    let book = c.args.book.now in
+    let fault = c.in_err-running-2.field-0.0 in
+    err_as c.from_residual-in_err-running-2.result fault (HasShownFirst B.has B.has_refused (opening_of book) (rows_of book) c.args.policy (lists c.args.scripts.now) c.loop-phase.board)
+    c.from_residual-in_err-running-2.ensures.1
+    (first_shown B.has B.has_refused (opening_of book) (rows_of book) c.args.policy (lists c.args.scripts.now) c.loop-phase._phase c.loop-phase.running c.loop-phase.invariant.running
+    c.loop-phase.board fault (inl c.loop-phase.invariant.shown))
+
+pub returns-in_err-show_phase-clause-board_after_fault : goal.returns-in_err-show_phase-clause-board_after_fault
+returns-in_err-show_phase-clause-board_after_fault g c =
+    let B = g.B.Board in
+    let book = c.args.book.now in
+    err_as c.from_residual-in_err-show_phase.result Memory (HasShownFirst B.has B.has_refused (opening_of book) (rows_of book) c.args.policy (lists c.args.scripts.now) c.show_phase.new.board)
+    c.from_residual-in_err-show_phase.ensures.1
+    (not_shown B.has B.has_refused (opening_of book) (rows_of book) c.args.policy (lists c.args.scripts.now) c.loop-phase._phase c.loop-phase.running c.loop-phase.invariant.running
+    c.loop-phase.board c.show_phase.new.board c.loop-phase.invariant.shown c.in_err-show_phase.ensures.refused)

@@ -1,0 +1,19 @@
+use Rattle.std.proofs.Common.{◌≡◌, List, map, take, ap, subst, sym, ◌∙◌}
+use Rattle.std.specs.List.{IsDistinct}
+use Rattle.std.proofs.lemmas.Result.{IfOk-weaker}
+use Rattle.auction_rows.specs.Requests.{same_object}
+use Rattle.auction_run.specs.declared.choosing.Candidate.{Candidate}
+use Rattle.auction_run.proofs.ChosenLemmas.{distinct, chosen}
+use Rattle.auction_run.proofs.choosing.hottest.Goals as goal
+
+pub first_of-requires : goal.first_of-requires
+first_of-requires c =
+    subst (λ (cs : List Candidate). IsDistinct same_object (map (λ c. c.object) cs)) (sym c.deref.ensures.value)
+    (distinct c.requires.0 c.args.heats.now.entries c.args.threshold c.in_ok-candidates.candidates.items c.requires.1 c.in_ok-candidates.ensures)
+
+pub returns : goal.returns
+returns c =
+    IfOk-weaker c.first_of.result _ _
+    (λ hot are entries has. are ∙ ap (λ (cs : List Candidate). map (λ (c : Candidate). c.object) (take c.args.hot_max cs)) c.deref.ensures.value
+    ∙ chosen entries c.args.heats.now.entries c.args.threshold c.in_ok-candidates.candidates.items has c.in_ok-candidates.ensures c.args.hot_max)
+    c.first_of.ensures
