@@ -54,11 +54,11 @@ module _ (items items' : List SeenItem) (users users' : List SeenUser) (bids bid
     within = omega (arith, length-append items items', h);
     is = ap item_reply (get_or_append_left items items' _ place h);
   }
-  reply_stays (told.BidsSeen place count) h = record {
+  reply_stays (told.BidsSeen count place) h = record {
     within = (h.0, omega (arith, length-append bids bids', h.1));
     is = ap BidsSeen (part_stays bids bids' place count h.1);
   }
-  reply_stays (told.CategorySeen place count) h = record {
+  reply_stays (told.CategorySeen count place) h = record {
     within = (h.0, omega (arith, length-append latest latest', h.1));
     is = ap CategorySeen (part_stays latest latest' place count h.1);
   }

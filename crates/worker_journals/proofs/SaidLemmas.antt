@@ -61,14 +61,14 @@ module _ (items : List SeenItem) (users : List SeenUser) (bids : List BidShown) 
   }
 
   pub says_bids : (old shown : List BidShown) (count : ℕ) → bids ≡ old ++ shown → place ≡ length old → count ≡ length shown → count ≤ MOST_SHOWN →
-      BidsSeen shown ≡ reply → SaysReply items users bids latest (told.BidsSeen place count) reply
+      BidsSeen shown ≡ reply → SaysReply items users bids latest (told.BidsSeen count place) reply
   says_bids old shown count kept at all few is = record {
     within = (few, omega (arith, at, all, ap length kept, length-append old shown));
     is = ap BidsSeen (part_at_end bids old shown place count kept at all) ∙ is;
   }
 
   pub says_latest : (old shown : List ItemShown) (count : ℕ) → latest ≡ old ++ shown → place ≡ length old → count ≡ length shown → count ≤ MOST_SHOWN →
-      CategorySeen shown ≡ reply → SaysReply items users bids latest (told.CategorySeen place count) reply
+      CategorySeen shown ≡ reply → SaysReply items users bids latest (told.CategorySeen count place) reply
   says_latest old shown count kept at all few is = record {
     within = (few, omega (arith, at, all, ap length kept, length-append old shown));
     is = ap CategorySeen (part_at_end latest old shown place count kept at all) ∙ is;

@@ -116,8 +116,8 @@ reply_from items users bids latest (told.BidStored id) = BidStored id
 reply_from items users bids latest (told.CommentStored id) = CommentStored id
 reply_from items users bids latest (told.Bought id) = Bought id
 reply_from items users bids latest (told.ItemSeen place) = item_reply (item_at items place)
-reply_from items users bids latest (told.BidsSeen place count) = BidsSeen (take count (drop place bids))
-reply_from items users bids latest (told.CategorySeen place count) = CategorySeen (take count (drop place latest))
+reply_from items users bids latest (told.BidsSeen count place) = BidsSeen (take count (drop place bids))
+reply_from items users bids latest (told.CategorySeen count place) = CategorySeen (take count (drop place latest))
 reply_from items users bids latest (told.UserSeen place) = user_reply (user_at users place)
 reply_from items users bids latest (told.Refused reason) = Refused reason
 
@@ -138,8 +138,8 @@ HasReply items users bids latest (told.BidStored id) = ⊤
 HasReply items users bids latest (told.CommentStored id) = ⊤
 HasReply items users bids latest (told.Bought id) = ⊤
 HasReply items users bids latest (told.ItemSeen place) = place < length items
-HasReply items users bids latest (told.BidsSeen place count) = (count ≤ MOST_SHOWN) × (place + count ≤ length bids)
-HasReply items users bids latest (told.CategorySeen place count) = (count ≤ MOST_SHOWN) × (place + count ≤ length latest)
+HasReply items users bids latest (told.BidsSeen count place) = (count ≤ MOST_SHOWN) × (place + count ≤ length bids)
+HasReply items users bids latest (told.CategorySeen count place) = (count ≤ MOST_SHOWN) × (place + count ≤ length latest)
 HasReply items users bids latest (told.UserSeen place) = place < length users
 HasReply items users bids latest (told.Refused reason) = ⊤
 
@@ -153,6 +153,6 @@ pub record SaysReply (items : List SeenItem) (users : List SeenUser) (bids : Lis
   pub within : HasReply items users bids latest short
   pub is : reply_from items users bids latest short ≡ reply
 
--- a list of such a length and capacity has room for so many more, whose places are numbers of 32 bits
+-- a list of such a length and capacity has room for so many more
 abbrev pub HasRoom : ℕ → ℕ → ℕ → Type 0
-HasRoom more len capacity = (len + more ≤ capacity) × (len + more ≤ 4294967295)
+HasRoom more len capacity = len + more ≤ capacity

@@ -8,9 +8,13 @@ ghost use Rattle.worker_journals.specs.declared.heads.UserSeen.{UserSeen as Seen
 ghost use Rattle.worker_journals.specs.Sides.{reply_from};
 
 use auction_rows::{BidId, BuyId, CommentId, ItemId, Name, Quantity, Refusal, Stars, StoreReply};
+use std::marker::Model;
 
 // Seven words: less than a cache line.
 const _: () = prove!(size_of::<Head>() == 56);
+
+// What the halves of a place count to.
+const HALF: usize = 4_294_967_296;
 
 /// A commit, but for its phase and worker, which are the journal's.
 #[derive(Clone, Copy)]
@@ -21,10 +25,56 @@ pub(crate) struct Head {
     pub(crate) reply: ShortReply,
 }
 
+/// A place in a list, in two halves, so that no head is longer for it.
+#[derive(Clone, Copy)]
+pub(crate) struct Place {
+    low: u32,
+    high: u32,
+}
+
+impl Model for Place {
+    ghost use Rattle.std.specs.Prelude.{ℕ, ◌+◌, ◌*◌, ◌^◌, ◌<◌, ◌/◌, ◌%◌};
+    ghost use Rattle.std.proofs.Common.{◌∙◌};
+    ghost use Rattle.std.proofs.Math.Nat.{mul-add-mod_self_right, mod-eq_of_lt};
+    ghost use Rattle.std.proofs.lemmas.Nat.{div-mul-add};
+
+    ghost Value = { ℕ };
+
+    ghost view = { λ p. p.high * 2 ^ 32 + p.low };
+
+    ghost invariant = { λ p. p.low < 2 ^ 32 };
+
+    ghost inverse = { λ place. record { low = place % 2 ^ 32; high = place / 2 ^ 32 } };
+
+    ghost inverse_ok = { λ p low i. record {
+      low = (mul-add-mod_self_right p.high (2 ^ 32) p.low ∙ mod-eq_of_lt low) i;
+      high = div-mul-add p.high (2 ^ 32) p.low low i;
+    } };
+}
+
+impl Place {
+    /// This place.
+    pub(crate) fn of(place: usize) -> Place
+        ensures { result ≡ place }
+    {
+        Place {
+            low: (place % HALF) as u32,
+            high: (place / HALF) as u32,
+        }
+    }
+
+    /// The place, as one number.
+    pub(crate) fn get(self) -> usize
+        ensures { result ≡ self }
+    {
+        self.high as usize * HALF + self.low as usize
+    }
+}
+
 /// A request, by its fields in order; the facts of an item that it stores lie at a place among the facts.
 #[derive(Clone, Copy)]
 pub(crate) enum ShortRequest {
-    StoreItem(u32, u64),
+    StoreItem(Place, u64),
     StoreBid(u32, ItemId, u64, u64),
     StoreComment(u32, u32, ItemId, Stars),
     BuyNow(u32, ItemId, Quantity, u64),
@@ -41,10 +91,10 @@ pub(crate) enum ShortReply {
     BidStored(BidId),
     CommentStored(CommentId),
     Bought(BuyId),
-    ItemSeen(u32),
-    BidsSeen(u32, u8),
-    CategorySeen(u32, u8),
-    UserSeen(u32),
+    ItemSeen(Place),
+    BidsSeen(u8, Place),
+    CategorySeen(u8, Place),
+    UserSeen(Place),
     Refused(Refusal),
 }
 

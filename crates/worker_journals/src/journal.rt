@@ -40,7 +40,7 @@ impl Model for Journal {
 
 impl Journal {
     /// An empty journal with room for so many entries: for their heads and, at most, what all may have beside them, of which
-    /// memory is touched only as it is filled. It errs for want of memory alone; more than 400,000,000 entries are that.
+    /// memory is touched only as it is filled. It errs for want of memory alone.
     pub fn with_room(
         alloc: Global,
         phase: u64,

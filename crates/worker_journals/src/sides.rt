@@ -4,13 +4,10 @@ ghost use Rattle.auction_rows.specs.Stars.{GivesStars};
 ghost use Rattle.worker_journals.specs.Sides.{HasRoom, SaysReply, SaysRequest, facts_in, shown_in, item_reply};
 
 use crate::answer::{Answer, Told};
-use crate::heads::{ItemSeen, ShortReply, ShortRequest, UserSeen};
+use crate::heads::{ItemSeen, Place, ShortReply, ShortRequest, UserSeen};
 use auction_rows::{BidShown, Facts, ItemShown, MOST_SHOWN, Object, Reply, Request, Ten};
 use std::alloc::{AllocError, Global};
 use std::marker::Model;
-
-// Past so many commits the places of bids and items are no numbers of 32 bits.
-const MOST: usize = 400_000_000;
 
 /// The facts that the requests of a journal store, and what its views show, with room for those of `left` commits more.
 #[derive(Drop)]
@@ -48,15 +45,14 @@ impl Sides {
     pub(crate) fn with_room(alloc: Global, room: usize) -> Result<Sides, AllocError>
         ensures { IfOk result (λ sides. sides ≡ no_sides room) }
     {
-        if room > MOST {
-            return Err(AllocError);
-        }
+        // Past 64 bits there is no such room.
+        let shown = room.saturating_mul(MOST_SHOWN);
         Ok(Sides {
             facts: Vec::with_capacity(alloc, room)?,
             items: Vec::with_capacity(alloc, room)?,
             users: Vec::with_capacity(alloc, room)?,
-            bids: Vec::with_capacity(alloc, room * MOST_SHOWN)?,
-            latest: Vec::with_capacity(alloc, room * MOST_SHOWN)?,
+            bids: Vec::with_capacity(alloc, shown)?,
+            latest: Vec::with_capacity(alloc, shown)?,
             left: room,
         })
     }
@@ -116,7 +112,7 @@ impl Sides {
     {
         match short {
             ShortRequest::StoreItem(facts, time) => Request::StoreItem {
-                facts: self.facts[facts as usize],
+                facts: self.facts[facts.get()],
                 time,
             },
             ShortRequest::StoreBid(bidder, item, amount, time) => Request::StoreBid {
@@ -154,15 +150,15 @@ impl Sides {
             ShortReply::BidStored(id) => Reply::BidStored(id),
             ShortReply::CommentStored(id) => Reply::CommentStored(id),
             ShortReply::Bought(id) => Reply::Bought(id),
-            ShortReply::ItemSeen(place) => item_reply(&self.items[place as usize]),
-            ShortReply::BidsSeen(place, count) => Reply::BidsSeen(part_of(
+            ShortReply::ItemSeen(place) => item_reply(&self.items[place.get()]),
+            ShortReply::BidsSeen(count, place) => Reply::BidsSeen(part_of(
                 &self.bids, place, count,
             )),
-            ShortReply::CategorySeen(place, count) => {
+            ShortReply::CategorySeen(count, place) => {
                 Reply::CategorySeen(part_of(&self.latest, place, count))
             }
             ShortReply::UserSeen(place) => {
-                let seen = self.users[place as usize];
+                let seen = self.users[place.get()];
                 Reply::UserSeen {
                     rating: seen.rating,
                     comments: seen.comments,
@@ -183,40 +179,46 @@ impl Sides {
         ensures { result ≡ written_by (commit worker (request_from self.now.facts request)
             (reply_from self.now.items self.now.users self.now.bids self.now.latest reply)) }
     {
-        match (request, reply) {
-            (ShortRequest::StoreItem(facts, _), ShortReply::ItemStored(id))
-                if id.worker == worker => {
-                Some(Object::Category(self.facts[facts as usize].category))
-            }
-            (ShortRequest::StoreBid(_, item, ..), ShortReply::BidStored(id))
-                if id.worker == worker => { Some(Object::Item(item)) }
-            (ShortRequest::StoreComment(_, about, ..), ShortReply::CommentStored(id))
-                if id.worker == worker => { Some(Object::User(about)) }
+        match request {
+            ShortRequest::StoreItem(facts, _) => match reply {
+                ShortReply::ItemStored(id) if id.worker == worker => {
+                    Some(Object::Category(self.facts[facts.get()].category))
+                }
+                _ => None,
+            },
+            ShortRequest::StoreBid(_, item, ..) => match reply {
+                ShortReply::BidStored(id) if id.worker == worker => Some(Object::Item(item)),
+                _ => None,
+            },
+            ShortRequest::StoreComment(_, about, ..) => match reply {
+                ShortReply::CommentStored(id) if id.worker == worker => Some(Object::User(about)),
+                _ => None,
+            },
             _ => None,
         }
     }
 }
 
 // Puts a value at the end of a list, and gives its place. It takes no memory.
-fn keep_one<T>(list: &mut Vec<T>, value: T) -> u32
+fn keep_one<T>(list: &mut Vec<T>, value: T) -> Place
     requires { HasRoom 1 (vec_len list.old) (vec_capacity list.old) }
     ensures place { result ≡ vec_len list.old }
     ensures kept { list.new.items ≡ list.old.items ++ value ∷ [] }
     ensures capacity { vec_capacity list.new ≡ vec_capacity list.old }
 {
-    let place = list.len() as u32;
+    let place = Place::of(list.len());
     list.push_reserved(value);
     place
 }
 
 // Puts the values that a view shows at the end of a list, and gives the place of the first. It takes no memory.
-fn keep_all<T: Copy>(list: &mut Vec<T>, shown: &Ten<T>) -> u32
+fn keep_all<T: Copy>(list: &mut Vec<T>, shown: &Ten<T>) -> Place
     requires { HasRoom MOST_SHOWN (vec_len list.old) (vec_capacity list.old) }
     ensures place { result ≡ vec_len list.old }
     ensures kept { list.new.items ≡ list.old.items ++ shown.now }
     ensures capacity { vec_capacity list.new ≡ vec_capacity list.old }
 {
-    let start = list.len() as u32;
+    let start = Place::of(list.len());
     for place in 0..shown.len() {
         list.push_reserved(shown.get(place).unwrap());
     }
@@ -224,12 +226,12 @@ fn keep_all<T: Copy>(list: &mut Vec<T>, shown: &Ten<T>) -> u32
 }
 
 // The values of a list from a place on, as a view shows them.
-fn part_of<T: Copy>(list: &[T], place: u32, count: u8) -> Ten<T>
+fn part_of<T: Copy>(list: &[T], place: Place, count: u8) -> Ten<T>
     requires few { count ≤ MOST_SHOWN }
     requires within { place + count ≤ length list.now }
     ensures { result ≡ take count (drop place list.now) }
 {
-    let start = place as usize;
+    let start = place.get();
     let mut shown = Ten::new();
     for value in &list[start..start + count as usize] {
         shown.push(*value);
@@ -336,9 +338,9 @@ fn keep_reply(
         Reply::CommentStored(id) => ShortReply::CommentStored(id),
         Reply::Bought(id) => ShortReply::Bought(id),
         Reply::ItemSeen { .. } => unreachable!(),
-        Reply::BidsSeen(shown) => ShortReply::BidsSeen(keep_all(bids, &shown), shown.len() as u8),
+        Reply::BidsSeen(shown) => ShortReply::BidsSeen(shown.len() as u8, keep_all(bids, &shown)),
         Reply::CategorySeen(shown) => {
-            ShortReply::CategorySeen(keep_all(latest, &shown), shown.len() as u8)
+            ShortReply::CategorySeen(shown.len() as u8, keep_all(latest, &shown))
         }
         Reply::UserSeen { rating, comments } => {
             ShortReply::UserSeen(keep_one(users, UserSeen { rating, comments }))

@@ -3,9 +3,6 @@ use Rattle.std.specs.Prelude.{IsSome}
 use Rattle.worker_journals.proofs.KeptLemmas.{one_more, all_there, room_left, some_there}
 use Rattle.worker_journals.proofs.sides.keep_all.Goals as goal
 
-pub overflow_cast-start : goal.overflow_cast-start
-overflow_cast-start g c = omega (arith, c.len-start.ensures, c.requires.1)
-
 pub loop-place-init : goal.loop-place-init
 loop-place-init g c = record { items = sym (append-nil c.args.list.now.items); capacity = refl }
 
@@ -13,7 +10,7 @@ pub push_reserved-requires : goal.push_reserved-requires
 push_reserved-requires g c =
     let start = c.args.list.now in
     room_left start.items c.args.shown.now c.loop-place.place c.loop-place.list.items _ _ _ _ (lt_of_lt_of_le c.loop-place-test.true c.len-place-end.ensures.at_most_ten)
-    c.loop-place.invariant.items start.ok.0 c.loop-place.list.ok.0 c.loop-place.invariant.capacity c.requires.0
+    c.loop-place.invariant.items start.ok.0 c.loop-place.list.ok.0 c.loop-place.invariant.capacity c.requires
 
 pub loop-place-smaller : goal.loop-place-smaller
 loop-place-smaller g c = omega (arith, c.loop-place-test.true)
@@ -33,7 +30,7 @@ returns-clause-kept g c =
     all_there c.args.list.now.items c.args.shown.now c.loop-place.place c.loop-place.list.items past c.loop-place.invariant.items
 
 pub returns-clause-place : goal.returns-clause-place
-returns-clause-place g c = c.len-start.ensures
+returns-clause-place g c = c.of-start.ensures ∙ c.len.ensures
 
 pub returns-clause-capacity : goal.returns-clause-capacity
 returns-clause-capacity g c = c.loop-place.invariant.capacity

@@ -8,17 +8,17 @@ use Rattle.worker_journals.proofs.sides.Sides.keep.Goals as goal
 pub keep_request-short_request-requires : goal.keep_request-short_request-requires
 keep_request-short_request-requires c =
     let some : 0 < c.self.inside.left = omega (arith, c.requires, ap (λ (s : SideLists). s.left) c.self.view_is) in
-    (omega (arith, some, c.self.invariant.0.0), omega (arith, some, c.self.invariant.0.1))
+    omega (arith, some, c.self.invariant.0)
 
 pub keep_reply-short_reply-requires : goal.keep_reply-short_reply-requires
 keep_reply-short_reply-requires c =
     let some : 0 < c.self.inside.left = omega (arith, c.requires, ap (λ (s : SideLists). s.left) c.self.view_is) in
     let room = c.self.invariant in
     record {
-      items = (omega (arith, some, room.1.0), omega (arith, some, room.1.1));
-      users = (omega (arith, some, room.2.0), omega (arith, some, room.2.1));
-      bids = (omega (arith, some, room.3.0), omega (arith, some, room.3.1));
-      latest = (omega (arith, some, room.4.0), omega (arith, some, room.4.1));
+      items = omega (arith, some, room.1);
+      users = omega (arith, some, room.2);
+      bids = omega (arith, some, room.3);
+      latest = omega (arith, some, room.4);
     }
 
 pub returns-in-Store-clause-reply : goal.returns-in-Store-clause-reply
