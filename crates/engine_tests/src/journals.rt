@@ -1,2 +1,2 @@
-//! Tests of `worker_journals`: the room of a journal.
+//! Tests of `worker_journals`: the room of a journal, and journals merged.
 mod journal_tests;
