@@ -1,9 +1,9 @@
 //! A worker's right to perform in a joined phase, and what it leaves.
-ghost use Rattle.std.specs.Prelude.{◌≡◌, ◌+◌, ◌≤◌, ◌<◌, [], length, slice_get, Some, IfSome, IfNone, IfOk, IfErr};
+ghost use Rattle.std.specs.Prelude.{◌≡◌, ◌+◌, ◌≤◌, ◌<◌, [], length, false, slice_get, Some, IfSome, IfNone, IfOk, IfErr};
 
 use crate::dispatch::commit_in_split;
 use crate::fault::PermitFault;
-use auction_rows::{MOST_OF_A_WORKER, MOST_TRIES, Opening, Reply, Request};
+use auction_rows::{MOST_OF_A_WORKER, MOST_TRIES, Object, Opening, Reply, Request};
 use ghost_log::Ghost;
 use phase_contexts::{Counters, SplitContext, Stash};
 use shard_boxes::{Boxes, Key, PhaseName};
@@ -202,6 +202,13 @@ impl<N: PhaseName> JoinedPermit<N> {
         ensures { result ≡ self.now.split.context.tries }
     {
         self.split.tries()
+    }
+
+    /// Whether an object is hot: none is in a joined phase.
+    pub fn is_hot(&self, _object: Object) -> bool
+        ensures { result ≡ false }
+    {
+        false
     }
 
     /// Spends the permit.
