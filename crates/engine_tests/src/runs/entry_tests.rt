@@ -37,25 +37,31 @@ fn comment_entry(serial: u32) -> Result<Entry, Fail> {
     Ok(entry(request, Reply::CommentStored(id)))
 }
 
+fn item_entry() -> Result<Entry, Fail> {
+    Ok(entry(put_up(vases(1)?), Reply::ItemStored(FIRST)))
+}
+
+fn item_row() -> Result<Row, Fail> {
+    Ok(Row::Item(ItemRow {
+        id: FIRST,
+        facts: vases(1)?,
+        time: 1,
+    }))
+}
+
 #[test]
 fn accepted_stores_add_rows(rt: HostRuntime) -> Result<(), Fail> {
-    let facts = vases(1)?;
     let refused = Reply::Refused(Refusal::BelowStart);
     let seen = Reply::UserSeen {
         rating: 0,
         comments: 0,
     };
     let entries = [
-        entry(put_up(facts), Reply::ItemStored(FIRST)),
+        item_entry()?,
         entry(bid_on(0, 1, 9), refused),
         entry(LOOK, seen),
         bid_entry(0, 0),
     ];
-    let item = Row::Item(ItemRow {
-        id: FIRST,
-        facts,
-        time: 1,
-    });
     let bid = Row::Bid(BidRow {
         id: BidId {
             worker: 0,
@@ -67,7 +73,7 @@ fn accepted_stores_add_rows(rt: HostRuntime) -> Result<(), Fail> {
         time: 1,
     });
     let rows = rows_of(rt.alloc(), &entries)?;
-    assert_same(&rt, &rows.as_slice(), &[item, bid].as_slice());
+    assert_same(&rt, &rows.as_slice(), &[item_row()?, bid].as_slice());
     Ok(())
 }
 
