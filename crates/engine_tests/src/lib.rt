@@ -22,4 +22,6 @@ mod testing;
 #[cfg(test)]
 mod text;
 #[cfg(test)]
+mod windows;
+#[cfg(test)]
 mod workers;
