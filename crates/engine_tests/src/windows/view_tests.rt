@@ -5,15 +5,18 @@ ghost use Rattle.item_shards.specs.Serial.{CanFollow};
 ghost use Rattle.auction_window.specs.Published.{book_of};
 
 use crate::comparing::assert_same;
+use crate::runs::testing::run_of;
 use crate::testing::{FIRST, OPENING, bid, item_seen, put_up, vases};
 use auction_rows::{Refusal, Reply, Request, Row};
-use auction_window::{PhaseLog, Publisher, Seen, Told, Window, WindowName};
+use auction_run::FreeGate;
+use auction_window::{PhaseLog, Publisher, Seen, Told, Window, WindowName, rows_of};
 use item_shards::{Opened, OpeningBook};
 use std::alloc::Global;
 use std::marker::Brand;
 use std::process::Abort;
 use std::sync::Wait;
 use std::test::Fail;
+use std::thread::Threads;
 
 const VIEW: Request = Request::ViewItem { item: FIRST };
 
@@ -158,9 +161,20 @@ fn show_rows<J: WindowName, R: Wait + Abort>(
     }
 }
 
+// The rows of the first commit of the first example.
+fn first_rows<R: Threads + Wait + Sync>(rt: &R, alloc: Global) -> Result<Vec<Row>, Fail> {
+    let script = [put_up(vases(1)?), bid(1, 10, 5), VIEW];
+    let outcome = run_of(rt, alloc, &[&script], 64, 64, &FreeGate)?;
+    let first = outcome.history.iter().next().ok_or("no commit")?;
+    Ok(rows_of(alloc, &[first.to_entry()])?)
+}
+
 #[test]
 fn windows_show_whole_phases_and_never_go_back(rt: HostRuntime) -> Result<(), Fail> {
     let book = vases_and_bid(rt.alloc(), 1, 1, 50, 7)?;
+    let rows = first_rows(&rt, rt.alloc())?;
+    let wanted = (1, book.rows().first());
+    assert_same(&rt, &(rows.len(), rows.first()), &wanted);
     show_rows::<Brand, HostRuntime>(&rt, rt.alloc(), PhaseLog::new(), &book)
 }
 
