@@ -32,6 +32,8 @@ SHOWN = {
 # Where each crate and where each law has its place.
 MAP, LAWS = DOCUMENTS / "ARCHITECTURE.md", DOCUMENTS / "PROVED.md"
 PICTURES = DOCUMENTS / "pictures"
+# Pictures that are drawn of examples.
+DRAWN = {"contended.svg": ("examples/timeline.py", "examples/contended.history", "examples/contended.report")}
 # The pages of users, and how many words they and the first of them may have.
 OF_USERS = ("README", "docs/GUARANTEES", "docs/EXAMPLE", "docs/PERFORMANCE", "docs/FORMATS", "docs/TUTORIAL", "docs/WINDOWS", "docs/CHECKING", "docs/LOADS",
             "docs/OUTGROWING", "CONTRIBUTING", "CHANGELOG", "tests/README")
@@ -231,9 +233,13 @@ def figures(tally: Tally) -> None:
 
 def pictures(tally: Tally) -> None:
     """pictures, as their scripts draw them"""
-    for script in PICTURES.glob("*.py"):
-        got = run([sys.executable, "-B", script, "--print"])
-        tally.check(got.status == 0 and got.stdout == script.with_suffix(".svg").read_bytes(), f"{script.name} draws its picture: {got.stderr!r}")
+    drawn = {name: [ROOT / word for word in words] for name, words in DRAWN.items()}
+    drawn |= {script.with_suffix(".svg").name: [script, "--print"] for script in PICTURES.glob("*.py")}
+    for name, words in drawn.items():
+        got = run([sys.executable, "-B", *words])
+        tally.check(got.status == 0 and got.stdout == (PICTURES / name).read_bytes(), f"{words[0].name} draws {name}: {got.stderr!r}")
+    for path in PICTURES.glob("*.svg"):
+        tally.check(path.name in drawn, f"{path.name} has a script")
 
 
 def lengths(tally: Tally) -> None:

@@ -30,6 +30,8 @@ def examples(tester: Tester) -> None:
     tester.same("the first example", tester.run(tester.example), Outcome(0, tester.replies, b""))
     for _ in range(20):
         tester.same("the contended example", tester.run(contended, both), Outcome(0, history, b""))
+    report = (EXAMPLES / "contended.report").read_bytes()
+    tester.same("the contended example, with a report", tester.run(contended, replace(both, report=True)), Outcome(0, history + report, b""))
 
 
 def fronts(tester: Tester) -> None:

@@ -1,0 +1,139 @@
+#!/usr/bin/env python3
+"""Draws docs/pictures/crates.svg from crates.txt: the crates in layers, each above those that it uses.
+
+    docs/pictures/crates.py           writes the picture beside this script
+    docs/pictures/crates.py --print   writes it to standard output
+
+A crate that is in no layer, or that uses one of a layer above its own, is an error."""
+import re
+import sys
+from pathlib import Path
+
+from phases import GROUND, INK, text
+
+# From the lowest to the highest, each crate with its place across.
+LAYERS = {
+    "theory": {"phase_laws": 420, "run_laws": 210, "ghost_log": 860},
+    "model and records": {"auction_rows": 420, "split_records": 670, "top_records": 670, "item_shards": 690, "worker_journals": 420, "run_serving": 210,
+                          "auction_window": 350, "mean_price": 880},
+    "engine": {"shard_boxes": 690, "phase_contexts": 575, "phase_transactions": 600, "phase_permits": 960, "phase_closing": 640, "phase_floor": 630,
+               "phase_workers": 420, "auction_run": 560},
+    "texts": {"program_options": 420, "auction_text": 940, "history_check": 230},
+    "programs, examples and tests": {"auction_program": 560, "load_program": 940, "rubis_auction": 490, "rubis_check": 300, "rubis_load": 940,
+                                     "watch_auction": 780, "engine_tests": 630},
+}
+MODEL = "auction_rows"
+KNOWS, KNOWS_NOT = "#b3261e", "#3d6e91"
+WIDTH, BOX, ROW, PADDING = 1060, 26, 50, 16
+
+CRATES = Path(__file__).resolve().parents[2] / "crates.txt"
+
+
+def crates():
+    """Each crate with the others of the repository that it uses, as crates.txt says."""
+    uses = {name: used.split() for name, used in re.findall(r"(?m)^(\w+): ?(.*)$", CRATES.read_text())}
+    return {name: [used for used in all_used if used in uses] for name, all_used in uses.items()}
+
+
+def layers(uses):
+    layer_of = {name: at for at, names in enumerate(LAYERS.values()) for name in names}
+    if set(layer_of) != set(uses):
+        sys.exit(f"crates.py: in no layer, or in no crates.txt: {' '.join(sorted(set(layer_of) ^ set(uses)))}")
+    for name, all_used in uses.items():
+        for used in all_used:
+            if layer_of[used] > layer_of[name]:
+                sys.exit(f"crates.py: {name} uses {used}, of a layer above its own")
+    return layer_of
+
+
+def below(uses, name):
+    """All crates that a crate uses, by way of others too."""
+    return {used for direct in uses[name] for used in {direct, *below(uses, direct)}}
+
+
+def direct(uses, name):
+    """Those that it uses and that no other that it uses does."""
+    return [used for used in uses[name] if not any(used in below(uses, other) for other in uses[name])]
+
+
+def rows_of(uses, layer_of):
+    """In each layer its rows, from the lowest: a crate is above all those of its layer that it uses."""
+    def row(name):
+        return max((1 + row(used) for used in uses[name] if layer_of[used] == layer_of[name]), default=0)
+    rows = [[] for _ in LAYERS]
+    for name in uses:
+        own = rows[layer_of[name]]
+        own.extend([] for _ in range(row(name) + 1 - len(own)))
+        own[row(name)].append(name)
+    return rows
+
+
+def width(name):
+    return 14 + 7.3 * len(name)
+
+
+def places(rows):
+    """Each crate's place, across and down, and how high all layers are."""
+    height = sum(len(layer) * ROW + PADDING for layer in rows)
+    at, y = {}, 60 + height
+    for layer, across in zip(rows, LAYERS.values()):
+        y -= PADDING / 2
+        for row in layer:
+            at |= {name: (across[name], y - ROW / 2) for name in row}
+            y -= ROW
+        y -= PADDING / 2
+    return at, height
+
+
+def edges(uses, at):
+    for name in uses:
+        for used in direct(uses, name):
+            (x, y), (to, down) = at[name], at[used]
+            yield (f'<path d="M{x:.1f},{y + BOX / 2:.1f} C{x:.1f},{y + ROW * 0.55:.1f} {to:.1f},{down - ROW * 0.55:.1f} {to:.1f},{down - BOX / 2:.1f}" '
+                   f'fill="none" stroke="#b9b1a6" stroke-width="1.2"/>')
+
+
+def boxes(uses, at):
+    for name, (x, y) in at.items():
+        colour = KNOWS if name == MODEL or MODEL in below(uses, name) else KNOWS_NOT
+        yield (f'<rect x="{x - width(name) / 2:.1f}" y="{y - BOX / 2:g}" width="{width(name):.1f}" height="{BOX}" rx="4" fill="white" stroke="{colour}" '
+               f'stroke-width="1.6"/>')
+        yield text(f"{x:.1f}", f"{y + 4:g}", name, 12.5)
+
+
+def bands(rows, height):
+    y = 60 + height
+    for number, (name, layer) in enumerate(zip(LAYERS, rows)):
+        tall = len(layer) * ROW + PADDING
+        y -= tall
+        yield f'<rect x="0" y="{y:g}" width="{WIDTH}" height="{tall:g}" fill="{(GROUND, "white")[number % 2]}"/>'
+        words = name.split(", ") if ", " in name else [name]
+        for at, part in enumerate(words):
+            yield text(14, f"{y + tall / 2 + 5 + 17 * (at - (len(words) - 1) / 2):g}", part + "," * (at + 1 < len(words)), 13, "start", "#555555", "bold")
+
+
+def legend(y):
+    for x, colour, words in ((14, KNOWS, "knows auctions"), (160, KNOWS_NOT, "does not")):
+        yield f'<rect x="{x}" y="{y - 12}" width="22" height="15" rx="3" fill="white" stroke="{colour}" stroke-width="1.6"/>'
+        yield text(x + 30, y, words, 12.5, "start")
+    yield text(270, y, "A line leads from a crate down to one that it uses; what the latter uses in turn, the former may use too.", 12.5, "start", "#555555")
+
+
+def picture():
+    uses = crates()
+    rows = rows_of(uses, layers(uses))
+    at, height = places(rows)
+    title = "The crates of Fundreivo in layers"
+    about = "; ".join(f"{name}: {', '.join(names)}" for name, names in reversed(LAYERS.items()))
+    head = (f'<svg xmlns="http://www.w3.org/2000/svg" viewBox="0 0 {WIDTH} {height + 100:g}" width="{WIDTH}" height="{height + 100:g}" '
+            f'font-family="Helvetica, Arial, DejaVu Sans, sans-serif" role="img" aria-labelledby="title description">')
+    return "\n".join([head, f'<title id="title">{title}</title>', f'<desc id="description">From the highest layer to the lowest. {about}.</desc>',
+                      f'<rect width="{WIDTH}" height="{height + 100:g}" fill="white"/>', text(WIDTH / 2, 36, title, 16, fill=INK, weight="bold"),
+                      *bands(rows, height), *edges(uses, at), *boxes(uses, at), *legend(height + 86), "</svg>"]) + "\n"
+
+
+if __name__ == "__main__":
+    if sys.argv[1:] == ["--print"]:
+        sys.stdout.write(picture())
+    else:
+        Path(__file__).with_suffix(".svg").write_text(picture())

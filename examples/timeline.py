@@ -1,0 +1,253 @@
+#!/usr/bin/env python3
+"""Draws a run as an SVG picture: a lane for each worker, a box for each line of its history, and deferred requests twice, as they are asked and as they are
+answered. FILE is the output of `rubis_auction --history`; if that of `--report` is there too, after it or in a file of its own, hot objects are named.
+
+    rubis_auction --history --report < INPUT | examples/timeline.py > timeline.svg
+    examples/timeline.py examples/contended.history examples/contended.report > timeline.svg"""
+import argparse
+import fileinput
+import re
+import sys
+from html import escape
+from typing import NamedTuple
+
+LEFT, RIGHT, TOP = 92, 16, 84
+USUAL_WIDTH, WIDEST, NARROWEST, LEAST_OF_A_PHASE = 1000, 92, 14, 104
+# Narrower boxes have no words.
+WITH_WORDS = 60
+GREY, INK, LINE, SPLIT_GROUND = "#8a8a8a", "#222222", "#e3e3e3", "#f6f1ea"
+COLOURS = {"write": "#b3261e", "view": "#3d6e91", "refused": GREY}
+ORDER = "The serial order is by phase, number and worker."
+WRITES = {"item", "bid", "comment", "buynow"}
+
+
+class Entry(NamedTuple):
+    phase: int
+    number: int
+    worker: int
+    index: int
+    reply: str
+
+    def kind(self):
+        word = self.reply.split(" ")[0]
+        return "write" if word in WRITES else "refused" if word == "refused" else "view"
+
+    def words(self):
+        """A write with its id, a refusal with its code, of a view only its kind."""
+        return " ".join(self.reply.split(" ")[:1 if self.kind() == "view" else 2])
+
+
+class Run(NamedTuple):
+    entries: list
+    hot: dict
+    joined: int
+    split: int
+
+    def reached(self, index):
+        """The phase in which a request commits unless it is deferred."""
+        rounds, left = divmod(index, self.joined + self.split)
+        return 2 * rounds + (left >= self.joined)
+
+
+def read_run(lines, split):
+    entries, hot = [], {}
+    for number, line in enumerate(lines, 1):
+        line = line.rstrip("\n")
+        if found := re.fullmatch(r"(\d+) (\d+) (\d+) (\d+) (.*)", line):
+            entries.append(Entry(*map(int, found.groups()[:4]), found[5]))
+        elif found := re.fullmatch(r"hot (\d+) (.*)", line):
+            hot[int(found[1])] = found[2].split()
+        elif not re.match(r"(phases|requests|refused|category|user) ", line):
+            sys.exit(f"timeline.py: line {number} is of no history and no report")
+    if not entries:
+        sys.exit("timeline.py: no history")
+    scripts = {}
+    for entry in entries:
+        scripts.setdefault(entry.worker, {})[entry.index] = entry.phase
+    joined = max(sum(phase == 0 for phase in script.values()) for script in scripts.values()) or 1
+    return Run(entries, hot, joined, split or split_quota(scripts.values(), joined))
+
+
+def split_quota(scripts, joined):
+    """Joined phases defer nothing, so a script that goes on after phase 2 shows it; of a shorter run only what it is at least."""
+    least = 1
+    for script in scripts:
+        last = max((index for index, phase in script.items() if phase <= 2), default=-1)
+        if last < max(script):
+            return max(1, last + 1 - 2 * joined)
+        least = max(least, max((index for index, phase in script.items() if phase == 1), default=-1) + 1 - joined)
+    return least
+
+
+def columns_of(run, phase):
+    """Where the entries of a phase and what it defers stand: each (number, 0), or the number before it and a place after it."""
+    own = [entry for entry in run.entries if entry.phase == phase]
+    late = sorted((entry for entry in run.entries if entry.phase > phase == run.reached(entry.index)), key=lambda entry: entry.index)
+    places, last = {entry: (entry.number, 0) for entry in own}, {}
+    for entry in late:
+        before = max((other.number for other in own if other.worker == entry.worker and other.index < entry.index), default=0)
+        place = max((before, 0), last.get(entry.worker, (0, 0)))
+        last[entry.worker] = places[entry] = (place[0], place[1] + 1)
+    return places
+
+
+def chosen_phases(run, first, most):
+    """As many phases from the first on as have so many entries together, but one at least."""
+    chosen, count = [], 0
+    for phase in sorted({entry.phase for entry in run.entries if entry.phase >= first}):
+        count += sum(entry.phase == phase for entry in run.entries)
+        if chosen and count > most:
+            break
+        chosen.append(phase)
+    return chosen
+
+
+def text(x, y, words, size=13, anchor="middle", fill=INK, weight="normal"):
+    return f'<text x="{x:g}" y="{y:g}" font-size="{size}" text-anchor="{anchor}" fill="{fill}" font-weight="{weight}">{escape(words)}</text>'
+
+
+def line(x1, y1, x2, y2, stroke=LINE, dashes=""):
+    dashed = f' stroke-dasharray="{dashes}"' if dashes else ""
+    return f'<line x1="{x1:g}" y1="{y1:g}" x2="{x2:g}" y2="{y2:g}" stroke="{stroke}"{dashed}/>'
+
+
+def hot_words(objects, width):
+    """The objects that find room, and how many more there are."""
+    room = max(1, int(width / 6.6) - 5)
+    shown = list(objects)
+    while len(shown) > 1 and len(" ".join(shown)) + 4 * (len(shown) < len(objects)) > room:
+        shown.pop()
+    more = f" +{len(objects) - len(shown)}" if len(shown) < len(objects) else ""
+    return f"hot: {' '.join(shown)}{more}"
+
+
+class Picture:
+    def __init__(self, run, phases, name):
+        self.run, self.phases, self.name, self.parts = run, phases, name, []
+        self.workers = sorted({entry.worker for entry in run.entries})
+        self.apart = 54 if len(self.workers) <= 8 else 40
+        self.places = {phase: columns_of(run, phase) for phase in phases}
+        count = sum(len(set(places.values())) for places in self.places.values())
+        self.column = min(WIDEST, max(NARROWEST, (USUAL_WIDTH - LEFT - RIGHT) / max(1, count)))
+        self.box = min(30, self.apart - 14)
+        self.foot = TOP + self.apart * len(self.workers)
+        self.at, self.bounds, x = {}, {}, LEFT
+        for phase in phases:
+            order = sorted(set(self.places[phase].values()))
+            width = max(LEAST_OF_A_PHASE, self.column * len(order))
+            inner = x + (width - self.column * len(order)) / 2
+            for entry, place in self.places[phase].items():
+                self.at[entry, place[1] == 0] = inner + (order.index(place) + 0.5) * self.column
+            self.bounds[phase] = (x, x + width)
+            x += width
+        self.width = max(x + RIGHT, 680)
+
+    def lane(self, worker):
+        return TOP + self.apart * (self.workers.index(worker) + 0.5)
+
+    def frame(self):
+        for phase, (begin, end) in self.bounds.items():
+            kind = ("joined", "split")[phase % 2]
+            if phase % 2:
+                yield f'<rect x="{begin:g}" y="{TOP - 14}" width="{end - begin:g}" height="{self.foot - TOP + 36}" fill="{SPLIT_GROUND}"/>'
+            yield text((begin + end) / 2, 40, f"{phase}: {kind}", 15, weight="bold")
+            if phase in self.run.hot:
+                yield text((begin + end) / 2, 59, hot_words(self.run.hot[phase], end - begin), 12, fill="#555555")
+        for x in sorted({x for pair in self.bounds.values() for x in pair}):
+            yield line(x, 26, x, self.foot + 22, "#c9c0b4")
+        yield text(14, 40, "phase", anchor="start", fill="#555555")
+        yield text(14, self.foot + 14, "number", anchor="start", fill="#555555")
+        for worker in self.workers:
+            yield text(14, self.lane(worker) + 4, f"worker {worker}", anchor="start")
+            yield line(LEFT, self.lane(worker), max(x for pair in self.bounds.values() for x in pair), self.lane(worker))
+
+    def numbers(self):
+        """Commit numbers under their columns, as far as there is room."""
+        room = 0
+        for phase in self.phases:
+            for entry in sorted(self.places[phase], key=lambda entry: entry.number):
+                x = self.at.get((entry, True))
+                if x is not None and entry.phase == phase and x >= room:
+                    yield text(x, self.foot + 14, str(entry.number), 11, fill="#555555")
+                    room = x + 6 + 7 * len(str(entry.number))
+
+    def boxes(self):
+        for (entry, committed), x in self.at.items():
+            if committed:
+                yield from self.entry(entry, x)
+        for (entry, committed), x in self.at.items():
+            if not committed:
+                yield from self.deferred(entry, x)
+
+    def entry(self, entry, x):
+        width, lane = self.column - min(6, self.column / 5), self.lane(entry.worker)
+        late = ' stroke="#222222" stroke-width="2"' if self.run.reached(entry.index) < entry.phase else ""
+        yield (f'<g><title>{escape(" ".join(map(str, entry)))}</title><rect x="{x - width / 2:g}" y="{lane - self.box / 2:g}" width="{width:g}" '
+               f'height="{self.box}" rx="3" fill="{COLOURS[entry.kind()]}"{late}/>')
+        if self.column >= WITH_WORDS:
+            words, most = entry.words(), int(width / 6)
+            yield text(x, lane - 1, words if len(words) <= most else words[:most - 1] + "…", 11, fill="white")
+            yield text(x, lane + 11, f"index {entry.index}", 9.5, fill="white")
+        yield "</g>"
+
+    def deferred(self, entry, x):
+        """A hollow circle at which it was asked, and its way to the box in which it is answered, if that is drawn."""
+        lane, radius = self.lane(entry.worker), min(11, self.column / 2.6)
+        answered = self.at.get((entry, True), max(x for pair in self.bounds.values() for x in pair))
+        under = lane + self.box / 2 + 6
+        yield line(x, lane + radius, x, under, INK, "2 3") + line(x, under, answered, under, INK, "2 3")
+        if (entry, True) in self.at:
+            yield line(answered, under, answered, lane + self.box / 2, INK, "2 3")
+        yield (f'<g><title>index {entry.index} of worker {entry.worker}, deferred</title><circle cx="{x:g}" cy="{lane:g}" r="{radius:g}" fill="white" '
+               f'stroke="{INK}" stroke-width="2"/>')
+        if self.column >= WITH_WORDS:
+            yield text(x, lane + 4, str(entry.index), 10)
+        yield "</g>"
+
+    def legend(self):
+        y, x = self.foot + 48, 14
+        for colour, words in ((COLOURS["write"], "write"), (COLOURS["view"], "view"), (COLOURS["refused"], "refused")):
+            yield f'<rect x="{x}" y="{y - 9}" width="18" height="14" rx="3" fill="{colour}"/>' + text(x + 25, y + 3, words, anchor="start")
+            x += 48 + 7 * len(words)
+        yield f'<circle cx="{x + 8}" cy="{y - 2}" r="7" fill="white" stroke="{INK}" stroke-width="2"/>'
+        yield text(x + 23, y + 3, "deferred: no number yet", anchor="start")
+        yield f'<rect x="{x + 204}" y="{y - 9}" width="18" height="14" rx="3" fill="white" stroke="{INK}" stroke-width="2"/>'
+        yield text(x + 229, y + 3, "its reply, in a later phase", anchor="start")
+        yield text(14, y + 26, self.said(), 12, "start", "#555555")
+
+    def said(self):
+        own = {entry.phase for entry in self.run.entries}
+        if len(own) > len(self.phases):
+            return f"From phase {self.phases[0]} to phase {self.phases[-1]}, of {len(own)} phases. {ORDER}"
+        return ORDER
+
+    def svg(self):
+        height = self.foot + 88
+        title = f"Timeline of {self.name}"
+        about = (f"{len(self.workers)} lanes, one for each worker, and {len(self.phases)} phases from left to right. Boxes are lines of the history, by their "
+                 f"numbers; {sum(not committed for _, committed in self.at)} deferred requests are circles, each with a dashed line to its reply.")
+        head = (f'<svg xmlns="http://www.w3.org/2000/svg" viewBox="0 0 {self.width:g} {height}" width="{self.width:g}" height="{height}" '
+                f'font-family="Helvetica, Arial, DejaVu Sans, sans-serif" role="img" aria-labelledby="title description">')
+        return "\n".join([head, f'<title id="title">{escape(title)}</title>', f'<desc id="description">{escape(about)}</desc>',
+                          f'<rect width="{self.width:g}" height="{height}" fill="white"/>',
+                          *self.frame(), *self.numbers(), *self.boxes(), *self.legend(), "</svg>"]) + "\n"
+
+
+def main():
+    parser = argparse.ArgumentParser(description=__doc__, formatter_class=argparse.RawDescriptionHelpFormatter)
+    parser.add_argument("files", metavar="FILE", nargs="*", help="a history, and its report if there is one [default: standard input]")
+    parser.add_argument("--from", dest="first", metavar="PHASE", type=int, default=0, help="the first phase that is drawn [default: 0]")
+    parser.add_argument("--most", metavar="LINES", type=int, default=300, help="whole phases of at most so many lines are drawn [default: 300]")
+    parser.add_argument("--split", metavar="N", type=int, help="the run's --split; a history of at most three phases may not show it")
+    asked = parser.parse_args()
+    with fileinput.input(asked.files or "-", encoding="utf-8", errors="replace") as lines:
+        run = read_run(lines, asked.split)
+    phases = chosen_phases(run, asked.first, asked.most)
+    if not phases:
+        sys.exit(f"timeline.py: no phase from {asked.first} on")
+    name = asked.files[0].rsplit("/", 1)[-1] if asked.files else "a run"
+    sys.stdout.write(Picture(run, phases, name).svg())
+
+
+if __name__ == "__main__":
+    main()
