@@ -5,7 +5,7 @@ import sys
 from typing import NamedTuple
 
 import instructions
-from measures import BIDDING, LARGE, ONE_ITEM, UNIFORM, Policy
+from measures import BIDDING, LARGE, ONE_ITEM, UNIFORM, VIEWED, Load, Policy, Tries
 
 AUCTION, UNSPLIT = "the auction", "the auction, nothing split"
 PHASES, SHARDS, LOCK = "plain Rust, the same phases", "plain Rust, a lock a shard", "plain Rust, one lock"
@@ -20,6 +20,7 @@ MODES = {AUCTION: "program", UNSPLIT: "program", PHASES: "phases", SHARDS: "shar
 
 RATE, ANSWER, SECONDS, MEMORY = "requests answered a second", "seconds of answering", "seconds, whole command", "megabytes at most"
 RUN, PUBLISHING, VIEW = "seconds of a run", "seconds of publishing", "nanoseconds a view"
+DELAY, LATEST = "requests until a deferred reply, median", "requests until a deferred reply, 99th percentile"
 SCRIPTS, SCRIPT_SIZE, HISTORY_SIZE = "seconds for the scripts alone", "megabytes of scripts", "megabytes of history"
 
 
@@ -44,35 +45,43 @@ class Figure(NamedTuple):
     requests: int
     measure: str
     value: float
+    least: float
+    greatest: float
 
 
 # The columns that are no whole numbers.
-KINDS = {"table": str, "load": str, "system": str, "measure": str, "value": float}
+KINDS = {"table": str, "load": str, "system": str, "measure": str, "value": float, "least": float, "greatest": float}
+
+
+class Setup(NamedTuple):
+    """What is measured: a system with its options at a load."""
+    system: str
+    load: Load
+    workers: int
+    requests: int
+    policy: Policy = Policy()
+
+    def key(self):
+        """What it is, by whatever name a table calls it."""
+        return MODES.get(self.system, self.system), self.load._replace(name=""), self.workers, self.requests, self.policy
+
+
+class Wanted(NamedTuple):
+    """A figure of a table."""
+    table: str
+    setup: Setup
+    measure: str
+
+    def way(self):
+        return "answer" if self.measure in (RATE, ANSWER) else "whole"
 
 
 def say(words):
     print(words, file=sys.stderr, flush=True)
 
 
-def rate_of(systems, system, load, workers):
-    """How many requests a system did, and how many a second; or None where it is left out."""
-    if system == SQLITE:
-        return systems.lite_rate(load, workers)
-    if system == POSTGRES:
-        return systems.postgres_rate(load, workers)
-    mode = MODES[system]
-    if not systems.has(mode):
-        return None
-    return systems.rate(mode, load, workers, Policy(hot=0) if system == UNSPLIT else Policy())
-
-
-def rates(systems, table, load, workers):
-    """The rate of each system at a load."""
-    for system in SYSTEMS:
-        done = rate_of(systems, system, load, workers)
-        if done is not None:
-            policy = Policy(hot=0) if system == UNSPLIT else Policy()
-            yield of_policy(systems, table, load, policy, RATE, done[1])._replace(system=system, workers=workers, requests=done[0])
+def policy_of(system):
+    return Policy(hot=0) if system == UNSPLIT else Policy()
 
 
 def worker_counts(asked):
@@ -80,11 +89,9 @@ def worker_counts(asked):
     return [counts[0], counts[-1]] if asked.fast and len(counts) > 1 else counts
 
 
-def by_workers(systems, asked):
-    for load in (ONE_ITEM, UNIFORM, BIDDING):
-        for workers in worker_counts(asked):
-            say(f"{load.name}, workers: {workers}")
-            yield from rates(systems, "workers", load, workers)
+def by_workers(asked):
+    return [Wanted("workers", Setup(system, load, workers, asked.requests, policy_of(system)), RATE)
+            for load in (ONE_ITEM, UNIFORM, BIDDING) for workers in worker_counts(asked) for system in SYSTEMS]
 
 
 def skewed(asked):
@@ -93,53 +100,37 @@ def skewed(asked):
     return [UNIFORM._replace(name=f"bids on 10,000 items, exponent {skew / 100}", skew=skew) for skew in exponents] + [ONE_ITEM]
 
 
-def by_skew(systems, asked):
-    for load in skewed(asked):
-        say(load.name)
-        yield from rates(systems, "skew", load, asked.workers)
+def by_skew(asked):
+    return [Wanted("skew", Setup(system, load, asked.workers, asked.requests, policy_of(system)), RATE)
+            for load in skewed(asked) for system in SYSTEMS]
 
 
-def of_policy(systems, table, load, policy, measure, value):
-    """A figure of the auction by itself."""
-    return Figure(table, load.name, AUCTION, systems.asked.workers, load.skew, *policy.quotas, policy.hot, policy.threshold, policy.shards,
-                  systems.asked.requests, measure, value)
+def of_policy(asked, table, load, policy, measure):
+    return Wanted(table, Setup(AUCTION, load, asked.workers, asked.requests, policy), measure)
 
 
-def by_quotas(systems, asked):
+def by_quotas(asked):
     quotas = ((64, 64), LARGE) if asked.fast else ((64, 64), (64, 256), (64, 1024), LARGE, (64, 16384), (1024, 4096))
-    for load in (ONE_ITEM, UNIFORM, BIDDING):
-        for policy in (Policy(pair, hot) for pair in quotas for hot in (8, 0)):
-            say(f"{load.name}, quotas {policy.quotas}, hot {policy.hot}")
-            answer = systems.answer("program", load, asked.workers, policy)
-            whole, _ = systems.whole("program", load, asked.workers, asked.requests, policy)
-            for measure, value in ((ANSWER, answer), (SECONDS, whole)):
-                yield of_policy(systems, "quotas", load, policy, measure, value)
+    return [of_policy(asked, "quotas", load, Policy(pair, hot), measure)
+            for load in (ONE_ITEM, UNIFORM, BIDDING) for pair in quotas for hot in (8, 0) for measure in (ANSWER, SECONDS)]
 
 
-def by_shards(systems, asked):
-    for shards in (1, 16) if asked.fast else (1, 2, 4, 8, 16, 32, 64):
-        say(f"{UNIFORM.name}, {shards} shards")
-        policy = Policy(shards=shards)
-        yield of_policy(systems, "shards", UNIFORM, policy, ANSWER, systems.answer("program", UNIFORM, asked.workers, policy))
+def by_delay(asked):
+    quotas = (64, 4096) if asked.fast else (64, 256, 1024, 4096, 16384)
+    return [of_policy(asked, "delay", VIEWED, Policy((64, split)), RATE) for split in quotas]
 
 
-def by_threshold(systems, asked):
-    for threshold in (8, 1024) if asked.fast else (1, 8, 64, 1024):
-        say(f"{ONE_ITEM.name}, threshold {threshold}")
-        policy = Policy(threshold=threshold)
-        yield of_policy(systems, "threshold", ONE_ITEM, policy, ANSWER, systems.answer("program", ONE_ITEM, asked.workers, policy))
+def by_shards(asked):
+    return [of_policy(asked, "shards", UNIFORM, Policy(shards=shards), ANSWER) for shards in ((1, 16) if asked.fast else (1, 2, 4, 8, 16, 32, 64))]
 
 
-def whole_commands(systems, asked):
-    for load in (ONE_ITEM, UNIFORM, BIDDING):
-        for system in (AUCTION, PHASES, LOCK, ALONE):
-            mode = MODES[system]
-            if systems.has(mode):
-                say(f"{load.name}, whole commands, {system}")
-                seconds, megabytes = systems.whole(mode, load, asked.workers, asked.requests)
-                answer = systems.answer(mode, load, asked.workers)
-                for measure, value in ((SECONDS, seconds), (ANSWER, answer), (MEMORY, megabytes)):
-                    yield of_policy(systems, "whole", load, Policy(), measure, value)._replace(system=system)
+def by_threshold(asked):
+    return [of_policy(asked, "threshold", ONE_ITEM, Policy(threshold=threshold), ANSWER) for threshold in ((8, 1024) if asked.fast else (1, 8, 64, 1024))]
+
+
+def whole_commands(asked):
+    return [Wanted("whole", Setup(system, load, asked.workers, asked.requests), measure)
+            for load in (ONE_ITEM, UNIFORM, BIDDING) for system in (AUCTION, PHASES, LOCK, ALONE) for measure in (SECONDS, ANSWER, MEMORY)]
 
 
 def request_counts(asked, load, workers, quarters):
@@ -148,15 +139,75 @@ def request_counts(asked, load, workers, quarters):
     return [requests for requests in counts if (requests + load.items) / workers < MOST_OF_A_WORKER]
 
 
-def by_requests(systems, asked):
-    for load in (UNIFORM, BIDDING):
-        for requests in request_counts(asked, load, asked.workers, (1, 4) if asked.fast else (1, 2, 3, 4, 6, 8)):
-            for system in (AUCTION, PHASES):
-                mode = MODES[system]
-                if systems.has(mode):
-                    say(f"{load.name}, {requests} requests, memory, {system}")
-                    _, megabytes = systems.whole(mode, load, asked.workers, requests)
-                    yield of_policy(systems, "memory", load, Policy(), MEMORY, megabytes)._replace(system=system, requests=requests)
+def by_requests(asked):
+    return [Wanted("memory", Setup(system, load, asked.workers, requests), MEMORY) for load in (UNIFORM, BIDDING)
+            for requests in request_counts(asked, load, asked.workers, (1, 4) if asked.fast else (1, 2, 3, 4, 6, 8)) for system in (AUCTION, PHASES)]
+
+
+# What the tables want whose figures are measured together: each setup once, in turns with the others of its load.
+TOGETHER = {"workers": by_workers, "skew": by_skew, "quotas": by_quotas, "delay": by_delay, "shards": by_shards, "threshold": by_threshold,
+            "whole": whole_commands, "memory": by_requests}
+
+
+def measure(systems, way, key):
+    """What one try of a setup takes."""
+    mode, load, workers, requests, policy = key
+    if mode == SQLITE:
+        return systems.lite_answer(load, workers)
+    if mode == POSTGRES:
+        return systems.postgres_answer(load, workers)
+    return (systems.answer if way == "answer" else systems.whole)(mode, load, workers, requests, policy)
+
+
+def is_there(systems, setup):
+    if setup.system == SQLITE:
+        return "sqlite" not in systems.asked.skip
+    if setup.system == POSTGRES:
+        return systems.server is not None
+    return systems.has(MODES[setup.system])
+
+
+def in_turns(systems, wanted):
+    """Of each way and setup that is wanted its tries, load by load: each has its first before any has its second."""
+    told = {}
+    for load in dict.fromkeys(one.setup.key()[1] for one in wanted):
+        own = list(dict.fromkeys((one.way(), one.setup.key()) for one in wanted if one.setup.key()[1] == load))
+        for turn in range(systems.asked.tries):
+            say(f"{' '.join(load.words())}: {len(own)} commands, try {turn + 1} of {systems.asked.tries}")
+            for one in own:
+                told.setdefault(one, []).append(measure(systems, *one))
+    return told
+
+
+def figure_of(one, told):
+    """A figure of the tries of its setup."""
+    setup, tries = one.setup, told[one.way(), one.setup.key()]
+    found = Tries.of({RATE: lambda done: done[0] / done[1], ANSWER: lambda done: done[1], SECONDS: lambda done: done[0],
+                      MEMORY: lambda done: done[1]}[one.measure](done) for done in tries)
+    requests = min(done[0] for done in tries) if one.way() == "answer" else setup.requests
+    return row_of(one.table, setup.load, setup.policy, one.measure, found)._replace(system=setup.system, workers=setup.workers, requests=requests)
+
+
+def row_of(table, load, policy, measure, found, workers=0, requests=0, system=AUCTION):
+    """A row of figures.csv; what was measured once has no spread."""
+    found = found if isinstance(found, Tries) else Tries(found, found, found)
+    return Figure(table, load.name, system, workers, load.skew, *policy.quotas, policy.hot, policy.threshold, policy.shards, requests, measure, *found)
+
+
+def together(systems, asked, names):
+    """The figures of the tables of these names."""
+    wanted = [one for name in names for one in TOGETHER[name](asked) if is_there(systems, one.setup)]
+    told = in_turns(systems, wanted)
+    return [figure_of(one, told) for one in wanted]
+
+
+def late_replies(systems, asked):
+    """For each split quota, how many requests are answered between one that is deferred and its reply."""
+    for one in by_delay(asked):
+        setup = one.setup
+        found = sorted(systems.delays(setup.load, setup.workers, setup.requests, setup.policy))
+        for measure, part in ((DELAY, 0.5), (LATEST, 0.99)) if found else ():
+            yield row_of("delay", setup.load, setup.policy, measure, found[int(part * (len(found) - 1))], setup.workers, setup.requests)
 
 
 def checking(systems, asked):
@@ -168,8 +219,7 @@ def checking(systems, asked):
             say(f"{load.name}, {requests} requests, checking")
             told = systems.check(load, MOST_WORKERS, requests)
             for measure, value in zip((SCRIPT_SIZE, HISTORY_SIZE, SECONDS, SCRIPTS, MEMORY), told):
-                figure = of_policy(systems, "checking", load, Policy(), measure, value)
-                yield figure._replace(system=REFEREE, workers=MOST_WORKERS, requests=requests)
+                yield row_of("checking", load, Policy(), measure, value, MOST_WORKERS, requests, REFEREE)
 
 
 def by_instructions(systems, asked):
@@ -180,8 +230,7 @@ def by_instructions(systems, asked):
         for system, policy in ((AUCTION, Policy()), (UNSPLIT, Policy(hot=0))):
             say(f"{load.name}, instructions, {system}")
             for measure, value in zip(INSTRUCTIONS, systems.instructions(load, requests, policy)):
-                figure = of_policy(systems, "instructions", load, policy, measure, value)
-                yield figure._replace(system=system, workers=1, requests=requests)
+                yield row_of("instructions", load, policy, measure, value, 1, requests, system)
 
 
 def windows(systems, asked):
@@ -202,7 +251,7 @@ def windows(systems, asked):
 
 
 def window_figure(beside, count, measure, value):
-    return Figure("windows", f"windows {beside}", AUCTION, count, 0, *LARGE, 8, 8, 4, 1_000_000, measure, value)
+    return row_of("windows", Load(f"windows {beside}"), Policy(shards=4), measure, value, count, 1_000_000)
 
 
 def in_seconds(text):
@@ -211,11 +260,14 @@ def in_seconds(text):
     return float(number) * {"s": 1, "ms": 1e-3, "µs": 1e-6, "ns": 1e-9}[unit]
 
 
-# What measures the figures of each table.
-PARTS = {"workers": by_workers, "skew": by_skew, "quotas": by_quotas, "shards": by_shards, "threshold": by_threshold,
-         "whole": whole_commands, "memory": by_requests, "checking": checking, "instructions": by_instructions, "windows": windows}
+# What measures the figures of other tables, and of "delay" what no clock says.
+APART = {"delay": late_replies, "checking": checking, "instructions": by_instructions, "windows": windows}
+
+PARTS = list(dict.fromkeys((*TOGETHER, *APART)))
 
 
 def all_figures(systems, asked):
-    figures = (figure for name in asked.only or PARTS for figure in PARTS[name](systems, asked))
-    return [figure._replace(value=float(f"{figure.value:.6g}")) for figure in figures]
+    names = asked.only or PARTS
+    figures = together(systems, asked, [name for name in names if name in TOGETHER])
+    figures += [figure for name in names if name in APART for figure in APART[name](systems, asked)]
+    return [figure._replace(**{name: float(f"{getattr(figure, name):.6g}") for name in ("value", "least", "greatest")}) for figure in figures]

@@ -1,9 +1,11 @@
 """The systems that bench/run compares, and how each does a load."""
 import os
+import statistics
 import subprocess
 import sys
 from typing import NamedTuple
 
+import delays
 import instructions
 import lite
 import loads
@@ -16,6 +18,18 @@ LARGE = (64, 4096)
 
 # What `rubis_check` ends with where a request stands in no line.
 LACKING = 6
+
+
+class Tries(NamedTuple):
+    """Of some tries the median, the least and the greatest."""
+    value: float
+    least: float
+    greatest: float
+
+    @staticmethod
+    def of(found):
+        found = list(found)
+        return Tries(statistics.median(found), min(found), max(found))
 
 
 class Load(NamedTuple):
@@ -35,6 +49,8 @@ class Load(NamedTuple):
 
 ONE_ITEM = Load("bids on one item", items=1)
 UNIFORM = Load("bids on 10,000 items")
+# Its views of the one item are deferred where it is hot.
+VIEWED = Load("bids on one item, 10 % views", items=1, views=10)
 BIDDING = Load("bidding mix", skew=100, views=85, comments=3, purchases=2, new_items=2)
 
 
@@ -120,38 +136,34 @@ class Systems:
         return mode == "program" or "plain" in self.built
 
     def whole(self, mode, load, workers, requests, policy=Policy()):
-        """The least seconds and the most megabytes of some tries of a whole command."""
-        words, path = self.command(mode, policy, workers), self.load(load, workers, requests)
-        ran = [programs.whole_of(words, path) for _ in range(self.asked.tries)]
-        return min(seconds for seconds, _ in ran), max(megabytes for _, megabytes in ran)
+        """The seconds and megabytes of a whole command."""
+        return programs.whole_of(self.command(mode, policy, workers), self.load(load, workers, requests))
 
-    def answer(self, mode, load, workers, policy=Policy()):
-        """The least seconds of some tries of answering."""
-        words, path = self.command(mode, policy, workers), self.load(load, workers, self.asked.requests)
-        return min(programs.answer_of(words, path) for _ in range(self.asked.tries))
+    def answer(self, mode, load, workers, requests, policy=Policy()):
+        """How many requests, and in how many seconds they are answered."""
+        return requests, programs.answer_of(self.command(mode, policy, workers), self.load(load, workers, requests))
 
-    def rate(self, mode, load, workers, policy=Policy()):
-        """How many requests, and how many are answered a second."""
-        requests = self.asked.requests
-        return requests, requests / self.answer(mode, load, workers, policy)
-
-    def history(self, load, workers, requests):
+    def history(self, load, workers, requests, policy=Policy()):
         """The file of the history that the auction writes of a load. The one before it is overwritten."""
         path = f"{self.folder}/history"
-        programs.write_output([*self.command("program", Policy(), workers), "--history"], self.load(load, workers, requests), path)
+        programs.write_output([*self.command("program", policy, workers), "--history"], self.load(load, workers, requests), path)
         return path
 
     def referee_words(self, workers, history):
         return [self.built["referee"], *auction_words(workers), "--order", f"--history={history}"]
 
     def check(self, load, workers, requests):
-        """How many megabytes a load and the auction's history of it are, and of some tries of the referee over them: the least seconds,
-        the least for the scripts alone, which are read before an empty history is found to lack a request, and the most megabytes."""
+        """How many megabytes a load and the auction's history of it are, and of tries of the referee over them: the seconds, those for the
+        scripts alone, which are read before an empty history is found to lack a request, and the megabytes."""
         path, history = self.load(load, workers, requests), self.history(load, workers, requests)
         whole = [programs.whole_of(self.referee_words(workers, history), path) for _ in range(self.asked.tries)]
         alone = [programs.whole_of(self.referee_words(workers, os.devnull), path, LACKING) for _ in range(self.asked.tries)]
-        return (os.path.getsize(path) / 1e6, os.path.getsize(history) / 1e6, min(seconds for seconds, _ in whole),
-                min(seconds for seconds, _ in alone), max(megabytes for _, megabytes in whole))
+        return (os.path.getsize(path) / 1e6, os.path.getsize(history) / 1e6, Tries.of(seconds for seconds, _ in whole),
+                Tries.of(seconds for seconds, _ in alone), Tries.of(megabytes for _, megabytes in whole))
+
+    def delays(self, load, workers, requests, policy):
+        """Of each deferred request, how many others are answered between it and its reply."""
+        return delays.of_history(self.history(load, workers, requests, policy), *policy.quotas)
 
     def instructions(self, load, requests, policy):
         """The instructions of each part for a request, with one worker: those of a load less those of its rows alone."""
@@ -163,16 +175,12 @@ class Systems:
         """How many requests of a load the databases are given."""
         return min(self.asked.requests, 10_000 if self.asked.fast else 100_000)
 
-    def lite_rate(self, load, workers):
-        if "sqlite" in self.asked.skip:
-            return None
+    def lite_answer(self, load, workers):
+        """How many requests SQLite performs, and in how many seconds."""
         rows, scripts = loads.read_load(self.load(load, workers, self.few()), workers)
-        spent = min(lite.perform(rows, scripts, USERS, CATEGORIES)[1] for _ in range(self.asked.tries))
-        return self.few(), self.few() / spent * 1e9
+        return self.few(), lite.perform(rows, scripts, USERS, CATEGORIES)[1] / 1e9
 
-    def postgres_rate(self, load, workers):
-        if self.server is None:
-            return None
+    def postgres_answer(self, load, workers):
         rows, scripts = loads.read_load(self.load(load, workers, self.few()), workers)
-        tries = (self.server.perform_anew(rows, scripts, USERS, CATEGORIES, self.asked.seconds) for _ in range(self.asked.tries))
-        return max(tries, key=lambda done: done[1])
+        done, rate = self.server.perform_anew(rows, scripts, USERS, CATEGORIES, self.asked.seconds)
+        return done, done / rate

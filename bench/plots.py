@@ -1,49 +1,41 @@
-"""The plots of bench/run, drawn by gnuplot."""
-import subprocess
+"""The plots of bench/run, drawn from its figures."""
+import re
+from typing import NamedTuple
 
-from figures import ALONE, AUCTION, LOCK, PHASES, POSTGRES, SHARDS, SQLITE, SYSTEMS, UNSPLIT
-from measures import BIDDING, LARGE
+from figures import ALONE, AUCTION, DELAY, LATEST, LOCK, PHASES, POSTGRES, RATE, SHARDS, SQLITE, SYSTEMS, UNSPLIT
+from measures import BIDDING
+from svg import GREY, INK, Axis, decades, frame, line, mark, path, picture, short, spread, steps, text
+
+
+class Style(NamedTuple):
+    colour: str
+    corners: int
+    width: float = 2.0
+
 
 STYLES = {
-    AUCTION: "lc rgb '#c1121f' lw 3 pt 7", UNSPLIT: "lc rgb '#f4978e' lw 2 pt 6", PHASES: "lc rgb '#1d3557' lw 2 pt 5",
-    SHARDS: "lc rgb '#457b9d' lw 2 pt 9", LOCK: "lc rgb '#8ecae6' lw 2 pt 11", ALONE: "lc rgb '#8338ec' lw 2 pt 1",
-    SQLITE: "lc rgb '#6a994e' lw 2 pt 13", POSTGRES: "lc rgb '#7f5539' lw 2 pt 3",
+    AUCTION: Style("#c1121f", 0, 3), UNSPLIT: Style("#f4978e", 0), PHASES: Style("#1d3557", -4), SHARDS: Style("#457b9d", 3),
+    LOCK: Style("#8ecae6", -3), ALONE: Style("#8338ec", 4), SQLITE: Style("#6a994e", 5), POSTGRES: Style("#7f5539", 6),
 }
 
 # What the legend adds to a system's name.
 GLOSSES = {AUCTION: "proved, with a history", PHASES: "no history", SQLITE: "one thread, from Python", POSTGRES: "clients over a socket"}
 
-HEAD = """set terminal svg size {width},{height} noenhanced font 'sans-serif,13' background rgb 'white'
-set output '{path}'
-set grid lc rgb '#dddddd'
-set border 3
-set tics nomirror
-"""
+# What is compared with a lock for each shard.
+COMPARED = (AUCTION, UNSPLIT, PHASES, ALONE)
+
+MEASURED = re.compile(r"(?m)^Measured on (.*), in \d+ minutes, with\n\n    (.*)$")
 
 
-def call(script):
-    subprocess.run(["gnuplot"], input=script, text=True, check=True)
+def foot_of(page):
+    """Date and machine, and the command, as the page of the figures says."""
+    found = MEASURED.search(page)
+    return found.groups() if found else ("", "")
 
 
-def foot(place):
-    """The date, machine, command and quotas, small."""
-    quotas = f"quotas {LARGE[0]} and {LARGE[1]:,}, four shards a worker, the best of the tries"
-    return f"set label 99 \"{place[0]}\\n{place[1]}: {quotas}\" at screen 0.01, screen 0.05 left font ',9' tc rgb '#666666'\n"
-
-
-def block(name, points):
-    return f"${name} << EOD\n" + "".join(f"{x} {y}\n" for x, y in points) + "EOD\n"
-
-
-def lines_of(rows, at, prefix):
-    """Data blocks of each system's points, and the words that draw them."""
-    blocks, drawn = "", []
-    for place, system in enumerate(SYSTEMS):
-        points = [(at(row), row.value) for row in rows if row.system == system]
-        if points:
-            blocks += block(f"{prefix}{place}", points)
-            drawn.append(f"${prefix}{place} using 1:2 with linespoints {STYLES[system]} ps 0.9 title '{legend(system)}'")
-    return blocks, ", \\\n    ".join(drawn)
+def foot(height, place, bars=""):
+    """Small, below all: date and machine, the command, and what bars are."""
+    return [text(12, height - 26, place[0] + (f".{bars}" if bars else ""), 10, "start", GREY), text(12, height - 12, place[1], 10, "start", GREY)]
 
 
 def legend(system):
@@ -54,71 +46,136 @@ def load_title(name):
     return f"{name}, {BIDDING.views} % views" if name == BIDDING.name else name
 
 
-def ends(rows):
-    """The powers of ten about all values."""
-    least, most = min(row.value for row in rows), max(row.value for row in rows)
-    low, high = 1, 10
-    while low * 10 <= least:
-        low *= 10
-    while high < most:
-        high *= 10
-    return low, high
+def entries(names, left, top, apart, columns=2, dashes=None):
+    """A legend: each a name with its style."""
+    rows = -(-len(names) // columns)
+    for at, (words, style) in enumerate(names):
+        x, y = left + at // rows * apart, top + at % rows * 20
+        yield path([(x, y), (x + 34, y)], style.colour, style.width, (dashes or {}).get(words, "")) + mark(x + 17, y, style.colour, style.corners)
+        yield text(x + 44, y + 4, words, 12.5, "start")
 
 
-def by_workers(folder, rows, place):
+def curve(across, up, points, style, dashes=""):
+    """Lines between points, each with the bar of its tries where they differ; a point is a place, its value, and the least and greatest."""
+    drawn = [(across.at(at), up.at(value)) for at, value, *_ in points]
+    yield path(drawn, style.colour, style.width, dashes)
+    for at, value, least, greatest in points:
+        if least < greatest:
+            yield spread(across.at(at), up.at(least), up.at(greatest), style.colour)
+    yield from (mark(x, y, style.colour, style.corners) for x, y in drawn)
+
+
+def bars_said(rows):
+    """What a picture says of its bars, if it has any."""
+    return " Bars: from the least to the greatest try." if any(row.least < row.greatest for row in rows) else ""
+
+
+def by_workers(rows, place):
     loads = list(dict.fromkeys(row.load for row in rows))
     counts = sorted({row.workers for row in rows})
-    low, high = ends(rows)
-    script = HEAD.format(width=1080, height=600, path=f"{folder}/workers.svg") + foot(place)
-    script += "set multiplot title 'Requests answered a second, by the number of workers (higher is better; nothing is durable)' font ',16'\n"
-    script += f"set logscale xy\nset yrange [{low}:{high}]\nset xrange [{counts[0] * 0.85}:{counts[-1] * 1.15}]\n"
-    script += "set xtics (" + ", ".join(f"'{count}' {count}" for count in counts) + ")\nset format y '%.0s%c'\n"
-    script += "set xlabel 'workers (threads; clients of PostgreSQL)'\nset bmargin at screen 0.40\nset tmargin at screen 0.84\n"
+    tics = decades([row.value for row in rows])
+    title = "Requests per second by number of workers (higher is better; nothing is durable)"
+    parts = []
     for at, load in enumerate(loads):
-        left = 0.075 + at * 0.31
-        script += f"set lmargin at screen {left}\nset rmargin at screen {left + 0.27}\nset title \"{load_title(load)}\"\n"
-        script += "set ylabel 'requests answered a second (logarithmic)'\n" if at == 0 else "unset ylabel\n"
-        script += "set key at screen 0.5, screen 0.18 center center Left reverse maxrows 4 samplen 2.5 spacing 1.2\n" if at == 0 else "unset key\nunset label 99\n"
-        blocks, drawn = lines_of([row for row in rows if row.load == load], lambda row: row.workers, f"w{at}_")
-        script += blocks + f"plot {drawn}\n"
-    call(script + "unset multiplot\n")
+        left = 84 + at * 332
+        across, up = Axis(counts[0] * 0.85, counts[-1] * 1.15, left, left + 290, True), Axis(tics[0], tics[-1], 370, 80, True)
+        parts += frame(across, up, [(count, str(count)) for count in counts], [(tic, short(tic)) for tic in tics],
+                       ("workers (threads; clients of PostgreSQL)", "requests per second (logarithmic)" if at == 0 else ""))
+        parts.append(text(left + 145, 66, load_title(load), 14, weight="bold"))
+        for system in SYSTEMS:
+            own = [row for row in rows if row.load == load and row.system == system]
+            if own:
+                parts += curve(across, up, [(row.workers, row.value, row.least, row.greatest) for row in own], STYLES[system])
+    present = [system for system in SYSTEMS if any(row.system == system for row in rows)]
+    parts += entries([(legend(system), STYLES[system]) for system in present], 200, 440, 360)
+    about = f"Three panels, one for each of {', '.join(loads)}; a line for each system. The table below it has the figures.{bars_said(rows)}"
+    return picture(1080, 560, title, about, parts + foot(560, place, bars_said(rows)))
 
 
-def by_skew(folder, rows, place):
+def by_skew(rows, place):
+    """Each rate as a multiple of that of plain Rust with a lock for each shard, at the same skew."""
     names = list(dict.fromkeys(row.load for row in rows))
-    tics = ", ".join(f"'{name.split('exponent ')[-1].replace('bids on ', '')}' {at}" for at, name in enumerate(names))
-    low, high = ends(rows)
-    script = HEAD.format(width=1080, height=620, path=f"{folder}/skew.svg") + foot(place)
-    script += f"set title 'Requests answered a second, by skew: bids of {rows[0].workers} workers on 10,000 items (higher is better; nothing is durable)' font ',16'\n"
-    script += f"set logscale y\nset yrange [{low}:{high}]\nset xrange [-0.2:{len(names) - 0.8}]\nset xtics ({tics})\nset format y '%.0s%c'\n"
-    script += "set xlabel \"exponent of Zipf's law (0: all items alike); last, all bids on one item\"\n"
-    script += "set ylabel 'requests answered a second (logarithmic)'\nset bmargin at screen 0.36\nset lmargin at screen 0.09\nset rmargin at screen 0.97\n"
-    script += "set key at screen 0.5, screen 0.18 center center Left reverse maxrows 4 samplen 2.5 spacing 1.2\n"
-    blocks, drawn = lines_of(rows, lambda row: names.index(row.load), "s")
-    call(script + blocks + f"plot {drawn}\n")
+    base = {row.load: row for row in rows if row.system == SHARDS}
+    drawn = {system: [(names.index(row.load), *(value / base[row.load].value for value in (row.value, row.least, row.greatest)))
+                      for row in rows if row.system == system and row.load in base] for system in (*COMPARED, SHARDS)}
+    drawn = {system: points for system, points in drawn.items() if points}
+    if not drawn:
+        return None
+    tics = steps(max(greatest for points in drawn.values() for *_, greatest in points))
+    across, up = Axis(-0.2, len(names) - 0.8, 84, 1050, False), Axis(0, tics[-1], 400, 60)
+    parts = list(frame(across, up, [(at, name.split("exponent ")[-1].replace("bids on ", "")) for at, name in enumerate(names)],
+                       [(tic, f"{tic:g}") for tic in tics], ("exponent of Zipf's law (0: all items alike); last, all bids on one item",
+                                                            "throughput (a lock per shard = 1)")))
+    for system in drawn:
+        parts += curve(across, up, drawn[system], STYLES[system], "6 4" if system == SHARDS else "")
+    parts += entries([(legend(system), STYLES[system]) for system in drawn], 190, 470, 380, dashes={SHARDS: "6 4"})
+    title = f"Throughput by skew, relative to plain Rust with a lock per shard: {rows[0].workers} workers bid on 10,000 items"
+    about = f"A line for each of {', '.join(drawn)}, over the exponent of Zipf's law. The table below it has the figures.{bars_said(rows)}"
+    return picture(1080, 580, title, about, parts + foot(580, place, bars_said(rows)))
 
 
-def by_requests(folder, rows, place):
+def by_requests(rows, place):
     loads = list(dict.fromkeys(row.load for row in rows))
-    script = HEAD.format(width=900, height=560, path=f"{folder}/memory.svg") + foot(place)
-    script += f"set title 'Memory of the whole command at its most, {rows[0].workers} workers (lower is better)' font ',16'\n"
-    script += "set xlabel 'thousands of requests'\nset ylabel 'megabytes'\nset yrange [0:*]\nset xrange [0:*]\n"
-    script += "set bmargin at screen 0.22\nset lmargin at screen 0.1\nset rmargin at screen 0.95\nset key top left Left reverse samplen 4 spacing 1.2\n"
-    drawn = []
-    for at, load in enumerate(loads):
+    across_tics, up_tics = steps(max(row.requests for row in rows) / 1000), steps(max(row.value for row in rows))
+    across, up = Axis(0, across_tics[-1], 84, 870), Axis(0, up_tics[-1], 400, 60)
+    parts = list(frame(across, up, [(tic, f"{tic:,.0f}") for tic in across_tics], [(tic, f"{tic:g}") for tic in up_tics],
+                       ("thousands of requests", "megabytes")))
+    names, dashes = [], {}
+    for load, dashed in zip(loads, ("", "7 4")):
         for system in (AUCTION, PHASES):
-            name = f"m{at}_{SYSTEMS.index(system)}"
-            script += block(name, [(row.requests / 1000, row.value) for row in rows if row.load == load and row.system == system])
-            drawn.append(f"${name} using 1:2 with linespoints {STYLES[system]} dt {at + 1} title \"{system}: {load_title(load)}\"")
-    call(script + "plot " + ", \\\n    ".join(drawn) + "\n")
+            own = [(row.requests / 1000, row.value, row.value, row.value) for row in rows if row.load == load and row.system == system]
+            if own:
+                words = f"{system}: {load_title(load)}"
+                names.append((words, STYLES[system]))
+                dashes[words] = dashed
+                parts += curve(across, up, own, STYLES[system], dashed)
+    parts += entries(names, 104, 78, 400, 1, dashes)
+    title = f"Peak memory of the whole command, {rows[0].workers} workers (lower is better)"
+    return picture(900, 500, title, f"A line for each system and load, over the number of requests: {'; '.join(loads)}. The table below it has the figures.",
+                   parts + foot(500, place))
 
 
-# What draws the plot of a table.
-DRAWN = {"workers": by_workers, "skew": by_skew, "memory": by_requests}
+def by_delay(rows, place):
+    """Throughput against the time until a deferred view is answered, a point for each split quota."""
+    points = [delay_point(rows, split) for split in quotas_of(rows)]
+    if not points:
+        return None
+    across_tics, up_tics = decades([value for point in points for value in point[1:3]]), steps(max(point[3].greatest for point in points))
+    across, up = Axis(across_tics[0], across_tics[-1], 84, 870, True), Axis(0, up_tics[-1], 400, 60)
+    parts = list(frame(across, up, [(tic, f"{tic:g}") for tic in across_tics], [(tic, short(tic)) for tic in up_tics],
+                       ("milliseconds until a deferred view is answered: median, and a line to the 99th percentile (logarithmic)", "requests per second")))
+    style = STYLES[AUCTION]
+    parts.append(path([(across.at(median), up.at(rate.value)) for _, median, _, rate in points], style.colour, 1, "3 4"))
+    for split, median, latest, rate in points:
+        x, y = across.at(median), up.at(rate.value)
+        parts += [line(x, y, across.at(latest), y, style.colour, 1.5), line(across.at(latest), y - 4, across.at(latest), y + 4, style.colour, 1.5)]
+        if rate.least < rate.greatest:
+            parts.append(spread(x, up.at(rate.least), up.at(rate.greatest), style.colour))
+        parts += [mark(x, y, style.colour, 0), text(x + 8, y + 19, f"--split {split}", 12, "start", INK)]
+    title = f"Throughput against the delay of deferred views: {rows[0].load}, {rows[0].workers} workers"
+    about = f"A point for each split quota: {', '.join(str(point[0]) for point in points)}. The table above it has the figures.{bars_said(rows)}"
+    return picture(900, 500, title, about, parts + foot(500, place, bars_said(rows)))
 
 
-def draw_all(folder, rows, machine, command):
+def quotas_of(rows):
+    """The split quotas of which some delay is known."""
+    return list(dict.fromkeys(row.split for row in rows if row.measure == DELAY))
+
+
+def delay_point(rows, split):
+    """A quota, the median and the latest delay in milliseconds at its throughput, and that."""
+    rate, median, latest = (next(row for row in rows if row.split == split and row.measure == measure) for measure in (RATE, DELAY, LATEST))
+    return split, *(max(delay.value, 1) / rate.value * 1e3 for delay in (median, latest)), rate
+
+
+# What draws the plot of a table, and its file's name.
+DRAWN = {"workers": by_workers, "skew": by_skew, "memory": by_requests, "delay": by_delay}
+
+
+def all_plots(rows, page):
+    """Each plot with its name; a table that was not measured has none."""
     for name, draw in DRAWN.items():
         own = [row for row in rows if row.table == name]
-        if own:
-            draw(folder, own, (machine, command))
+        plot = draw(own, foot_of(page)) if own else None
+        if plot:
+            yield name, plot

@@ -4,18 +4,18 @@ import datetime
 import os
 import platform
 import re
-import shutil
 import sys
 
 import figures
 import lite
 import measures
 import plots
-from figures import ANSWER, AUCTION, INSTRUCTIONS, MEMORY, PUBLISHING, RUN, SCRIPTS, SECONDS, SYSTEMS, UNSPLIT, VIEW, Figure
+from figures import ANSWER, AUCTION, DELAY, INSTRUCTIONS, LATEST, MEMORY, PUBLISHING, RATE, RUN, SCRIPTS, SECONDS, SYSTEMS, UNSPLIT, VIEW, Figure
 from measures import BIDDING, LARGE, ONE_ITEM, UNIFORM, Policy
 from programs import ROOT
 
-README, PERFORMANCE, FIGURES = "README.md", "docs/PERFORMANCE.md", "docs/performance/figures.csv"
+README, PERFORMANCE, FOLDER = "README.md", "docs/PERFORMANCE.md", "docs/performance"
+FIGURES = f"{FOLDER}/figures.csv"
 
 START, END = "<!-- bench/run: {} -->", "<!-- end: {} -->"
 
@@ -73,6 +73,15 @@ def present(rows):
     return [system for system in SYSTEMS if values(rows, system=system)]
 
 
+def spread(rows):
+    """By how much the tries of one figure differ, where there were several."""
+    parts = sorted((row.greatest - row.least) / row.value for row in rows if row.least < row.greatest)
+    if not parts:
+        return ""
+    most, half = (f"{part * 100:.0f} %" for part in (parts[-1], parts[len(parts) // 2]))
+    return f" Least and greatest try differ by at most {most} of it, for half of the figures by at most {half}."
+
+
 def by_workers(rows):
     rows = values(rows, table="workers")
     columns = [(load, count) for load in dict.fromkeys(row.load for row in rows) for count in sorted({row.workers for row in rows})]
@@ -89,13 +98,30 @@ def by_skew(rows):
 
 
 def by_quotas(rows):
-    rows = values(rows, table="quotas", measure=ANSWER)
+    """What quotas make of answering, and then of the delay of views; either may not be there."""
+    parts = [made(values(rows, table=name)) for name, made in (("quotas", by_answers), ("delay", by_delay)) if values(rows, table=name)]
+    return "\n".join(parts)
+
+
+def by_answers(rows):
+    rows = values(rows, measure=ANSWER)
     loads = list(dict.fromkeys(row.load for row in rows))
     lines = []
     for joined, split in dict.fromkeys((row.joined, row.split) for row in rows):
         same = values(rows, joined=joined, split=split)
         lines.append([f"{joined} / {split}", *(number(value(same, load=load, hot=hot)) for load in loads for hot in (8, 0))])
     return table(["Answering, s, by quotas", *(f"{load}{', nothing split' * (hot == 0)}" for load in loads for hot in (8, 0))], lines)
+
+
+def by_delay(rows):
+    """For each split quota the throughput, and how long a deferred view waits: in requests, and at that throughput in milliseconds."""
+    quotas = plots.quotas_of(rows)
+    rates, median, latest = ([value(rows, measure=measure, split=split) for split in quotas] for measure in (RATE, DELAY, LATEST))
+    lines = [["requests per second", *map(number, rates)],
+             ["requests until a deferred reply, median / 99th percentile", *(f"{number(one)} / {number(other)}" for one, other in zip(median, latest))],
+             ["the same in ms", *(f"{number(one / rate * 1e3)} / {number(other / rate * 1e3)}" for rate, one, other in zip(rates, median, latest))]]
+    heads = [f"{rows[0].load.capitalize()}, by `--split`", *map(str, quotas)]
+    return table(heads, lines) + f"\n{shown_plot('delay')}"
 
 
 def by_shards(rows):
@@ -174,18 +200,24 @@ def windows(rows):
     return text + "\n" + table(["A million bids by four workers on one item, published to", "Seconds", "Publishing, s", "Nanoseconds per view meanwhile"], lines)
 
 
-# What the plots show, each above the table of its name.
-PLOTS = {"workers": "Requests per second by number of workers", "skew": "Requests per second by skew", "memory": "Memory by requests"}
+# What the plots show. Those of tables stand above them.
+PLOTS = {"workers": "Requests per second by number of workers", "skew": "Throughput by skew, relative to plain Rust with a lock per shard",
+         "memory": "Memory by requests", "delay": "Throughput against the delay of deferred views, by split quota"}
 
 TABLES = {"workers": by_workers, "skew": by_skew, "quotas": by_quotas, "shards": by_shards, "threshold": by_threshold, "whole": whole,
           "memory": memory, "checking": checking, "instructions": instructions, "windows": windows}
 
 
-def tables(rows, is_drawn):
+def shown_plot(name):
+    return f"![{PLOTS[name]}](performance/{name}.svg)\n"
+
+
+def tables(rows):
     """Each table of docs/PERFORMANCE.md, with its plot."""
     for name, made in TABLES.items():
-        plot = f"![{PLOTS[name]}](performance/{name}.svg)\n\n" if is_drawn and name in PLOTS else ""
-        yield name, plot + made(rows).lstrip("\n") if values(rows, table=name) else LEFT_OUT
+        plot = f"{shown_plot(name)}\n" if name in PLOTS else ""
+        is_there = values(rows, table=name) or name == "quotas" and values(rows, table="delay")
+        yield name, plot + made(rows) if is_there else LEFT_OUT
 
 
 # The systems that README.md shows, with their names there.
@@ -255,11 +287,11 @@ def work(rows):
 CLAIMS = {"rates": rates, "cost": cost, "gain": gain, "usual": usual, "work": work}
 
 
-def heading(asked, systems, when, seconds):
+def heading(asked, systems, rows, when, seconds):
     """Date, machine, command and how long it took, and what was left out."""
     lines = [f"Measured on {when}, on {machine()}, in {max(1, round(seconds / 60))} minutes, with", "", f"    {command(asked)}", "",
-             "Each figure is the best of its tries; windows and instructions are measured once. LOAD is the output of `rubis_load`, HISTORY the "
-             "output of `rubis_auction --history`:", ""]
+             f"Each figure is the median of its tries, made in turns with those of all others of the same load.{spread(rows)}",
+             "Windows, delays and instructions are measured once.", "LOAD is the output of `rubis_load`, HISTORY the output of `rubis_auction --history`:", ""]
     for load in (ONE_ITEM, UNIFORM, BIDDING):
         lines.append(f"    rubis_load --requests={asked.requests} --workers={asked.workers} {' '.join(load.words())}")
     lines.append(f"    rubis_auction {' '.join(Policy().words(asked.workers))} < LOAD")
@@ -296,50 +328,64 @@ def written(page, parts):
     return page
 
 
-def pages(rows, is_drawn):
+def pages(rows):
     """The parts that each page has of these figures."""
-    return {README: [(name, made(rows)) for name, made in CLAIMS.items()], PERFORMANCE: list(tables(rows, is_drawn))}
+    return {README: [(name, made(rows)) for name, made in CLAIMS.items()], PERFORMANCE: list(tables(rows))}
 
 
 def write_figures(path, rows):
     with open(path, "w", newline="") as text:
         out = csv.writer(text, lineterminator="\n")
         out.writerow(Figure._fields)
-        out.writerows([*row[:-1], f"{row.value:.6g}"] for row in rows)
+        out.writerows([*row[:-3], *(f"{number:.6g}" for number in row[-3:])] for row in rows)
 
 
 def read_figures(path):
+    """The figures of a file; of one try each, where it says nothing of others."""
     with open(path, newline="") as text:
-        lines = csv.DictReader(text)
+        lines = ({"least": line["value"], "greatest": line["value"], **line} for line in csv.DictReader(text))
         return [Figure(**{name: figures.KINDS.get(name, int)(word) for name, word in line.items()}) for line in lines]
 
 
 def stale_parts():
-    """The parts of the pages that are not what figures.csv makes of them, and how many parts there are. What was left out is none."""
+    """The parts of the pages and the plots that are not what figures.csv makes of them, and how many there are. What was left out is none."""
     stale, count = [], 0
-    with open(f"{ROOT}/{PERFORMANCE}") as text:
-        is_drawn = "](performance/" in text.read()
-    for page, parts in pages(read_figures(f"{ROOT}/{FIGURES}"), is_drawn).items():
+    rows = read_figures(f"{ROOT}/{FIGURES}")
+    for page, parts in pages(rows).items():
         for name, part in parts:
             count += part != LEFT_OUT
             if part != LEFT_OUT and written(page, [(name, part)]) != written(page, []):
                 stale.append(f"{page}: {name}")
+    for name, plot in plots.all_plots(rows, written(PERFORMANCE, [])):
+        count += 1
+        path = f"{FOLDER}/{name}.svg"
+        if not os.path.exists(f"{ROOT}/{path}") or open(f"{ROOT}/{path}").read() != plot:
+            stale.append(path)
     return stale, count
 
 
 def write_all(asked, systems, rows, seconds):
     """Writes figures, pages and plots below the folder that is asked for."""
     when = datetime.date.today().strftime("%d %B %Y").lstrip("0")
-    folder = os.path.dirname(f"{asked.out}/{FIGURES}")
-    os.makedirs(folder, exist_ok=True)
+    os.makedirs(f"{asked.out}/{FOLDER}", exist_ok=True)
     write_figures(f"{asked.out}/{FIGURES}", rows)
-    is_drawn = shutil.which("gnuplot") is not None
-    if not is_drawn:
-        systems.skip("gnuplot is not installed: no plots were drawn.")
-    for page, parts in pages(rows, is_drawn).items():
-        own = [("heading", heading(asked, systems, when, seconds))] if page == PERFORMANCE else []
-        text = written(page, own + parts)
-        with open(f"{asked.out}/{page}", "w") as file:
+    write_pages(asked.out, rows, [("heading", heading(asked, systems, rows, when, seconds))])
+
+
+def write_pages(out, rows, heading_part=()):
+    """Writes pages and plots of these figures; what was left out only below a heading of its own."""
+    for page, parts in pages(rows).items():
+        own = list(heading_part) if page == PERFORMANCE else []
+        text = written(page, own + [(name, part) for name, part in parts if part != LEFT_OUT or heading_part])
+        with open(f"{out}/{page}", "w") as file:
             file.write(text)
-    if is_drawn:
-        plots.draw_all(folder, rows, f"{when}, {machine()}", command(asked))
+    with open(f"{out}/{PERFORMANCE}") as file:
+        page = file.read()
+    for name, plot in plots.all_plots(rows, page):
+        with open(f"{out}/{FOLDER}/{name}.svg", "w") as file:
+            file.write(plot)
+
+
+def redraw():
+    """Writes pages and plots anew from figures.csv."""
+    write_pages(ROOT, read_figures(f"{ROOT}/{FIGURES}"))

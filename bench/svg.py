@@ -1,0 +1,91 @@
+"""Axes, lines and points as SVG."""
+import math
+from html import escape
+from typing import NamedTuple
+
+INK, GREY, GRID = "#222222", "#666666", "#dddddd"
+
+
+class Axis(NamedTuple):
+    """From which value to which, and from which place to which."""
+    least: float
+    most: float
+    begin: float
+    end: float
+    is_log: bool = False
+
+    def at(self, value):
+        part = math.log(value / self.least) / math.log(self.most / self.least) if self.is_log else (value - self.least) / (self.most - self.least)
+        return self.begin + part * (self.end - self.begin)
+
+
+def decades(values):
+    """The powers of ten about some values, with the first below and the last above."""
+    return [10.0 ** power for power in range(math.floor(math.log10(min(values))), math.ceil(math.log10(max(values)) + 1e-9) + 1)]
+
+
+def steps(most):
+    """Some round steps from 0 to the first that is not below the most."""
+    step = 10.0 ** math.floor(math.log10(most / 4))
+    step *= next(times for times in (1, 2, 5, 10) if most / (step * times) <= 8)
+    return [step * count for count in range(math.ceil(most / step - 1e-9) + 1)]
+
+
+def short(value):
+    """A number of an axis, with k or M."""
+    for size, letter in ((1e6, "M"), (1e3, "k")):
+        if value >= size:
+            return f"{value / size:g}{letter}"
+    return f"{value:g}"
+
+
+def text(x, y, words, size=13, anchor="middle", fill=INK, weight="normal", turn=0):
+    turned = f' transform="rotate({turn} {x:g} {y:g})"' if turn else ""
+    return f'<text x="{x:g}" y="{y:g}" font-size="{size}" text-anchor="{anchor}" fill="{fill}" font-weight="{weight}"{turned}>{escape(words)}</text>'
+
+
+def line(x1, y1, x2, y2, stroke=GRID, width=1.0, dashes=""):
+    dashed = f' stroke-dasharray="{dashes}"' if dashes else ""
+    return f'<line x1="{x1:.1f}" y1="{y1:.1f}" x2="{x2:.1f}" y2="{y2:.1f}" stroke="{stroke}" stroke-width="{width:g}"{dashed}/>'
+
+
+def path(points, stroke, width=2.0, dashes=""):
+    dashed = f' stroke-dasharray="{dashes}"' if dashes else ""
+    places = " ".join(f"{x:.1f},{y:.1f}" for x, y in points)
+    return f'<polyline points="{places}" fill="none" stroke="{stroke}" stroke-width="{width:g}"{dashed}/>'
+
+
+def mark(x, y, colour, corners):
+    """A point: a disc, or a shape with so many corners, one above; or with a minus none above."""
+    if not corners:
+        return f'<circle cx="{x:.1f}" cy="{y:.1f}" r="4.5" fill="{colour}"/>'
+    turns = [math.pi * ((2 * corner + (corners < 0)) / abs(corners) - 0.5) for corner in range(abs(corners))]
+    places = " ".join(f"{x + 6 * math.cos(turn):.1f},{y + 6 * math.sin(turn):.1f}" for turn in turns)
+    return f'<polygon points="{places}" fill="{colour}"/>'
+
+
+def spread(x, low, high, colour):
+    """A bar from the least of some tries to the greatest."""
+    return line(x, low, x, high, colour, 1.5) + "".join(line(x - 4, y, x + 4, y, colour, 1.5) for y in (low, high))
+
+
+def frame(across, up, tics_across, tics_up, labels):
+    """Grid, axes and tics, each tic a value and its words; and what the axes are called."""
+    for value, words in tics_up:
+        yield line(across.begin, up.at(value), across.end, up.at(value))
+        yield text(across.begin - 8, up.at(value) + 4, words, 12, "end")
+    for value, words in tics_across:
+        yield line(across.at(value), up.begin, across.at(value), up.end)
+        yield text(across.at(value), up.begin + 18, words, 12)
+    yield line(across.begin, up.begin, across.end, up.begin, INK)
+    yield line(across.begin, up.begin, across.begin, up.end, INK)
+    yield text((across.begin + across.end) / 2, up.begin + 40, labels[0])
+    if labels[1]:
+        yield text(across.begin - 52, (up.begin + up.end) / 2, labels[1], turn=-90)
+
+
+def picture(width, height, title, description, parts):
+    head = (f'<svg xmlns="http://www.w3.org/2000/svg" viewBox="0 0 {width} {height}" width="{width}" height="{height}" '
+            f'font-family="Helvetica, Arial, DejaVu Sans, sans-serif" role="img" aria-labelledby="title description">')
+    return "\n".join([head, f'<title id="title">{escape(title)}</title>', f'<desc id="description">{escape(description)}</desc>',
+                      f'<rect width="{width}" height="{height}" fill="white"/>', text(width / 2, 30, title, 16, weight="bold"), *parts, "</svg>"]) + "\n"
