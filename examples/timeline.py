@@ -1,6 +1,6 @@
 #!/usr/bin/env python3
-"""Draws a run as an SVG picture: a lane for each worker, a box for each line of its history, and deferred requests twice, as they are asked and as they are
-answered. FILE is the output of `rubis_auction --history`; if that of `--report` is there too, after it or in a file of its own, hot objects are named.
+"""Draws a run as an SVG picture: a lane for each worker, a box for each line of its history, and a circle for each deferred request in the phase that
+deferred it. FILE is the output of `rubis_auction --history`; if that of `--report` is there too, after it or in a file of its own, hot objects are named.
 
     rubis_auction --history --report < INPUT | examples/timeline.py > timeline.svg
     examples/timeline.py examples/contended.history examples/contended.report > timeline.svg"""
@@ -8,11 +8,12 @@ import argparse
 import fileinput
 import re
 import sys
+from collections import Counter
 from html import escape
 from typing import NamedTuple
 
 LEFT, RIGHT, TOP = 92, 16, 84
-USUAL_WIDTH, WIDEST, NARROWEST, LEAST_OF_A_PHASE = 1000, 92, 14, 104
+USUAL_WIDTH, WIDEST, NARROWEST, LEAST_OF_A_PHASE = 1000, 92, 10, 104
 # Narrower boxes have no words.
 WITH_WORDS = 60
 GREY, INK, LINE, SPLIT_GROUND = "#8a8a8a", "#222222", "#e3e3e3", "#f6f1ea"
@@ -39,14 +40,12 @@ class Entry(NamedTuple):
 
 class Run(NamedTuple):
     entries: list
+    # The phase in which each request is asked, by worker and index: that of its entry, unless it is deferred.
+    asked: dict
     hot: dict
-    joined: int
-    split: int
 
-    def reached(self, index):
-        """The phase in which a request commits unless it is deferred."""
-        rounds, left = divmod(index, self.joined + self.split)
-        return 2 * rounds + (left >= self.joined)
+    def is_late(self, entry):
+        return self.asked[entry.worker, entry.index] < entry.phase
 
 
 def read_run(lines, split):
@@ -64,8 +63,34 @@ def read_run(lines, split):
     scripts = {}
     for entry in entries:
         scripts.setdefault(entry.worker, {})[entry.index] = entry.phase
+    asked = by_quotas(scripts, split)
+    if not all(asked[entry.worker, entry.index] in can_ask(entry.phase) for entry in entries):
+        asked = by_order(scripts)
+    return Run(entries, asked, hot)
+
+
+def can_ask(phase):
+    """The phases in which a request that commits in this one can be asked: in a split one before it too."""
+    return (phase,) if phase % 2 else (phase, phase - 1)
+
+
+def by_quotas(scripts, split):
+    """Where requests are asked if each phase takes so many of each script."""
     joined = max(sum(phase == 0 for phase in script.values()) for script in scripts.values()) or 1
-    return Run(entries, hot, joined, split or split_quota(scripts.values(), joined))
+    split = split or split_quota(scripts.values(), joined)
+    rounds = {(worker, index): divmod(index, joined + split) for worker, script in scripts.items() for index in script}
+    return {request: 2 * turns + (left >= joined) for request, (turns, left) in rounds.items()}
+
+
+def by_order(scripts):
+    """Where they are asked at the latest, whatever phases take: not after a later one of the script commits."""
+    asked = {}
+    for worker, script in scripts.items():
+        first = max(script.values())
+        for index in sorted(script, reverse=True):
+            first = min(first, script[index])
+            asked[worker, index] = first
+    return asked
 
 
 def split_quota(scripts, joined):
@@ -79,12 +104,10 @@ def split_quota(scripts, joined):
     return least
 
 
-def columns_of(run, phase):
-    """Where the entries of a phase and what it defers stand: each (number, 0), or the number before it and a place after it."""
-    own = [entry for entry in run.entries if entry.phase == phase]
-    late = sorted((entry for entry in run.entries if entry.phase > phase == run.reached(entry.index)), key=lambda entry: entry.index)
+def columns_of(own, late):
+    """Where the entries of a phase and what it defers are drawn: each (number, 0), or the number before it and a place after it."""
     places, last = {entry: (entry.number, 0) for entry in own}, {}
-    for entry in late:
+    for entry in sorted(late, key=lambda entry: entry.index):
         before = max((other.number for other in own if other.worker == entry.worker and other.index < entry.index), default=0)
         place = max((before, 0), last.get(entry.worker, (0, 0)))
         last[entry.worker] = places[entry] = (place[0], place[1] + 1)
@@ -94,8 +117,9 @@ def columns_of(run, phase):
 def chosen_phases(run, first, most):
     """As many phases from the first on as have so many entries together, but one at least."""
     chosen, count = [], 0
-    for phase in sorted({entry.phase for entry in run.entries if entry.phase >= first}):
-        count += sum(entry.phase == phase for entry in run.entries)
+    lines = Counter(entry.phase for entry in run.entries if entry.phase >= first)
+    for phase in sorted(lines):
+        count += lines[phase]
         if chosen and count > most:
             break
         chosen.append(phase)
@@ -126,7 +150,14 @@ class Picture:
         self.run, self.phases, self.name, self.parts = run, phases, name, []
         self.workers = sorted({entry.worker for entry in run.entries})
         self.apart = 54 if len(self.workers) <= 8 else 40
-        self.places = {phase: columns_of(run, phase) for phase in phases}
+        own, late = ({phase: [] for phase in phases} for _ in range(2))
+        for entry in run.entries:
+            asked = run.asked[entry.worker, entry.index]
+            if entry.phase in own:
+                own[entry.phase].append(entry)
+            if asked in late and asked < entry.phase:
+                late[asked].append(entry)
+        self.places = {phase: columns_of(own[phase], late[phase]) for phase in phases}
         count = sum(len(set(places.values())) for places in self.places.values())
         self.column = min(WIDEST, max(NARROWEST, (USUAL_WIDTH - LEFT - RIGHT) / max(1, count)))
         self.box = min(30, self.apart - 14)
@@ -181,7 +212,7 @@ class Picture:
 
     def entry(self, entry, x):
         width, lane = self.column - min(6, self.column / 5), self.lane(entry.worker)
-        late = ' stroke="#222222" stroke-width="2"' if self.run.reached(entry.index) < entry.phase else ""
+        late = ' stroke="#222222" stroke-width="2"' if self.run.is_late(entry) else ""
         yield (f'<g><title>{escape(" ".join(map(str, entry)))}</title><rect x="{x - width / 2:g}" y="{lane - self.box / 2:g}" width="{width:g}" '
                f'height="{self.box}" rx="3" fill="{COLOURS[entry.kind()]}"{late}/>')
         if self.column >= WITH_WORDS:
@@ -237,11 +268,14 @@ def main():
     parser = argparse.ArgumentParser(description=__doc__, formatter_class=argparse.RawDescriptionHelpFormatter)
     parser.add_argument("files", metavar="FILE", nargs="*", help="a history, and its report if there is one [default: standard input]")
     parser.add_argument("--from", dest="first", metavar="PHASE", type=int, default=0, help="the first phase that is drawn [default: 0]")
-    parser.add_argument("--most", metavar="LINES", type=int, default=300, help="whole phases of at most so many lines are drawn [default: 300]")
+    parser.add_argument("--most", metavar="LINES", type=int, default=300, help="whole phases of at most so many lines are drawn, one at least [default: 300]")
     parser.add_argument("--split", metavar="N", type=int, help="the run's --split; a history of at most three phases may not show it")
     asked = parser.parse_args()
-    with fileinput.input(asked.files or "-", encoding="utf-8", errors="replace") as lines:
-        run = read_run(lines, asked.split)
+    try:
+        with fileinput.input(asked.files or "-", encoding="utf-8", errors="replace") as lines:
+            run = read_run(lines, asked.split)
+    except OSError as fault:
+        sys.exit(f"timeline.py: {fault.filename}: {fault.strerror}")
     phases = chosen_phases(run, asked.first, asked.most)
     if not phases:
         sys.exit(f"timeline.py: no phase from {asked.first} on")

@@ -17,6 +17,8 @@ TUNE = TESTS.parent / "bench" / "tune"
 TIMELINE = EXAMPLES / "timeline.py"
 SKEWED, JOINED, SPLIT = EXAMPLES / "skewed.csv", 8, 24
 NEEDED = ["--workers", "4", "--users", "6", "--categories", "3"]
+# No quotas make these phases.
+OTHER = b"0 1 0 0 bid 0.0\n0 1 1 0 bid 1.0\n0 2 1 1 bid 1.1\n0 3 1 2 bid 1.2\n1 1 0 2 bid 0.1\n2 1 0 1 viewitem x\n"
 SVG = "{http://www.w3.org/2000/svg}"
 
 
@@ -52,9 +54,11 @@ def timelines(tally: Tally, program: Path) -> None:
         name.write_bytes(b"0 1 0 0 viewitem seller=0 name=<&\">\n" + b"0 2 0 1 refused 3 NoSuchItem\n")
         shown, late = drawn(tally, b"", [name])
         tally.check(list(shown) == ['0 1 0 0 viewitem seller=0 name=<&">', "0 2 0 1 refused 3 NoSuchItem"] and not late, f"timeline.py: {shown}, {late}")
-    for given in (b"", b"0,0,item 0.0\n"):
-        got = run([TIMELINE], given)
-        tally.check(got.status == 1 and not got.stdout and got.stderr.startswith(b"timeline.py: "), f"timeline.py, {given!r}: {described(got)}")
+    shown, late = drawn(tally, OTHER, [])
+    tally.check(len(shown) == 6 and list(late) == ["index 1 of worker 0, deferred"], f"timeline.py, other phases: {shown}, {late}")
+    for given, words in ((b"", []), (b"0,0,item 0.0\n", []), (b"", [TESTS / "none"]), (history, ["--from", "99"])):
+        got = run([TIMELINE, *words], given)
+        tally.check(got.status == 1 and not got.stdout and got.stderr.startswith(b"timeline.py: "), f"timeline.py, {given[:20]!r}, {words}: {described(got)}")
 
 
 def in_order(tally: Tally, shown: dict[str, float], late: dict[str, float]) -> None:
