@@ -8,6 +8,8 @@ import subprocess
 import tempfile
 
 HERE = os.path.dirname(os.path.abspath(__file__))
+# The tables, and what a request does over them.
+CODE = [f"{HERE}/auction.postgres.sql", f"{HERE}/../examples/sql/views.sql", f"{HERE}/../examples/sql/transactions.sql"]
 
 SETTINGS = {
     "listen_addresses": "", "fsync": "off", "synchronous_commit": "off", "full_page_writes": "off", "wal_level": "minimal",
@@ -78,8 +80,7 @@ class Server:
 
     def open(self, rows, scripts, users, categories):
         """A new auction with these rows, whose input has the scripts."""
-        with open(f"{HERE}/auction.postgres.sql") as schema:
-            self.ask("DROP SCHEMA public CASCADE; CREATE SCHEMA public;" + schema.read())
+        self.ask("DROP SCHEMA public CASCADE; CREATE SCHEMA public;" + "".join(map(text_of, CODE)))
         lines = ("\t".join(map(column, record)) for record in [*rows, *(record for script in scripts for record in script)])
         self.ask("COPY input FROM stdin;\n" + "".join(f"{line}\n" for line in lines) + "\\.\n")
         self.ask(f"""
@@ -121,6 +122,11 @@ class Server:
 
     def closing(self):
         return self.ask(CLOSING)
+
+
+def text_of(path):
+    with open(path) as text:
+        return text.read()
 
 
 def column(value):

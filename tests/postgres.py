@@ -1,28 +1,46 @@
 #!/usr/bin/env python3
-"""Shows that the rows of a run, loaded into PostgreSQL by examples/sql, have the closing views that the program has.
+"""Shows that examples/sql is the auction in PostgreSQL.
 
-    tests/postgres.py [PROGRAM]
+    tests/postgres.py [PROGRAM [CHECKER]]
 
 Runs of random inputs leave their rows. Of each item, its bids, each category and each user the view of the program, opened with these rows, is compared with the
-line that examples/sql/lines.sql gives. The server is one of its own, in a folder of its own; without PostgreSQL nothing is tried.
+line that examples/sql/lines.sql gives. Then examples/sql/perform.py executes random inputs and loads: the referee accepts their histories, and the tables have the
+views of the program that is opened with the rows of the history. With no locks two buyers get the last piece, and the referee names the line.
+The server is one of its own, in a folder of its own; without PostgreSQL nothing is tried.
 """
 
+import csv
+import io
 import os
 import random
+import re
 import shutil
 import sys
 import tempfile
+from collections import defaultdict
 from dataclasses import replace
 from pathlib import Path
 from subprocess import PIPE, run as run_tool
+from typing import Iterator
 
 from inputs import PROFILES, Text
-from model import Options
-from program import BUILT, EXAMPLES, Tally, run
+from load_model import Plan, load_of
+from model import Options, Outcome, open_auction
+from program import BUILT, EXAMPLES, Tally, built, described, run
+from records import BYTE_ORDER_MARK, Fault
 
 SQL = EXAMPLES / "sql"
 RUNS = 20
 OPTIONS = Options(joined=5, split=20, threshold=1, users=6, categories=3, rows=True)
+MARKET = ["--users", str(OPTIONS.users), "--categories", str(OPTIONS.categories)]
+PERFORMED = 10
+LOAD = Plan(requests=300, items=8, users=OPTIONS.users, categories=OPTIONS.categories, views=40, comments=15, purchases=10, new_items=10)
+# Four workers want ten pieces each of an item of twenty.
+LAST_PIECES, LAST_WORKERS = EXAMPLES / "last_pieces.csv", 4
+# Two purchases have to overlap: so often it is tried until two do.
+TRIES = 20
+OVERSOLD = re.compile(rb"line [0-9]+: [0-3],[0-9]+ buynow [0-3]\.[0-9]+ but refused 7 NotEnough was due\n")
+ACCEPTED = Outcome(0, b"the history replays\n", b"")
 
 
 class Server:
@@ -57,12 +75,21 @@ class Server:
         asked = self.call("psql", "-h", self.folder, "-U", "auction", "-d", "postgres", "-qAtX", "-v", "ON_ERROR_STOP=1", text=text)
         return asked.splitlines()
 
+    def clear(self) -> None:
+        self.ask("DROP SCHEMA public CASCADE; CREATE SCHEMA public;")
+
     def closing_views(self, rows: bytes) -> list[str]:
         """What a new database says that has these rows."""
-        words = [str(OPTIONS.users), str(OPTIONS.categories)]
-        loading = run_tool([sys.executable, SQL / "load.py", *words], input=rows.decode(), stdout=PIPE, check=True, text=True).stdout
-        script = (SQL / "schema.sql").read_text() + loading + (SQL / "views.sql").read_text() + (SQL / "lines.sql").read_text()
-        return self.ask("DROP SCHEMA public CASCADE; CREATE SCHEMA public; SET client_min_messages = warning;" + script)
+        self.clear()
+        loading = run_tool([sys.executable, "-B", SQL / "load.py", *MARKET], input=rows.decode(), stdout=PIPE, check=True, text=True).stdout
+        tables, views, transactions, lines = ((SQL / f"{name}.sql").read_text() for name in ("schema", "views", "transactions", "lines"))
+        return self.ask(tables + loading + views + transactions + lines)
+
+    def perform(self, data: bytes, *asked: str) -> Outcome:
+        """The history of an input that a new database executes."""
+        self.clear()
+        place = {"PGHOST": str(self.folder), "PGUSER": "auction", "PGDATABASE": "postgres"}
+        return run([sys.executable, "-B", SQL / "perform.py", *MARKET, *asked], data, env=os.environ | place)
 
 
 def items_of(rows: bytes) -> list[tuple[int, int]]:
@@ -80,31 +107,105 @@ def program_views(program: Path, rows: bytes) -> list[str]:
     return [line.split(",", 2)[2] for line in got.stdout.decode().splitlines()]
 
 
-def rows_of_run(program: Path, rng: random.Random) -> bytes:
-    options = replace(OPTIONS, workers=rng.choice((1, 2, 4, 16)))
-    text = Text(rng, options, (20, 60))
+def text_of(rng: random.Random, workers: int) -> Text:
+    text = Text(rng, replace(OPTIONS, workers=workers), (20, 60))
     text.weights = PROFILES["mixed"]
-    return run([program, *options.words()], text.made()).stdout
+    return text
+
+
+def rows_of_run(program: Path, rng: random.Random) -> bytes:
+    text = text_of(rng, rng.choice((1, 2, 4, 16)))
+    return run([program, *text.options.words()], text.made()).stdout
+
+
+def closing_views(server: Server, program: Path, rng: random.Random, tally: Tally) -> None:
+    """closing views of random runs"""
+    for number in range(RUNS):
+        rows = rows_of_run(program, rng)
+        tally.check(*compared(f"run {number}", program_views(program, rows), server.closing_views(rows)))
+
+
+def compared(what: str, ours: list[str], theirs: list[str]) -> tuple[bool, str]:
+    return ours == theirs and len(ours) > 0, f"{what}: {[pair for pair in zip(ours, theirs) if pair[0] != pair[1]][:3]}"
+
+
+def inputs_of(rng: random.Random) -> Iterator[tuple[int, bytes]]:
+    """Inputs for PostgreSQL, each with its number of workers: of random kinds, and loads of all skews. Their rows are not refused."""
+    for number in range(PERFORMED):
+        workers = rng.choice((1, 2, 4))
+        yield workers, load_of(replace(LOAD, workers=workers, skew=rng.choice((0, 100, 200)), seed=rng.randrange(1 << 32)))
+        while True:
+            text = text_of(rng, workers)
+            text.line_end = b"\n"
+            data = text.made().removeprefix(BYTE_ORDER_MARK)
+            try:
+                asked, _ = open_auction(data, text.options)
+            except Fault:
+                continue
+            yield workers, data
+            break
+
+
+def rows_after(data: bytes, history: bytes) -> bytes:
+    """The rows of an input, and those that a history of it wrote."""
+    scripts, text = defaultdict(list), io.StringIO()
+    out = csv.writer(text, lineterminator="\n")
+    for worker, kind, *fields in csv.reader(io.StringIO(data.decode())):
+        if kind.startswith("+"):
+            out.writerow([worker, kind, *fields])
+        else:
+            scripts[worker].append((kind, fields))
+    for line in history.decode().splitlines():
+        _, _, worker, index, reply = line.split(" ", 4)
+        kind, fields = scripts[worker][int(index)]
+        if reply.startswith(f"{kind} ") and not kind.startswith("view"):
+            out.writerow([worker, f"+{kind}", *fields])
+    return text.getvalue().encode()
+
+
+def found(checker: Path, folder: Path, workers: int, data: bytes, history: bytes) -> Outcome:
+    file = folder / "history"
+    file.write_bytes(history)
+    return run([checker, "--workers", str(workers), *MARKET, "--strict", "--history", file], data)
+
+
+def histories(server: Server, program: Path, checker: Path, rng: random.Random, tally: Tally) -> None:
+    """histories of PostgreSQL, and the tables after them"""
+    for number, (workers, data) in enumerate(inputs_of(rng)):
+        got = server.perform(data)
+        tally.check((got.status, got.stderr) == (0, b""), f"input {number}: {described(got)}")
+        tally.same(f"the history of input {number}", found(checker, server.folder, workers, data, got.stdout), ACCEPTED)
+        views = server.ask((SQL / "lines.sql").read_text())
+        tally.check(*compared(f"input {number}", program_views(program, rows_after(data, got.stdout)), views))
+
+
+def last_pieces(server: Server, checker: Path, tally: Tally) -> None:
+    """the last piece of an item, with locks and without"""
+    data = LAST_PIECES.read_bytes()
+    tally.same("with locks", found(checker, server.folder, LAST_WORKERS, data, server.perform(data).stdout), ACCEPTED)
+    for _ in range(TRIES):
+        got = found(checker, server.folder, LAST_WORKERS, data, server.perform(data, "--unlocked").stdout)
+        if got != ACCEPTED:
+            break
+    tally.check(got.status == 5 and OVERSOLD.fullmatch(got.stdout) is not None, f"without locks: {described(got)}")
 
 
 def main() -> None:
-    program = Path(sys.argv[1]).resolve() if len(sys.argv) > 1 else BUILT
+    program, checker = (Path(word).resolve() for word in (*sys.argv[1:], *(BUILT, built("rubis_check"))[len(sys.argv) - 1 :]))
     tally = Tally()
-    found = sorted(Path("/usr/lib/postgresql").glob("*/bin/initdb"))
-    at_hand = found[-1] if found else shutil.which("initdb")
+    tools = sorted(Path("/usr/lib/postgresql").glob("*/bin/initdb"))
+    at_hand = tools[-1] if tools else shutil.which("initdb")
     if at_hand is None or shutil.which("psql") is None:
-        tally.skip("closing views in PostgreSQL", "it is not installed")
+        tally.skip("the auction in PostgreSQL", "it is not installed")
         return tally.finish()
     seed = random.randrange(1 << 32)
     print(f"seed {seed}", flush=True)
-    rng, compared = random.Random(seed), 0
+    rng = random.Random(seed)
     with Server(Path(at_hand).parent) as server:
-        for number in range(RUNS):
-            rows = rows_of_run(program, rng)
-            ours, theirs = program_views(program, rows), server.closing_views(rows)
-            compared += len(theirs)
-            tally.check(ours == theirs and len(ours) > 0, f"run {number} of seed {seed}: {[pair for pair in zip(ours, theirs) if pair[0] != pair[1]][:3]}")
-    print(f"{compared:6} closing views of {RUNS} runs compared", flush=True)
+        for check, given in ((closing_views, (program, rng)), (histories, (program, checker, rng)), (last_pieces, (checker,))):
+            passed = tally.passed
+            check(server, *given, tally)
+            print(f"{tally.passed - passed:6} passed: {check.__doc__}", flush=True)
     tally.finish()
 
 

@@ -1,7 +1,8 @@
 -- The rows of an auction as tables, for PostgreSQL and what speaks its SQL. An id is a worker and a serial.
 -- Amounts and times are below 2^64, for which bigint is too short: hence numeric.
+-- What the views count is kept beside what is counted: bids and pieces left in an item's row, rating and comments in a user's.
 
-CREATE TABLE users (id bigint PRIMARY KEY);
+CREATE TABLE users (id bigint PRIMARY KEY, rating bigint NOT NULL DEFAULT 0, comments bigint NOT NULL DEFAULT 0);
 
 CREATE TABLE categories (id bigint PRIMARY KEY);
 
@@ -14,6 +15,8 @@ CREATE TABLE items (
     closes numeric(20) NOT NULL, -- the time from which on nothing is bid or bought
     time numeric(20) NOT NULL,
     quantity int NOT NULL CHECK (quantity BETWEEN 1 AND 1000000),
+    remaining int NOT NULL DEFAULT 0, -- the pieces that are left
+    bids bigint NOT NULL DEFAULT 0,
     PRIMARY KEY (worker, serial));
 
 CREATE TABLE bids (
@@ -43,7 +46,7 @@ CREATE TABLE purchases (
     PRIMARY KEY (worker, serial),
     FOREIGN KEY (item_worker, item_serial) REFERENCES items);
 
--- What the views look for: an item's bids from the highest down, a category's items from the latest down, a user's comments.
+-- What the views and load.py look for: an item's bids from the highest down, a category's items from the latest down, a user's comments, an item's purchases.
 CREATE INDEX ON bids (item_worker, item_serial, amount DESC, time DESC, worker DESC, serial DESC);
 CREATE INDEX ON items (category, time DESC, worker DESC, serial DESC);
 CREATE INDEX ON comments (about);

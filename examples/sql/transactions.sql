@@ -1,0 +1,113 @@
+-- The requests of the auction over the tables of schema.sql: a function each, to be called as a transaction, which replies as the program does.
+--
+-- At "read committed" a transaction changes at most one row that others change too, an item's or a user's, and holds it until it commits. What else it
+-- reads never changes, except how many pieces are left, which only falls, so that a refusal stays right; a view is one statement. So the transactions are
+-- serializable: writes in the order of their commits, views and refusals as of what they read.
+
+-- The serials of each worker's items, bids, comments and purchases, after those of the rows.
+CREATE FUNCTION make_serials(workers int) RETURNS void LANGUAGE plpgsql AS $$
+DECLARE kind text; next_serial int;
+BEGIN
+    FOREACH kind IN ARRAY ARRAY['items', 'bids', 'comments', 'purchases'] LOOP
+        FOR session IN 0 .. workers - 1 LOOP
+            EXECUTE format('SELECT coalesce(max(serial) + 1, 0) FROM %I WHERE worker = %s', kind, session) INTO next_serial;
+            EXECUTE format('CREATE SEQUENCE %I MINVALUE 0 START %s', kind || '_' || session, next_serial);
+        END LOOP;
+    END LOOP;
+END $$;
+
+CREATE FUNCTION store_item(session int, by_user bigint, in_category bigint, title text, first_price numeric, closing numeric, moment numeric, pieces int)
+RETURNS text LANGUAGE plpgsql AS $$
+DECLARE own int;
+BEGIN
+    IF NOT EXISTS (SELECT FROM users WHERE id = by_user) THEN RETURN 'refused 1 NoSuchUser'; END IF;
+    IF NOT EXISTS (SELECT FROM categories WHERE id = in_category) THEN RETURN 'refused 2 NoSuchCategory'; END IF;
+    own := nextval(('items_' || session)::regclass);
+    INSERT INTO items (worker, serial, seller, category, name, start, closes, time, quantity, remaining)
+        VALUES (session, own, by_user, in_category, title, first_price, closing, moment, pieces, pieces);
+    RETURN 'item ' || session || '.' || own;
+END $$;
+
+CREATE FUNCTION store_bid(session int, by_user bigint, of_worker bigint, of_serial bigint, price numeric, moment numeric)
+RETURNS text LANGUAGE plpgsql AS $$
+DECLARE own int; found_item items;
+BEGIN
+    IF NOT EXISTS (SELECT FROM users WHERE id = by_user) THEN RETURN 'refused 1 NoSuchUser'; END IF;
+    UPDATE items SET bids = bids + 1 WHERE worker = of_worker AND serial = of_serial AND price >= start AND moment < closes AND remaining > 0;
+    IF FOUND THEN
+        own := nextval(('bids_' || session)::regclass);
+        INSERT INTO bids (worker, serial, bidder, item_worker, item_serial, amount, time)
+            VALUES (session, own, by_user, of_worker, of_serial, price, moment);
+        RETURN 'bid ' || session || '.' || own;
+    END IF;
+    SELECT * INTO found_item FROM items WHERE worker = of_worker AND serial = of_serial;
+    IF NOT FOUND THEN RETURN 'refused 3 NoSuchItem'; END IF;
+    IF price < found_item.start THEN RETURN 'refused 4 BelowStart'; END IF;
+    IF moment >= found_item.closes THEN RETURN 'refused 5 Closed'; END IF;
+    -- An item with pieces left was put up after the update had looked for it.
+    RETURN CASE WHEN found_item.remaining > 0 THEN 'refused 3 NoSuchItem' ELSE 'refused 6 SoldOut' END;
+END $$;
+
+CREATE FUNCTION store_comment(session int, by_user bigint, about_user bigint, of_worker bigint, of_serial bigint, given int)
+RETURNS text LANGUAGE plpgsql AS $$
+DECLARE own int;
+BEGIN
+    IF NOT EXISTS (SELECT FROM users WHERE id = by_user) OR NOT EXISTS (SELECT FROM users WHERE id = about_user) THEN
+        RETURN 'refused 1 NoSuchUser';
+    END IF;
+    IF NOT EXISTS (SELECT FROM items WHERE worker = of_worker AND serial = of_serial) THEN RETURN 'refused 3 NoSuchItem'; END IF;
+    own := nextval(('comments_' || session)::regclass);
+    INSERT INTO comments (worker, serial, author, about, item_worker, item_serial, stars)
+        VALUES (session, own, by_user, about_user, of_worker, of_serial, given);
+    UPDATE users SET rating = rating + given, comments = comments + 1 WHERE id = about_user;
+    RETURN 'comment ' || session || '.' || own;
+END $$;
+
+-- Without "FOR UPDATE" two buyers read what is left, and both get the last piece.
+CREATE FUNCTION buy(session int, by_user bigint, of_worker bigint, of_serial bigint, pieces int, moment numeric)
+RETURNS text LANGUAGE plpgsql AS $$
+DECLARE own int; found_item items;
+BEGIN
+    IF NOT EXISTS (SELECT FROM users WHERE id = by_user) THEN RETURN 'refused 1 NoSuchUser'; END IF;
+    SELECT * INTO found_item FROM items WHERE worker = of_worker AND serial = of_serial FOR UPDATE;
+    IF NOT FOUND THEN RETURN 'refused 3 NoSuchItem'; END IF;
+    IF moment >= found_item.closes THEN RETURN 'refused 5 Closed'; END IF;
+    IF pieces > found_item.remaining THEN RETURN 'refused 7 NotEnough'; END IF;
+    UPDATE items SET remaining = found_item.remaining - pieces WHERE worker = of_worker AND serial = of_serial;
+    own := nextval(('purchases_' || session)::regclass);
+    INSERT INTO purchases (worker, serial, buyer, item_worker, item_serial, quantity, time)
+        VALUES (session, own, by_user, of_worker, of_serial, pieces, moment);
+    RETURN 'buynow ' || session || '.' || own;
+END $$;
+
+CREATE FUNCTION view_item(of_worker bigint, of_serial bigint) RETURNS text LANGUAGE plpgsql STABLE AS $$
+BEGIN
+    RETURN coalesce((
+        SELECT format('viewitem seller=%s category=%s start=%s closes=%s highest=%s bidder=%s bids=%s left=%s name=%s', seller, category, start,
+            closes, coalesce(highest::text, '-'), coalesce(bidder::text, '-'), bids, remaining, name)
+        FROM item_shown WHERE worker = of_worker AND serial = of_serial), 'refused 3 NoSuchItem');
+END $$;
+
+CREATE FUNCTION view_bids(of_worker bigint, of_serial bigint) RETURNS text LANGUAGE plpgsql STABLE AS $$
+BEGIN
+    RETURN CASE WHEN EXISTS (SELECT FROM items WHERE worker = of_worker AND serial = of_serial)
+        THEN 'bids' || coalesce((
+            SELECT string_agg(format(' %s:%s:%s:%s.%s', amount, time, bidder, worker, serial), ''
+                ORDER BY amount DESC, time DESC, worker DESC, serial DESC)
+            FROM bids_shown WHERE item_worker = of_worker AND item_serial = of_serial), '')
+        ELSE 'refused 3 NoSuchItem' END;
+END $$;
+
+CREATE FUNCTION view_category(in_category bigint) RETURNS text LANGUAGE plpgsql STABLE AS $$
+BEGIN
+    RETURN CASE WHEN EXISTS (SELECT FROM categories WHERE id = in_category)
+        THEN 'latest' || coalesce((
+            SELECT string_agg(format(' %s:%s.%s', time, worker, serial), '' ORDER BY time DESC, worker DESC, serial DESC)
+            FROM latest_items WHERE category = in_category), '')
+        ELSE 'refused 2 NoSuchCategory' END;
+END $$;
+
+CREATE FUNCTION view_user(of_user bigint) RETURNS text LANGUAGE plpgsql STABLE AS $$
+BEGIN
+    RETURN coalesce((SELECT format('user rating=%s comments=%s', rating, comments) FROM users WHERE id = of_user), 'refused 1 NoSuchUser');
+END $$;
