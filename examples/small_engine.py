@@ -1,24 +1,28 @@
 #!/usr/bin/env python3
-"""small_engine.py [--stale] SCRIPTS SEED: an auction of two copies. It commits on the first, and asks the first for everything
-but, with --stale, the views of items: those read a copy that is refreshed every third commit. It writes its history."""
+"""An auction of two copies, which executes an input in a random order of the workers and writes its history for `rubis_check`.
+
+    python3 examples/small_engine.py INPUT SEED > history
+    rubis_check --workers N --strict --history history < INPUT
+
+It commits on the first copy. With --stale it has a bug: views of items read the second copy, which is refreshed every third commit.
+"""
+import argparse
 import copy
 import csv
 import random
-import sys
-
-USERS, CATEGORIES = 100, 10
 
 
 class Auction:
-    def __init__(self):
+    def __init__(self, users, categories):
+        self.users, self.categories = users, categories
         self.items, self.bids, self.sold, self.comments, self.latest, self.serials = {}, {}, {}, {}, {}, {}
 
     def refusal(self, kind, fields):
         users = {"item": 1, "bid": 1, "comment": 2, "buynow": 1, "viewuser": 1}.get(kind, 0)
-        if any(int(user) >= USERS for user in fields[:users]):
+        if any(int(user) >= self.users for user in fields[:users]):
             return "1 NoSuchUser"
         category = {"item": 1, "viewcategory": 0}.get(kind)
-        if category is not None and int(fields[category]) >= CATEGORIES:
+        if category is not None and int(fields[category]) >= self.categories:
             return "2 NoSuchCategory"
         place = {"bid": 1, "comment": 2, "buynow": 1, "viewitem": 0, "viewbids": 0}.get(kind)
         if place is None:
@@ -81,20 +85,29 @@ class Auction:
 
 
 def main():
-    stale, path, seed = "--stale" in sys.argv, sys.argv[-2], sys.argv[-1]
-    scripts, auction, picks, done = {}, Auction(), random.Random(seed), {}
-    for worker, *request in csv.reader(open(path)):
-        scripts.setdefault(int(worker), []).append(request)
-    old = copy.deepcopy(auction)
+    words = argparse.ArgumentParser(description=__doc__, formatter_class=argparse.RawDescriptionHelpFormatter)
+    words.add_argument("input", metavar="INPUT", help="rows and scripts, as docs/FORMATS.md has them")
+    words.add_argument("seed", metavar="SEED", help="a text that gives the order")
+    words.add_argument("--stale", action="store_true", help="views of items read the second copy")
+    words.add_argument("--users", type=int, default=100, help="users of the auction [default: 100]")
+    words.add_argument("--categories", type=int, default=10, help="categories of the auction [default: 10]")
+    asked = words.parse_args()
+    scripts, auction, picks, done = {}, Auction(asked.users, asked.categories), random.Random(asked.seed), {}
+    with open(asked.input, newline="") as text:
+        for worker, kind, *fields in filter(None, csv.reader(text)):
+            if kind.startswith("+"):
+                auction.store(int(worker), kind[1:], fields)
+            else:
+                scripts.setdefault(int(worker), []).append((kind, fields))
     turns = [worker for worker, script in scripts.items() for _ in script]
     picks.shuffle(turns)
     for number, worker in enumerate(turns):
-        index = done[worker] = done.get(worker, -1) + 1
-        kind, *fields = scripts[worker][index]
-        asked = old if stale and kind == "viewitem" else auction
-        print(0, number, worker, index, asked.answer(worker, kind, fields))
-        if number % 3 == 2:
+        if asked.stale and number % 3 == 0:
             old = copy.deepcopy(auction)
+        index = done[worker] = done.get(worker, -1) + 1
+        kind, fields = scripts[worker][index]
+        reader = old if asked.stale and kind == "viewitem" else auction
+        print(0, number, worker, index, reader.answer(worker, kind, fields))
 
 
 main()

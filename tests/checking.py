@@ -14,10 +14,12 @@ import sys
 import tempfile
 from dataclasses import dataclass, replace
 from pathlib import Path
+from textwrap import indent
 from typing import Iterator
 
 from checks import tell_of
 from inputs import Text, random_options
+from load_model import Plan, load_of
 from model import Options, Outcome, open_auction
 from program import BUILT, DOCUMENTS, EXAMPLES, TESTS, Tally, build_shim, built, run
 from records import Fault
@@ -28,6 +30,9 @@ REPLAYS = "the history replays"
 UNREADABLE = "not PHASE NUMBER WORKER INDEX TEXT and a line feed"
 LARGE = Options(workers=16, joined=4096, split=4096, threshold=64)
 FEW = Options(workers=2, users=10, categories=2)
+SMALL_ENGINE = [sys.executable, "-B", EXAMPLES / "small_engine.py"]
+# The load of docs/CHECKING.md, the seed, and how many lines of the history it shows.
+WALK, WALK_SEED, WALK_LINES = Plan(workers=4, items=10, skew=150, views=50), "2", 4
 
 SCRIPTS = b"""\
 0,item,0,0,Vase,10,100,1,3
@@ -368,27 +373,34 @@ def load(rng: random.Random, share: float) -> bytes:
 def small_engine(tester: Tester) -> None:
     """an engine in another language, without its bug and with it"""
     found_stale = 0
-    engine = [sys.executable, "-B", EXAMPLES / "small_engine.py"]
-    path = EXAMPLES / "contended.csv"
-    scripts = path.read_bytes()
-    for seed in range(20):
-        right = run([*engine, path, str(seed)])
-        tester.finds(f"the small engine at {seed}", scripts, right.stdout, REPLAYS, Options(workers=2), "--strict")
-        stale = run([*engine, "--stale", path, str(seed)])
-        same = stale.stdout == right.stdout
-        got = run(tester.command(stale.stdout, Options(workers=2)), scripts)
-        tester.tally.check(got.status == (0 if same else 5), f"the stale engine at {seed}: got {got}")
-        found_stale += not same
+    for workers, scripts, path in small_inputs(tester.folder):
+        for seed in map(str, range(10)):
+            right, stale = (run([*SMALL_ENGINE, *asked, path, seed]).stdout for asked in ((), ("--stale",)))
+            tester.finds(f"the small engine at {seed}", scripts, right, REPLAYS, Options(workers=workers), "--strict")
+            got = run(tester.command(stale, Options(workers=workers)), scripts)
+            tester.tally.check(got.status == (0 if stale == right else 5), f"the stale engine at {seed}: got {got}")
+            found_stale += stale != right
     tester.tally.check(found_stale > 0, "the stale engine answers as the right one does")
+
+
+def small_inputs(folder: Path) -> Iterator[tuple[int, bytes, Path]]:
+    """Inputs of the small engine: workers, bytes and file. The load has rows."""
+    for workers, data, name in ((2, (EXAMPLES / "contended.csv").read_bytes(), "contended.csv"), (WALK.workers, load_of(WALK), "load.csv")):
+        (folder / name).write_bytes(data)
+        yield workers, data, folder / name
 
 
 def shown(tester: Tester) -> None:
     """what docs/CHECKING.md shows: the example's history, and the small engine with its bug"""
-    page, path = (DOCUMENTS / "CHECKING.md").read_text(), EXAMPLES / "contended.csv"
-    stale = run([sys.executable, "-B", EXAMPLES / "small_engine.py", "--stale", path, "3"])
-    for order, history in (("--order", (EXAMPLES / "contended.history").read_bytes()), ("--strict", stale.stdout)):
-        got = run(tester.command(history, FEW, order), path.read_bytes())
-        tester.tally.check(f"\n    {got.stdout.decode()}" in page, f"docs/CHECKING.md shows {got}")
+    page, path, scripts = (DOCUMENTS / "CHECKING.md").read_text(), EXAMPLES / "contended.csv", load_of(WALK)
+    got = run(tester.command((EXAMPLES / "contended.history").read_bytes(), FEW, "--order"), path.read_bytes())
+    tester.tally.check(f"\n    {got.stdout.decode()}" in page, f"docs/CHECKING.md shows {got}")
+    (tester.folder / "load.csv").write_bytes(scripts)
+    history = run([*SMALL_ENGINE, "--stale", tester.folder / "load.csv", WALK_SEED]).stdout
+    got = run(tester.command(history, Options(workers=WALK.workers), "--strict"), scripts)
+    first = b"".join(history.splitlines(keepends=True)[:WALK_LINES])
+    for text in (got.stdout, first):
+        tester.tally.check(indent(text.decode(), "    ") in page, f"docs/CHECKING.md shows {text.decode()}")
 
 
 CHECKS = (
