@@ -79,7 +79,7 @@ def spread(rows):
     if not parts:
         return ""
     most, half = (f"{part * 100:.0f} %" for part in (parts[-1], parts[len(parts) // 2]))
-    return f" Least and greatest try differ by at most {most} of it, for half of the figures by at most {half}."
+    return f"Least and greatest try differ by at most {most} of it, for half of the figures by at most {half}.\n"
 
 
 def by_workers(rows):
@@ -290,8 +290,8 @@ CLAIMS = {"rates": rates, "cost": cost, "gain": gain, "usual": usual, "work": wo
 def heading(asked, systems, rows, when, seconds):
     """Date, machine, command and how long it took, and what was left out."""
     lines = [f"Measured on {when}, on {machine()}, in {max(1, round(seconds / 60))} minutes, with", "", f"    {command(asked)}", "",
-             f"Each figure is the median of its tries, made in turns with those of all others of the same load.{spread(rows)}",
-             "Windows, delays and instructions are measured once.", "LOAD is the output of `rubis_load`, HISTORY the output of `rubis_auction --history`:", ""]
+             "Each figure is the median of its tries, made in turns with those of all others of the same load.",
+             f"{spread(rows)}Windows, delays and instructions are measured once.", "LOAD is the output of `rubis_load`, HISTORY the output of `rubis_auction --history`:", ""]
     for load in (ONE_ITEM, UNIFORM, BIDDING):
         lines.append(f"    rubis_load --requests={asked.requests} --workers={asked.workers} {' '.join(load.words())}")
     lines.append(f"    rubis_auction {' '.join(Policy().words(asked.workers))} < LOAD")
@@ -304,7 +304,7 @@ def heading(asked, systems, rows, when, seconds):
         lines.append(f"PostgreSQL {systems.server_version} executes the first {systems.few():,} requests of each load, or as many of these as it does in "
                      f"about {asked.seconds:g} s (`figures.csv` has the number).")
     if "sqlite" not in asked.skip:
-        lines.append(f"SQLite {lite.sqlite3.sqlite_version} executes the first {systems.few():,}. An empty statement takes "
+        lines.append(f"SQLite {lite.sqlite3.sqlite_version} executes the first {systems.few():,}.\nAn empty statement takes "
                      f"{systems.empty_statement / 1000:.2f} µs from Python and back; a bid is five statements, a view one or four.")
     return "\n".join(lines + systems.said) + "\n"
 
