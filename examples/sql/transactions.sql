@@ -1,8 +1,8 @@
 -- The requests of the auction over the tables of schema.sql: a function each, to be called as a transaction, which replies as the program does.
 --
 -- At "read committed" a transaction changes at most one row that others change too, an item's or a user's, and holds it until it commits. What else it
--- reads never changes, except how many pieces are left, which only falls, so that a refusal stays right; a view is one statement. So the transactions are
--- serializable: writes in the order of their commits, views and refusals as of what they read.
+-- reads never changes, except how many pieces are left, which only falls, so that a refusal stays right; a view is STABLE, so that it reads one snapshot. So
+-- the transactions are serializable: writes in the order of their commits, views and refusals as of what they read.
 
 -- The serials of each worker's items, bids, comments and purchases, after those of the rows.
 CREATE FUNCTION make_serials(workers int) RETURNS void LANGUAGE plpgsql AS $$
