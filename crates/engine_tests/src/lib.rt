@@ -6,17 +6,11 @@ mod calls;
 #[cfg(test)]
 mod comparing;
 #[cfg(test)]
-mod journals;
-#[cfg(test)]
 mod program;
-#[cfg(test)]
-mod records;
 #[cfg(test)]
 mod rows;
 #[cfg(test)]
 mod runs;
-#[cfg(test)]
-mod shards;
 #[cfg(test)]
 mod testing;
 #[cfg(test)]

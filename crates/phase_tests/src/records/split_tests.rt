@@ -22,6 +22,20 @@ fn in_two_slices<R: Splittable>(first: R::Op, second: R::Op) -> R
     left
 }
 
+// A slice of each of two lists of entries, merged.
+fn top_of_both(first: &[u64], second: &[u64]) -> TopRec<u64, 10> {
+    let mut left = TopRec::<u64, 10>::identity();
+    let mut right = TopRec::<u64, 10>::identity();
+    for entry in first {
+        left.insert(*entry);
+    }
+    for entry in second {
+        right.insert(*entry);
+    }
+    left.merge(right);
+    left
+}
+
 #[test]
 fn slices_are_merged(rt: HostRuntime) {
     let greatest: MaxRec = in_two_slices(50, 10);
@@ -32,4 +46,11 @@ fn slices_are_merged(rt: HostRuntime) {
     assert_same(&rt, &put.value(), &Some((50, 2)));
     assert_same(&rt, &sum.value(), &2);
     assert_same(&rt, &top.entries(), &[7, 4].as_slice());
+}
+
+#[test]
+fn top_list_of_two_slices(rt: HostRuntime) {
+    let top = top_of_both(&[1, 3, 5, 7, 9], &[2, 4, 6, 8, 10, 11]);
+    let wanted = [11, 10, 9, 8, 7, 6, 5, 4, 3, 2];
+    assert_same(&rt, &top.entries(), &wanted.as_slice());
 }

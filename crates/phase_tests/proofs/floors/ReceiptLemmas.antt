@@ -1,0 +1,81 @@
+-- Receipts of workers, in order.
+use Rattle.std.proofs.Common.{◌≡◌, ℕ, zero, suc, ◌+◌, ◌<◌, List, [], ◌∷◌, ◌++◌, length, Result, Ok, Err, ap, subst, ◌∙◌, arith}
+use Rattle.std.specs.Prelude.{⊤, IfOk, IfErr}
+use Rattle.phase_closing.specs.Phases.{receipt_at}
+use Rattle.phase_floor.specs.Closings.{IsReceipt, AreReceiptsOf}
+use Rattle.phase_floor.specs.Floors.{FloorState}
+use Rattle.phase_floor.proofs.Receipts.{committed, dealt}
+use Rattle.phase_contexts.specs.Slicing.{stocks_of}
+use Rattle.phase_contexts.specs.Splits.{SplitState}
+use Rattle.phase_transactions.specs.declared.fault.Done.{Done}
+use Rattle.phase_transactions.specs.declared.fault.PermitFault.{PermitFault}
+use Rattle.phase_transactions.specs.Performing.{HasDealtWith, HasFailed, with_try}
+use Rattle.phase_transactions.specs.Permits.{PermitState, HasCommitted}
+use Rattle.auction_rows.specs.declared.replies.Reply.{Reply}
+use Rattle.auction_rows.specs.declared.requests.Request.{Request}
+use Rattle.shard_boxes.specs.States.{ShardState}
+
+-- those of the workers from one on
+abbrev pub AreFrom : FloorState → ℕ → List PermitState → Type 0
+AreFrom floor w [] = ⊤
+AreFrom floor w (receipt ∷ receipts) = IsReceipt floor w receipt × AreFrom floor (suc w) receipts
+
+-- with the next worker's
+pub one_more : (floor : FloorState) (w : ℕ) (receipts : List PermitState) (receipt : PermitState) → AreFrom floor w receipts
+    → IsReceipt floor (w + length receipts) receipt → AreFrom floor w (receipts ++ receipt ∷ [])
+one_more floor w [] receipt are its = (subst (λ n. IsReceipt floor n receipt) (let e : w + 0 ≡ w = omega arith in e) its, tt)
+one_more floor w (first ∷ receipts) receipt are its =
+    let e : w + suc (length receipts) ≡ suc w + length receipts = omega arith in
+    (are.0, one_more floor (suc w) receipts receipt are.1 (subst (λ n. IsReceipt floor n receipt) e its))
+
+from_each : (floor : FloorState) (w : ℕ) (receipts : List PermitState) → ((v : ℕ) → v < length receipts → IsReceipt floor (w + v) (receipt_at receipts v))
+    → AreFrom floor w receipts
+from_each floor w [] each = tt
+from_each floor w (receipt ∷ receipts) each =
+    let here : w + 0 ≡ w = omega arith in (
+      subst (λ n. IsReceipt floor n receipt) here (each 0 (omega arith)),
+      from_each floor (suc w) receipts (λ v less. let e : w + suc v ≡ suc w + v = omega arith in
+          subst (λ n. IsReceipt floor n (receipt_at receipts v)) e (each (suc v) (omega (arith, less)))),
+    )
+
+each_from : (floor : FloorState) (w : ℕ) (receipts : List PermitState) → AreFrom floor w receipts
+    → (v : ℕ) → v < length receipts → IsReceipt floor (w + v) (receipt_at receipts v)
+each_from floor w [] are v less = absurd (omega (arith, less))
+each_from floor w (receipt ∷ receipts) are zero less = let here : w ≡ w + 0 = omega arith in subst (λ n. IsReceipt floor n receipt) here are.0
+each_from floor w (receipt ∷ receipts) are (suc v) less =
+    let e : suc w + v ≡ w + suc v = omega arith in
+    subst (λ n. IsReceipt floor n (receipt_at receipts v)) e (each_from floor (suc w) receipts are.1 v (omega (arith, less)))
+
+-- those of all workers
+pub all_of : (floor : FloorState) (receipts : List PermitState) → AreReceiptsOf floor receipts → AreFrom floor 0 receipts
+all_of floor receipts are = from_each floor 0 receipts (λ v less. let e : v ≡ 0 + v = omega arith in
+    subst (λ n. IsReceipt floor n (receipt_at receipts v)) e (are.1 v (omega (arith, less, are.0))))
+
+pub of_all : (floor : FloorState) (receipts : List PermitState) → length receipts ≡ length floor.counters → AreFrom floor 0 receipts → AreReceiptsOf floor receipts
+of_all floor receipts many are = (
+  many,
+  λ v less. let e : 0 + v ≡ v = omega arith in
+      subst (λ n. IsReceipt floor n (receipt_at receipts v)) e (each_from floor 0 receipts are v (omega (arith, less, many))),
+)
+
+-- a permit is its worker's whatever it answers
+module _ (opening : List ShardState) (floor : FloorState) (w : ℕ) (old new : PermitState) (was : IsReceipt floor w old) (request : Request) (index : ℕ) where
+  failed_still : (fault : PermitFault) → HasFailed opening (with_try old) new request fault → IsReceipt floor w new
+  failed_still fault failed = record {
+    boxes_are = failed.lines.boxes ∙ was.boxes_are;
+    worker_is = failed.lines.worker ∙ was.worker_is;
+    opening_is = ap (λ (s : SplitState). s.context.opening) failed.split ∙ was.opening_is;
+    phase_is = ap (λ (s : SplitState). s.context.journal.phase) failed.split ∙ was.phase_is;
+    stocks_are = ap (λ (s : SplitState). stocks_of s.slices) failed.split ∙ was.stocks_are;
+    begun = ap (λ (s : SplitState). s.context.begun) failed.split ∙ was.begun;
+  }
+
+  pub performed : (answer : Result Reply PermitFault) → IfOk answer (λ reply. HasCommitted opening (with_try old) new request index reply)
+      → IfErr answer (HasFailed opening (with_try old) new request) → IsReceipt floor w new
+  performed (Ok reply) done failed = committed opening floor w old new was request index reply done
+  performed (Err fault) done failed = failed_still fault failed
+
+  pub dealt_with : (answer : Result Done PermitFault) → IfOk answer (HasDealtWith opening (with_try old) new request index)
+      → IfErr answer (HasFailed opening (with_try old) new request) → IsReceipt floor w new
+  dealt_with (Ok done) is failed = dealt opening floor w old new was request index done is
+  dealt_with (Err fault) is failed = failed_still fault failed

@@ -1,0 +1,31 @@
+use Rattle.std.proofs.Common.{◌≡◌, [], length, sym, ap, ◌∙◌, arith}
+use Rattle.auction_rows.specs.declared.ids.Object.TheVariants.{Item}
+use Rattle.auction_rows.specs.Footprint.{is_hot}
+use Rattle.phase_contexts.specs.Slicing.{objects_of, slices_of, stocks_of}
+use Rattle.phase_contexts.proofs.Places.{stocks_of_rows}
+use Rattle.phase_floor.proofs.HotItems.{objects_of_slices}
+use Rattle.phase_tests.proofs.permits.HotLemmas.{stash_room}
+use Rattle.worker_journals.specs.Journals.{JournalView}
+use Rattle.phase_tests.proofs.permits.split.split_permit.Goals as goal
+
+pub new-requires-2 : goal.new-requires-2
+new-requires-2 g c =
+    let journal = c.in_ok-journal.ensures in
+    let stash = c.in_ok-stash.ensures in
+    let slices = c.in_ok-slices.ensures in
+    let hot = c.args.hot.now in
+    record {
+      key = c.requires.unused;
+      worker = ap (λ (j : JournalView). j.worker) journal ∙ sym c.requires.worker;
+      start = record {
+        empty = ap (λ (j : JournalView). j.entries) journal;
+        identities = slices ∙ ap (λ stocks. slices_of stocks []) (sym (ap stocks_of slices ∙ stocks_of_rows hot []));
+        room = omega (arith, ap length stash.empty, ap (λ (j : JournalView). j.room) journal);
+        stash_room = stash_room _ _ _ (omega (arith, stash.room));
+        limit = omega (arith, ap length stash.empty);
+        counted = record { items = omega arith; bids = omega arith; comments = omega arith; buys = omega arith };
+        stored = λ item is own.
+            let first : item.serial ≡ 0 = c.requires.stored item (ap (λ objects. is_hot objects (Item item)) (sym (ap objects_of slices ∙ objects_of_slices hot [])) ∙ is) in
+            omega (arith, first);
+      };
+    }

@@ -1,0 +1,7 @@
+//! Tests of `phase_floor`: phases begun and closed by hand.
+mod begins;
+mod begins_tests;
+mod joined;
+mod one_permit;
+mod sixteen_tests;
+mod split;

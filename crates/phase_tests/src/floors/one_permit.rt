@@ -1,0 +1,12 @@
+//! The permit of a phase of one worker.
+ghost use Rattle.std.specs.Prelude.{◌≡◌, ◌∷◌, [], vec_len};
+
+/// The one item.
+pub(crate) fn only<T>(mut items: Vec<T>) -> T
+    requires { vec_len items ≡ 1 }
+    ensures { items.items ≡ result ∷ [] }
+{
+    let item = items.remove(0);
+    items.destroy_empty();
+    item
+}

@@ -1,0 +1,145 @@
+//! A joined and a split phase of sixteen workers, who bid on one item.
+ghost use Rattle.std.specs.Prelude.{◌≡◌, ◌∷◌, [], length, vec_len, IfOk};
+ghost use Rattle.phase_floor.specs.States.{states_of};
+
+use crate::comparing::assert_same;
+use crate::floors::joined::store_first;
+use crate::floors::split::{BIDS, bid_often};
+use crate::testing::{FIRST, VIEW, put_up, vase};
+use auction_rows::{BidId, BidShown, MOST_SHOWN, Object, Opening, Reply, Request, Ten};
+use indexmap::IndexSet;
+use phase_floor::Joined;
+use phase_transactions::Stash;
+use shard_boxes::PhaseName;
+use std::alloc::{AllocError, Global};
+use std::marker::Brand;
+use std::process::Abort;
+use std::sync::Wait;
+use std::test::Fail;
+use worker_journals::History;
+
+const WORKERS: u32 = 16;
+
+// Nothing waits for any of them.
+fn nothing_waits(alloc: Global) -> Result<Vec<Stash>, AllocError>
+    ensures { IfOk result (λ stashes. vec_len stashes ≡ 16) }
+{
+    let mut stashes = Vec::new(alloc);
+    for _worker in 0..WORKERS {
+        stashes.push(Stash::with_room(alloc, 0)?)?;
+    }
+    Ok(stashes)
+}
+
+// The state after a joined phase in which worker 0 makes the store.
+fn joined_phase<N: PhaseName, R: Wait + Abort>(
+    rt: &R,
+    alloc: Global,
+    state: Joined,
+    store: &Request,
+    history: &mut History,
+) -> Result<Joined, Fail>
+    requires shards { states_of state ≡ N.opening }
+    requires workers { length state.counters ≡ N.workers }
+    requires sixteen { N.workers ≡ 16 }
+    requires phase { state.phase ≡ 0 }
+    ensures workers { IfOk result (λ after. length after.counters ≡ 16) }
+    ensures phase { IfOk result (λ after. after.phase ≡ 1) }
+{
+    let stashes = nothing_waits(alloc)?;
+    let room = Vec::with_capacity(alloc, 16)?;
+    let Ok((floor, permits)) = state.begin_joined::<N, R>(rt, alloc, &[1; 16], stashes) else {
+        return Err(Fail::from("the joined phase did not begin"));
+    };
+    let receipts = store_first(rt, &floor, permits, room, store);
+    match floor.close(rt, alloc, history, receipts) {
+        Ok((state, _stashes)) => Ok(state),
+        Err(fault) => Err(Fail::new(fault)),
+    }
+}
+
+// The state after a split phase in which the item is hot and all workers bid on it.
+fn split_phase<N: PhaseName, R: Wait + Abort>(
+    rt: &R,
+    alloc: Global,
+    state: Joined,
+    hot: &IndexSet<Object>,
+    history: &mut History,
+) -> Result<Joined, Fail>
+    requires shards { states_of state ≡ N.opening }
+    requires workers { length state.counters ≡ N.workers }
+    requires sixteen { N.workers ≡ 16 }
+    requires phase { state.phase ≡ 1 }
+{
+    let room = Vec::with_capacity(alloc, 16)?;
+    let Ok((floor, permits)) = state.begin_split::<N, R>(rt, alloc, &[BIDS; 16], hot) else {
+        return Err(Fail::from("the split phase did not begin"));
+    };
+    let receipts = bid_often(rt, &floor, permits, room);
+    match floor.close(rt, alloc, history, receipts) {
+        Ok((state, _stashes)) => Ok(state),
+        Err(fault) => Err(Fail::new(fault)),
+    }
+}
+
+// The state after both.
+fn two_phases<R: Wait + Abort>(
+    rt: &R,
+    alloc: Global,
+    state: Joined,
+    store: &Request,
+    hot: &IndexSet<Object>,
+    history: &mut History,
+) -> Result<Joined, Fail>
+    requires sixteen { length state.counters ≡ 16 }
+    requires phase { state.phase ≡ 0 }
+{
+    let state = joined_phase::<Brand, R>(rt, alloc, state, store, history)?;
+    split_phase::<Brand, R>(rt, alloc, state, hot, history)
+}
+
+// The ten greatest bids: the last of the last worker.
+fn last_bids<R: Abort>(rt: &R) -> Ten<BidShown> {
+    let mut bids = Ten::new();
+    for serial in [999, 998, 997, 996, 995, 994, 993, 992, 991, 990] {
+        assert!(rt; bids.len() < MOST_SHOWN);
+        bids.push(BidShown {
+            amount: 5,
+            time: 7,
+            bidder: 15,
+            id: BidId { worker: 15, serial },
+        });
+    }
+    bids
+}
+
+#[test]
+fn sixteen_workers_bid_on_one_item(rt: HostRuntime) -> Result<(), Fail> {
+    let alloc = rt.alloc();
+    let opening = Opening {
+        users: 16,
+        categories: 2,
+    };
+    let store = put_up(5)?;
+    let mut hot = IndexSet::new(alloc);
+    assert!(rt; hot.insert(Object::Item(FIRST)).is_ok());
+    let state = Joined::new(alloc, opening, WORKERS, 4)?;
+    let mut history = History::new(alloc);
+    let state = two_phases(&rt, alloc, state, &store, &hot, &mut history)?;
+    let seen = Reply::ItemSeen {
+        seller: 0,
+        category: 0,
+        name: vase(5)?.name,
+        start: 5,
+        closes: 100,
+        highest: Some(5),
+        bidder: Some(15),
+        bids: 16_000,
+        left: 1,
+    };
+    let bids = state.view(&Request::ViewBids { item: FIRST });
+    assert_same(&rt, &state.view(&VIEW), &Some(seen));
+    assert_same(&rt, &bids, &Some(Reply::BidsSeen(last_bids(&rt))));
+    assert_same(&rt, &history.len(), &16_001);
+    Ok(())
+}

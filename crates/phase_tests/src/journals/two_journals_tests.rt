@@ -1,0 +1,46 @@
+//! The journals of two workers, in one order.
+ghost use Rattle.std.specs.Prelude.{◌≡◌, ◌<◌};
+ghost use Rattle.phase_laws.specs.Numbers.{last_by};
+ghost use Rattle.worker_journals.specs.Journals.{entry_number};
+
+use crate::comparing::assert_same;
+use auction_rows::{Refusal, Reply, Request};
+use std::process::Abort;
+use std::test::Fail;
+use worker_journals::{Journal, merge_journals, numbers_come_after};
+
+// Adds a commit at a number.
+fn commit<R: Abort>(rt: &R, journal: &mut Journal, number: u64)
+    requires after { last_by entry_number 0 journal.old.entries < number }
+    ensures last { last_by entry_number 0 journal.new.entries ≡ number }
+    ensures worker { journal.new.worker ≡ journal.old.worker }
+{
+    assert!(rt; journal.len() < journal.room());
+    numbers_come_after();
+    journal.push(
+        number,
+        0,
+        Request::ViewUser { user: 10 },
+        Reply::Refused(Refusal::NoSuchUser),
+    );
+}
+
+#[test]
+fn journals_of_two_workers_are_merged(rt: HostRuntime) -> Result<(), Fail> {
+    let alloc = rt.alloc();
+    let mut first = Journal::with_room(alloc, 0, 0, 3)?;
+    commit(&rt, &mut first, 1);
+    commit(&rt, &mut first, 2);
+    commit(&rt, &mut first, 4);
+    let mut second = Journal::with_room(alloc, 0, 1, 2)?;
+    commit(&rt, &mut second, 2);
+    commit(&rt, &mut second, 3);
+    let merged = merge_journals(alloc, vec![in alloc; first, second]?)?;
+    let mut places = Vec::new(alloc);
+    for entry in &merged {
+        places.push((entry.number, entry.worker))?;
+    }
+    let wanted = [(1, 0), (2, 0), (2, 1), (3, 1), (4, 0)];
+    assert_same(&rt, &places.as_slice(), &wanted.as_slice());
+    Ok(())
+}

@@ -1,0 +1,19 @@
+//! Tests of records, journals, permits and floors by their public calls.
+#![tactic(auto)]
+
+#[cfg(test)]
+mod calls;
+#[cfg(test)]
+mod comparing;
+#[cfg(test)]
+mod floors;
+#[cfg(test)]
+mod journals;
+#[cfg(test)]
+mod permits;
+#[cfg(test)]
+mod records;
+#[cfg(test)]
+mod shards;
+#[cfg(test)]
+mod testing;

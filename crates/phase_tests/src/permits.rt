@@ -1,0 +1,6 @@
+//! Tests of `phase_transactions`: permits made by hand, with boxes, journals, stashes and slices.
+pub(crate) mod joined;
+mod joined_tests;
+mod split;
+mod split_tests;
+pub(crate) mod testing;

@@ -1,0 +1,82 @@
+//! Requests at the end of numbers, and what waits.
+ghost use Rattle.std.specs.Prelude.{◌≡◌, length, map};
+ghost use Rattle.shard_boxes.specs.States.{state_of, AreOpened};
+ghost use Rattle.phase_transactions.specs.Single.{HaveOpening};
+
+use crate::comparing::assert_same;
+use crate::permits::joined::{joined_permit, perform, perform_stashed};
+use crate::permits::testing::{boxes_of_one, four};
+use auction_rows::{Reply, Request};
+use item_shards::Shard;
+use phase_transactions::{PermitFault, Stash};
+use shard_boxes::PhaseName;
+use std::alloc::Global;
+use std::marker::Brand;
+use std::process::Abort;
+use std::sync::Wait;
+use std::test::Fail;
+
+const SEEN: Reply = Reply::UserSeen {
+    rating: 0,
+    comments: 0,
+};
+
+// Views of a user and of one that there is not, at the end of numbers.
+fn views_at_the_end<N: PhaseName, R: Wait + Abort>(
+    rt: &R,
+    alloc: Global,
+    shards: Vec<Shard>,
+) -> Result<(), Fail>
+    requires opening { map state_of shards.items ≡ N.opening }
+    requires four { length N.opening ≡ 4 }
+    requires opened { AreOpened N.opening }
+    requires users { HaveOpening N.opening (record { users = 10; categories = 2 }) }
+    requires workers { 1 ≡ N.workers }
+{
+    let (boxes, key) = boxes_of_one::<N, R>(rt, alloc, shards)?;
+    let stash = Stash::with_room(alloc, 0)?;
+    let mut permit = joined_permit(alloc, key, stash, u64::MAX)?;
+    let known = perform(rt, &boxes, &mut permit, &Request::ViewUser { user: 0 }, 0);
+    let unknown = perform(rt, &boxes, &mut permit, &Request::ViewUser { user: 10 }, 0);
+    assert_same(rt, &known, &Err(PermitFault::NumberFull));
+    assert_same(rt, &unknown, &Err(PermitFault::NumberFull));
+    assert_same(rt, &permit.left(), &2);
+    drop(permit.finish());
+    Ok(())
+}
+
+// A view that waits, and then none.
+fn one_waits<N: PhaseName, R: Wait + Abort>(
+    rt: &R,
+    alloc: Global,
+    shards: Vec<Shard>,
+) -> Result<(), Fail>
+    requires opening { map state_of shards.items ≡ N.opening }
+    requires four { length N.opening ≡ 4 }
+    requires opened { AreOpened N.opening }
+    requires users { HaveOpening N.opening (record { users = 10; categories = 2 }) }
+    requires workers { 1 ≡ N.workers }
+{
+    let (boxes, key) = boxes_of_one::<N, R>(rt, alloc, shards)?;
+    let mut stash = Stash::with_room(alloc, 1)?;
+    stash.push(0, Request::ViewUser { user: 0 });
+    let mut permit = joined_permit(alloc, key, stash, 0)?;
+    let answer = perform_stashed(rt, &boxes, &mut permit);
+    let none_waits = perform_stashed(rt, &boxes, &mut permit);
+    assert_same(rt, &[answer, none_waits], &[Ok(Some(SEEN)), Ok(None)]);
+    assert_same(rt, &permit.stashed(), &0);
+    drop(permit.finish());
+    Ok(())
+}
+
+#[test]
+fn joined_requests_end_with_the_numbers(rt: HostRuntime) -> Result<(), Fail> {
+    let shards = four(rt.alloc())?;
+    views_at_the_end::<Brand, HostRuntime>(&rt, rt.alloc(), shards)
+}
+
+#[test]
+fn a_stashed_view_is_answered_once(rt: HostRuntime) -> Result<(), Fail> {
+    let shards = four(rt.alloc())?;
+    one_waits::<Brand, HostRuntime>(&rt, rt.alloc(), shards)
+}

@@ -1,0 +1,90 @@
+//! A split permit of worker 0, who has stored the first item.
+ghost use Rattle.std.specs.Prelude.{◌≡◌, ℕ, ◌≤◌, ◌<◌, true, length, IfOk};
+ghost use Rattle.std.specs.List.{IsDistinct, AllByRecursion};
+ghost use Rattle.auction_rows.specs.declared.ids.ItemId.{ItemId as Id};
+ghost use Rattle.auction_rows.specs.declared.ids.Object.TheVariants.{Item};
+ghost use Rattle.auction_rows.specs.Footprint.{is_hot};
+ghost use Rattle.auction_rows.specs.Requests.{same_object};
+ghost use Rattle.phase_contexts.specs.Slicing.{objects_of, IsStocked};
+ghost use Rattle.phase_transactions.specs.Permits.{IsUnused};
+ghost use Rattle.phase_transactions.specs.Single.{HaveOpening};
+
+use crate::testing::{FIRST, OPENING};
+use auction_rows::{Facts, MOST_TRIES, Object, Reply, Request, Stars};
+use phase_transactions::{Counters, Done, PermitFault, Slices, SplitPermit, Stash};
+use shard_boxes::{Boxes, Key, PhaseName};
+use std::alloc::{AllocError, Global};
+use std::process::Abort;
+use std::sync::Wait;
+use worker_journals::Journal;
+
+/// A permit at this clock to perform four requests, with slices of these objects. No other item of the worker is hot.
+pub(crate) fn split_permit<N: PhaseName>(
+    alloc: Global,
+    key: Key<N>,
+    hot: &[(Object, Option<(Facts, u32)>)],
+    clock: u64,
+) -> Result<SplitPermit<N>, AllocError>
+    requires worker { key.worker ≡ 0 }
+    requires unused { IsUnused key }
+    requires distinct { IsDistinct same_object (objects_of hot.now) }
+    requires stocked { AllByRecursion IsStocked hot.now }
+    requires stored { (item : Id) → is_hot (objects_of hot.now) (Item item) ≡ true → item.serial ≡ 0 }
+    ensures key { IfOk result (λ permit. permit.key ≡ key) }
+    ensures users { IfOk result (λ permit.
+        permit.split.context.opening ≡ record { users = 10; categories = 2 }) }
+{
+    let slices = Slices::new(alloc, hot)?;
+    let journal = Journal::with_room(alloc, 1, 0, 4)?;
+    let stash = Stash::with_room(alloc, 4)?;
+    let counters = Counters {
+        items: 1,
+        bids: 0,
+        comments: 0,
+        buys: 0,
+        commits: 1,
+    };
+    Ok(SplitPermit::new(key, OPENING, counters, journal, stash, slices, 4, clock))
+}
+
+/// A bid on the first item, which is hot.
+pub(crate) fn bid<N: PhaseName, R: Abort>(
+    rt: &R,
+    permit: &mut SplitPermit<N>,
+    amount: u64,
+    time: u64,
+    index: u32,
+) -> Option<Reply>
+    ensures key { permit.new.key ≡ permit.old.key }
+    ensures users { permit.new.split.context.opening ≡ permit.old.split.context.opening }
+{
+    assert!(rt; permit.left() > 0 && permit.is_hot(Object::Item(FIRST)));
+    permit.bid_hot(1, FIRST, amount, time, index)
+}
+
+/// A comment of user 1 about user 3 on the first item, which are both hot.
+pub(crate) fn comment<N: PhaseName, R: Abort>(
+    rt: &R,
+    permit: &mut SplitPermit<N>,
+    stars: Stars,
+    index: u32,
+) -> Option<Reply> {
+    assert!(rt; permit.left() > 0 && permit.is_hot(Object::Item(FIRST)));
+    assert!(rt; permit.is_hot(Object::User(3)));
+    permit.comment_hot(1, 3, FIRST, stars, index)
+}
+
+/// Performs a request of the quota.
+pub(crate) fn perform<N: PhaseName, R: Wait + Abort>(
+    rt: &R,
+    boxes: &Boxes<N>,
+    permit: &mut SplitPermit<N>,
+    request: &Request,
+    index: u32,
+) -> Result<Done, PermitFault>
+    requires of { permit.old.key.boxes ≡ boxes.now }
+    requires users { HaveOpening N.opening permit.old.split.context.opening }
+{
+    assert!(rt; permit.left() > 0 && permit.tries() < MOST_TRIES);
+    permit.perform(rt, boxes, request, index)
+}

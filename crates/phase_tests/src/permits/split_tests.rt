@@ -1,0 +1,142 @@
+//! Stores on hot objects alone.
+ghost use Rattle.std.specs.Prelude.{◌≡◌, length, map};
+ghost use Rattle.shard_boxes.specs.States.{state_of, AreOpened};
+ghost use Rattle.phase_transactions.specs.Single.{HaveOpening};
+
+use crate::comparing::assert_same;
+use crate::permits::split::{bid, comment, perform, split_permit};
+use crate::permits::testing::{boxes_of_one, four};
+use crate::testing::{FIRST, VIEW, vase};
+use auction_rows::{BidId, CommentId, Object, Refusal, Reply, Stars};
+use item_shards::Shard;
+use phase_transactions::Done;
+use shard_boxes::PhaseName;
+use std::alloc::Global;
+use std::marker::Brand;
+use std::process::Abort;
+use std::sync::Wait;
+use std::test::Fail;
+use worker_journals::Journal;
+
+const FIRST_BID: Reply = Reply::BidStored(BidId {
+    worker: 0,
+    serial: 0,
+});
+
+fn numbers_of(alloc: Global, journal: &Journal) -> Result<Vec<u64>, Fail> {
+    let mut numbers = Vec::new(alloc);
+    for entry in journal.entries() {
+        numbers.push(entry.number())?;
+    }
+    Ok(numbers)
+}
+
+// Bids on a hot item, and a view of it, which waits.
+fn bids_on_a_hot_item<N: PhaseName, R: Wait + Abort>(
+    rt: &R,
+    alloc: Global,
+    shards: Vec<Shard>,
+) -> Result<(), Fail>
+    requires opening { map state_of shards.items ≡ N.opening }
+    requires four { length N.opening ≡ 4 }
+    requires opened { AreOpened N.opening }
+    requires users { HaveOpening N.opening (record { users = 10; categories = 2 }) }
+    requires workers { 1 ≡ N.workers }
+{
+    let (boxes, key) = boxes_of_one::<N, R>(rt, alloc, shards)?;
+    let hot = [(Object::Item(FIRST), Some((vase(10)?, 1)))];
+    let mut permit = split_permit(alloc, key, &hot, 0)?;
+    let below = bid(rt, &mut permit, 9, 5, 0);
+    let late = bid(rt, &mut permit, 10, 100, 1);
+    let stored = bid(rt, &mut permit, 10, 99, 2);
+    let view = perform(rt, &boxes, &mut permit, &VIEW, 3);
+    assert_same(rt, &below, &Some(Reply::Refused(Refusal::BelowStart)));
+    assert_same(rt, &late, &Some(Reply::Refused(Refusal::Closed)));
+    assert_same(rt, &stored, &Some(FIRST_BID));
+    assert_same(rt, &view, &Ok(Done::Stashed));
+    assert_same(rt, &permit.left(), &0);
+    let (journal, mut slices, stash, _key, _counters) = permit.finish().parts();
+    assert_same(
+        rt,
+        &numbers_of(alloc, &journal)?.as_slice(),
+        &[1, 2, 3].as_slice(),
+    );
+    assert_same(rt, &(stash.len(), stash.get(0)), &(1, Some((3, VIEW))));
+    let popped = [
+        slices.pop().map(|pair| pair.0),
+        slices.pop().map(|pair| pair.0),
+    ];
+    assert_same(rt, &popped, &[Some(Object::Item(FIRST)), None]);
+    Ok(())
+}
+
+// A comment about a hot user on a hot item.
+fn comment_on_a_hot_item<N: PhaseName, R: Wait + Abort>(
+    rt: &R,
+    alloc: Global,
+    shards: Vec<Shard>,
+) -> Result<(), Fail>
+    requires opening { map state_of shards.items ≡ N.opening }
+    requires four { length N.opening ≡ 4 }
+    requires opened { AreOpened N.opening }
+    requires users { HaveOpening N.opening (record { users = 10; categories = 2 }) }
+    requires workers { 1 ≡ N.workers }
+{
+    let (_boxes, key) = boxes_of_one::<N, R>(rt, alloc, shards)?;
+    let stars = Stars::new(5).ok_or("stars")?;
+    let hot = [
+        (Object::Item(FIRST), Some((vase(10)?, 1))),
+        (Object::User(3), None),
+    ];
+    let mut permit = split_permit(alloc, key, &hot, 0)?;
+    let stored = comment(rt, &mut permit, stars, 0);
+    let wanted = CommentId {
+        worker: 0,
+        serial: 0,
+    };
+    assert_same(rt, &stored, &Some(Reply::CommentStored(wanted)));
+    assert_same(rt, &permit.left(), &3);
+    drop(permit.finish());
+    Ok(())
+}
+
+// A bid and a comment at the end of numbers.
+fn stores_at_the_end<N: PhaseName, R: Wait + Abort>(
+    rt: &R,
+    alloc: Global,
+    shards: Vec<Shard>,
+) -> Result<(), Fail>
+    requires opening { map state_of shards.items ≡ N.opening }
+    requires four { length N.opening ≡ 4 }
+    requires opened { AreOpened N.opening }
+    requires users { HaveOpening N.opening (record { users = 10; categories = 2 }) }
+    requires workers { 1 ≡ N.workers }
+{
+    let (_boxes, key) = boxes_of_one::<N, R>(rt, alloc, shards)?;
+    let hot = [(Object::Item(FIRST), Some((vase(10)?, 1)))];
+    let mut permit = split_permit(alloc, key, &hot, u64::MAX)?;
+    let before = permit.left();
+    let answer = bid(rt, &mut permit, 10, 99, 0);
+    assert_same(rt, &answer, &None);
+    assert_same(rt, &(before, permit.left()), &(4, 4));
+    drop(permit.finish());
+    Ok(())
+}
+
+#[test]
+fn hot_bids_are_refused_and_stored(rt: HostRuntime) -> Result<(), Fail> {
+    let shards = four(rt.alloc())?;
+    bids_on_a_hot_item::<Brand, HostRuntime>(&rt, rt.alloc(), shards)
+}
+
+#[test]
+fn a_hot_user_is_commented_on(rt: HostRuntime) -> Result<(), Fail> {
+    let shards = four(rt.alloc())?;
+    comment_on_a_hot_item::<Brand, HostRuntime>(&rt, rt.alloc(), shards)
+}
+
+#[test]
+fn hot_bids_end_with_the_numbers(rt: HostRuntime) -> Result<(), Fail> {
+    let shards = four(rt.alloc())?;
+    stores_at_the_end::<Brand, HostRuntime>(&rt, rt.alloc(), shards)
+}

@@ -1,0 +1,47 @@
+//! Four new shards, and their boxes with the key of one worker.
+ghost use Rattle.std.specs.Prelude.{◌≡◌, length, map, IfOk};
+ghost use Rattle.shard_boxes.specs.States.{state_of, AreOpened};
+ghost use Rattle.phase_transactions.specs.Permits.{IsUnused};
+ghost use Rattle.phase_transactions.specs.Single.{HaveOpening};
+
+use crate::testing::OPENING;
+use item_shards::Shard;
+use shard_boxes::{Boxes, Key, PhaseName};
+use std::alloc::{AllocError, Global};
+use std::sync::Wait;
+use std::test::Fail;
+
+/// Four new shards.
+pub(crate) fn four(alloc: Global) -> Result<Vec<Shard>, AllocError>
+    ensures four { IfOk result (λ shards. length (map state_of shards.items) ≡ 4) }
+    ensures opened { IfOk result (λ shards. AreOpened (map state_of shards.items)) }
+    ensures users { IfOk result (λ shards.
+        HaveOpening (map state_of shards.items) (record { users = 10; categories = 2 })) }
+{
+    let mut shards = Vec::new(alloc);
+    for number in 0..4u32 {
+        shards.push(Shard::new(alloc, number, 4, OPENING)?)?;
+    }
+    Ok(shards)
+}
+
+/// The boxes of these shards, and the key of their one worker.
+pub(crate) fn boxes_of_one<N: PhaseName, R: Wait>(
+    rt: &R,
+    alloc: Global,
+    shards: Vec<Shard>,
+) -> Result<(Boxes<N>, Key<N>), Fail>
+    requires opening { map state_of shards.items ≡ N.opening }
+    requires four { length N.opening ≡ 4 }
+    requires opened { AreOpened N.opening }
+    requires workers { 1 ≡ N.workers }
+    ensures boxes { IfOk result (λ made. made.1.boxes ≡ made.0) }
+    ensures worker { IfOk result (λ made. made.1.worker ≡ 0) }
+    ensures unused { IfOk result (λ made. IsUnused made.1) }
+{
+    let Ok((boxes, mut keys)) = Boxes::<N>::new(rt, alloc, shards, 1) else {
+        return Err(Fail::from(AllocError));
+    };
+    let key = keys.pop().ok_or("a key")?;
+    Ok((boxes, key))
+}

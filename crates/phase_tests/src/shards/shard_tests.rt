@@ -1,0 +1,46 @@
+//! Numbers of commits, and what one shard says of an item. What views show stands in tests/worked.
+ghost use Rattle.auction_rows.specs.declared.ids.Object.TheVariants.{Item};
+ghost use Rattle.item_shards.specs.ShardContents.{LiesIn};
+
+use crate::comparing::assert_same;
+use crate::testing::{FIRST, OPENING, vase};
+use auction_rows::Facts;
+use item_shards::{Act, LAST_NUMBER, Shard, next_number};
+use std::test::Fail;
+
+#[test]
+fn numbers_end(rt: HostRuntime) {
+    let numbers = [
+        next_number(LAST_NUMBER, 0),
+        next_number(0, u64::MAX),
+        next_number(LAST_NUMBER - 1, 3),
+        next_number(0, 0),
+    ];
+    assert_same(&rt, &numbers, &[None, None, Some(LAST_NUMBER), Some(1)]);
+}
+
+// The facts of the first item and how many are left, where it is stored.
+fn first_in(shard: &Shard) -> (Option<Facts>, Option<u32>)
+    requires { LiesIn shard.now (Item (record { worker = 0; serial = 0 })) }
+{
+    (shard.facts(FIRST), shard.left_of(FIRST))
+}
+
+#[test]
+fn a_shard_knows_an_item_once_it_is_added(rt: HostRuntime) -> Result<(), Fail> {
+    let mut shard = Shard::new(rt.alloc(), 0, 1, OPENING)?;
+    shard.prepare_item(FIRST)?;
+    assert_same(&rt, &first_in(&shard), &(None, None));
+    shard.act(&Act::AddItem(FIRST, vase(10)?));
+    assert_same(&rt, &first_in(&shard), &(Some(vase(10)?), Some(1)));
+    Ok(())
+}
+
+#[test]
+fn a_clock_is_set(rt: HostRuntime) -> Result<(), Fail> {
+    let mut shard = Shard::new(rt.alloc(), 0, 1, OPENING)?;
+    assert!(rt; shard.clock() < 7);
+    shard.set_clock(7);
+    assert_same(&rt, &shard.clock(), &7);
+    Ok(())
+}
