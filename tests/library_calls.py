@@ -1,13 +1,13 @@
 #!/usr/bin/env python3
 """Shows what calls of the library answer where memory is refused: a fault that is named for it, or what they answer with ample memory.
 
-    tests/library_calls.py [TESTS]
+    tests/library_calls.py [TESTS ..]
 
-The tests `calls` of the crate engine_tests make the calls and print a line `CALL: ANSWER` for each; tests/library_calls.txt has their lines with ample
-memory. Each of their allocations is refused in turn, alone and with all that come after it. A begin and a store that were refused are asked once more,
-and go on with memory as if they had not been. Any other call that is refused ends its test, which tells the fault. A refused close leaves the history
-of the phases before. A refused publish is refused for good, and the window shows what it showed. Between two looks for memory a view of an unknown
-user is answered.
+The tests `calls` of the crates engine_tests and phase_tests make the calls and print a line `CALL: ANSWER` for each; tests/library_calls.txt has their
+lines with ample memory. Each of their allocations is refused in turn, alone and with all that come after it. A begin and a store that were refused are
+asked once more, and go on with memory as if they had not been: the first store of a permit has number 1. Any other call that is refused ends its test,
+which tells the fault. A refused close leaves the history of the phases before. A refused publish is refused for good, and the window shows what it
+showed. Between two looks for memory a view of an unknown user is answered, as the first request of a permit and as a later one.
 """
 
 import argparse
@@ -31,12 +31,15 @@ ALLOCATION_FAILED = "memory allocation failed"
 REFUSED = ("error: AllocError", "error: AllocFailed { .. }")
 BEGINS = ("joined begin", "split begin")
 STORES = ("joined request 2, 7 left", "split request 6, 6 left")
+FIRST_STORE = "first store, 2 left"
+ASKED_ONCE_MORE = (*BEGINS, *STORES, FIRST_STORE)
 CLOSES = ("joined close", "split close")
 LOOK, PUBLISH, VIEW, ENTRY = "memory", "publish", "view after ", "entry of phase "
 # What each call answers where it is refused memory; in some run it does.
 FAULTS = {
-    **dict.fromkeys((*BEGINS, *STORES, *CLOSES, "publisher"), (NO_MEMORY,)),
+    **dict.fromkeys((*ASKED_ONCE_MORE, *CLOSES, "publisher"), (NO_MEMORY,)),
     **dict.fromkeys(("joined receipts", "split receipts", "phases ready", "rows"), REFUSED),
+    **dict.fromkeys(("first_store ready", "first store permit", "first_view ready", "first view permit"), REFUSED),
     PUBLISH: (ALLOCATION_FAILED,),
     "windows ready": (*REFUSED, "error: Memory"),
     LOOK: ("refused",),
@@ -120,7 +123,7 @@ def left_after_refusal(wanted: Line, left: list[Line], before: list[Line], was_r
         return left
     if wanted.call == PUBLISH:
         return [*[line for line in before if line.call.startswith(VIEW)][-1:], REFUSED_FOR_GOOD]
-    require(wanted.call in (*BEGINS, *STORES), f"went on after a refused call: {wanted}")
+    require(wanted.call in ASKED_ONCE_MORE, f"went on after a refused call: {wanted}")
     if not was_refused:
         return [wanted, *left]
     require(wanted.call in STORES, f"went on after a second refusal: {wanted}")
@@ -163,16 +166,17 @@ def tests_of_calls(program: Path) -> set[str]:
     return {line.removeprefix(PREFIX).removesuffix(": test") for line in listed if line.startswith(PREFIX)}
 
 
-def try_each(program: Path, tally: Tally) -> None:
+def try_each(programs: list[Path], tally: Tally) -> None:
     ample = ample_lines()
-    tally.check(tests_of_calls(program) == set(ample), "each test of calls has its lines in library_calls.txt")
+    commands = {name: [program, PREFIX + name] for program in programs for name in tests_of_calls(program)}
+    tally.check(set(commands) == set(ample), "each test of calls has its lines in library_calls.txt")
     with tempfile.TemporaryDirectory() as folder:
         shim = build_shim("refused_memory", Path(folder))
         if shim is None:
             return tally.skip("each allocation refused", "there is no C compiler")
         sweep = Sweep(tally)
         for name, text in ample.items():
-            command = [program, PREFIX + name]
+            command = commands[name]
             tally.same(f"{name} with ample memory", run(command), Outcome(PASSED, (text + WITHOUT_FAULT).encode(), b""))
             for and_all_after in (False, True):
                 for refusal in Refusing(shim, command).each(and_all_after):
@@ -182,10 +186,10 @@ def try_each(program: Path, tally: Tally) -> None:
 
 def main() -> None:
     words = argparse.ArgumentParser(description=__doc__, formatter_class=argparse.RawDescriptionHelpFormatter)
-    words.add_argument("tests", nargs="?", type=Path, default=built_tests("engine_tests"))
-    program = words.parse_args().tests.resolve()
+    words.add_argument("tests", nargs="*", type=Path, default=[built_tests("engine_tests"), built_tests("phase_tests")])
+    programs = [tests.resolve() for tests in words.parse_args().tests]
     tally = Tally()
-    try_each(program, tally)
+    try_each(programs, tally)
     tally.finish()
 
 
