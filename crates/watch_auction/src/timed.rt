@@ -45,6 +45,8 @@ impl<'a, B, C> Timed<'a, B, C> {
 impl<'a, B: Board, C: Clock> Board for Timed<'a, B, C> {
     ghost has = { λ timed opening rows phases. B.has timed.board opening rows phases };
 
+    ghost has_refused = { λ timed opening rows phases. B.has_refused timed.board opening rows phases };
+
     fn publish<R: Wait>(&mut self, rt: &R, last: Vec<Row>) -> Result<(), AllocError> {
         let begun = Instant::now(self.clock);
         self.board.publish(rt, last)?;
