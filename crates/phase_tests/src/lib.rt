@@ -1,4 +1,4 @@
-//! Tests of records, journals, permits and floors by their public calls.
+//! Tests of records, shards, journals, permits and floors by their public calls.
 #![tactic(auto)]
 
 #[cfg(test)]

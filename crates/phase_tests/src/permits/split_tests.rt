@@ -100,7 +100,7 @@ fn comment_on_a_hot_item<N: PhaseName, R: Wait + Abort>(
     Ok(())
 }
 
-// A bid and a comment at the end of numbers.
+// A bid at the end of numbers.
 fn stores_at_the_end<N: PhaseName, R: Wait + Abort>(
     rt: &R,
     alloc: Global,
