@@ -1,4 +1,7 @@
+pub mod BufferLemmas
+pub mod DigitLemmas
 pub mod KindLemmas
+pub mod LineLemmas
 pub mod ListedLemmas
 pub mod MadeTexts
 pub mod NameLemmas
@@ -6,6 +9,9 @@ pub mod NumberLemmas
 pub mod NumberedLemmas
 pub mod NumeralLemmas
 pub mod PartLemmas
+pub mod PlainFieldLemmas
+pub mod PlainLineLemmas
+pub mod ProgressLemmas
 pub mod RecordsLeft
 pub mod ReplyOrder
 pub mod RowsFirst

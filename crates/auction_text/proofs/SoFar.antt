@@ -17,15 +17,8 @@ use Rattle.auction_text.specs.declared.record.Record.{Record}
 use Rattle.auction_text.specs.Reading.{nothing_asked, with_record}
 use Rattle.auction_text.specs.Records.{and_then, read_record}
 use Rattle.auction_text.specs.Scripts.{Asked, asked_in, input_of, read_records, records_of, request_by, row_in, rows, script}
+use Rattle.auction_text.specs.Progress.{SoFar}
 use Rattle.auction_text.proofs.RecordsLeft.{Left, left_all, read_end, read_more}
-
--- what was asked so far is asked by the records before `rest`, which have no fault
-pub record SoFar (workers : ℕ) (all : List (List (List ℕ))) (count : ℕ) (begun : Bool) (rest : List (List (List ℕ))) (asked : Asked) : Type 0 where
-  pub said : List Record
-  pub read : read_records workers 1 false all ≡ and_then (read_records workers (count + 1) begun rest) (λ others. Ok (said ++ others))
-  pub rows_are : rows said ≡ asked.rows
-  pub workers_are : length asked.scripts ≡ workers
-  pub script_of : (w : ℕ) → w < workers → script w said ≡ get_or asked.scripts w []
 
 none_before : (r : Result (List Record) ReadFault) → r ≡ and_then r (λ others. Ok ([] ++ others))
 none_before (Ok others) = refl
@@ -36,7 +29,7 @@ one_before : (r : Result (List Record) ReadFault) (said : List Record) (first : 
 one_before (Ok others) said first = ap Ok (sym (append_assoc said (first ∷ []) others))
 one_before (Err f) said first = refl
 
-so_far_none : (workers : ℕ) (all : List (List (List ℕ))) → SoFar workers all 0 false all (nothing_asked workers)
+pub so_far_none : (workers : ℕ) (all : List (List (List ℕ))) → SoFar workers all 0 false all (nothing_asked workers)
 so_far_none workers all = record {
   said = [];
   read = none_before (read_records workers 1 false all);
@@ -77,7 +70,7 @@ count_more first asked = elim (cases_Bool first.is_row) [
 ]
 
 -- a record without a fault
-so_far_more : (workers : ℕ) (all : List (List (List ℕ))) (count : ℕ) (begun : Bool) (fields : List (List ℕ)) (rest : List (List (List ℕ))) (asked : Asked) (first : Record)
+pub so_far_more : (workers : ℕ) (all : List (List (List ℕ))) (count : ℕ) (begun : Bool) (fields : List (List ℕ)) (rest : List (List (List ℕ))) (asked : Asked) (first : Record)
     → SoFar workers all count begun (fields ∷ rest) asked → count < MOST_RECORDS → read_record workers (count + 1) begun fields ≡ Ok first → first.worker < workers
     → SoFar workers all (count + 1) (begun || not first.is_row) rest (with_record first asked)
 unfolding read_records

@@ -1,6 +1,8 @@
 pub mod Fields
 pub mod Kinds
+pub mod Lines
 pub mod Order
+pub mod Progress
 pub mod Reading
 pub mod Records
 pub mod Replies

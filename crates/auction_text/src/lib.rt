@@ -5,6 +5,10 @@
 mod faults;
 mod fields;
 mod kinds;
+mod plain_fields;
+mod plain_lines;
+mod plain_text;
+mod progress;
 mod reading_laws;
 mod record;
 mod replies;

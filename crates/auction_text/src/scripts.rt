@@ -1,11 +1,16 @@
 //! The scripts of an input.
-ghost use Rattle.std.specs.Prelude.{ℕ, ◌≡◌, ◌<◌, true, vec_len, IfOk, IfErr, List, OnOk, IfSome};
-ghost use Rattle.csv.specs.Reading.{ReadRecord};
+ghost use Rattle.std.specs.Prelude.{ℕ, ◌≡◌, ◌<◌, ◌≤◌, ◌==◌, ◌++◌, ◌∷◌, [], true, vec_len, IfOk, IfErr, List, OnOk, IfSome, if◌then◌else◌};
+ghost use Rattle.csv.specs.Reading.{ReadRecord, strip_bom};
 ghost use Rattle.csv.specs.Records.{fields_of};
+ghost use Rattle.auction_text.specs.Lines.{line_feed};
+ghost use Rattle.auction_text.specs.Progress.{IsReadUpTo, unmarked};
 ghost use Rattle.auction_text.specs.Reading.{IsAtStart, IsInputFault, IsPlain, nothing_asked, with_record};
 ghost use Rattle.auction_text.specs.Scripts.{asked_by, input_of};
+ghost use Rattle.auction_text.specs.declared.scripts.TheConstants.{MOST_RECORDS};
 
 use crate::faults::ReadFault;
+use crate::plain_text::read_lines;
+use crate::progress::{Progress, add};
 use crate::record::{Record, read_record};
 use auction_rows::{MOST_ROWS, Request};
 use csv::{ByteRecord, ErrorKind, Reader, ReaderBuilder};
@@ -64,8 +69,9 @@ fn empty_input(alloc: Global, workers: u32) -> Result<Input, ReadFault>
     Ok(Input { rows, scripts })
 }
 
-// Puts a row at the end of the rows, and a request at the end of its worker's script.
-fn add_record(input: &mut Input, said: &Record) -> Result<(), ReadFault>
+/// Puts a row at the end of the rows, and a request at the end of its worker's script.
+#[inline(always)]
+pub fn add_record(input: &mut Input, said: &Record) -> Result<(), ReadFault>
     requires { said.now.worker < vec_len input.old.scripts }
     ensures adds { OnOk result (asked_by input.new ≡ with_record said.now (asked_by input.old)) }
     ensures count { vec_len input.new.scripts ≡ vec_len input.old.scripts }
@@ -85,30 +91,33 @@ fn add_record(input: &mut Input, said: &Record) -> Result<(), ReadFault>
     Ok(())
 }
 
-// Reads the records that a reader has left, from its first one on, and adds each to what was asked, which is nothing yet.
+// Reads the records that a reader of the rest of an input has, and adds each.
 fn read_all<R: Read>(
     records: &mut Reader<R>,
     fields: &mut ByteRecord,
     workers: u32,
-    input: &mut Input,
+    progress: &mut Progress,
 ) -> Result<(), ReadFault>
     requires plain { IsPlain records.old }
-    requires empty { asked_by input.old ≡ nothing_asked workers }
-    requires count { vec_len input.old.scripts ≡ workers }
-    ensures input { OnOk result ((bytes : List ℕ) → IsAtStart R.remaining bytes records.old →
-        input_of workers bytes ≡ Ok (asked_by input.new)) }
-    ensures count { OnOk result (vec_len input.new.scripts ≡ workers) }
+    requires count { vec_len progress.old.input.scripts ≡ workers }
+    requires room { progress.old.count ≤ MOST_RECORDS }
+    ensures input { OnOk result ((bytes left : List ℕ) → IsAtStart R.remaining left records.old →
+        unmarked progress.old.count left ≡ strip_bom left →
+        IsReadUpTo workers bytes progress.old left →
+        input_of workers bytes ≡ Ok (asked_by progress.new.input)) }
+    ensures count { OnOk result (vec_len progress.new.input.scripts ≡ workers) }
     ensures fault { IfErr result (λ fault. IsInputFault fault →
-        (bytes : List ℕ) → IsAtStart R.remaining bytes records.old → input_of workers bytes ≡ Err fault) }
+        (bytes left : List ℕ) → IsAtStart R.remaining left records.old →
+        unmarked progress.old.count left ≡ strip_bom left →
+        IsReadUpTo workers bytes progress.old left →
+        input_of workers bytes ≡ Err fault) }
 {
-    let mut begun = false;
-    for count in 0..MOST_RECORDS {
+    while progress.count < MOST_RECORDS {
         if !read_next(records, fields)? {
             return Ok(());
         }
-        let said = read_record(fields, workers, count + 1, begun)?;
-        begun |= !said.is_row;
-        add_record(input, &said)?;
+        let said = read_record(fields, workers, progress.count + 1, progress.begun)?;
+        add(progress, &said)?;
     }
     if read_next(records, fields)? {
         return Err(ReadFault::Long);
@@ -116,28 +125,91 @@ fn read_all<R: Read>(
     Ok(())
 }
 
-// Reads what a reader gives, and adds each record to what was asked, which is nothing yet. The reader of records is let go at
-// one place, by which this is proved sooner.
-fn read_input<R: Read + Drop>(
+// Reads as `csv` does the rest of an input, which a reader gives. The reader of records is let go at one place, by which this
+// is proved sooner.
+#[inline(never)]
+fn read_rest<R: Read + Drop>(
     alloc: Global,
     reader: R,
     workers: u32,
-    input: &mut Input,
+    progress: &mut Progress,
 ) -> Result<(), ReadFault>
-    requires empty { asked_by input.old ≡ nothing_asked workers }
-    requires count { vec_len input.old.scripts ≡ workers }
-    ensures input { OnOk result (IfSome (R.remaining reader) (λ bytes.
-        input_of workers bytes ≡ Ok (asked_by input.new))) }
-    ensures count { OnOk result (vec_len input.new.scripts ≡ workers) }
+    requires count { vec_len progress.old.input.scripts ≡ workers }
+    requires room { progress.old.count ≤ MOST_RECORDS }
+    ensures input { OnOk result (IfSome (R.remaining reader) (λ left. (bytes : List ℕ) →
+        unmarked progress.old.count left ≡ strip_bom left →
+        IsReadUpTo workers bytes progress.old left →
+        input_of workers bytes ≡ Ok (asked_by progress.new.input))) }
+    ensures count { OnOk result (vec_len progress.new.input.scripts ≡ workers) }
     ensures fault { IfErr result (λ fault. IsInputFault fault →
-        IfSome (R.remaining reader) (λ bytes. input_of workers bytes ≡ Err fault)) }
+        IfSome (R.remaining reader) (λ left. (bytes : List ℕ) →
+        unmarked progress.old.count left ≡ strip_bom left →
+        IsReadUpTo workers bytes progress.old left →
+        input_of workers bytes ≡ Err fault)) }
 {
     let mut records = ReaderBuilder::new()
         .has_headers(false)
         .flexible(true)
         .from_reader(alloc, reader);
     let mut fields = ByteRecord::new(alloc);
-    read_all(&mut records, &mut fields, workers, input)
+    read_all(&mut records, &mut fields, workers, progress)
+}
+
+// What the rest of an input is read after: the end of a line, so that no byte order mark is taken off within the input.
+fn front_of(count: u32) -> &'static [u8]
+    ensures { result.now ≡ (if count == 0 then [] else (line_feed ∷ [])) }
+{
+    if count == 0 { b"" } else { b"\n" }
+}
+
+// Reads as `csv` does the rest of an input: what a buffer holds, and then what a reader gives.
+fn hand_over<R: Read + Drop>(
+    alloc: Global,
+    held: &[u8],
+    reader: R,
+    workers: u32,
+    progress: &mut Progress,
+) -> Result<(), ReadFault>
+    requires count { vec_len progress.old.input.scripts ≡ workers }
+    requires room { progress.old.count ≤ MOST_RECORDS }
+    ensures input { OnOk result (IfSome (R.remaining reader) (λ left. (bytes : List ℕ) →
+        IsReadUpTo workers bytes progress.old (held.now ++ left) →
+        input_of workers bytes ≡ Ok (asked_by progress.new.input))) }
+    ensures count { OnOk result (vec_len progress.new.input.scripts ≡ workers) }
+    ensures fault { IfErr result (λ fault. IsInputFault fault →
+        IfSome (R.remaining reader) (λ left. (bytes : List ℕ) →
+        IsReadUpTo workers bytes progress.old (held.now ++ left) →
+        input_of workers bytes ≡ Err fault)) }
+{
+    let front = front_of(progress.count);
+    let rest = front.chain(held).chain(reader);
+    read_rest(alloc, rest, workers, progress)
+}
+
+// How many bytes are read at a time.
+const ROOM_TO_READ: usize = 65536;
+
+// Reads what a reader gives, of which nothing was read yet.
+fn read_input<R: Read + Drop>(
+    alloc: Global,
+    reader: R,
+    workers: u32,
+    progress: &mut Progress,
+) -> Result<(), ReadFault>
+    requires count { vec_len progress.old.input.scripts ≡ workers }
+    requires room { progress.old.count ≤ MOST_RECORDS }
+    ensures input { OnOk result (IfSome (R.remaining reader) (λ bytes.
+        IsReadUpTo workers bytes progress.old bytes →
+        input_of workers bytes ≡ Ok (asked_by progress.new.input))) }
+    ensures count { OnOk result (vec_len progress.new.input.scripts ≡ workers) }
+    ensures fault { IfErr result (λ fault. IsInputFault fault →
+        IfSome (R.remaining reader) (λ bytes. IsReadUpTo workers bytes progress.old bytes →
+        input_of workers bytes ≡ Err fault)) }
+{
+    let mut reader = reader;
+    let mut buffer = [0u8; ROOM_TO_READ];
+    let filled = read_lines(progress, &mut buffer, &mut reader)?;
+    hand_over(alloc, &buffer[..filled], reader, workers, progress)
 }
 
 /// Reads to its end what a reader gives: rows to open with, and after them the scripts of so many
@@ -158,7 +230,12 @@ pub fn read_scripts<R: Read + Drop>(
     ensures fault { IfErr result (λ fault. IsInputFault fault →
         IfSome (R.remaining reader) (λ bytes. input_of workers bytes ≡ Err fault)) }
 {
-    let mut input = empty_input(alloc, workers)?;
-    read_input(alloc, reader, workers, &mut input)?;
-    Ok(input)
+    let input = empty_input(alloc, workers)?;
+    let mut progress = Progress {
+        input,
+        count: 0,
+        begun: false,
+    };
+    read_input(alloc, reader, workers, &mut progress)?;
+    Ok(progress.input)
 }

@@ -1,15 +1,16 @@
 use Rattle.std.proofs.lemmas.Result.{IfErr-weaker, on_ok_weaker}
+use Rattle.auction_text.proofs.ProgressLemmas.{read_on_alone}
 use Rattle.auction_text.proofs.SoFar.{known_all}
 use Rattle.auction_text.proofs.scripts.read_input.Goals as goal
 
 pub returns-clause-input : goal.returns-clause-input
 returns-clause-input g c =
-    let fr = c.from_reader-records.ensures in
-    on_ok_weaker c.read_all.result (λ read. known_all (g.R.Read.remaining c.args.reader) (λ bytes e.
-    read bytes (record { source = rw e at fr.source; begins = fr.state }))) c.read_all.ensures.input
+    on_ok_weaker c.hand_over.result (λ read. known_all (g.R.Read.remaining c.args.reader) (λ bytes e up_to.
+    let rest = c.in_ok-filled.ensures.reads bytes e in
+    (rw rest.1 at read) bytes (read_on_alone c.args.workers bytes c.args.progress.now c.read_lines.new.progress bytes _ rest.2 up_to))) c.hand_over.ensures.input
 
 pub returns-clause-fault : goal.returns-clause-fault
 returns-clause-fault g c =
-    let fr = c.from_reader-records.ensures in
-    IfErr-weaker c.read_all.result _ _ (λ fault read input. known_all (g.R.Read.remaining c.args.reader) (λ bytes e.
-    read input bytes (record { source = rw e at fr.source; begins = fr.state }))) c.read_all.ensures.fault
+    IfErr-weaker c.hand_over.result _ _ (λ fault read input. known_all (g.R.Read.remaining c.args.reader) (λ bytes e up_to.
+    let rest = c.in_ok-filled.ensures.reads bytes e in
+    (rw rest.1 at (read input)) bytes (read_on_alone c.args.workers bytes c.args.progress.now c.read_lines.new.progress bytes _ rest.2 up_to))) c.hand_over.ensures.fault
