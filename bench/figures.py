@@ -5,18 +5,20 @@ import sys
 from typing import NamedTuple
 
 import instructions
-from measures import BIDDING, LARGE, ONE_ITEM, UNIFORM, VIEWED, Load, Policy, Tries
+from measures import BIDDING, LARGE, ONE_ITEM, SMALL, UNIFORM, VIEWED, Load, Policy, Tries
 
-AUCTION, UNSPLIT = "the auction", "the auction, nothing split"
+AUCTION, UNSPLIT, USUAL = "the auction", "the auction, nothing split", "the auction, default quotas"
 PHASES, SHARDS, LOCK = "plain Rust, the same phases", "plain Rust, a lock a shard", "plain Rust, one lock"
 ALONE = "plain Rust, one thread, no lock"
 SQLITE, POSTGRES = "SQLite in memory", "PostgreSQL"
 REFEREE = "the referee"
 
-SYSTEMS = (AUCTION, UNSPLIT, PHASES, SHARDS, LOCK, ALONE, SQLITE, POSTGRES)
+SYSTEMS = (AUCTION, UNSPLIT, USUAL, PHASES, SHARDS, LOCK, ALONE, SQLITE, POSTGRES)
+
+DATABASES = (SQLITE, POSTGRES)
 
 # What a system that is not a database is called on a command line.
-MODES = {AUCTION: "program", UNSPLIT: "program", PHASES: "phases", SHARDS: "shards", LOCK: "lock", ALONE: "serial"}
+MODES = {AUCTION: "program", UNSPLIT: "program", USUAL: "program", PHASES: "phases", SHARDS: "shards", LOCK: "lock", ALONE: "serial"}
 
 RATE, ANSWER, SECONDS, MEMORY = "requests answered a second", "seconds of answering", "seconds, whole command", "megabytes at most"
 RUN, PUBLISHING, VIEW = "seconds of a run", "seconds of publishing", "nanoseconds a view"
@@ -26,6 +28,9 @@ SCRIPTS, SCRIPT_SIZE, HISTORY_SIZE = "seconds for the scripts alone", "megabytes
 
 # What a request's instructions are for.
 INSTRUCTIONS = ("reading", "of it the kit's reader of records", "performing", "writing replies, and memory moved or cleared")
+
+# Of a whole command: of all threads, and of the thread that reads, waits for the others and writes.
+ALL_THREADS, FIRST_THREAD = "instructions", "instructions of the first thread"
 
 # The auction takes so many workers, and so many rows and requests of each.
 MOST_WORKERS, MOST_OF_A_WORKER = 16, 1_000_000
@@ -81,17 +86,22 @@ def say(words):
 
 
 def policy_of(system):
-    return Policy(hot=0) if system == UNSPLIT else Policy()
+    return {UNSPLIT: Policy(hot=0), USUAL: Policy(SMALL)}.get(system, Policy())
 
 
-def worker_counts(asked):
-    counts = [count for count in (1, 2, 4, 8, 16) if count < asked.workers] + [asked.workers]
-    return [counts[0], counts[-1]] if asked.fast and len(counts) > 1 else counts
+def worker_counts(asked, system):
+    """All counts for what takes an instant; for SQLite, which has one thread, that of the other tables alone."""
+    counts = sorted({1, 2, 4, 5, 8, MOST_WORKERS, asked.workers})
+    if asked.fast:
+        counts = sorted({1, asked.workers})
+    if system in DATABASES:
+        counts = [count for count in counts if count <= asked.workers]
+    return counts[-1:] if system == SQLITE else counts
 
 
 def by_workers(asked):
     return [Wanted("workers", Setup(system, load, workers, asked.requests, policy_of(system)), RATE)
-            for load in (ONE_ITEM, UNIFORM, BIDDING) for workers in worker_counts(asked) for system in SYSTEMS]
+            for load in (ONE_ITEM, UNIFORM, BIDDING) for system in SYSTEMS for workers in worker_counts(asked, system)]
 
 
 def skewed(asked):
@@ -102,7 +112,7 @@ def skewed(asked):
 
 def by_skew(asked):
     return [Wanted("skew", Setup(system, load, asked.workers, asked.requests, policy_of(system)), RATE)
-            for load in skewed(asked) for system in SYSTEMS]
+            for load in skewed(asked) for system in SYSTEMS if system != USUAL]
 
 
 def of_policy(asked, table, load, policy, measure):
@@ -110,9 +120,8 @@ def of_policy(asked, table, load, policy, measure):
 
 
 def by_quotas(asked):
-    quotas = ((64, 64), LARGE) if asked.fast else ((64, 64), (64, 256), (64, 1024), LARGE, (64, 16384), (1024, 4096))
-    return [of_policy(asked, "quotas", load, Policy(pair, hot), measure)
-            for load in (ONE_ITEM, UNIFORM, BIDDING) for pair in quotas for hot in (8, 0) for measure in (ANSWER, SECONDS)]
+    quotas = (SMALL, LARGE) if asked.fast else (SMALL, (64, 256), (64, 1024), LARGE, (64, 16384), (1024, 4096))
+    return [of_policy(asked, "quotas", load, Policy(pair, hot), ANSWER) for load in (ONE_ITEM, UNIFORM, BIDDING) for pair in quotas for hot in (8, 0)]
 
 
 def by_delay(asked):
@@ -233,6 +242,19 @@ def by_instructions(systems, asked):
                 yield row_of("instructions", load, policy, measure, value, 1, requests, system)
 
 
+def work_beside_plain(systems, asked):
+    """The instructions of a request, of the auction and of plain Rust with the same phases: with one worker, and by threads with several."""
+    if not instructions.is_there():
+        return
+    requests = 10_000 if asked.fast else 100_000
+    for load in (ONE_ITEM,) if asked.fast else (ONE_ITEM, UNIFORM, BIDDING):
+        for system in (AUCTION, PHASES):
+            for workers, quotas in ((1, SMALL), (1, LARGE), (asked.workers, LARGE)) if systems.has(MODES[system]) else ():
+                say(f"{load.name}, {workers} workers, instructions of all threads, {system}")
+                for measure, value in zip((ALL_THREADS, FIRST_THREAD), systems.work(MODES[system], load, workers, requests, Policy(quotas))):
+                    yield row_of("work", load, Policy(quotas), measure, value, workers, requests, system)
+
+
 def windows(systems, asked):
     """What `watch_auction bench` tells: views of windows alone, and beside a run."""
     if "watch" not in systems.built:
@@ -261,7 +283,7 @@ def in_seconds(text):
 
 
 # What measures the figures of other tables, and of "delay" what no clock says.
-APART = {"delay": late_replies, "checking": checking, "instructions": by_instructions, "windows": windows}
+APART = {"delay": late_replies, "checking": checking, "instructions": by_instructions, "work": work_beside_plain, "windows": windows}
 
 PARTS = list(dict.fromkeys((*TOGETHER, *APART)))
 

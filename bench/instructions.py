@@ -1,5 +1,7 @@
 """How many instructions a request takes, and in which part of the program: counted by valgrind's callgrind, by crates of functions."""
 import collections
+import glob
+import os
 import re
 import shutil
 import subprocess
@@ -46,6 +48,23 @@ def counted(words, path, folder):
                 counts[crate] += 0 if is_inclusive else int(line.split()[1])
             is_inclusive = line.startswith("calls=")
     return counts
+
+
+def by_threads(words, path, folder):
+    """The instructions of a command over a file, of all threads and of the first."""
+    told = f"{folder}/threads"
+    for old in glob.glob(f"{told}*"):
+        os.remove(old)
+    with open(path, "rb") as given:
+        subprocess.run([*VALGRIND, "--separate-threads=yes", f"--callgrind-out-file={told}", *words], stdin=given, capture_output=True)
+    counts = [total_of(one) for one in sorted(glob.glob(f"{told}-*"))]
+    return sum(counts), counts[0]
+
+
+def total_of(told):
+    """The count that stands in a file of callgrind's for all its functions."""
+    with open(told) as text:
+        return int(re.search(r"(?m)^(?:summary|totals): (\d+)", text.read()).group(1))
 
 
 def with_bad_record(path, folder):

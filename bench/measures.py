@@ -14,7 +14,7 @@ import programs
 
 USERS, CATEGORIES, ITEMS, SHARDS = 1000, 100, 10_000, 16
 
-LARGE = (64, 4096)
+SMALL, LARGE = (64, 64), (64, 4096)
 
 # What `rubis_check` ends with where a request stands in no line.
 LACKING = 6
@@ -169,6 +169,12 @@ class Systems:
         """The instructions of each part for a request, with one worker: those of a load less those of its rows alone."""
         words, engine = self.command("program", policy, 1), instructions.crates_of_engine(programs.ROOT)
         full, rows = (instructions.by_parts(words, self.load(load, 1, count), engine, self.folder) for count in (requests, 0))
+        return [(of_full - of_rows) / requests for of_full, of_rows in zip(full, rows)]
+
+    def work(self, mode, load, workers, requests, policy):
+        """The instructions of a whole command for a request, of all threads and of the first: those of a load less those of its rows alone."""
+        words = self.command(mode, policy, workers)
+        full, rows = (instructions.by_threads(words, self.load(load, workers, count), self.folder) for count in (requests, 0))
         return [(of_full - of_rows) / requests for of_full, of_rows in zip(full, rows)]
 
     def few(self):

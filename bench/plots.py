@@ -2,7 +2,7 @@
 import re
 from typing import NamedTuple
 
-from figures import ALONE, AUCTION, DELAY, LATEST, LOCK, PHASES, POSTGRES, RATE, SHARDS, SQLITE, SYSTEMS, UNSPLIT
+from figures import ALONE, AUCTION, DELAY, LATEST, LOCK, PHASES, POSTGRES, RATE, SHARDS, SQLITE, SYSTEMS, UNSPLIT, USUAL
 from measures import BIDDING
 from svg import GREY, INK, Axis, decades, frame, line, mark, path, picture, short, spread, steps, text
 
@@ -14,7 +14,7 @@ class Style(NamedTuple):
 
 
 STYLES = {
-    AUCTION: Style("#c1121f", 0, 3), UNSPLIT: Style("#f4978e", 0), PHASES: Style("#1d3557", -4), SHARDS: Style("#457b9d", 3),
+    AUCTION: Style("#c1121f", 0, 3), UNSPLIT: Style("#f4978e", 0), USUAL: Style("#e07a1f", 3), PHASES: Style("#1d3557", -4), SHARDS: Style("#457b9d", 3),
     LOCK: Style("#8ecae6", -3), ALONE: Style("#8338ec", 4), SQLITE: Style("#6a994e", 5), POSTGRES: Style("#7f5539", 6),
 }
 
@@ -85,6 +85,7 @@ def by_workers(rows, place):
         for system in SYSTEMS:
             own = [row for row in rows if row.load == load and row.system == system]
             if own:
+                own.sort(key=lambda row: row.workers)
                 parts += curve(across, up, [(row.workers, row.value, row.least, row.greatest) for row in own], STYLES[system])
     present = [system for system in SYSTEMS if any(row.system == system for row in rows)]
     parts += entries([(legend(system), STYLES[system]) for system in present], 200, 440, 360)

@@ -10,7 +10,8 @@ import figures
 import lite
 import measures
 import plots
-from figures import ANSWER, AUCTION, DELAY, INSTRUCTIONS, LATEST, MEMORY, PUBLISHING, RATE, RUN, SCRIPTS, SECONDS, SYSTEMS, UNSPLIT, VIEW, Figure
+from figures import (ALL_THREADS, ANSWER, AUCTION, DELAY, FIRST_THREAD, INSTRUCTIONS, LATEST, MEMORY, PUBLISHING, RATE, RUN, SCRIPTS, SECONDS,
+                     SYSTEMS, UNSPLIT, VIEW, Figure)
 from measures import BIDDING, LARGE, ONE_ITEM, UNIFORM, Policy
 from programs import ROOT
 
@@ -83,10 +84,15 @@ def spread(rows):
 
 
 def by_workers(rows):
+    """A table for each load."""
     rows = values(rows, table="workers")
-    columns = [(load, count) for load in dict.fromkeys(row.load for row in rows) for count in sorted({row.workers for row in rows})]
-    lines = [[system, *(number(value(rows, load=load, system=system, workers=count)) for load, count in columns)] for system in present(rows)]
-    return table(["Requests per second, by workers", *(f"{load}, {count}" for load, count in columns)], lines)
+    counts = sorted({row.workers for row in rows})
+    parts = []
+    for load in dict.fromkeys(row.load for row in rows):
+        own = values(rows, load=load)
+        lines = [[system, *(number(value(own, system=system, workers=count)) for count in counts)] for system in present(own)]
+        parts.append(table([f"Requests per second, {plots.load_title(load)}, by workers", *map(str, counts)], lines))
+    return "\n".join(parts)
 
 
 def by_skew(rows):
@@ -200,12 +206,51 @@ def windows(rows):
     return text + "\n" + table(["A million bids by four workers on one item, published to", "Seconds", "Publishing, s", "Nanoseconds per view meanwhile"], lines)
 
 
+def work_beside_plain(rows):
+    """Of a request all instructions of a whole command, beside plain Rust's, and what of them one thread has to execute."""
+    rows = values(rows, table="work")
+    loads = list(dict.fromkeys(row.load for row in rows))
+    ways = list(dict.fromkeys((row.workers, row.joined, row.split) for row in rows))
+    lines = [[f"{system}, {in_workers(workers)}, {joined} / {split}", *(" / ".join(map(number, all_and_first(rows, load, system, workers, split))) for load in loads)]
+             for workers, joined, split in ways for system in present(rows)]
+    heads = ["Instructions per request, whole command; with several workers all threads / first thread", *map(plots.load_title, loads)]
+    return table(heads, lines) + most_gain(rows, loads)
+
+
+def all_and_first(rows, load, system, workers, split):
+    """With one worker there is one thread."""
+    wanted = {"load": load, "system": system, "workers": workers, "split": split}
+    counts = [value(rows, measure=measure, **wanted) for measure in (ALL_THREADS, FIRST_THREAD)]
+    return counts if workers > 1 else counts[:1]
+
+
+def most_gain(rows, loads):
+    """How much faster than one worker the most workers can make a whole command, if time goes by instructions and each has a processor."""
+    own = values(rows, system=AUCTION, workers=max(row.workers for row in rows))
+    count = own[0].workers
+    if count == 1:
+        return ""
+    gains = []
+    for load in loads:
+        total, first = (value(own, load=load, measure=measure) for measure in (ALL_THREADS, FIRST_THREAD))
+        shared = (total - first) / (count - 1) * count
+        gains.append(total / (total - shared + shared / figures.MOST_WORKERS))
+    return (f"\nThe first thread reads, executes the share of one worker, and writes.\n"
+            f"If time followed instructions, {figures.MOST_WORKERS} workers on as many processors would make a whole command "
+            f"{from_to(gains)} times as fast as one worker on these loads, and no machine more.\n")
+
+
+def from_to(parts, digits=1):
+    """The least and the greatest, or one number if they are printed alike."""
+    return " to ".join(dict.fromkeys(f"{part:.{digits}f}" for part in (min(parts), max(parts))))
+
+
 # What the plots show. Those of tables stand above them.
 PLOTS = {"workers": "Requests per second by number of workers", "skew": "Throughput by skew, relative to plain Rust with a lock per shard",
          "memory": "Memory by requests", "delay": "Throughput against the delay of deferred views, by split quota"}
 
 TABLES = {"workers": by_workers, "skew": by_skew, "quotas": by_quotas, "shards": by_shards, "threshold": by_threshold, "whole": whole,
-          "memory": memory, "checking": checking, "instructions": instructions, "windows": windows}
+          "memory": memory, "checking": checking, "work": work_beside_plain, "instructions": instructions, "windows": windows}
 
 
 def shown_plot(name):
@@ -226,13 +271,13 @@ SHOWN = {AUCTION: "Fundreivo", UNSPLIT: "Fundreivo, nothing split", figures.PHAS
 
 
 def of_most_workers(rows):
-    """The rates at the greatest number of workers."""
-    rows = values(rows, table="workers")
-    return values(rows, workers=max((row.workers for row in rows), default=None))
+    """The rates with as many workers as there are processors, as the other tables have."""
+    count = max((row.workers for row in values(rows, table="skew")), default=None)
+    return values(rows, table="workers", workers=count)
 
 
 def rates(rows):
-    """The table of README.md: four systems at each load, by the greatest number of workers."""
+    """The table of README.md: four systems at each load."""
     rows = of_most_workers(rows)
     if not rows:
         return LEFT_OUT
@@ -246,13 +291,20 @@ def in_workers(count):
 
 
 def cost(rows):
-    """In README.md: the auction's throughput as a part of plain Rust's with the same phases."""
-    rows = of_most_workers(rows)
-    both = [[value(rows, load=load, system=system) for system in (AUCTION, figures.PHASES)] for load in dict.fromkeys(row.load for row in rows)]
-    if not both or not all(map(all, both)):
+    """In README.md: instructions beside plain Rust's with the same phases, and throughput as a part of its."""
+    own_rates = of_most_workers(rows)
+    work = values(rows, table="work", measure=ALL_THREADS, workers=1, split=LARGE[1])
+    said = [beside_plain(found) for found in (work, own_rates)]
+    if not all(said):
         return LEFT_OUT
-    parts = sorted(own / plain for own, plain in both)
-    return f"With {in_workers(rows[0].workers)}, {parts[0]:.2f} to {parts[-1]:.2f} times the throughput of the same algorithm in plain Rust"
+    return (f"A request takes {said[0]} times the instructions of the same algorithm in plain Rust; with {in_workers(own_rates[0].workers)}, "
+            f"{said[1]} times its throughput")
+
+
+def beside_plain(rows):
+    """The auction's value as a part of plain Rust's, over the loads that have both."""
+    both = [[value(rows, load=load, system=system) for system in (AUCTION, figures.PHASES)] for load in dict.fromkeys(row.load for row in rows)]
+    return from_to([own / plain for own, plain in both], 2) if both and all(map(all, both)) else None
 
 
 def gain(rows):
