@@ -57,12 +57,12 @@ class Case:
         return self.options.report and got == replace(NO_MEMORY[3], stdout=got.stdout) and without.is_answer(Outcome(0, got.stdout, b""))
 
     def last_part(self) -> int:
-        """The last part of the program that is reached, by its status: options, reading, performing, writing."""
+        """The last part of the program that takes memory, by its status: options, reading, performing, writing. A history is written with none."""
         try:
             open_auction(self.data, self.options)
         except Fault as fault:
             return fault.status
-        return 4
+        return 3 if self.options.history and not self.options.report else 4
 
     def may_answer(self, got: Outcome) -> bool:
         is_named = got in NO_MEMORY or (got == NO_THREAD and self.options.workers > 1)
@@ -96,6 +96,7 @@ def cases() -> list[Case]:
         *with_each_output("rows and a script", large(rows), rows),
         *with_each_output("three workers, longer scripts", large(three), three),
         Case("two workers in threads: history and report", *crowd()),
+        Case("two workers in threads: a text of each one's replies", *throng()),
         Case("a fault of the third record", first.replace(b"viewitem", b"viewItem"), alone),
         Case("a refused row", b"0,+bid,1,0.0,10,5\n", alone),
         RefusedOptions("refused options", b"", Options(workers=17)),
@@ -122,6 +123,13 @@ def crowd() -> tuple[bytes, Options]:
     calls = b"%d,bid,1,0.0,10,5\n" * 3 + b"%d,viewitem,0.0\n"
     scripts = [(calls % ((worker,) * 4)) * 75 for worker in range(2)]
     return VASE + b"".join(scripts), Options(workers=2, joined=150, split=150, threshold=1, history=True, report=True)
+
+
+def throng() -> tuple[bytes, Options]:
+    """Two workers have so many requests that threads make the text of the replies, in few phases."""
+    requests = 10_000
+    scripts = [b"%d,viewuser,0\n" % worker * requests for worker in range(2)]
+    return b"".join(scripts), Options(workers=2, joined=requests, split=requests)
 
 
 def large(options: Options) -> bytes:

@@ -37,13 +37,6 @@ pub fn execute<R: Threads + Wait + Sync, I: Read + Drop, W: Write>(
     let input = read_scripts(alloc, reader, options.workers)?;
     let book = OpeningBook::new(alloc, options.opening(), input.rows)?;
     let performed = perform(rt, alloc, &book, input.scripts, options)?;
-    write_texts(
-        alloc,
-        writer,
-        options,
-        book.rows(),
-        &performed.outcome,
-        &performed.lines,
-    )?;
+    write_texts(rt, alloc, writer, options, book.rows(), &performed)?;
     Ok(())
 }

@@ -5,49 +5,50 @@ ghost use Rattle.auction_text.specs.Writing.{WritesText};
 ghost use Rattle.auction_program.specs.Execution.{added_text, commits_text, AreWritten, ArePartWritten, HasLastViews, IsOneWritten};
 
 use crate::options::Options;
+use crate::performing::Performed;
 use auction_rows::Row;
-use auction_run::Outcome;
-use auction_text::{
-    ReportLines, WriteFault, write_history, write_replies, write_report, write_rows,
-};
+use auction_text::{WriteFault, write_history, write_replies_by_threads, write_report, write_rows};
 use std::alloc::Global;
 use std::io::Write;
+use std::thread::Threads;
 use worker_journals::History;
 
 /// Writes what the options ask for of a run from these rows, and then its report, where they ask for it. Without lines a report
 /// is refused as memory was for them. After `Write` a prefix of both was written; after `Memory` nothing, or all but the report.
 #[tactic(auto, using(crate::proofs::WrittenLemmas::part_of_first, crate::proofs::WrittenLemmas::part_of_added))]
-pub fn write_texts<W: Write>(
+pub fn write_texts<R: Threads + Sync, W: Write>(
+    rt: &R,
     alloc: Global,
     writer: &mut W,
     options: &Options,
     rows: &[Row],
-    outcome: &Outcome,
-    lines: &Option<ReportLines>,
+    performed: &Performed,
 ) -> Result<(), WriteFault>
-    requires { HasLastViews options.now rows.now outcome.now lines.now }
+    requires { HasLastViews options.now rows.now performed.now.outcome performed.now.lines }
     ensures whole { OnOk result (AreWritten (W.contents writer.old) (W.contents writer.new)
-        (commits_text options.now rows.now outcome.now.history.entries)
-        (added_text options.now rows.now outcome.now.history.entries (hot_sets outcome.now.hot.items))) }
+        (commits_text options.now rows.now performed.now.outcome.history.entries)
+        (added_text options.now rows.now performed.now.outcome.history.entries (hot_sets performed.now.outcome.hot.items))) }
     ensures part { IfErr result (λ fault. fault ≡ WriteFault.Write → ArePartWritten (W.contents writer.old) (W.contents writer.new)
-        (commits_text options.now rows.now outcome.now.history.entries)
-        (added_text options.now rows.now outcome.now.history.entries (hot_sets outcome.now.hot.items))) }
+        (commits_text options.now rows.now performed.now.outcome.history.entries)
+        (added_text options.now rows.now performed.now.outcome.history.entries (hot_sets performed.now.outcome.hot.items))) }
     ensures memory { IfErr result (λ fault. fault ≡ WriteFault.Memory → IsOneWritten options.now (W.contents writer.old) (W.contents writer.new)
-        (commits_text options.now rows.now outcome.now.history.entries)
-        (added_text options.now rows.now outcome.now.history.entries (hot_sets outcome.now.hot.items))) }
+        (commits_text options.now rows.now performed.now.outcome.history.entries)
+        (added_text options.now rows.now performed.now.outcome.history.entries (hot_sets performed.now.outcome.hot.items))) }
 {
-    write_commits(alloc, writer, options, rows, &outcome.history)?;
+    let outcome = &performed.outcome;
+    write_commits(rt, alloc, writer, options, rows, &outcome.history)?;
     if !options.report {
         return Ok(());
     }
-    match lines {
+    match &performed.lines {
         Some(lines) => write_report(alloc, writer, &outcome.history, &outcome.hot, lines),
         None => Err(WriteFault::Memory),
     }
 }
 
 // Writes the rows, the history or the replies.
-fn write_commits<W: Write>(
+fn write_commits<R: Threads + Sync, W: Write>(
+    rt: &R,
     alloc: Global,
     writer: &mut W,
     options: &Options,
@@ -59,8 +60,8 @@ fn write_commits<W: Write>(
     if options.rows {
         write_rows(alloc, writer, rows, history)
     } else if options.history {
-        write_history(alloc, writer, history)
+        write_history(writer, history)
     } else {
-        write_replies(alloc, writer, history)
+        write_replies_by_threads(rt, alloc, writer, history)
     }
 }

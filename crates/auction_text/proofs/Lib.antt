@@ -1,5 +1,7 @@
 pub mod BufferLemmas
+pub mod DecimalLemmas
 pub mod DigitLemmas
+pub mod EachLemmas
 pub mod KindLemmas
 pub mod LineLemmas
 pub mod ListedLemmas
@@ -8,10 +10,12 @@ pub mod NameLemmas
 pub mod NumberLemmas
 pub mod NumberedLemmas
 pub mod NumeralLemmas
+pub mod OwnTurns
 pub mod PartLemmas
 pub mod PlainFieldLemmas
 pub mod PlainLineLemmas
 pub mod ProgressLemmas
+pub mod PutLemmas
 pub mod RecordsLeft
 pub mod ReplyOrder
 pub mod RowsFirst
@@ -19,3 +23,4 @@ pub mod SoFar
 pub mod SortLemmas
 pub mod StoredReplies
 pub mod TurnLemmas
+pub mod WorkerReplies

@@ -125,9 +125,13 @@ pub below_none : (es : List Entry) → below 0 es ≡ []
 below_none [] = refl
 below_none (e ∷ es) = let none : nat_lt e.worker 0 ≡ false = grind (arith, nat_tests) in rw none (below_none es)
 
-pub below_all : (last w : ℕ) (es : List Entry) → last < w → AllByRecursion (λ e. e.worker ≤ last) es → below w es ≡ es
-below_all last w [] past few = refl
-below_all last w (e ∷ es) past few =
+pub below_all : (w : ℕ) (es : List Entry) → AllByRecursion (λ e. e.worker < w) es → below w es ≡ es
+below_all w [] few = refl
+below_all w (e ∷ es) few =
     let few_first = few.0 in
     let here : nat_lt e.worker w ≡ true = grind (arith, nat_tests) in
-    rw here (ap (λ (l : List Entry). e ∷ l) (below_all last w es past few.1))
+    rw here (ap (λ (l : List Entry). e ∷ l) (below_all w es few.1))
+
+pub all_below : (last n : ℕ) (es : List Entry) → last < n → AllByRecursion (λ e. e.worker ≤ last) es → AllByRecursion (λ e. e.worker < n) es
+all_below last n [] less all = tt
+all_below last n (e ∷ es) less all = (omega (arith, less, all.0), all_below last n es less all.1)

@@ -1,6 +1,7 @@
 pub mod Fields
 pub mod Kinds
 pub mod Lines
+pub mod Numerals
 pub mod Order
 pub mod Progress
 pub mod Reading
@@ -10,4 +11,5 @@ pub mod Report
 pub mod RowLines
 pub mod Scripts
 pub mod Turns
+pub mod Workers
 pub mod Writing

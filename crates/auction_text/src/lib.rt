@@ -2,9 +2,11 @@
 //! that are written.
 #![tactic(auto)]
 
+mod block;
 mod faults;
 mod fields;
 mod kinds;
+mod numeral;
 mod plain_fields;
 mod plain_lines;
 mod plain_text;
@@ -18,16 +20,21 @@ mod row_lines;
 mod scripts;
 mod short_text;
 mod text;
+mod text_blocks;
 mod text_laws;
+mod worker_texts;
 mod writing;
 
+pub use block::Block;
 pub use faults::{Cause, ReadFault, WriteFault};
 pub use fields::read_u64;
 pub use reading_laws::rows_come_first;
-pub use replies::push_reply;
+pub use replies::{push_reply, set_reply};
 pub use report::ReportLines;
 pub use row_lines::push_quoted;
 pub use scripts::{Input, MOST_RECORDS, read_scripts};
 pub use text::{push_labelled, push_labelled_id, push_number, push_text};
 pub use text_laws::{replies_in_order, rows_of_histories};
-pub use writing::{write_history, write_replies, write_report, write_rows};
+pub use writing::{
+    write_history, write_replies, write_replies_by_threads, write_report, write_rows,
+};

@@ -4,7 +4,7 @@ ghost use Rattle.std.specs.List.{flat_map};
 ghost use Rattle.auction_rows.specs.StoreReplies.{reply_of};
 ghost use Rattle.auction_text.specs.Replies.{bid_text, facts_text, history_line, item_text, labelled, place_text, refusal_text, reply_line, reply_text, score_text, state_text};
 
-use crate::short_text::{MOST, ShortText};
+use crate::block::{Block, MOST_OF_A_LINE, MOST_OF_A_REPLY, ROOM};
 use crate::text::push_text;
 use auction_rows::{BidShown, ItemShown, Refusal, Reply, StoreReply, Ten};
 use std::alloc::AllocError;
@@ -25,122 +25,106 @@ fn text_of_refusal(refusal: Refusal) -> &'static [u8]
     }
 }
 
-fn push_facts(
-    text: &mut Vec<u8>,
-    seller: u32,
-    category: u32,
-    start: u64,
-    closes: u64,
-) -> Result<(), AllocError>
-    ensures { OnOk result (text.new.items ≡ text.old.items ++ facts_text seller category start closes) }
+fn put_facts(block: &mut Block, seller: u32, category: u32, start: u64, closes: u64)
+    requires { 121 + length block.old ≤ ROOM }
+    ensures text { block.new ≡ block.old ++ facts_text seller category start closes }
+    ensures length { length block.new ≤ 121 + length block.old }
 {
-    let mut facts = ShortText::new();
-    facts.prepend_labelled(b" closes=", closes);
-    facts.prepend_labelled(b" start=", start);
-    facts.prepend_labelled(b" category=", u64::from(category));
-    facts.prepend_labelled(b"viewitem seller=", u64::from(seller));
-    push_text(text, facts.bytes())
+    block.push_labelled(b"viewitem seller=", u64::from(seller));
+    block.push_labelled(b" category=", u64::from(category));
+    block.push_labelled(b" start=", start);
+    block.push_labelled(b" closes=", closes);
 }
 
-fn push_state(
-    text: &mut Vec<u8>,
-    highest: Option<u64>,
-    bidder: Option<u32>,
-    bids: u64,
-    left: u32,
-) -> Result<(), AllocError>
-    ensures { OnOk result (text.new.items ≡ text.old.items ++ state_text highest bidder bids left) }
+fn put_state(block: &mut Block, highest: Option<u64>, bidder: Option<u32>, bids: u64, left: u32)
+    requires { 109 + length block.old ≤ ROOM }
+    ensures text { block.new ≡ block.old ++ state_text highest bidder bids left }
+    ensures length { length block.new ≤ 109 + length block.old }
 {
-    let mut state = ShortText::new();
-    state.prepend_labelled(b" left=", u64::from(left));
-    state.prepend_labelled(b" bids=", bids);
-    state.prepend_optional(b" bidder=", bidder.map(u64::from));
-    state.prepend_optional(b" highest=", highest);
-    push_text(text, state.bytes())
+    block.push_optional(b" highest=", highest);
+    block.push_optional(b" bidder=", bidder.map(u64::from));
+    block.push_labelled(b" bids=", bids);
+    block.push_labelled(b" left=", u64::from(left));
 }
 
-fn push_bid(text: &mut Vec<u8>, bid: BidShown) -> Result<(), AllocError>
-    ensures { OnOk result (text.new.items ≡ text.old.items ++ bid_text bid) }
+fn put_bid(block: &mut Block, bid: BidShown)
+    requires { 105 + length block.old ≤ ROOM }
+    ensures text { block.new ≡ block.old ++ bid_text bid }
+    ensures length { length block.new ≤ 105 + length block.old }
 {
-    let mut shown = ShortText::new();
-    shown.prepend_id(b":", bid.id.worker, bid.id.serial);
-    shown.prepend_labelled(b":", u64::from(bid.bidder));
-    shown.prepend_labelled(b":", bid.time);
-    shown.prepend_labelled(b" ", bid.amount);
-    push_text(text, shown.bytes())
+    block.push_labelled(b" ", bid.amount);
+    block.push_labelled(b":", bid.time);
+    block.push_labelled(b":", u64::from(bid.bidder));
+    block.push_id(b":", bid.id.worker, bid.id.serial);
 }
 
-fn push_bids(text: &mut Vec<u8>, bids: &Ten<BidShown>) -> Result<(), AllocError>
-    ensures { OnOk result (text.new.items ≡ text.old.items ++ (codes "bids" ++ flat_map bid_text bids.now)) }
+fn put_bids(block: &mut Block, bids: &Ten<BidShown>)
+    requires { MOST_OF_A_REPLY + length block.old ≤ ROOM }
+    ensures text { block.new ≡ block.old ++ (codes "bids" ++ flat_map bid_text bids.now) }
+    ensures length { length block.new ≤ MOST_OF_A_REPLY + length block.old }
 {
-    push_text(text, b"bids")?;
+    block.push(b"bids");
     for place in 0..bids.len() {
-        push_bid(text, bids.get(place).unwrap())?;
+        put_bid(block, bids.get(place).unwrap());
     }
-    Ok(())
 }
 
-fn push_item(text: &mut Vec<u8>, item: ItemShown) -> Result<(), AllocError>
-    ensures { OnOk result (text.new.items ≡ text.old.items ++ item_text item) }
+fn put_item(block: &mut Block, item: ItemShown)
+    requires { 63 + length block.old ≤ ROOM }
+    ensures text { block.new ≡ block.old ++ item_text item }
+    ensures length { length block.new ≤ 63 + length block.old }
 {
-    let mut shown = ShortText::new();
-    shown.prepend_id(b":", item.id.worker, item.id.serial);
-    shown.prepend_labelled(b" ", item.time);
-    push_text(text, shown.bytes())
+    block.push_labelled(b" ", item.time);
+    block.push_id(b":", item.id.worker, item.id.serial);
 }
 
-fn push_items(text: &mut Vec<u8>, items: &Ten<ItemShown>) -> Result<(), AllocError>
-    ensures { OnOk result (text.new.items ≡ text.old.items ++ (codes "latest" ++ flat_map item_text items.now)) }
+fn put_items(block: &mut Block, items: &Ten<ItemShown>)
+    requires { 636 + length block.old ≤ ROOM }
+    ensures text { block.new ≡ block.old ++ (codes "latest" ++ flat_map item_text items.now) }
+    ensures length { length block.new ≤ 636 + length block.old }
 {
-    push_text(text, b"latest")?;
+    block.push(b"latest");
     for place in 0..items.len() {
-        push_item(text, items.get(place).unwrap())?;
-    }
-    Ok(())
-}
-
-/// Adds a user's rating and the number of comments, each after its label.
-pub fn push_score(text: &mut Vec<u8>, rating: i64, comments: u64) -> Result<(), AllocError>
-    ensures { OnOk result (text.new.items ≡ text.old.items ++ score_text rating comments) }
-{
-    let mut score = ShortText::new();
-    score.prepend_labelled(b" comments=", comments);
-    score.prepend_signed(b" rating=", rating);
-    push_text(text, score.bytes())
-}
-
-fn prepend_store_reply(line: &mut ShortText, reply: StoreReply)
-    requires { 49 + length line.old ≤ MOST }
-    ensures text { line.new ≡ reply_text (reply_of reply) ++ line.old }
-    ensures length { length line.new ≤ 49 + length line.old }
-{
-    match reply {
-        StoreReply::ItemStored(id) => line.prepend_id(b"item ", id.worker, id.serial),
-        StoreReply::BidStored(id) => line.prepend_id(b"bid ", id.worker, id.serial),
-        StoreReply::CommentStored(id) => line.prepend_id(b"comment ", id.worker, id.serial),
-        StoreReply::Bought(id) => line.prepend_id(b"buynow ", id.worker, id.serial),
-        StoreReply::Refused(refusal) => line.prepend(text_of_refusal(refusal)),
+        put_item(block, items.get(place).unwrap());
     }
 }
 
-fn push_store_reply(text: &mut Vec<u8>, reply: StoreReply) -> Result<(), AllocError>
-    ensures { OnOk result (text.new.items ≡ text.old.items ++ reply_text (reply_of reply)) }
+fn put_score(block: &mut Block, rating: i64, comments: u64)
+    requires { 58 + length block.old ≤ ROOM }
+    ensures text { block.new ≡ block.old ++ score_text rating comments }
+    ensures length { length block.new ≤ 58 + length block.old }
 {
-    let mut stored = ShortText::new();
-    prepend_store_reply(&mut stored, reply);
-    push_text(text, stored.bytes())
+    block.push_signed(b" rating=", rating);
+    block.push_labelled(b" comments=", comments);
 }
 
-/// Adds the text of a reply.
-pub fn push_reply(text: &mut Vec<u8>, reply: &Reply) -> Result<(), AllocError>
-    ensures { OnOk result (text.new.items ≡ text.old.items ++ reply_text reply.now) }
+#[inline(always)]
+fn put_store_reply(block: &mut Block, reply: StoreReply)
+    requires { 49 + length block.old ≤ ROOM }
+    ensures text { block.new ≡ block.old ++ reply_text (reply_of reply) }
+    ensures length { length block.new ≤ 49 + length block.old }
 {
     match reply {
-        Reply::ItemStored(id) => push_store_reply(text, StoreReply::ItemStored(*id)),
-        Reply::BidStored(id) => push_store_reply(text, StoreReply::BidStored(*id)),
-        Reply::CommentStored(id) => push_store_reply(text, StoreReply::CommentStored(*id)),
-        Reply::Bought(id) => push_store_reply(text, StoreReply::Bought(*id)),
-        Reply::Refused(reason) => push_store_reply(text, StoreReply::Refused(*reason)),
+        StoreReply::ItemStored(id) => block.push_id(b"item ", id.worker, id.serial),
+        StoreReply::BidStored(id) => block.push_bid_id(b"bid ", id),
+        StoreReply::CommentStored(id) => block.push_id(b"comment ", id.worker, id.serial),
+        StoreReply::Bought(id) => block.push_id(b"buynow ", id.worker, id.serial),
+        StoreReply::Refused(refusal) => block.push(text_of_refusal(refusal)),
+    }
+}
+
+// Adds the text of a reply.
+fn put_reply(block: &mut Block, reply: &Reply)
+    requires { MOST_OF_A_REPLY + length block.old ≤ ROOM }
+    ensures text { block.new ≡ block.old ++ reply_text reply.now }
+    ensures length { length block.new ≤ MOST_OF_A_REPLY + length block.old }
+{
+    match reply {
+        Reply::ItemStored(id) => put_store_reply(block, StoreReply::ItemStored(*id)),
+        Reply::BidStored(id) => put_store_reply(block, StoreReply::BidStored(*id)),
+        Reply::CommentStored(id) => put_store_reply(block, StoreReply::CommentStored(*id)),
+        Reply::Bought(id) => put_store_reply(block, StoreReply::Bought(*id)),
+        Reply::Refused(reason) => put_store_reply(block, StoreReply::Refused(*reason)),
         Reply::ItemSeen {
             seller,
             category,
@@ -152,81 +136,93 @@ pub fn push_reply(text: &mut Vec<u8>, reply: &Reply) -> Result<(), AllocError>
             bids,
             left,
         } => {
-            push_facts(text, *seller, *category, *start, *closes)?;
-            push_state(text, *highest, *bidder, *bids, *left)?;
-            push_text(text, b" name=")?;
-            push_text(text, name.bytes())
+            put_facts(block, *seller, *category, *start, *closes);
+            put_state(block, *highest, *bidder, *bids, *left);
+            block.push(b" name=");
+            block.push(name.bytes());
         }
-        Reply::BidsSeen(bids) => push_bids(text, bids),
-        Reply::CategorySeen(items) => push_items(text, items),
+        Reply::BidsSeen(bids) => put_bids(block, bids),
+        Reply::CategorySeen(items) => put_items(block, items),
         Reply::UserSeen { rating, comments } => {
-            push_text(text, b"user")?;
-            push_score(text, *rating, *comments)
+            block.push(b"user");
+            put_score(block, *rating, *comments);
         }
     }
 }
 
-// Adds the rest of the line of an entry that shows what a view asked for: only such a reply is made whole.
-fn push_view_line(
-    text: &mut Vec<u8>,
-    begun: &ShortText,
-    entry: &EntryRef<'_>,
-) -> Result<(), AllocError>
-    ensures { OnOk result (text.new.items ≡ text.old.items ++ begun.now ++ reply_text entry.now.reply ++ codes "\n") }
+/// Makes a block the text of a reply, whatever it was.
+pub fn set_reply(block: &mut Block, reply: &Reply)
+    ensures { block.new ≡ reply_text reply.now }
 {
-    push_text(text, begun.bytes())?;
-    push_reply(text, &entry.reply())?;
-    push_text(text, b"\n")
+    block.clear();
+    put_reply(block, reply);
 }
 
-// Puts the worker and the index of an entry's request before its line of the replies.
-fn prepend_request(line: &mut ShortText, entry: &EntryRef<'_>)
-    requires { 42 + length line.old ≤ MOST }
-    ensures { line.new ≡ decimal entry.now.worker ++ labelled (codes ",") entry.now.index ++ codes "," ++ line.old }
+/// Adds the text of a reply.
+pub fn push_reply(text: &mut Vec<u8>, reply: &Reply) -> Result<(), AllocError>
+    ensures { OnOk result (text.new.items ≡ text.old.items ++ reply_text reply.now) }
 {
-    line.prepend(b",");
-    line.prepend_labelled(b",", u64::from(entry.index()));
-    line.prepend_number(u64::from(entry.worker()));
+    let mut block = Block::new();
+    set_reply(&mut block, reply);
+    push_text(text, block.bytes())
+}
+
+// Adds the text of an entry's reply to a view, which is made whole.
+#[inline(never)]
+fn put_view(block: &mut Block, entry: &EntryRef<'_>)
+    requires { MOST_OF_A_REPLY + length block.old ≤ ROOM }
+    ensures text { block.new ≡ block.old ++ reply_text entry.now.reply }
+    ensures length { length block.new ≤ MOST_OF_A_REPLY + length block.old }
+{
+    put_reply(block, &entry.reply());
+}
+
+// Adds the text of an entry's reply.
+#[inline(always)]
+fn put_reply_of(block: &mut Block, entry: &EntryRef<'_>)
+    requires { MOST_OF_A_REPLY + length block.old ≤ ROOM }
+    ensures text { block.new ≡ block.old ++ reply_text entry.now.reply }
+    ensures length { length block.new ≤ MOST_OF_A_REPLY + length block.old }
+{
+    match entry.store_reply() {
+        Some(reply) => put_store_reply(block, reply),
+        None => put_view(block, entry),
+    }
 }
 
 /// Adds the line of an entry among the replies.
-pub fn push_reply_line(text: &mut Vec<u8>, entry: &EntryRef<'_>) -> Result<(), AllocError>
-    ensures { OnOk result (text.new.items ≡ text.old.items ++ reply_line entry.now) }
+#[inline(always)]
+pub fn put_reply_line(block: &mut Block, entry: &EntryRef<'_>)
+    requires { MOST_OF_A_LINE + length block.old ≤ ROOM }
+    ensures { block.new ≡ block.old ++ reply_line entry.now }
 {
-    let mut line = ShortText::new();
-    let Some(reply) = entry.store_reply() else {
-        prepend_request(&mut line, entry);
-        return push_view_line(text, &line, entry);
-    };
-    line.prepend(b"\n");
-    prepend_store_reply(&mut line, reply);
-    prepend_request(&mut line, entry);
-    push_text(text, line.bytes())
+    block.push_number(u64::from(entry.worker()));
+    block.push(b",");
+    block.push_index(entry.index());
+    block.push(b",");
+    put_reply_of(block, entry);
+    block.push(b"\n");
 }
 
-// Puts the place of an entry before its line of a history.
-fn prepend_place(line: &mut ShortText, entry: &EntryRef<'_>)
-    requires { 84 + length line.old ≤ MOST }
-    ensures { line.new ≡ place_text entry.now ++ codes " " ++ line.old }
+// Adds the place of an entry in a history.
+fn put_place(block: &mut Block, entry: &EntryRef<'_>)
+    requires { 83 + length block.old ≤ ROOM }
+    ensures text { block.new ≡ block.old ++ place_text entry.now }
+    ensures length { length block.new ≤ 83 + length block.old }
 {
-    line.prepend(b" ");
-    line.prepend_labelled(b" ", u64::from(entry.index()));
-    line.prepend_labelled(b" ", u64::from(entry.worker()));
-    line.prepend_labelled(b" ", entry.number());
-    line.prepend_number(entry.phase());
+    block.push_number(entry.phase());
+    block.push_labelled(b" ", entry.number());
+    block.push_labelled(b" ", u64::from(entry.worker()));
+    block.push_labelled(b" ", u64::from(entry.index()));
 }
 
 /// Adds the line of an entry in a history.
-pub fn push_history_line(text: &mut Vec<u8>, entry: &EntryRef<'_>) -> Result<(), AllocError>
-    ensures { OnOk result (text.new.items ≡ text.old.items ++ history_line entry.now) }
+pub fn put_history_line(block: &mut Block, entry: &EntryRef<'_>)
+    requires { MOST_OF_A_LINE + length block.old ≤ ROOM }
+    ensures { block.new ≡ block.old ++ history_line entry.now }
 {
-    let mut line = ShortText::new();
-    let Some(reply) = entry.store_reply() else {
-        prepend_place(&mut line, entry);
-        return push_view_line(text, &line, entry);
-    };
-    line.prepend(b"\n");
-    prepend_store_reply(&mut line, reply);
-    prepend_place(&mut line, entry);
-    push_text(text, line.bytes())
+    put_place(block, entry);
+    block.push(b" ");
+    put_reply_of(block, entry);
+    block.push(b"\n");
 }

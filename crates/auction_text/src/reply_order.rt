@@ -1,13 +1,19 @@
 //! The replies of a worker, in the order of its requests.
-ghost use Rattle.std.specs.Prelude.{◌≡◌, ◌≤◌, ◌++◌, None, drop, length, IfOk, OnOk};
+ghost use Rattle.std.specs.Prelude.{◌≡◌, ◌≤◌, ◌<◌, ◌^◌, None, drop, length, nat_lt, IfOk};
+ghost use Rattle.std.specs.List.{AllByRecursion};
 ghost use Rattle.phase_laws.specs.Order.{part};
 ghost use Rattle.worker_journals.specs.Journals.{entry_worker};
 ghost use Rattle.auction_text.specs.Order.{comes_before, in_order};
-ghost use Rattle.auction_text.specs.Replies.{lines, reply_line};
-ghost use Rattle.auction_text.specs.Turns.{front, is_late, late, rest};
+ghost use Rattle.auction_text.specs.Replies.{lines, replies_text, reply_line};
+ghost use Rattle.auction_text.specs.Turns.{front, late, rest};
+ghost use Rattle.auction_text.specs.Workers.{AreEach, late_of, replies_of};
+ghost use Rattle.auction_text.specs.Writing.{PutsText};
 
-use crate::replies::push_reply_line;
+use crate::block::Block;
+use crate::faults::WriteFault;
+use crate::text_blocks::put_reply;
 use std::alloc::{AllocError, Global};
+use std::io::Write;
 use worker_journals::{EntryRef, History};
 
 fn comes_before(one: &EntryRef<'_>, other: &EntryRef<'_>) -> bool
@@ -16,14 +22,12 @@ fn comes_before(one: &EntryRef<'_>, other: &EntryRef<'_>) -> bool
     (one.worker(), one.index()) < (other.worker(), other.index())
 }
 
-// Whether an entry does not come after the last one that stood in turn.
-fn is_late(last: &Option<EntryRef<'_>>, entry: &EntryRef<'_>) -> bool
-    ensures { result ≡ is_late comes_before last.now entry.now }
+// Whether an entry of a worker does not come after the last one of it that stood in turn: those from this index on do.
+#[inline(always)]
+fn is_late(next: u64, entry: &EntryRef<'_>) -> bool
+    ensures { result ≡ nat_lt entry.now.index next }
 {
-    match last {
-        Some(last) => !comes_before(last, entry),
-        None => false,
-    }
+    u64::from(entry.index()) < next
 }
 
 // The entries of a worker that were committed after a later request of its script, as those put off are, in the order of their
@@ -36,94 +40,152 @@ fn late_as_committed(
     ensures { IfOk result (λ entries. entries.items ≡ late comes_before None (part entry_worker worker history.now.entries)) }
 {
     let mut entries = Vec::new(alloc);
-    let mut last = None;
+    let mut next = 0;
     for entry in history.of_worker(worker) {
-        if is_late(&last, &entry) {
+        if is_late(next, &entry) {
             entries.push(entry)?;
         } else {
-            last = Some(entry);
+            next = u64::from(entry.index()) + 1;
         }
     }
     Ok(entries)
 }
 
-// The same in order.
-fn late_entries(
+/// The same in order.
+pub fn late_entries(
     alloc: Global,
     history: &History,
     worker: u32,
 ) -> Result<Vec<EntryRef<'_>>, AllocError>
-    ensures { IfOk result (λ entries. entries.items ≡ in_order (late comes_before None (part entry_worker worker history.now.entries))) }
+    ensures { IfOk result (λ entries. entries.items ≡ late_of history.now.entries worker) }
 {
     let mut entries = late_as_committed(alloc, history, worker)?;
     entries.sort_by_cached_key(|entry| (entry.worker(), entry.index()))?;
     Ok(entries)
 }
 
-// Adds the lines of the entries from a place on that come before another, and gives the place after them.
-fn push_before(
-    text: &mut Vec<u8>,
+/// The late entries of each worker, in order, up to the last worker that has an entry.
+pub fn all_late_entries(
+    alloc: Global,
+    history: &History,
+) -> Result<Vec<Vec<EntryRef<'_>>>, AllocError>
+    ensures late { IfOk result (λ lists. AreEach (late_of history.now.entries) lists.items) }
+    ensures workers { IfOk result (λ lists. AllByRecursion (λ entry. entry.worker < length lists.items) history.now.entries) }
+    ensures few { IfOk result (λ lists. length lists.items ≤ 2 ^ 32) }
+{
+    let mut lists = Vec::new(alloc);
+    for worker in 0..u64::from(history.last_worker()) + 1 {
+        let late = late_entries(alloc, history, worker as u32)?;
+        lists.push(late)?;
+    }
+    Ok(lists)
+}
+
+// Puts the lines of the entries from a place on that come before another, and gives the place after them.
+#[inline(never)]
+fn put_before<W: Write>(
+    writer: &mut W,
+    block: &mut Block,
     entries: &[EntryRef<'_>],
     from: usize,
     entry: &EntryRef<'_>,
-) -> Result<usize, AllocError>
+) -> Result<usize, WriteFault>
     requires { from ≤ length entries.now }
     ensures within { IfOk result (λ place. place ≤ length entries.now) }
     ensures rest { IfOk result (λ place. drop place entries.now ≡ rest comes_before entry.now (drop from entries.now)) }
-    ensures lines { OnOk result (text.new.items ≡ text.old.items ++ lines reply_line (front comes_before entry.now (drop from entries.now))) }
+    ensures puts { PutsText W.contents writer.old writer.new block.old block.new
+        (lines reply_line (front comes_before entry.now (drop from entries.now))) result }
 {
     let mut place = from;
     while let Some(next) = entries.get(place) {
         if !comes_before(next, entry) {
             break;
         }
-        push_reply_line(text, next)?;
+        put_reply(writer, block, next)?;
         place += 1;
     }
     Ok(place)
 }
 
-fn push_lines(text: &mut Vec<u8>, entries: &[EntryRef<'_>]) -> Result<(), AllocError>
-    ensures { OnOk result (text.new.items ≡ text.old.items ++ lines reply_line entries.now) }
+// The same, where mostly no entry is left.
+#[inline(always)]
+fn put_any_before<W: Write>(
+    writer: &mut W,
+    block: &mut Block,
+    entries: &[EntryRef<'_>],
+    from: usize,
+    entry: &EntryRef<'_>,
+) -> Result<usize, WriteFault>
+    requires { from ≤ length entries.now }
+    ensures within { IfOk result (λ place. place ≤ length entries.now) }
+    ensures rest { IfOk result (λ place. drop place entries.now ≡ rest comes_before entry.now (drop from entries.now)) }
+    ensures puts { PutsText W.contents writer.old writer.new block.old block.new
+        (lines reply_line (front comes_before entry.now (drop from entries.now))) result }
+{
+    if from < entries.len() {
+        return put_before(writer, block, entries, from, entry);
+    }
+    Ok(from)
+}
+
+#[inline(never)]
+fn put_replies<W: Write>(
+    writer: &mut W,
+    block: &mut Block,
+    entries: &[EntryRef<'_>],
+) -> Result<(), WriteFault>
+    ensures { PutsText W.contents writer.old writer.new block.old block.new (lines reply_line entries.now) result }
 {
     for entry in entries {
-        push_reply_line(text, entry)?;
+        put_reply(writer, block, entry)?;
     }
     Ok(())
 }
 
-// Adds the lines of a worker's entries. They are read where they lie, in the order of their commits, and those that are late,
-// which are given in order, are put in between.
-fn push_in_turn(
-    text: &mut Vec<u8>,
+/// Puts the lines of a worker's entries among the replies, by index, then place. They are read where they lie, in the order of
+/// their commits, and those that are late, which are given in order, are put in between.
+pub fn put_replies_of<W: Write>(
+    writer: &mut W,
+    block: &mut Block,
     history: &History,
     worker: u32,
     delayed: &[EntryRef<'_>],
-) -> Result<(), AllocError>
-    requires { delayed.now ≡ in_order (late comes_before None (part entry_worker worker history.now.entries)) }
-    ensures { OnOk result (text.new.items ≡ text.old.items ++ lines reply_line (in_order (part entry_worker worker history.now.entries))) }
+) -> Result<(), WriteFault>
+    requires { delayed.now ≡ late_of history.now.entries worker }
+    ensures { PutsText W.contents writer.old writer.new block.old block.new (replies_of history.now.entries worker) result }
 {
     let mut told = 0;
-    let mut last = None;
+    let mut next = 0;
     for entry in history.of_worker(worker) {
-        if !is_late(&last, &entry) {
-            told = push_before(text, delayed, told, &entry)?;
-            push_reply_line(text, &entry)?;
-            last = Some(entry);
+        if !is_late(next, &entry) {
+            told = put_any_before(writer, block, delayed, told, &entry)?;
+            put_reply(writer, block, &entry)?;
+            next = u64::from(entry.index()) + 1;
         }
     }
-    push_lines(text, &delayed[told..])
+    put_replies(writer, block, &delayed[told..])
 }
 
-/// Adds the line of each of a worker's entries among the replies, by index, then place.
-pub fn push_replies_of(
-    alloc: Global,
-    text: &mut Vec<u8>,
+/// Puts the lines of all workers' entries among the replies, by worker, then index, then place.
+pub fn put_all_replies<W: Write>(
+    writer: &mut W,
+    block: &mut Block,
     history: &History,
-    worker: u32,
-) -> Result<(), AllocError>
-    ensures { OnOk result (text.new.items ≡ text.old.items ++ lines reply_line (in_order (part entry_worker worker history.now.entries))) }
+    delayed: &[Vec<EntryRef<'_>>],
+) -> Result<(), WriteFault>
+    requires late { AreEach (late_of history.now.entries) delayed.now }
+    requires workers { AllByRecursion (λ entry. entry.worker < length delayed.now) history.now.entries }
+    requires few { length delayed.now ≤ 2 ^ 32 }
+    ensures { PutsText W.contents writer.old writer.new block.old block.new (replies_text history.now.entries) result }
 {
-    let late = late_entries(alloc, history, worker)?;
-    push_in_turn(text, history, worker, late.as_slice())
+    for worker in 0..delayed.len() {
+        put_replies_of(
+            writer,
+            block,
+            history,
+            worker as u32,
+            delayed[worker].as_slice(),
+        )?;
+    }
+    Ok(())
 }

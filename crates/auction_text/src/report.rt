@@ -2,9 +2,11 @@
 ghost use Rattle.std.specs.Prelude.{◌≡◌, ◌++◌, OnOk, map};
 ghost use Rattle.std.specs.List.{flat_map};
 ghost use Rattle.auction_text.specs.Report.{category_line, count_line, counts_text, hot_line, numbered_lines, object_text, refused_count, user_line};
+ghost use Rattle.auction_text.specs.Replies.{score_text};
 
-use crate::replies::{push_reply, push_score};
-use crate::text::{push_labelled, push_labelled_id, push_text};
+use crate::block::Block;
+use crate::replies::set_reply;
+use crate::text::{push_labelled, push_labelled_id, push_signed, push_text};
 use auction_rows::{Object, Reply};
 use indexmap::IndexSet;
 use std::alloc::AllocError;
@@ -85,12 +87,18 @@ pub fn push_hot_lines(text: &mut Vec<u8>, hot: &[IndexSet<Object>]) -> Result<()
     Ok(())
 }
 
-fn push_category_line(text: &mut Vec<u8>, category: u64, seen: &Reply) -> Result<(), AllocError>
+fn push_category_line(
+    text: &mut Vec<u8>,
+    block: &mut Block,
+    category: u64,
+    seen: &Reply,
+) -> Result<(), AllocError>
     ensures { OnOk result (text.new.items ≡ text.old.items ++ category_line category seen.now) }
 {
+    set_reply(block, seen);
     push_labelled(text, b"category ", category)?;
     push_text(text, b" ")?;
-    push_reply(text, seen)?;
+    push_text(text, block.bytes())?;
     push_text(text, b"\n")
 }
 
@@ -99,10 +107,18 @@ pub fn push_category_lines(text: &mut Vec<u8>, categories: &[Reply]) -> Result<(
     ensures { OnOk result (text.new.items
         ≡ text.old.items ++ numbered_lines category_line 0 categories.now) }
 {
+    let mut block = Block::new();
     for (category, seen) in categories.iter().enumerate() {
-        push_category_line(text, category as u64, seen)?;
+        push_category_line(text, &mut block, category as u64, seen)?;
     }
     Ok(())
+}
+
+fn push_score(text: &mut Vec<u8>, rating: i64, comments: u64) -> Result<(), AllocError>
+    ensures { OnOk result (text.new.items ≡ text.old.items ++ score_text rating comments) }
+{
+    push_signed(text, b" rating=", rating)?;
+    push_labelled(text, b" comments=", comments)
 }
 
 fn push_user_line(text: &mut Vec<u8>, user: u64, seen: &Reply) -> Result<(), AllocError>

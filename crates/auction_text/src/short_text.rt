@@ -1,7 +1,7 @@
 //! A short text that is put together in place.
 ghost use Rattle.std.specs.Prelude.{◌≡◌, ◌+◌, ◌≤◌, ℕ, List, [], ◌++◌, decimal, drop, length};
 ghost use Rattle.std.specs.Fmt.{signed_decimal};
-ghost use Rattle.auction_text.specs.Replies.{labelled, labelled_id, labelled_optional};
+ghost use Rattle.auction_text.specs.Replies.{labelled, labelled_id};
 
 use itoa::{Buffer, write_digits};
 use std::marker::Model;
@@ -88,19 +88,6 @@ impl ShortText {
         ensures length { length self.new ≤ length label.now + 20 + length self.old }
     {
         self.prepend(Buffer::new().format(number).as_bytes());
-        self.prepend(label);
-    }
-
-    /// Puts a label and a number, or `-` where there is none, before the text.
-    pub fn prepend_optional(&mut self, label: &[u8], number: Option<u64>)
-        requires { length label.now + 20 + length self.old ≤ MOST }
-        ensures text { self.new ≡ labelled_optional label.now number ++ self.old }
-        ensures length { length self.new ≤ length label.now + 20 + length self.old }
-    {
-        match number {
-            Some(number) => self.prepend_number(number),
-            None => self.prepend(b"-"),
-        }
         self.prepend(label);
     }
 

@@ -1,5 +1,6 @@
 //! A text that is made in memory.
 ghost use Rattle.std.specs.Prelude.{◌≡◌, ◌++◌, OnOk, decimal};
+ghost use Rattle.std.specs.Fmt.{signed_decimal};
 ghost use Rattle.auction_text.specs.Replies.{labelled, labelled_id};
 
 use itoa::Buffer;
@@ -25,6 +26,14 @@ pub fn push_labelled(text: &mut Vec<u8>, label: &[u8], number: u64) -> Result<()
 {
     push_text(text, label)?;
     push_number(text, number)
+}
+
+/// Adds a label and a number that may be negative.
+pub fn push_signed(text: &mut Vec<u8>, label: &[u8], number: i64) -> Result<(), AllocError>
+    ensures { OnOk result (text.new.items ≡ text.old.items ++ (label.now ++ signed_decimal number)) }
+{
+    push_text(text, label)?;
+    text.extend_from_slice(Buffer::new().format(number).as_bytes())
 }
 
 /// Adds a label and an id: a worker, a point and a serial.

@@ -1,52 +1,36 @@
 //! The writing of texts.
-ghost use Rattle.std.specs.Prelude.{◌≡◌, ◌↔◌, ◌++◌, map, IfOk, IfErr, IsErr, IsOkAnd, OnOk};
+ghost use Rattle.std.specs.Prelude.{◌≡◌, ◌↔◌, ◌++◌, map, IfOk, IsErr, IsOkAnd, OnOk};
 ghost use Rattle.std.specs.Io.KnownBytes.{Appends};
 ghost use Rattle.auction_text.specs.Replies.{history_text, replies_text};
 ghost use Rattle.auction_text.specs.Report.{report_text};
 ghost use Rattle.auction_text.specs.RowLines.{rows_text};
-ghost use Rattle.auction_text.specs.Writing.{IsPartWritten, WritesText};
+ghost use Rattle.auction_text.specs.Writing.{IsPartWritten, PutsText, WritesText};
 
+use crate::block::Block;
 use crate::faults::WriteFault;
-use crate::replies::push_history_line;
-use crate::reply_order::push_replies_of;
+use crate::reply_order::{all_late_entries, put_all_replies};
 use crate::report::{
     ReportLines, push_category_lines, push_counts, push_hot_lines, push_user_lines,
 };
 use crate::row_lines::{push_rows, push_rows_of};
+use crate::text_blocks::{flush, put_entry, write_last};
+use crate::worker_texts::{worker_texts, write_parts};
 use auction_rows::{Object, Row};
 use indexmap::IndexSet;
 use std::alloc::{AllocError, Global};
 use std::io::Write;
+use std::thread::Threads;
 use worker_journals::History;
 
-// The bytes that the line of a bid takes at most where numbers have six digits, among replies and elsewhere: so much room is
-// asked for ahead for each entry and row, and longer lines make a text grow.
-const ROOM_OF_A_REPLY: usize = 25;
-
+// The bytes that the line of a bid takes at most where numbers have six digits: so much room is asked for ahead for each entry
+// and row, and longer lines make a text grow.
 const ROOM_OF_A_LINE: usize = 40;
+
+// Of fewer replies one thread makes the text as soon.
+const MANY_REPLIES: usize = 20_000;
 
 // The lines of counts that a report begins with.
 const COUNT_LINES: usize = 3;
-
-// Writes a text by calls of `write` on the rest that is left, and flushes.
-fn write_text<W: Write>(writer: &mut W, text: &[u8]) -> Result<(), WriteFault>
-    ensures whole { OnOk result
-        (Appends (W.contents writer.old) (W.contents writer.new) text.now) }
-    ensures part { IfErr result (λ fault. (fault ≡ WriteFault.Write) ×
-        IsPartWritten (W.contents writer.old) (W.contents writer.new) text.now) }
-{
-    let mut written = 0;
-    while written < text.len() {
-        match writer.write(&text[written..]) {
-            Ok(0) | Err(_) => return Err(WriteFault::Write),
-            Ok(count) => written += count,
-        }
-    }
-    match writer.flush() {
-        Ok(()) => Ok(()),
-        Err(_) => Err(WriteFault::Write),
-    }
-}
 
 // Writes a text, where there was memory to make it.
 fn write_made<W: Write>(writer: &mut W, made: Result<Vec<u8>, AllocError>) -> Result<(), WriteFault>
@@ -60,27 +44,21 @@ fn write_made<W: Write>(writer: &mut W, made: Result<Vec<u8>, AllocError>) -> Re
     let Ok(text) = made else {
         return Err(WriteFault::Memory);
     };
-    write_text(writer, text.as_slice())
+    write_last(writer, text.as_slice())
 }
 
-fn replies_text(alloc: Global, history: &History) -> Result<Vec<u8>, AllocError>
-    ensures { IfOk result (λ text. text.items ≡ replies_text history.now.entries) }
+// Puts the line of each entry, in the order given.
+fn put_entries<W: Write>(
+    writer: &mut W,
+    block: &mut Block,
+    history: &History,
+) -> Result<(), WriteFault>
+    ensures { PutsText W.contents writer.old writer.new block.old block.new (history_text history.now.entries) result }
 {
-    let mut text = Vec::with_capacity(alloc, history.len().saturating_mul(ROOM_OF_A_REPLY))?;
-    for worker in 0..u64::from(history.last_worker()) + 1 {
-        push_replies_of(alloc, &mut text, history, worker as u32)?;
-    }
-    Ok(text)
-}
-
-fn history_text(alloc: Global, history: &History) -> Result<Vec<u8>, AllocError>
-    ensures { IfOk result (λ text. text.items ≡ history_text history.now.entries) }
-{
-    let mut text = Vec::with_capacity(alloc, history.len().saturating_mul(ROOM_OF_A_LINE))?;
     for entry in history.iter() {
-        push_history_line(&mut text, &entry)?;
+        put_entry(writer, block, &entry)?;
     }
-    Ok(text)
+    Ok(())
 }
 
 fn rows_text(alloc: Global, rows: &[Row], history: &History) -> Result<Vec<u8>, AllocError>
@@ -134,20 +112,46 @@ pub fn write_replies<W: Write>(
 ) -> Result<(), WriteFault>
     ensures { WritesText W.contents writer.old writer.new (replies_text history.now.entries) result }
 {
-    write_made(writer, replies_text(alloc, history))
+    let Ok(delayed) = all_late_entries(alloc, history) else {
+        return Err(WriteFault::Memory);
+    };
+    let mut block = Block::new();
+    put_all_replies(writer, &mut block, history, delayed.as_slice())?;
+    write_last(writer, block.bytes())
 }
 
-/// Writes each entry of a history as a line, in the order given, and flushes.
+/// Writes the replies as `write_replies` does. Where there are many, of several workers, each
+/// worker's are put together by a thread of its own, and are written once all are there.
 ///
 /// `Memory` comes before the first byte is written; after `Write` a prefix of the text was written.
-pub fn write_history<W: Write>(
+pub fn write_replies_by_threads<R: Threads + Sync, W: Write>(
+    rt: &R,
     alloc: Global,
     writer: &mut W,
     history: &History,
 ) -> Result<(), WriteFault>
+    ensures { WritesText W.contents writer.old writer.new (replies_text history.now.entries) result }
+{
+    let workers = history.last_worker() as usize + 1;
+    if workers == 1 || history.len() < MANY_REPLIES {
+        return write_replies(alloc, writer, history);
+    }
+    let Ok(texts) = worker_texts(rt, alloc, history, workers) else {
+        return Err(WriteFault::Memory);
+    };
+    write_parts(writer, texts.as_slice())?;
+    flush(writer)
+}
+
+/// Writes each entry of a history as a line, in the order given, and flushes. It takes no memory.
+///
+/// After `Write` a prefix of the text was written.
+pub fn write_history<W: Write>(writer: &mut W, history: &History) -> Result<(), WriteFault>
     ensures { WritesText W.contents writer.old writer.new (history_text history.now.entries) result }
 {
-    write_made(writer, history_text(alloc, history))
+    let mut block = Block::new();
+    put_entries(writer, &mut block, history)?;
+    write_last(writer, block.bytes())
 }
 
 /// Writes these rows, and then those of the accepted stores among the entries, as records that can

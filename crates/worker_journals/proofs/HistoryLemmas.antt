@@ -1,10 +1,9 @@
 -- Phases, and one more.
-use Rattle.std.proofs.Common.{◌≡◌, ◌<◌, ◌+◌, ◌-◌, ◌==◌, ℕ, zero, suc, List, [], ◌∷◌, ◌++◌, map, length, take, drop, get_or, refl, sym, ap, ◌∙◌, subst, arith, append_assoc, length-append, length-drop, set, eq-eqb}
+use Rattle.std.proofs.Common.{◌≡◌, ◌<◌, ◌+◌, ◌-◌, ◌==◌, ℕ, zero, suc, List, [], ◌∷◌, ◌++◌, map, length, take, drop, get_or, refl, sym, ap, ◌∙◌, subst, arith, append_assoc, length-append, length-drop, set}
 use Rattle.std.specs.Prelude.{None, Some, slice_get}
 use Rattle.std.specs.Global.{Vec}
 use Rattle.std.specs.List.{AllByRecursion, flat_map}
-use Rattle.std.proofs.lemmas.List.{append-nil, map-append, drop_more, take_more, take_more_set, drop-set-lt, get_or-drop}
-use Rattle.std.proofs.lemmas.Bool.{cond-true}
+use Rattle.std.proofs.lemmas.List.{append-nil, map-append, take_more, take_more_set, drop-set-lt, get_or-drop}
 use Rattle.std.proofs.lemmas.List.Elements.{filter-append}
 use Rattle.phase_laws.specs.Order.{part}
 use Rattle.phase_laws.proofs.OrderLemmas.{all_push}
@@ -12,7 +11,7 @@ use Rattle.auction_rows.specs.declared.rows.Entry.{Entry}
 use Rattle.worker_journals.specs.Journals.{JournalView, entry_worker, closed_journal, IsLawful}
 use Rattle.worker_journals.specs.Merged.{merged, in_order, entries_of, entry_count, AreByWorker}
 use Rattle.worker_journals.specs.Histories.{HistoryView, ArePhase, IsHistory, entries_in, journals_of, last_of, shown, with_phase}
-use Rattle.worker_journals.specs.Places.{own_from}
+use Rattle.worker_journals.specs.Places.{first_entries, own_left}
 use Rattle.worker_journals.proofs.MergedLemmas.{all_entries, merged_parts, merged_count}
 use Rattle.worker_journals.proofs.StepLemmas.{drop_one}
 
@@ -101,9 +100,8 @@ own_entries w (phase ∷ phases) all =
     ∙ ap (λ es. es ++ part entry_worker w (entries_in phases)) (merged_parts phase w all.0.by_worker all.0.lawful)
     ∙ ap (λ es. entries_of w phase ++ es) (own_entries w phases all.1)
 
-pub own_all : (w : ℕ) (phases : List (List JournalView)) → AllByRecursion ArePhase phases → own_from w 0 phases ≡ part entry_worker w (entries_in phases)
-own_all w [] all = refl
-own_all w (phase ∷ phases) all = sym (own_entries w (phase ∷ phases) all)
+pub own_all : (w : ℕ) (phases : List (List JournalView)) → AllByRecursion ArePhase phases → own_left w [] 0 phases ≡ part entry_worker w (entries_in phases)
+own_all w phases all = sym (own_entries w phases all)
 
 pub get_some : {X : Type 0} (xs : List X) (n : ℕ) (x : X) → slice_get xs n ≡ Some x → drop n xs ≡ x ∷ drop (n + 1) xs
 get_some [] n x is = cc
@@ -117,19 +115,20 @@ get_none (y ∷ ys) zero is = cc
 get_none (y ∷ ys) (suc n) is = get_none ys n is
 
 -- the next entry of a worker
-pub own_next : (w place : ℕ) (phase : List JournalView) (phases : List (List JournalView)) (e : Entry) → slice_get (entries_of w phase) place ≡ Some e →
-    own_from w place (phase ∷ phases) ≡ e ∷ own_from w (place + 1) (phase ∷ phases)
-own_next w place phase phases e is = ap (λ es. es ++ flat_map (entries_of w) phases) (get_some (entries_of w phase) place e is)
+pub own_next : (w place : ℕ) (here : List JournalView) (phases : List (List JournalView)) (e : Entry) → slice_get (first_entries here) place ≡ Some e →
+    own_left w here place phases ≡ e ∷ own_left w here (place + 1) phases
+own_next w place here phases e is = ap (λ es. es ++ flat_map (entries_of w) phases) (get_some (first_entries here) place e is)
 
-from_start : (w : ℕ) (phases : List (List JournalView)) → own_from w 0 phases ≡ flat_map (entries_of w) phases
-from_start w [] = refl
-from_start w (phase ∷ phases) = refl
+-- a journal of which nothing is left, and the worker's own of the next phase
+pub own_past : (w place : ℕ) (here own : List JournalView) (phase : List JournalView) (phases : List (List JournalView)) → slice_get (first_entries here) place ≡ None →
+    first_entries own ≡ entries_of w phase → own_left w here place (phase ∷ phases) ≡ own_left w own 0 phases
+own_past w place here own phase phases is own_is =
+    ap (λ es. es ++ flat_map (entries_of w) (phase ∷ phases)) (get_none (first_entries here) place is)
+    ∙ ap (λ es. es ++ flat_map (entries_of w) phases) (sym own_is)
 
--- a phase of which nothing is left
-pub own_past : (w place : ℕ) (phase : List JournalView) (phases : List (List JournalView)) → slice_get (entries_of w phase) place ≡ None →
-    own_from w place (phase ∷ phases) ≡ own_from w 0 phases
-own_past w place phase phases is =
-    ap (λ es. es ++ flat_map (entries_of w) phases) (get_none (entries_of w phase) place is) ∙ sym (from_start w phases)
+-- and none is left where there is no phase after it
+pub own_end : (w place : ℕ) (here : List JournalView) → slice_get (first_entries here) place ≡ None → own_left w here place [] ≡ []
+own_end w place here is = ap (λ es. es ++ []) (get_none (first_entries here) place is)
 
 -- The phase of no journals.
 
@@ -162,13 +161,6 @@ last_shown phases phase history was is = sym (last_read phases phase is) ∙ ap 
 pub last_are_phase : (phases : List (Vec JournalView)) (phase : Vec JournalView) → AllByRecursion ArePhase (journals_of phases) →
     slice_get phases (length phases - 1) ≡ Some phase → ArePhase phase.items
 last_are_phase phases phase all is = subst ArePhase (last_read phases phase is) (last_is_phase (journals_of phases) all)
-
--- a worker's journal, where it is found
-pub entries_here : (w : ℕ) (journals : List JournalView) (i : ℕ) (journal : JournalView) → i < length journals → journal ≡ get_or journals i journal →
-    journal.worker ≡ w → entries_of w journals ≡ entries_of w (drop i journals) → entries_of w journals ≡ journal.entries
-entries_here w journals i journal within is own same =
-    same ∙ ap (entries_of w) (drop_more journals i journal within ∙ ap (λ j. j ∷ drop (i + 1) journals) (sym is))
-    ∙ cond-true (journal.worker == w) journal.entries (entries_of w (drop (i + 1) journals)) (eq-eqb journal.worker w own)
 
 -- one more journal is closed
 module _ (journals now : List JournalView) (i : ℕ) (journal closed : JournalView) (within : i < length now) (is : journal ≡ get_or now i journal)

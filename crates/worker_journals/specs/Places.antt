@@ -47,10 +47,14 @@ pub record AreMerging (room : ℕ) (journals : List JournalView) (places : List 
   pub each_number : length numbers ≡ room
   pub are_next : take (length journals) numbers ≡ map first_number (left_of journals places)
 
--- the entries of a worker in phases, from a place on in the first of them
-abbrev pub own_from : ℕ → ℕ → List (List JournalView) → List Entry
-own_from worker place [] = []
-own_from worker place (phase ∷ phases) = drop place (entries_of worker phase) ++ flat_map (entries_of worker) phases
+-- the entries of the first of journals, if there is one
+abbrev pub first_entries : List JournalView → List Entry
+first_entries [] = []
+first_entries (journal ∷ journals) = journal.entries
+
+-- the entries of a worker that are left: in the first of these journals from a place on, and in the phases after it
+abbrev pub own_left : ℕ → List JournalView → ℕ → List (List JournalView) → List Entry
+own_left worker here place phases = drop place (first_entries here) ++ flat_map (entries_of worker) phases
 
 -- the lesser of the least number so far, with its place, and the number at the next place
 abbrev pub lesser : Option (ℕ × ℕ) → ℕ → Option ℕ → Option (ℕ × ℕ)

@@ -6,6 +6,7 @@ ghost use Rattle.phase_laws.specs.Order.{part};
 ghost use Rattle.worker_journals.specs.Journals.{IsLawful, closed_journal, entry_worker};
 ghost use Rattle.worker_journals.specs.Merged.{AreByWorker, entries_of, merged};
 ghost use Rattle.worker_journals.specs.Histories.{ArePhase, no_history, with_phase};
+ghost use Rattle.worker_journals.specs.Places.{first_entries};
 
 use crate::entry_ref::EntryRef;
 use crate::journal::Journal;
@@ -137,6 +138,7 @@ impl History {
     {
         WorkerEntries {
             worker,
+            here: &[],
             place: 0,
             phases: &self.phases,
         }
@@ -198,8 +200,11 @@ impl<'a> Iterator for Entries<'a> {
 #[derive(Drop)]
 pub struct WorkerEntries<'a> {
     worker: u32,
-    // The place of the next entry in the worker's journal of the first of these phases.
+    // The journal that it is in is the first of these; it is in none where there are none.
+    here: &'a [Journal],
+    // The place of the next entry there.
     place: usize,
+    // The phases after it.
     phases: &'a [Vec<Journal>],
 }
 
@@ -207,11 +212,11 @@ impl<'a> Model for WorkerEntries<'a> {
     ghost use Rattle.std.specs.Prelude.{List};
     ghost use Rattle.auction_rows.specs.declared.rows.Entry.{Entry};
     ghost use Rattle.worker_journals.specs.Histories.{journals_of};
-    ghost use Rattle.worker_journals.specs.Places.{own_from};
+    ghost use Rattle.worker_journals.specs.Places.{own_left};
 
     ghost Value = { List Entry };
 
-    ghost view = { λ e. own_from e.worker e.place (journals_of e.phases.now) };
+    ghost view = { λ e. own_left e.worker e.here.now e.place (journals_of e.phases.now) };
 }
 
 impl<'a> Iterator for WorkerEntries<'a> {
@@ -221,34 +226,48 @@ impl<'a> Iterator for WorkerEntries<'a> {
 
     ghost remaining = { item_count (λ left. left) };
 
+    #[inline(always)]
     fn next(&mut self) -> Option<EntryRef<'a>> {
-        while let Some((first, rest)) = self.phases.split_first() {
-            if let Some(entry) = entry_of(first.as_slice(), self.worker, self.place) {
+        'phases: loop {
+            if let Some(entry) = entry_of(self.here, self.place) {
                 self.place += 1;
                 return Some(entry);
             }
+            let Some((first, rest)) = self.phases.split_first() else {
+                return None;
+            };
+            self.here = from_own(first.as_slice(), self.worker);
             self.place = 0;
             self.phases = rest;
         }
+    }
+}
+
+// The entry at a place of the first journal, if there is one.
+#[inline(always)]
+fn entry_of(here: &[Journal], place: usize) -> Option<EntryRef<'_>>
+    ensures entry { result ≡ slice_get (first_entries here.now) place }
+    ensures next { IfSome result (λ _. place + 1 < 2 ^ 64) }
+{
+    let journal = here.first()?;
+    if place < journal.len() {
+        Some(EntryRef::of(journal, place))
+    } else {
         None
     }
 }
 
-// The entry at a place of a worker's journal, if there is one.
-fn entry_of(journals: &[Journal], worker: u32, place: usize) -> Option<EntryRef<'_>>
-    ensures entry { result ≡ slice_get (entries_of worker journals.now) place }
-    ensures next { IfSome result (λ _. place + 1 < 2 ^ 64) }
+// The journals from a worker's own on: none where it has none.
+#[inline(never)]
+fn from_own(journals: &[Journal], worker: u32) -> &[Journal]
+    ensures { first_entries result.now ≡ entries_of worker journals.now }
 {
-    for journal in journals {
+    for (place, journal) in journals.iter().enumerate() {
         if journal.worker() == worker {
-            return if place < journal.len() {
-                Some(EntryRef::of(journal, place))
-            } else {
-                None
-            };
+            return &journals[place..];
         }
     }
-    None
+    &[]
 }
 
 // The last of a worker and those of these journals.

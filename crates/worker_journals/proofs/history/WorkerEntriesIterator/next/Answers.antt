@@ -1,31 +1,37 @@
-use Rattle.std.proofs.Common.{◌∙◌, ◌∷◌, ◌+◌, sym, ap}
-use Rattle.std.specs.Prelude.{slice_get}
-use Rattle.worker_journals.specs.Merged.{entries_of}
+use Rattle.std.proofs.Common.{◌≡◌, ◌∙◌, ◌∷◌, List, [], length, refl, sym, ap, arith}
 use Rattle.worker_journals.specs.Histories.{journals_of}
-use Rattle.worker_journals.specs.Places.{own_from}
-use Rattle.worker_journals.proofs.HistoryLemmas.{own_next, own_past}
+use Rattle.worker_journals.specs.Merged.{entries_of}
+use Rattle.worker_journals.specs.Places.{own_left}
+use Rattle.worker_journals.proofs.HistoryLemmas.{own_end, own_next, own_past}
 use Rattle.worker_journals.proofs.StepLemmas.{goes_on}
 use Rattle.worker_journals.proofs.history.WorkerEntriesIterator.next.Goals as goal
 
-pub returns-in-Some-entry_of-clause-steps : goal.returns-in-Some-entry_of-clause-steps
-returns-in-Some-entry_of-clause-steps c =
-    let e = c.loop-first.self-inside in
-    let phases = ap journals_of c.in-Some.ensures.cases.0 in
-    let found = ap (λ js. slice_get (entries_of e.worker js) e.place) (sym c.as_slice.ensures.value) ∙ sym c.in-Some-entry_of.ensures.entry in
-    c.loop-first.invariant.left ∙ ap (own_from e.worker e.place) phases ∙ own_next e.worker e.place _ (journals_of c.in-Some.rest.now) _ found
-    ∙ ap (λ ps. c.in-Some-entry_of.entry ∷ own_from e.worker (e.place + 1) ps) (sym phases)
+nothing : {X : Type 0} (xs : List X) → length xs ≡ 0 → xs ≡ []
+nothing [] none = refl
+nothing (x ∷ xs) none = absurd (omega (arith, none))
 
-pub returns-in-Some-entry_of-clause-goes : goal.returns-in-Some-entry_of-clause-goes
-returns-in-Some-entry_of-clause-goes c =
-    let e = c.loop-first.self-inside in
-    let phases = ap journals_of c.in-Some.ensures.cases.0 in
-    let found = ap (λ js. slice_get (entries_of e.worker js) e.place) (sym c.as_slice.ensures.value) ∙ sym c.in-Some-entry_of.ensures.entry in
-    goes_on _ (λ _. tt) _ _ _ (c.loop-first.invariant.left ∙ ap (own_from e.worker e.place) phases ∙ own_next e.worker e.place _ (journals_of c.in-Some.rest.now) _ found
-    ∙ ap (λ ps. c.in-Some-entry_of.entry ∷ own_from e.worker (e.place + 1) ps) (sym phases))
+pub returns-in-Some-clause-steps : goal.returns-in-Some-clause-steps
+returns-in-Some-clause-steps c =
+    let e = c.phases.self-inside in
+    c.phases.invariant.left ∙ own_next e.worker e.place e.here.now (journals_of e.phases.now) _ (sym c.in-Some.ensures.entry)
 
-pub loop-first-preserved : goal.loop-first-preserved
-loop-first-preserved c =
-    let e = c.loop-first.self-inside in
-    let phases = ap journals_of c.in-Some.ensures.cases.0 in
-    let past = ap (λ js. slice_get (entries_of e.worker js) e.place) (sym c.as_slice.ensures.value) ∙ sym c.in_default-entry_of.ensures.entry in
-    record { left = c.loop-first.invariant.left ∙ ap (own_from e.worker e.place) phases ∙ own_past e.worker e.place _ (journals_of c.in-Some.rest.now) past }
+pub returns-in-Some-clause-goes : goal.returns-in-Some-clause-goes
+returns-in-Some-clause-goes c =
+    let e = c.phases.self-inside in
+    goes_on _ (λ _. tt) _ _ _ (c.phases.invariant.left ∙ own_next e.worker e.place e.here.now (journals_of e.phases.now) _ (sym c.in-Some.ensures.entry))
+
+pub phases-preserved : goal.phases-preserved
+phases-preserved c =
+    let e = c.phases.self-inside in
+    let left = c.phases.invariant.left ∙ ap (λ ps. own_left e.worker e.here.now e.place (journals_of ps)) c.in-Some-split_first.ensures.cases.0 in
+    record {
+      left = left ∙ own_past e.worker e.place e.here.now c.from_own-self-inside.result.now _ (journals_of c.in-Some-split_first.rest.now) (sym c.in_default.ensures.entry)
+          (c.from_own-self-inside.ensures ∙ ap (entries_of e.worker) c.as_slice.ensures.value);
+    }
+
+pub returns-in_default-split_first-clause-steps : goal.returns-in_default-split_first-clause-steps
+returns-in_default-split_first-clause-steps c =
+    let e = c.phases.self-inside in
+    let none : e.phases.now ≡ [] = nothing e.phases.now c.in_default-split_first.ensures.cases in
+    let left = ap (λ ps. own_left e.worker e.here.now e.place (journals_of ps)) none ∙ own_end e.worker e.place e.here.now (sym c.in_default.ensures.entry) in
+    (c.phases.invariant.left ∙ left, left)

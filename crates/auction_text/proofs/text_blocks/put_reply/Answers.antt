@@ -1,0 +1,9 @@
+use Rattle.auction_text.specs.Replies.{reply_line}
+use Rattle.auction_text.proofs.PutLemmas.{part_of_line, put_failed}
+use Rattle.auction_text.proofs.text_blocks.put_reply.Goals as goal
+
+pub returns-in_err-make_room : goal.returns-in_err-make_room
+returns-in_err-make_room g c =
+    let part = c.in_err-make_room.ensures.puts.part in
+    put_failed g.W.Write.contents _ _ _ _ _ c.from_residual.result c.in_err-make_room.field-0.0 c.from_residual.ensures.1 part.0
+    (part_of_line _ _ c.args.block.now (reply_line c.args.entry.now) part.1)

@@ -1,0 +1,179 @@
+//! A part of a text, put together from its front.
+ghost use Rattle.std.specs.Prelude.{◌≡◌, ◌+◌, ◌≤◌, ◌++◌, [], false, decimal, length};
+ghost use Rattle.std.specs.Fmt.{signed_decimal};
+ghost use Rattle.auction_text.specs.Replies.{labelled, labelled_id, labelled_optional};
+
+use crate::numeral::{Numeral, put_digits};
+use auction_rows::BidId;
+use itoa::Buffer;
+use std::marker::Model;
+
+/// So many bytes are put together before they are written.
+pub const ROOM: usize = 4096;
+
+/// No reply takes more.
+pub const MOST_OF_A_REPLY: usize = 1054;
+
+/// No line of a reply, or of an entry in a history, takes more.
+pub const MOST_OF_A_LINE: usize = 1200;
+
+/// A part of a text, put together in place from its front. Contracts see it.
+#[derive(Drop)]
+pub struct Block {
+    bytes: [u8; ROOM],
+    len: usize,
+    // The index and the serial that were added last: mostly the next ones follow.
+    index: Numeral,
+    serial: Numeral,
+}
+
+impl Model for Block {
+    ghost use Rattle.std.specs.Prelude.{◌≤◌, ℕ, List, take};
+
+    ghost Value = { List ℕ };
+
+    ghost view = { λ b. take b.len b.bytes };
+
+    ghost invariant = { λ b. b.len ≤ 4096 };
+}
+
+impl Block {
+    /// An empty one.
+    pub fn new() -> Block
+        ensures { result ≡ [] }
+    {
+        Block {
+            bytes: [0; ROOM],
+            len: 0,
+            index: Numeral::of(0),
+            serial: Numeral::of(0),
+        }
+    }
+
+    /// Whether there may be no room for a line.
+    #[inline(always)]
+    pub(crate) fn is_full(&self) -> bool
+        ensures { result ≡ false → MOST_OF_A_LINE + length self.now ≤ ROOM }
+    {
+        self.len > ROOM - MOST_OF_A_LINE
+    }
+
+    /// Its bytes.
+    pub fn bytes(&self) -> &[u8]
+        ensures { result.now ≡ self.now }
+    {
+        &self.bytes[..self.len]
+    }
+
+    /// Makes it empty.
+    pub(crate) fn clear(&mut self)
+        ensures { self.new ≡ [] }
+    {
+        self.len = 0;
+    }
+
+    /// Adds a part as it is.
+    #[inline(always)]
+    pub(crate) fn push(&mut self, part: &[u8])
+        requires { length part.now + length self.old ≤ ROOM }
+        ensures text { self.new ≡ self.old ++ part.now }
+        ensures length { length self.new ≡ length part.now + length self.old }
+    {
+        let end = self.len + part.len();
+        self.bytes[self.len..end].copy_from_slice(part);
+        self.len = end;
+    }
+
+    /// Adds a number in decimal.
+    #[inline(always)]
+    pub(crate) fn push_number(&mut self, number: u64)
+        requires { 20 + length self.old ≤ ROOM }
+        ensures text { self.new ≡ self.old ++ decimal number }
+        ensures length { length self.new ≤ 20 + length self.old }
+    {
+        // A number of one digit needs no call.
+        if number < 10 {
+            self.push(&[b'0' + number as u8]);
+        } else {
+            self.push_digits(number);
+        }
+    }
+
+    #[inline(never)]
+    fn push_digits(&mut self, number: u64)
+        requires { 20 + length self.old ≤ ROOM }
+        ensures text { self.new ≡ self.old ++ decimal number }
+        ensures length { length self.new ≤ 20 + length self.old }
+    {
+        self.len = put_digits(&mut self.bytes, self.len, number);
+    }
+
+    /// Adds a label and a number.
+    #[inline(always)]
+    pub(crate) fn push_labelled(&mut self, label: &[u8], number: u64)
+        requires { length label.now + 20 + length self.old ≤ ROOM }
+        ensures text { self.new ≡ self.old ++ labelled label.now number }
+        ensures length { length self.new ≤ length label.now + 20 + length self.old }
+    {
+        self.push(label);
+        self.push_number(number);
+    }
+
+    /// Adds a label and a number that may be negative.
+    pub(crate) fn push_signed(&mut self, label: &[u8], number: i64)
+        requires { length label.now + 20 + length self.old ≤ ROOM }
+        ensures text { self.new ≡ self.old ++ (label.now ++ signed_decimal number) }
+        ensures length { length self.new ≤ length label.now + 20 + length self.old }
+    {
+        self.push(label);
+        self.push(Buffer::new().format(number).as_bytes());
+    }
+
+    /// Adds a label and a number, or `-` where there is none.
+    pub(crate) fn push_optional(&mut self, label: &[u8], number: Option<u64>)
+        requires { length label.now + 20 + length self.old ≤ ROOM }
+        ensures text { self.new ≡ self.old ++ labelled_optional label.now number }
+        ensures length { length self.new ≤ length label.now + 20 + length self.old }
+    {
+        self.push(label);
+        match number {
+            Some(number) => self.push_number(number),
+            None => self.push(b"-"),
+        }
+    }
+
+    /// Adds a label and an id: a worker, a point and a serial.
+    #[inline(never)]
+    pub(crate) fn push_id(&mut self, label: &[u8], worker: u32, serial: u32)
+        requires { length label.now + 41 + length self.old ≤ ROOM }
+        ensures text { self.new ≡ self.old ++ labelled_id label.now worker serial }
+        ensures length { length self.new ≤ length label.now + 41 + length self.old }
+    {
+        self.push_labelled(label, u64::from(worker));
+        self.push_labelled(b".", u64::from(serial));
+    }
+
+    /// Adds the index of a request.
+    #[inline(always)]
+    pub(crate) fn push_index(&mut self, index: u32)
+        requires { 20 + length self.old ≤ ROOM }
+        ensures text { self.new ≡ self.old ++ decimal index }
+        ensures length { length self.new ≤ 20 + length self.old }
+    {
+        self.index.turn(index);
+        self.len = self.index.put(&mut self.bytes, self.len);
+    }
+
+    /// Adds a label and the id of a bid: a worker, a point and a serial.
+    #[inline(always)]
+    pub(crate) fn push_bid_id(&mut self, label: &[u8], id: BidId)
+        requires { length label.now + 41 + length self.old ≤ ROOM }
+        ensures text { self.new ≡ self.old ++ labelled_id label.now id.worker id.serial }
+        ensures length { length self.new ≤ length label.now + 41 + length self.old }
+    {
+        self.push_labelled(label, u64::from(id.worker));
+        self.push(b".");
+        self.serial.turn(id.serial);
+        self.len = self.serial.put(&mut self.bytes, self.len);
+    }
+}
