@@ -34,11 +34,12 @@ STORES = ("joined request 2, 7 left", "split request 6, 6 left")
 FIRST_STORE = "first store, 2 left"
 ASKED_ONCE_MORE = (*BEGINS, *STORES, FIRST_STORE)
 CLOSES = ("joined close", "split close")
+PARTS = ("first part", "second part")
 LOOK, PUBLISH, VIEW, ENTRY = "memory", "publish", "view after ", "entry of phase "
 # What each call answers where it is refused memory; in some run it does.
 FAULTS = {
-    **dict.fromkeys((*ASKED_ONCE_MORE, *CLOSES, "publisher"), (NO_MEMORY,)),
-    **dict.fromkeys(("joined receipts", "split receipts", "phases ready", "rows"), REFUSED),
+    **dict.fromkeys((*ASKED_ONCE_MORE, *CLOSES, *PARTS, "publisher"), (NO_MEMORY,)),
+    **dict.fromkeys(("joined receipts", "split receipts", "phases ready", "parts ready", "rows"), REFUSED),
     **dict.fromkeys(("first_store ready", "first store permit", "first_view ready", "first view permit"), REFUSED),
     PUBLISH: (ALLOCATION_FAILED,),
     "windows ready": (*REFUSED, "error: Memory"),

@@ -10,14 +10,15 @@ use Rattle.auction_rows.specs.declared.requests.Request.{Request}
 use Rattle.auction_rows.specs.declared.rows.Row.{Row}
 use Rattle.auction_rows.specs.declared.rows.Entry.{Entry}
 use Rattle.auction_rows.specs.Book.{Book, worker_of}
-use Rattle.auction_rows.specs.History.{IsBook, ReplaysFrom, after_entry, row_of_entry, rows_of}
+use Rattle.auction_rows.specs.History.{IsBook, ReplaysFrom, after_entry, book_after, row_of_entry, rows_of}
 use Rattle.auction_rows.specs.Replies.{row_of}
-use Rattle.auction_rows.proofs.HistoryLemmas.{longer_book, rows_go_on}
+use Rattle.auction_rows.proofs.HistoryLemmas.{book_after-replays, longer_book, rows_go_on}
 use Rattle.auction_window.specs.Published.{book_of}
 use Rattle.auction_window.proofs.Growing.{book_of-snoc}
 use Rattle.item_shards.specs.OpeningRows.{rows_by}
 use Rattle.item_shards.specs.Serial.{CanFollow}
 use Rattle.item_shards.proofs.SerialLemmas.{worker_of_added}
+use Rattle.phase_floor.specs.States.{JoinedState, IsBookOf}
 use Rattle.phase_laws.specs.Order.{part}
 use Rattle.phase_laws.proofs.OrderLemmas.{all-weaker, all-from_map}
 use Rattle.run_laws.specs.Turns.{numbered, turn, turns}
@@ -37,8 +38,8 @@ use Rattle.auction_run.specs.declared.fault.RunFault.{RunFault}
 use Rattle.auction_run.specs.declared.fault.RunFault.TheVariants.{Memory}
 use Rattle.auction_run.specs.declared.running.Running.{Running}
 use Rattle.auction_run.specs.Beginning.{AreShort}
-use Rattle.auction_run.specs.Boards.{CanShow, HasShown, phase_rows}
-use Rattle.auction_run.specs.Outcomes.{HasShownFirst}
+use Rattle.auction_run.specs.Boards.{CanShow, HasShownAfter, IsUpToDate, phase_rows}
+use Rattle.auction_run.specs.Outcomes.{HasShownFirstAfter}
 use Rattle.auction_run.specs.Phases.{hot_sets, waiting_in}
 use Rattle.auction_run.specs.Running.{IsRunning}
 
@@ -111,7 +112,7 @@ rows_few (e ∷ es) = at (row_of_entry e) (rows_few es) where
   at (Some r) few = omega (arith, few)
 
 -- a row is of its entry's worker
-rows_workers : (P : ℕ → Type 0) (opening : Opening) (book : Book) (es : List Entry) → ReplaysFrom opening book es → AllByRecursion (λ e. P e.worker) es → AllByRecursion (λ r. P (worker_of r)) (rows_of es)
+pub rows_workers : (P : ℕ → Type 0) (opening : Opening) (book : Book) (es : List Entry) → ReplaysFrom opening book es → AllByRecursion (λ e. P e.worker) es → AllByRecursion (λ r. P (worker_of r)) (rows_of es)
 rows_workers P opening book [] replays all = tt
 rows_workers P opening book (e ∷ es) replays all = at (row_of_entry e) refl (rows_workers P opening (after_entry opening book e) es replays.1 all.1) where
   at : (o : Option Row) → row_of_entry e ≡ o → AllByRecursion (λ r. P (worker_of r)) (rows_of es) → AllByRecursion (λ r. P (worker_of r)) (cons_option o (rows_of es))
@@ -216,25 +217,31 @@ module _ (opening : Opening) (rows : Book) (is_book : IsBook opening rows) (poli
     one_phase_more : phase_rows (suc p) history ≡ phase_rows p old ++ rows_of es ∷ []
     one_phase_more = (λ i. (ap (phase_rows p) grown ∙ earlier_rows p p old es (omega arith) now) i ++ rows_of (sym last i) ∷ [])
 
-    module _ {B : Type 0} (has : B → Opening → Book → List (List Row) → Type 0) (board : B) (shown : HasShown has opening rows p old board) where
+    module _ {B : Type 0} (has : B → Opening → Book → List (List Row) → Type 0) (board : B) (first : Book) (before : List (List Row)) (same : book_of first before ≡ rows)
+        (shown : HasShownAfter has opening first before p old board) where
+      book_now : book_of first (before ++ phase_rows p old) ≡ rows ++ rows_of old
+      book_now = shown.book_is ∙ ap (λ book. book ++ rows_of old) same
+
+      all_now : before ++ phase_rows (suc p) history ≡ (before ++ phase_rows p old) ++ rows_of es ∷ []
+      all_now = ap (λ phases. before ++ phases) one_phase_more ∙ sym (append_assoc before (phase_rows p old) (rows_of es ∷ []))
+
       -- a board that has the phases before can be given the last one
-      pub can_show : p < 2000003 → CanShow has board (rows_of es)
-      can_show few_phases = record {
+      pub can_show : CanShow has board (rows_of es)
+      can_show = record {
         opening = opening;
-        rows = rows;
-        phases = phase_rows p old;
+        rows = first;
+        phases = before ++ phase_rows p old;
         has_them = shown.has_them;
-        follow = subst (λ book. CanFollow opening book (rows_of es)) (sym shown.book_is) can_follow;
-        counted = omega (arith, rows_length p old, few_phases);
+        follow = subst (λ book. CanFollow opening book (rows_of es)) (sym book_now) can_follow;
       }
 
       -- and then has all phases
       pub has_shown : (new : B) → ((opening : Opening) (rows : Book) (phases : List (List Row)) → has board opening rows phases → has new opening rows (phases ++ rows_of es ∷ [])) →
-          HasShown has opening rows (suc p) history new
+          HasShownAfter has opening first before (suc p) history new
       has_shown new given = record {
-        has_them = subst (has new opening rows) (sym one_phase_more) (given opening rows (phase_rows p old) shown.has_them);
-        book_is = ap (book_of rows) one_phase_more ∙ book_of-snoc rows (phase_rows p old) (rows_of es)
-            ∙ ap (λ book. book ++ rows_of es) shown.book_is ∙ append_assoc rows (rows_of old) (rows_of es) ∙ ap (λ rs. rows ++ rs) (sym rows_now);
+        has_them = subst (has new opening first) (sym all_now) (given opening first (before ++ phase_rows p old) shown.has_them);
+        book_is = ap (book_of first) all_now ∙ book_of-snoc first (before ++ phase_rows p old) (rows_of es) ∙ ap (λ book. book ++ rows_of es) book_now
+            ∙ append_assoc rows (rows_of old) (rows_of es) ∙ ap (λ rs. rows ++ rs) (sym rows_now) ∙ ap (λ book. book ++ rows_of history) (sym same);
       }
 
 -- one phase takes a run one phase on, under the names that its plan has for the policy and the scripts
@@ -257,20 +264,22 @@ none_before : (es : List Entry) → AllByRecursion (λ e. e.phase < 0) es → es
 none_before [] none = refl
 none_before (e ∷ es) none = absurd (omega (arith, none.0))
 
--- a board that has no phases has those of a run before its first
-pub begins_shown : {B : Type 0} (has : B → Opening → Book → List (List Row) → Type 0) (opening : Opening) (rows : Book) (policy : Policy) (scripts : List (List Request)) (running : Running) (board : B) →
-    IsRunning opening rows policy scripts 0 running → has board opening rows [] → HasShown has opening rows 0 running.history.entries board
-begins_shown has opening rows policy scripts running board run has_none = record {
-  has_them = has_none;
-  book_is = sym (append-nil rows) ∙ ap (λ es. rows ++ rows_of es) (sym (none_before running.history.entries run.run.phases_before));
+-- a board that has some phases has those of a run before its first after them
+pub begins_shown : {B : Type 0} (has : B → Opening → Book → List (List Row) → Type 0) (opening : Opening) (rows : Book) (before : List (List Row)) (policy : Policy) (scripts : List (List Request))
+    (running : Running) (board : B) → IsRunning opening (book_of rows before) policy scripts 0 running → has board opening rows before → HasShownAfter has opening rows before 0 running.history.entries board
+begins_shown has opening rows before policy scripts running board run has_them = record {
+  has_them = subst (has board opening rows) (sym (append-nil before)) has_them;
+  book_is = ap (book_of rows) (append-nil before) ∙ sym (append-nil (book_of rows before))
+      ∙ ap (λ es. book_of rows before ++ rows_of es) (sym (none_before running.history.entries run.run.phases_before));
 }
 
 -- ---- the first phases, where a run is refused
 
-module _ {B : Type 0} (has has_refused : B → Opening → Book → List (List Row) → Type 0) (opening : Opening) (rows : Book) (policy : Policy) (scripts : List (List Request)) where
-  -- a board that has no phases has the first none of a run
-  pub none_shown : (board : B) → has board opening rows [] → (fault : RunFault) → HasShownFirst has has_refused opening rows policy scripts board fault
-  none_shown board none fault = record {
+module _ {B : Type 0} (has has_refused : B → Opening → Book → List (List Row) → Type 0) (opening : Opening) (rows : Book) (before : List (List Row)) (policy : Policy)
+    (scripts : List (List Request)) where
+  -- a board that is given nothing has the first none of a run
+  pub none_shown : (board : B) → has board opening rows before → (fault : RunFault) → HasShownFirstAfter has has_refused opening rows before policy scripts board fault
+  none_shown board has_them fault = record {
     phase = 0;
     hot = [];
     history = [];
@@ -279,13 +288,17 @@ module _ {B : Type 0} (has has_refused : B → Opening → Book → List (List R
     chosen = none_chosen policy;
     numbers = none_numbered opening policy;
     replays = tt;
-    shown = inl (record { has_them = none; book_is = sym (append-nil rows) });
+    shown = inl (record {
+      has_them = subst (has board opening rows) (sym (append-nil before)) has_them;
+      book_is = ap (book_of rows) (append-nil before) ∙ sym (append-nil (book_of rows before));
+    });
   }
 
-  module _ (p : ℕ) (running : Running) (run : IsRunning opening rows policy scripts p running) where
+  module _ (p : ℕ) (running : Running) (run : IsRunning opening (book_of rows before) policy scripts p running) where
     -- a board has those that it was shown, whether or not it refuses the next
-    pub first_shown : (board : B) (fault : RunFault) → HasShown has opening rows p running.history.entries board
-        ⊎ ((fault ≡ Memory) × HasShown has_refused opening rows p running.history.entries board) → HasShownFirst has has_refused opening rows policy scripts board fault
+    pub first_shown : (board : B) (fault : RunFault) → HasShownAfter has opening rows before p running.history.entries board
+        ⊎ ((fault ≡ Memory) × HasShownAfter has_refused opening rows before p running.history.entries board) →
+        HasShownFirstAfter has has_refused opening rows before policy scripts board fault
     first_shown board fault shown = record {
       phase = p;
       hot = hot_sets running.hot.items;
@@ -299,12 +312,23 @@ module _ {B : Type 0} (has has_refused : B → Opening → Book → List (List R
     }
 
     -- as when it was not shown the next
-    pub not_shown : (old new : B) → HasShown has opening rows p running.history.entries old →
+    pub not_shown : (old new : B) → HasShownAfter has opening rows before p running.history.entries old →
         ((opening : Opening) (rows : Book) (phases : List (List Row)) → has old opening rows phases → has new opening rows phases ⊎ has_refused new opening rows phases) →
-        HasShownFirst has has_refused opening rows policy scripts new Memory
-    not_shown old new shown left = first_shown new Memory (at (left opening rows (phase_rows p running.history.entries) shown.has_them))
+        HasShownFirstAfter has has_refused opening rows before policy scripts new Memory
+    not_shown old new shown left = first_shown new Memory (at (left opening rows (before ++ phase_rows p running.history.entries) shown.has_them))
       where
-        at : has new opening rows (phase_rows p running.history.entries) ⊎ has_refused new opening rows (phase_rows p running.history.entries) →
-            HasShown has opening rows p running.history.entries new ⊎ ((Memory ≡ Memory) × HasShown has_refused opening rows p running.history.entries new)
+        at : has new opening rows (before ++ phase_rows p running.history.entries) ⊎ has_refused new opening rows (before ++ phase_rows p running.history.entries) →
+            HasShownAfter has opening rows before p running.history.entries new ⊎ ((Memory ≡ Memory) × HasShownAfter has_refused opening rows before p running.history.entries new)
         at (inl kept) = inl (record { has_them = kept; book_is = shown.book_is })
         at (inr refused) = inr (refl, record { has_them = refused; book_is = shown.book_is })
+
+-- a board that has all phases of a run is up to date with the state that it left
+pub up_to_date : {B : Type 0} (has : B → Opening → Book → List (List Row) → Type 0) (opening : Opening) (rows : Book) (before : List (List Row)) (phase : ℕ) (history : List Entry) (board : B)
+    (state : JoinedState) → HasShownAfter has opening rows before phase history board → ReplaysFrom opening (book_of rows before) history →
+    state.opening ≡ opening → IsBookOf state (book_after opening (book_of rows before) history) → IsUpToDate has board state
+up_to_date has opening rows before phase history board state shown replays same book = record {
+  rows = rows;
+  phases = before ++ phase_rows phase history;
+  has_them = subst (λ o. has board o rows (before ++ phase_rows phase history)) (sym same) shown.has_them;
+  book = subst (IsBookOf state) (book_after-replays opening (book_of rows before) history replays ∙ sym shown.book_is) book;
+}

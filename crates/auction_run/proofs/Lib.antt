@@ -6,5 +6,8 @@ pub mod QuotaLemmas
 pub mod PhaseLemmas
 pub mod HotThere
 pub mod ScriptLemmas
+pub mod StableLemmas
 pub mod RunLemmas
 pub mod BoardLemmas
+pub mod GoingOnLemmas
+pub mod PartLemmas

@@ -247,14 +247,14 @@ begun opening rows policy scripts new phase same stands shards workers commits h
   last = ap (drop 0) history ∙ ap (segment_of (0 - 1)) (sym history);
 }
 
+-- what is left from the first index on is left
+pub left_over : (policy : Policy) (scripts : List (List Request)) (p : ℕ) (running : Running) (first worker : ℕ) → first ≡ first_index policy p →
+    ((first < length (script_of scripts worker)) ⊎ (0 < length (waiting_in running.stashes.items worker))) → HasLeft policy scripts p (waiting_in running.stashes.items) worker
+left_over policy scripts p running first worker is (inl more) = inl (omega (arith, is, more))
+left_over policy scripts p running first worker is (inr waits) = inr waits
+
 module _ (opening : Opening) (rows : Book) (policy : Policy) (some : 0 < policy.joined_quota + policy.split_quota) (scripts : List (List Request)) (short : AreShort rows scripts)
     (p : ℕ) (running : Running) (run : IsRunning opening rows policy scripts p running) where
-  -- what is left from the first index on is left
-  pub left_over : (first worker : ℕ) → first ≡ first_index policy p →
-      ((first < length (script_of scripts worker)) ⊎ (0 < length (waiting_in running.stashes.items worker))) → HasLeft policy scripts p (waiting_in running.stashes.items) worker
-  left_over first worker is (inl more) = inl (omega (arith, is, more))
-  left_over first worker is (inr waits) = inr waits
-
   pub few_phases_so_far : p ≤ 2000002
   few_phases_so_far =
       let most = few_phases policy some scripts p 1000000 (hot_sets running.hot.items) running.history.entries (waiting_in running.stashes.items) run.run (all_short rows scripts short) in

@@ -1,5 +1,5 @@
 -- Boards, and the phases that they are given.
-use Rattle.std.specs.Prelude.{ℕ, zero, suc, ◌≡◌, ◌+◌, ◌<◌, ◌^◌, Bool, List, [], ◌∷◌, ◌++◌, length, Option, MatchOption}
+use Rattle.std.specs.Prelude.{ℕ, zero, suc, ◌≡◌, Bool, List, [], ◌∷◌, ◌++◌, Option, MatchOption}
 use Rattle.auction_rows.specs.declared.numbers.Opening.{Opening}
 use Rattle.auction_rows.specs.declared.rows.Row.{Row}
 use Rattle.auction_rows.specs.declared.rows.Entry.{Entry}
@@ -7,6 +7,7 @@ use Rattle.auction_rows.specs.Book.{Book}
 use Rattle.auction_rows.specs.History.{rows_of}
 use Rattle.auction_window.specs.Published.{Published, book_of}
 use Rattle.item_shards.specs.Serial.{CanFollow}
+use Rattle.phase_floor.specs.States.{JoinedState, IsBookOf}
 use Rattle.run_serving.specs.Serving.{segment_of}
 
 -- A board can take these rows as its next phase: they follow the book of the phases that it has.
@@ -16,7 +17,6 @@ pub record CanShow {B : Type 0} (has : B → Opening → Book → List (List Row
   pub phases : List (List Row)
   pub has_them : has board opening rows phases
   pub follow : CanFollow opening (book_of rows phases) last
-  pub counted : length phases + 1 < 2 ^ 64
 
 -- A publisher of an auction has published these phases, and told them last; it may have failed at the next.
 pub record HasPublished (failed : Bool) (own_opening : Opening) (own_rows : Book) (opening : Opening) (rows : Book)
@@ -31,8 +31,19 @@ abbrev pub phase_rows : ℕ → List Entry → List (List Row)
 phase_rows zero history = []
 phase_rows (suc n) history = phase_rows n history ++ rows_of (segment_of n history) ∷ []
 
+-- A board that had these phases before a run has those of the run so far after them.
+pub record HasShownAfter {B : Type 0} (has : B → Opening → Book → List (List Row) → Type 0) (opening : Opening) (rows : Book)
+    (before : List (List Row)) (phase : ℕ) (history : List Entry) (board : B) : Type 0 where
+  pub has_them : has board opening rows (before ++ phase_rows phase history)
+  pub book_is : book_of rows (before ++ phase_rows phase history) ≡ book_of rows before ++ rows_of history
+
 -- A board has the phases of a run so far.
-pub record HasShown {B : Type 0} (has : B → Opening → Book → List (List Row) → Type 0) (opening : Opening) (rows : Book)
-    (phase : ℕ) (history : List Entry) (board : B) : Type 0 where
-  pub has_them : has board opening rows (phase_rows phase history)
-  pub book_is : book_of rows (phase_rows phase history) ≡ rows ++ rows_of history
+abbrev pub HasShown : {B : Type 0} → (B → Opening → Book → List (List Row) → Type 0) → Opening → Book → ℕ → List Entry → B → Type 0
+HasShown has opening rows phase history board = HasShownAfter has opening rows [] phase history board
+
+-- A board is up to date with a state: what is stored after its phases is a book of the state.
+pub record IsUpToDate {B : Type 0} (has : B → Opening → Book → List (List Row) → Type 0) (board : B) (state : JoinedState) : Type 0 where
+  pub rows : Book
+  pub phases : List (List Row)
+  pub has_them : has board state.opening rows phases
+  pub book : IsBookOf state (book_of rows phases)

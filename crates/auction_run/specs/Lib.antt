@@ -6,3 +6,5 @@ pub mod Running
 pub mod Closed
 pub mod Outcomes
 pub mod Boards
+pub mod GoingOn
+pub mod Parts

@@ -1,5 +1,5 @@
 -- What a run answers, and what its board has then.
-use Rattle.std.specs.Prelude.{ℕ, ◌≡◌, ◌⊎◌, List, length}
+use Rattle.std.specs.Prelude.{ℕ, ◌≡◌, ◌⊎◌, List, [], length}
 use Rattle.auction_rows.specs.declared.ids.Object.{Object}
 use Rattle.auction_rows.specs.declared.numbers.Opening.{Opening}
 use Rattle.auction_rows.specs.declared.requests.Request.{Request}
@@ -11,7 +11,8 @@ use Rattle.phase_floor.specs.States.{StandsFor}
 use Rattle.run_serving.specs.declared.policy.Policy.{Policy}
 use Rattle.run_serving.specs.Run.{AreChosen, HasRun}
 use Rattle.run_serving.specs.Serving.{AreNumbered, Serves}
-use Rattle.auction_run.specs.Boards.{HasShown}
+use Rattle.auction_window.specs.Published.{book_of}
+use Rattle.auction_run.specs.Boards.{HasShown, HasShownAfter}
 use Rattle.auction_run.specs.Phases.{hot_sets}
 use Rattle.auction_run.specs.declared.fault.RunFault.{RunFault}
 use Rattle.auction_run.specs.declared.fault.RunFault.TheVariants.{Memory}
@@ -37,10 +38,10 @@ pub record IsOutcome (opening : Opening) (rows : Book) (policy : Policy) (script
 abbrev pub HasShownAll : {B : Type 0} → (B → Opening → Book → List (List Row) → Type 0) → Opening → Book → B → Outcome → Type 0
 HasShownAll has opening rows board outcome = HasShown has opening rows (length outcome.hot.items) outcome.history.entries board
 
--- A board has the first phases of a run of these scripts, from an opening book on, which is refused for this fault. They are all that
--- it was given; or, where no memory was left, it has them and has refused the next.
-pub record HasShownFirst {B : Type 0} (has has_refused : B → Opening → Book → List (List Row) → Type 0) (opening : Opening) (rows : Book)
-    (policy : Policy) (scripts : List (List Request)) (board : B) (fault : RunFault) : Type 0 where
+-- A board that had these phases before a run of these scripts has the first phases of the run after them, which is refused for this
+-- fault. They are all that it was given; or, where no memory was left, it has them and has refused the next.
+pub record HasShownFirstAfter {B : Type 0} (has has_refused : B → Opening → Book → List (List Row) → Type 0) (opening : Opening) (rows : Book)
+    (before : List (List Row)) (policy : Policy) (scripts : List (List Request)) (board : B) (fault : RunFault) : Type 0 where
   -- so many phases are done, with these hot sets, entries and stashes
   pub phase : ℕ
   pub hot : List (List Object)
@@ -50,6 +51,13 @@ pub record HasShownFirst {B : Type 0} (has has_refused : B → Opening → Book 
   -- hot sets, numbers and replies are as those of an outcome
   pub chosen : AreChosen policy hot history
   pub numbers : AreNumbered opening policy hot history
-  pub replays : ReplaysFrom opening rows history
+  pub replays : ReplaysFrom opening (book_of rows before) history
   -- their rows are what the board has
-  pub shown : HasShown has opening rows phase history board ⊎ ((fault ≡ Memory) × HasShown has_refused opening rows phase history board)
+  pub shown : HasShownAfter has opening rows before phase history board
+      ⊎ ((fault ≡ Memory) × HasShownAfter has_refused opening rows before phase history board)
+
+-- A board has the first phases of a run of these scripts, from an opening book on, which is refused for this fault.
+abbrev pub HasShownFirst : {B : Type 0} → (B → Opening → Book → List (List Row) → Type 0) → (B → Opening → Book → List (List Row) → Type 0) →
+    Opening → Book → Policy → List (List Request) → B → RunFault → Type 0
+HasShownFirst has has_refused opening rows policy scripts board fault =
+    HasShownFirstAfter has has_refused opening rows [] policy scripts board fault

@@ -18,6 +18,9 @@ pub trait Board {
     /// It has these phases, and has refused the next.
     ghost has_refused: { Self → Opening → Book → List (List Stored) → Type 0 };
 
+    /// Somebody can look at it, as at every board that does not say otherwise. If nobody can, nothing is asked of its phases.
+    ghost can_be_watched: { Type 0 } = { Unit {0} };
+
     /// Whether anybody looks at it. Where nobody does, it counts as having every phase, so a run makes no rows for it.
     fn is_watched(&self) -> bool
         ensures { result ≡ false → (opening : Opening) (rows : Book) (phases : List (List Stored)) (last : List Stored) →
@@ -29,7 +32,7 @@ pub trait Board {
     /// Takes the rows of one phase. Its only error is want of memory, after which it has refused this phase; a run then ends
     /// and calls it no more.
     fn publish<R: Wait>(&mut self, rt: &R, last: Vec<Row>) -> Result<(), AllocError>
-        requires { CanShow has self.old last.items }
+        requires { can_be_watched → CanShow has self.old last.items }
         ensures taken { OnOk result ((opening : Opening) (rows : Book) (phases : List (List Stored)) →
             has self.old opening rows phases → has self.new opening rows (phases ++ last.items ∷ [])) }
         ensures refused { OnErr result ((opening : Opening) (rows : Book) (phases : List (List Stored)) →
@@ -44,6 +47,8 @@ impl Board for NoBoard {
     ghost has = { λ board opening rows phases. Unit {0} };
 
     ghost has_refused = { λ board opening rows phases. Unit {0} };
+
+    ghost can_be_watched = { ⊥ };
 
     fn is_watched(&self) -> bool {
         false

@@ -1,13 +1,15 @@
 //! What is checked before a run begins.
-ghost use Rattle.std.specs.Prelude.{◌≡◌, ◌↔◌, ◌<◌, ◌≤◌, ℕ, length, slice_index, IsTrue};
+ghost use Rattle.std.specs.Prelude.{◌≡◌, ◌↔◌, ◌<◌, ◌≤◌, ℕ, length, slice_index, IsTrue, OnOk};
 ghost use Rattle.item_shards.specs.OpeningBooks.{rows_of};
 ghost use Rattle.item_shards.specs.OpeningRows.{rows_by};
 ghost use Rattle.auction_run.specs.Beginning.{HaveWorkers, HasShards, HasQuotas, AreShort, IsFirstToFail};
+ghost use Rattle.auction_run.specs.GoingOn.{AreShortOn, HasScripts, IsCheckedOn};
 ghost use Rattle.auction_run.specs.Phases.{lists};
 
 use crate::fault::RunFault;
 use auction_rows::{MOST_HOT, MOST_OF_A_WORKER, MOST_SHARDS, MOST_WORKERS, Request, Row};
 use item_shards::OpeningBook;
+use phase_floor::Joined;
 use run_serving::Policy;
 
 /// Checks what a run is handed: the fault is that of the first that doesn't hold.
@@ -32,6 +34,52 @@ pub(crate) fn check(
         return Err(RunFault::TooLong);
     }
     Ok(())
+}
+
+/// Checks what a run that goes on from a state is handed: the fault is that of the first that doesn't hold.
+pub(crate) fn check_on(
+    state: &Joined,
+    scripts: &[Vec<Request>],
+    policy: Policy,
+) -> Result<(), RunFault>
+    ensures checked { IsCheckedOn result state.now policy (lists scripts.now) }
+    ensures few { OnOk result (length (lists scripts.now) ≤ MOST_WORKERS) }
+{
+    if !has_scripts(state, scripts) {
+        return Err(RunFault::Workers);
+    }
+    if policy.shards != state.shards() {
+        return Err(RunFault::Shards);
+    }
+    if !has_quotas(policy) {
+        return Err(RunFault::Quota);
+    }
+    if !are_short_on(state, scripts) {
+        return Err(RunFault::TooLong);
+    }
+    Ok(())
+}
+
+// Whether there is a script for each worker of a state.
+fn has_scripts(state: &Joined, scripts: &[Vec<Request>]) -> bool
+    ensures are { IsTrue result ↔ HasScripts state.now (lists scripts.now) }
+    ensures few { IsTrue result → length (lists scripts.now) ≤ MOST_WORKERS }
+{
+    scripts.len() == state.workers() as usize
+}
+
+// Whether no worker's rows and script have more than 1,000,000 together.
+fn are_short_on(state: &Joined, scripts: &[Vec<Request>]) -> bool
+    requires { HasScripts state.now (lists scripts.now) }
+    ensures { IsTrue result ↔ AreShortOn state.now (lists scripts.now) }
+{
+    for worker in 0..scripts.len() {
+        let stored = state.stored_by(worker) as usize;
+        if scripts[worker].len() > MOST_OF_A_WORKER as usize - stored {
+            return false;
+        }
+    }
+    true
 }
 
 // Whether there are 1 to 16 scripts, and each row is of a worker that has one.

@@ -5,16 +5,19 @@ ghost use Rattle.auction_rows.specs.declared.numbers.Opening.{Opening as Numbers
 ghost use Rattle.auction_rows.specs.declared.rows.Row.{Row as Stored};
 ghost use Rattle.auction_rows.specs.Book.{Book};
 ghost use Rattle.auction_rows.specs.History.{IsBook, ReplaysFrom, book_after, rows_of as stored_rows};
+ghost use Rattle.auction_window.specs.Published.{book_of};
 ghost use Rattle.item_shards.specs.OpeningBooks.{opening_of, rows_of};
-ghost use Rattle.phase_floor.specs.States.{StandsFor};
+ghost use Rattle.phase_floor.specs.States.{StandsFor, IsBookOf};
 ghost use Rattle.run_laws.specs.Phases.{is_split};
 ghost use Rattle.worker_journals.specs.Merged.{merged};
+ghost use Rattle.run_serving.specs.declared.policy.Policy.{Policy as Rule};
 ghost use Rattle.run_serving.specs.Run.{HasLeft, AreChosen};
 ghost use Rattle.run_serving.specs.Serving.{script_of, Serves};
 ghost use Rattle.auction_run.specs.declared.fault.RunFault.TheVariants.{Workers, Shards, Quota, TooLong, Spawn};
-ghost use Rattle.auction_run.specs.Boards.{CanShow};
+ghost use Rattle.auction_run.specs.Boards.{CanShow, HasShownAfter, IsUpToDate};
 ghost use Rattle.auction_run.specs.Beginning.{HaveWorkers, HasShards, HasQuotas, AreShort, IsRefusedInOrder};
-ghost use Rattle.auction_run.specs.Outcomes.{HasShownAll, HasShownFirst, IsOutcome};
+ghost use Rattle.auction_run.specs.GoingOn.{BeginsWith, CannotBegin, CanShowRun};
+ghost use Rattle.auction_run.specs.Outcomes.{HasShownAll, HasShownFirst, HasShownFirstAfter, IsOutcome};
 ghost use Rattle.auction_run.specs.Phases.{lists, hot_sets, waiting_in, IsPlanOf, IsMet};
 ghost use Rattle.auction_run.specs.Running.{IsRunning, CanGoOn};
 
@@ -56,7 +59,7 @@ pub struct Outcome {
 /// The first four faults are found first, in their order, exactly for their causes. `Spawn` comes only where there is a thread to
 /// start; a fault gives no part of a history. No clause says when memory is refused, that `NumberFull` is of a worker that met the
 /// end of numbers, nor which of several faults of a phase is told: it is `Spawn` before that of the least worker, and this before
-/// that of the close.
+/// that of the close. The state left can be gone on with, by `run_on`.
 pub fn run<R: Threads + Wait + Sync, G: Gate + Sync>(
     rt: &R,
     alloc: Global,
@@ -78,6 +81,8 @@ pub fn run<R: Threads + Wait + Sync, G: Gate + Sync>(
     ensures phases { IfOk result (λ outcome. outcome.state.phase ≡ length outcome.hot.items) }
     ensures state_shards { IfOk result (λ outcome. length outcome.state.shards ≡ policy.shards) }
     ensures state_counters { IfOk result (λ outcome. length outcome.state.counters ≡ length (lists scripts.items)) }
+    ensures left { IfOk result (λ outcome. IsBookOf outcome.state
+        (book_after (opening_of book.now) (rows_of book.now) outcome.history.entries)) }
     ensures workers { IsErrOf result Workers ↔ ¬ HaveWorkers (rows_of book.now) (lists scripts.items) }
     ensures shards { IsErrOf result Shards
         ↔ (HaveWorkers (rows_of book.now) (lists scripts.items) × ¬ HasShards policy) }
@@ -105,9 +110,12 @@ pub fn run_shown<R: Threads + Wait + Sync, G: Gate + Sync, B: Board>(
 ) -> Result<Outcome, RunFault>
     requires { B.has board.old (opening_of book.now) (rows_of book.now) [] }
     ensures outcome { IfOk result (IsOutcome (opening_of book.now) (rows_of book.now) policy (lists scripts.items)) }
+    ensures left { IfOk result (λ outcome. IsBookOf outcome.state
+        (book_after (opening_of book.now) (rows_of book.now) outcome.history.entries)) }
     ensures refused { IsRefusedInOrder result policy (rows_of book.now) (lists scripts.items) }
     ensures spawn { IsErrOf result Spawn → 1 < length (lists scripts.items) }
     ensures board { IfOk result (HasShownAll B.has (opening_of book.now) (rows_of book.now) board.new) }
+    ensures up_to_date { IfOk result (λ outcome. IsUpToDate B.has board.new outcome.state) }
     ensures board_after_fault { IfErr result (HasShownFirst B.has B.has_refused
         (opening_of book.now) (rows_of book.now) policy (lists scripts.items) board.new) }
 {
@@ -141,11 +149,42 @@ fn run_checked<R: Threads + Wait + Sync, G: Gate + Sync, B: Board>(
     requires short { AreShort (rows_of book.now) (lists scripts.now) }
     ensures board { IfOk result (HasShownAll B.has (opening_of book.now) (rows_of book.now) board.new) }
     ensures outcome { IfOk result (IsOutcome (opening_of book.now) (rows_of book.now) policy (lists scripts.now)) }
+    ensures left { IfOk result (λ outcome. IsBookOf outcome.state
+        (book_after (opening_of book.now) (rows_of book.now) outcome.history.entries)) }
+    ensures up_to_date { IfOk result (λ outcome. IsUpToDate B.has board.new outcome.state) }
     ensures board_after_fault { IfErr result (HasShownFirst B.has B.has_refused
         (opening_of book.now) (rows_of book.now) policy (lists scripts.now) board.new) }
     ensures fault { IfErr result (IsMet (lists scripts.now)) }
 {
-    let mut running = begin(alloc, book, scripts, policy)?;
+    let state = Joined::resume(alloc, book, scripts.len() as u32, policy.shards)?;
+    run_from(rt, alloc, state, scripts, policy, gate, board)
+}
+
+/// A run from a state with which it begins.
+pub(crate) fn run_from<R: Threads + Wait + Sync, G: Gate + Sync, B: Board>(
+    rt: &R,
+    alloc: Global,
+    state: Joined,
+    scripts: &[Vec<Request>],
+    policy: Policy,
+    gate: &G,
+    board: &mut B,
+) -> Result<Outcome, RunFault>
+    requires begins { ¬ CannotBegin state policy (lists scripts.now) }
+    requires board { B.can_be_watched → CanShowRun B.has board.old state policy (lists scripts.now) }
+    requires shards { HasShards policy }
+    requires quotas { HasQuotas policy }
+    ensures outcome { IfOk result (λ outcome. (book : Book) → BeginsWith state book policy (lists scripts.now) →
+        IsOutcome state.opening book policy (lists scripts.now) outcome) }
+    ensures board { IfOk result (λ outcome. (rows : Book) (before : List (List Stored)) →
+        BeginsWith state (book_of rows before) policy (lists scripts.now) → B.has board.old state.opening rows before →
+        HasShownAfter B.has state.opening rows before (length outcome.hot.items) outcome.history.entries board.new) }
+    ensures board_after_fault { IfErr result (λ fault. (rows : Book) (before : List (List Stored)) →
+        BeginsWith state (book_of rows before) policy (lists scripts.now) → B.has board.old state.opening rows before →
+        HasShownFirstAfter B.has B.has_refused state.opening rows before policy (lists scripts.now) board.new fault) }
+    ensures fault { IfErr result (IsMet (lists scripts.now)) }
+{
+    let mut running = begin(alloc, state, scripts)?;
     for _phase in 0..MOST_PHASES {
         let plan = Plan::new(scripts, policy, gate, running.state.phase());
         if !is_left(scripts, &running.stashes, plan.round.first) {
@@ -168,17 +207,10 @@ fn run_checked<R: Threads + Wait + Sync, G: Gate + Sync, B: Board>(
 }
 
 // A run before its first phase.
-fn begin(
-    alloc: Global,
-    book: &OpeningBook,
-    scripts: &[Vec<Request>],
-    policy: Policy,
-) -> Result<Running, AllocError>
-    requires workers { HaveWorkers (rows_of book.now) (lists scripts.now) }
-    requires shards { HasShards policy }
-    ensures running { IfOk result (IsRunning (opening_of book.now) (rows_of book.now) policy (lists scripts.now) 0) }
+fn begin(alloc: Global, state: Joined, scripts: &[Vec<Request>]) -> Result<Running, AllocError>
+    ensures running { IfOk result (λ running. (rows : Book) (policy : Rule) → BeginsWith state rows policy (lists scripts.now) →
+        IsRunning state.opening rows policy (lists scripts.now) 0 running) }
 {
-    let state = Joined::resume(alloc, book, scripts.len() as u32, policy.shards)?;
     Ok(Running {
         state,
         history: History::new(alloc),
@@ -233,7 +265,7 @@ fn next_phase<R: Threads + Wait + Sync, G: Gate + Sync>(
     requires quotas { 0 < plan.policy.joined_quota + plan.policy.split_quota }
     requires counted { running.state.phase + 1 < 2 ^ 64 }
     requires plan { IsPlanOf plan running.state.phase }
-    requires running { CanGoOn plan.policy (lists plan.round.scripts.now) running }
+    requires running { ¬ ¬ CanGoOn plan.policy (lists plan.round.scripts.now) running }
     requires left { (worker : ℕ) × HasLeft plan.policy (lists plan.round.scripts.now) running.state.phase (waiting_in running.stashes.items) worker }
     ensures running { IfOk result (λ next. (opening : Numbers) (rows : Book) → IsBook opening rows →
         IsRunning opening rows plan.entry.policy (lists plan.entry.round.scripts.now) running.state.phase running →
@@ -267,7 +299,7 @@ fn show_phase<R: Wait, B: Board>(
     board: &mut B,
     history: &History,
 ) -> Result<(), AllocError>
-    requires { CanShow B.has board.old (stored_rows (merged history.now.last)) }
+    requires { B.can_be_watched → CanShow B.has board.old (stored_rows (merged history.now.last)) }
     ensures shown { OnOk result ((opening : Numbers) (rows : Book) (phases : List (List Stored)) →
         B.has board.old opening rows phases →
         B.has board.new opening rows (phases ++ stored_rows (merged history.now.last) ∷ [])) }

@@ -121,13 +121,12 @@ impl<J: WindowName> Publisher<J> {
 
     /// Publishes the rows of one phase, all at once. It costs in proportion to the rows of this phase and of the one before,
     /// and to the windows. Where memory is refused, windows read what they read before, and so they do from then on: every
-    /// later publish is refused.
+    /// later publish is refused. A phase past 2^64 - 1 is want of memory.
     ///
     /// It waits for those views alone that began before the publish before it returned, until they are done, since they may
     /// read the copy that it is to change. The first publish waits for none, and no view waits for a publish.
     pub fn publish<R: Wait>(&mut self, rt: &R, rows: Vec<Row>) -> Result<Told<J>, AllocError>
         requires rows { CanFollow J.opening (book_of J.rows self.old.phases) rows.items }
-        requires count { length self.old.phases < u64.MAX }
         ensures published { OnOk result
             (self.new ≡ record { phases = self.old.phases ++ rows.items ∷ []; failed = false }) }
         ensures told { IfOk result (λ told. told ≡ self.new.phases) }
@@ -139,6 +138,9 @@ impl<J: WindowName> Publisher<J> {
         }
         // It has failed until all is done.
         self.failed = true;
+        if self.phases.len() == u64::MAX {
+            return Err(AllocError);
+        }
         let mut phases = self.phases.again();
         if !phases.add(&self.count, &rows) {
             return Err(AllocError);

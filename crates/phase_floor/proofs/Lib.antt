@@ -21,3 +21,4 @@ pub mod Lawfully
 pub mod Shown
 pub mod Cold
 pub mod Leaving
+pub mod NextRunLemmas

@@ -4,3 +4,4 @@ pub mod Floors
 pub mod Begins
 pub mod Closings
 pub mod Resuming
+pub mod NextRun

@@ -1,11 +1,11 @@
 -- The state between two phases, and the books for which it stands.
-use Rattle.std.specs.Prelude.{ℕ, ◌<◌, ◌≤◌, List, [], IsSome, length, map}
+use Rattle.std.specs.Prelude.{ℕ, ◌<◌, ◌≤◌, List, [], All, IsSome, length, map}
 use Rattle.std.specs.List.{AllByRecursion}
 use Rattle.auction_rows.specs.declared.limits.TheConstants.{MOST_OF_A_WORKER, MOST_SHARDS, MOST_WORKERS}
 use Rattle.auction_rows.specs.declared.ids.Object.{Object}
 use Rattle.auction_rows.specs.declared.ids.Object.TheVariants.{Item, User, Category}
 use Rattle.auction_rows.specs.declared.numbers.Opening.{Opening}
-use Rattle.auction_rows.specs.Book.{Book}
+use Rattle.auction_rows.specs.Book.{Book, worker_of}
 use Rattle.auction_rows.specs.History.{IsBook}
 use Rattle.item_shards.specs.declared.shard.Shard.{Shard}
 use Rattle.item_shards.specs.Limits.{HasStars}
@@ -36,6 +36,16 @@ states_of state = map state_of state.shards
 
 abbrev pub StandsFor : JoinedState → Book → Type 0
 StandsFor state book = StandFor (states_of state) state.counters book []
+
+-- A book of a state: its rows are of the state's workers, and the state stands for it.
+pub record IsBookOf (state : JoinedState) (book : Book) : Type 0 where
+  pub is_book : IsBook state.opening book
+  pub own : All (λ row. worker_of row < length state.counters) book
+  pub stands : StandsFor state book
+
+-- the state has no such book: of no state is this so
+abbrev pub HasNoBook : JoinedState → Type 0
+HasNoBook state = (book : Book) → IsBookOf state book → ⊥
 
 -- the object is one of the auction: an item that is stored, or a user or category of the opening
 abbrev pub DoesExist : Opening → List ShardState → Object → Type 0

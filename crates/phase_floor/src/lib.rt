@@ -10,6 +10,7 @@ mod joined;
 mod kits;
 mod making;
 mod merge;
+mod next_run;
 mod parts;
 mod quotas;
 mod receipt;

@@ -10,7 +10,7 @@ ghost use Rattle.item_shards.specs.Writing.{writes_of};
 ghost use Rattle.shard_boxes.specs.States.{state_of};
 ghost use Rattle.phase_closing.specs.Standing.{ShardsStandFor, counters_at};
 ghost use Rattle.phase_floor.specs.Resuming.{counters_in, with_row, HaveRoom, AreNumbered, AreReady, CanWriteOn, CanActIn, HasRoomIn, HaveDone};
-ghost use Rattle.phase_floor.specs.States.{StandsFor};
+ghost use Rattle.phase_floor.specs.States.{StandsFor, IsBookOf};
 
 use crate::joined::Joined;
 use crate::making::{new_shards, nothing_counted};
@@ -41,6 +41,7 @@ impl Joined {
         ensures counters { IfOk result (λ joined. (w : ℕ) → w < workers →
             counters_at joined.counters w ≡ counters_in (rows_of book.now) w) }
         ensures stands { IfOk result (λ joined. StandsFor joined (rows_of book.now)) }
+        ensures book { IfOk result (λ joined. IsBookOf joined (rows_of book.now)) }
     {
         let rows = book.rows();
         let counters = count_rows(alloc, workers, rows)?;

@@ -47,6 +47,8 @@ impl<'a, B: Board, C: Clock> Board for Timed<'a, B, C> {
 
     ghost has_refused = { λ timed opening rows phases. B.has_refused timed.board opening rows phases };
 
+    ghost can_be_watched = { B.can_be_watched };
+
     fn publish<R: Wait>(&mut self, rt: &R, last: Vec<Row>) -> Result<(), AllocError> {
         let begun = Instant::now(self.clock);
         self.board.publish(rt, last)?;

@@ -1,4 +1,5 @@
 //! The calls, and what came of them where memory was there. What each answers stands in `tests/library_calls.txt`.
+use crate::calls::parts::two_parts;
 use crate::calls::phases::phases_by_hand;
 use crate::calls::printing::{VIEW, print_history};
 use crate::calls::windows::two_publishes;
@@ -23,5 +24,13 @@ fn windows(rt: HostRuntime) -> Result<(), Fail> {
     let ended = two_publishes(&rt, rt.alloc())?;
     let wanted = item_seen(&vases(2)?, Some((20, 1)), 1, 2);
     assert_same(&rt, &ended, &(Some(wanted), 2, true));
+    Ok(())
+}
+
+#[test]
+fn parts(rt: HostRuntime) -> Result<(), Fail> {
+    let shown = two_parts(&rt, rt.alloc())?.view(&VIEW);
+    let wanted = item_seen(&vases(3)?, Some((30, 2)), 3, 2);
+    assert_same(&rt, &shown, &Some(wanted));
     Ok(())
 }

@@ -1,9 +1,10 @@
 //! Whole runs, and their requests.
 use crate::testing::{OPENING, purchase, put_up, vases};
 use auction_rows::{BidId, ItemId, Reply, Request};
-use auction_run::{Gate, Outcome, Policy, run};
+use auction_run::{Gate, Outcome, Policy, RunFault, Stopped, run};
 use item_shards::OpeningBook;
-use std::alloc::Global;
+use phase_floor::Joined;
+use std::alloc::{AllocError, Global};
 use std::sync::Wait;
 use std::test::Fail;
 use std::thread::Threads;
@@ -50,20 +51,50 @@ pub(crate) fn run_of<R: Threads + Wait + Sync, G: Gate + Sync>(
     split_quota: u32,
     gate: &G,
 ) -> Result<Outcome, Fail> {
-    let policy = Policy {
+    let own = own_scripts(alloc, scripts)?;
+    let policy = policy_of(joined_quota, split_quota);
+    let book = OpeningBook::empty(OPENING);
+    match run(rt, alloc, &book, own, policy, gate) {
+        Ok(outcome) => Ok(outcome),
+        Err(fault) => Err(Fail::new(fault)),
+    }
+}
+
+/// Scripts that a run may keep.
+pub(crate) fn own_scripts(
+    alloc: Global,
+    scripts: &[&[Request]],
+) -> Result<Vec<Vec<Request>>, AllocError> {
+    let mut own = Vec::new(alloc);
+    for script in scripts {
+        own.push(Vec::from_slice(alloc, script)?)?;
+    }
+    Ok(own)
+}
+
+/// Four shards, with up to eight hot objects and threshold 1.
+pub(crate) fn policy_of(joined_quota: u32, split_quota: u32) -> Policy {
+    Policy {
         shards: 4,
         joined_quota,
         split_quota,
         threshold: 1,
         hot_max: 8,
-    };
-    let mut own = Vec::new(alloc);
-    for script in scripts {
-        own.push(Vec::from_slice(alloc, script)?)?;
     }
-    let book = OpeningBook::empty(OPENING);
-    match run(rt, alloc, &book, own, policy, gate) {
-        Ok(outcome) => Ok(outcome),
-        Err(fault) => Err(Fail::new(fault)),
+}
+
+/// The fault of a run that stopped.
+pub(crate) fn fault_of(stopped: &Stopped) -> RunFault {
+    match stopped {
+        Stopped::Refused(_state, fault) => *fault,
+        Stopped::Failed(fault) => *fault,
+    }
+}
+
+/// The state that a run which goes on from it gives back for a fault.
+pub(crate) fn given_back(stopped: Stopped) -> Option<(Joined, RunFault)> {
+    match stopped {
+        Stopped::Refused(state, fault) => Some((state, fault)),
+        Stopped::Failed(_fault) => None,
     }
 }

@@ -3,7 +3,6 @@ use Rattle.std.proofs.lemmas.List.{append-nil}
 use Rattle.auction_rows.specs.declared.rows.Entry.{Entry}
 use Rattle.worker_journals.specs.Merged.{merged}
 use Rattle.auction_run.specs.Ranking.{HasHeats}
-use Rattle.auction_run.proofs.HeatLemmas.{no_heats}
 use Rattle.auction_run.proofs.choosing.heats_after.Goals as goal
 
 -- an entry that was the first of those that are left is the last of those that were told

@@ -1,4 +1,4 @@
-use Rattle.std.proofs.Common.{◌≡◌, List, map, take, ap, subst, sym, ◌∙◌}
+use Rattle.std.proofs.Common.{List, map, take, ap, subst, sym, ◌∙◌}
 use Rattle.std.specs.List.{IsDistinct}
 use Rattle.std.proofs.lemmas.Result.{IfOk-weaker}
 use Rattle.auction_rows.specs.Requests.{same_object}

@@ -3,12 +3,17 @@ use Rattle.std.proofs.lemmas.List.{map-append}
 use Rattle.auction_rows.specs.declared.rows.Entry.{Entry}
 use Rattle.auction_run.specs.Phases.{lists, hot_sets}
 use Rattle.auction_run.proofs.RunLemmas.{stepped, may_perform}
+use Rattle.auction_run.proofs.StableLemmas.{may_still}
 use Rattle.auction_run.proofs.running.next_phase.Goals as goal
 
 pub perform_phase-requires-clause-may : goal.perform_phase-requires-clause-may
 perform_phase-requires-clause-may g c κs within =
-    may_perform c.args.plan.policy (lists c.args.plan.round.scripts.now) c.args.running c.requires.shards.some c.requires.running c.requires.counted c.in_ok-hot_now.hot_now.keys
-    c.in_ok-hot_now.ensures.joined c.in_ok-hot_now.ensures.split
+    let policy = c.args.plan.policy in
+    let scripts = lists c.args.plan.round.scripts.now in
+    let hot = c.in_ok-hot_now.hot_now.keys in
+    may_still policy scripts c.args.running.state c.args.running.stashes.items hot c.requires.counted c.in_ok-hot_now.ensures.joined
+    (λ never. c.requires.running (λ on.
+    never (may_perform policy scripts c.args.running c.requires.shards.some on c.requires.counted hot c.in_ok-hot_now.ensures.joined c.in_ok-hot_now.ensures.split)))
 
 pub returns-clause-running : goal.returns-clause-running
 returns-clause-running g c = λ opening rows is_book run.

@@ -25,6 +25,7 @@ returns g c =
       phases = of_outcome g c _ (λ outcome is. is.phases);
       state_shards = of_outcome g c _ (λ outcome is. is.shards);
       state_counters = of_outcome g c _ (λ outcome is. is.counters);
+      left = c.run_shown.ensures.left;
       workers = refused.workers;
       shards = refused.shards;
       quota = refused.quota;

@@ -1,3 +1,4 @@
+use Rattle.std.proofs.Common.{[]}
 use Rattle.item_shards.specs.OpeningBooks.{opening_of, rows_of}
 use Rattle.phase_workers.proofs.WorkLemmas.{err_as}
 use Rattle.auction_run.specs.Outcomes.{HasShownFirst}
@@ -11,4 +12,4 @@ returns-in_err-check-clause-board_after_fault g c =
     let book = c.args.book.now in
     let fault = c.in_err-check.field-0.0 in
     err_as c.from_residual.result fault (HasShownFirst B.has B.has_refused (opening_of book) (rows_of book) c.args.policy (lists c.args.scripts.items) c.args.board.now) c.from_residual.ensures.1
-    (none_shown B.has B.has_refused (opening_of book) (rows_of book) c.args.policy (lists c.args.scripts.items) c.args.board.now c.requires fault)
+    (none_shown B.has B.has_refused (opening_of book) (rows_of book) [] c.args.policy (lists c.args.scripts.items) c.args.board.now c.requires fault)

@@ -1,4 +1,4 @@
-use Rattle.std.proofs.Common.{◌≡◌, ℕ, ◌<◌, [], map, sym, subst, ◌∙◌, arith}
+use Rattle.std.proofs.Common.{◌≡◌, ℕ, ◌<◌, [], All, map, sym, subst, ◌∙◌, arith}
 use Rattle.std.proofs.lemmas.List.Elements.{recursion_from_All}
 use Rattle.auction_rows.specs.History.{IsBook}
 use Rattle.auction_rows.specs.Book.{worker_of}
@@ -29,3 +29,11 @@ invariant_of-result c =
     kept_of c.opening-2.result rows shards.items counters.items c.args.workers c.in_ok-counters.ensures.len each own stand
     (subst (λ o. IsBook o rows) (sym c.opening-2.ensures) c.rows-rows.ensures.book) c.rows-rows.ensures.limits c.rows-rows.ensures.few ready c.requires.workers
     (omega (arith, c.in_ok-shards.ensures.len, c.requires.shards), omega (arith, c.in_ok-shards.ensures.len, c.requires.shards))
+
+pub returns-clause-book : goal.returns-clause-book
+returns-clause-book c =
+    let rows = rows_of c.args.book.now in record {
+      is_book = subst (λ o. IsBook o rows) (sym c.opening-2.ensures) c.rows-rows.ensures.book;
+      own = subst (λ n. All (λ one. worker_of one < n) rows) (sym c.in_ok-counters.ensures.len) c.requires.own;
+      stands = returns-clause-stands c;
+    }

@@ -1,0 +1,186 @@
+//! Runs that go on from what another left, and what they are refused.
+use crate::comparing::assert_same;
+use crate::runs::testing::{
+    LOOK, Threaded, bid_stored, fault_of, given_back, own_scripts, policy_of, run_of,
+};
+use crate::testing::{FIRST, OPENING, bid, item_seen, purchase, put_up, vases};
+use auction_rows::{BuyId, Reply, Request};
+use auction_run::{FreeGate, Gate, Outcome, Policy, RunFault, run_on};
+use item_shards::{Opened, OpeningBook};
+use phase_floor::Joined;
+use std::alloc::Global;
+use std::sync::Wait;
+use std::test::Fail;
+use std::thread::Threads;
+use worker_journals::History;
+
+const VIEW: Request = Request::ViewItem { item: FIRST };
+
+// In which phase a worker's request was performed, and what it was answered.
+fn answer_at(history: &History, worker: u32, index: u32) -> Option<(u64, Reply)> {
+    for entry in history.iter().map(|entry| entry.to_entry()) {
+        if entry.worker == worker && entry.index == index {
+            return Some((entry.phase, entry.reply));
+        }
+    }
+    None
+}
+
+// Goes on with these scripts.
+fn part_of<R: Threads + Wait + Sync, G: Gate + Sync>(
+    rt: &R,
+    alloc: Global,
+    state: Joined,
+    scripts: &[&[Request]],
+    gate: &G,
+) -> Result<Outcome, Fail> {
+    let own = own_scripts(alloc, scripts)?;
+    match run_on(rt, alloc, state, own, policy_of(2, 2), gate) {
+        Ok(outcome) => Ok(outcome),
+        Err(stopped) => Err(Fail::new(fault_of(&stopped))),
+    }
+}
+
+fn bought(worker: u32, serial: u32) -> Reply {
+    Reply::Bought(BuyId { worker, serial })
+}
+
+// Three vases are put up and bid on; two are bought in the next part, and one in the last. Phases and indexes count from 0 in each.
+#[test]
+fn a_run_goes_on_where_another_ended(rt: HostRuntime) -> Result<(), Fail> {
+    let alloc = rt.alloc();
+    let facts = vases(3)?;
+    let (two, one) = (purchase(1, 2, 6)?, purchase(4, 1, 9)?);
+    let scripts: [&[Request]; 2] = [&[put_up(facts), bid(1, 10, 1)], &[LOOK]];
+    let first = run_of(&rt, alloc, &scripts, 2, 2, &Threaded)?;
+    let seen = item_seen(&facts, Some((10, 1)), 1, 3);
+    assert_same(&rt, &first.state.view(&VIEW), &Some(seen));
+
+    let second = part_of(&rt, alloc, first.state, &[&[two], &[]], &Threaded)?;
+    let answer = answer_at(&second.history, 0, 0);
+    assert_same(&rt, &answer, &Some((0, bought(0, 0))));
+    assert_same(&rt, &second.history.len(), &1);
+    let seen = item_seen(&facts, Some((10, 1)), 1, 1);
+    assert_same(&rt, &second.state.view(&VIEW), &Some(seen));
+    assert_same(&rt, &second.state.phase(), &1);
+
+    let scripts: [&[Request]; 2] = [&[], &[bid(2, 30, 2), one, VIEW]];
+    let third = part_of(&rt, alloc, second.state, &scripts, &FreeGate)?;
+    let seen = item_seen(&facts, Some((30, 2)), 2, 0);
+    // The bid makes the item hot, so its view waits for the next joined phase.
+    for (index, phase, reply) in [(0, 0, bid_stored(1, 0)), (1, 0, bought(1, 0)), (2, 2, seen)] {
+        let answer = answer_at(&third.history, 1, index);
+        assert_same(&rt, &answer, &Some((phase, reply)));
+    }
+    assert_same(&rt, &third.history.len(), &3);
+    assert_same(&rt, &third.state.view(&VIEW), &Some(seen));
+    assert_same(&rt, &third.state.phase(), &3);
+    Ok(())
+}
+
+// An auction that is resumed with a row of the vases, and is bid on.
+#[test]
+fn a_run_goes_on_from_a_resumed_auction(rt: HostRuntime) -> Result<(), Fail> {
+    let alloc = rt.alloc();
+    let facts = vases(2)?;
+    let row = Opened {
+        worker: 0,
+        request: put_up(facts),
+    };
+    let book = OpeningBook::new(alloc, OPENING, Vec::from_array(alloc, [row])?)?;
+    let rows = book.rows();
+    if rows.iter().any(|row| row.worker() > 0) {
+        return Err(Fail::new("a row of another worker"));
+    }
+    let state = Joined::resume(alloc, &book, 1, 4)?;
+    let outcome = part_of(&rt, alloc, state, &[&[bid(1, 10, 1), VIEW]], &FreeGate)?;
+    let seen = item_seen(&facts, Some((10, 1)), 1, 2);
+    let answers = [0, 1].map(|index| answer_at(&outcome.history, 0, index));
+    assert_same(
+        &rt,
+        &answers,
+        &[Some((0, bid_stored(0, 0))), Some((0, seen))],
+    );
+    Ok(())
+}
+
+// One script of so many views.
+fn views(alloc: Global, many: usize) -> Result<Vec<Vec<Request>>, Fail> {
+    let mut script = Vec::with_capacity(alloc, many)?;
+    for _view in 0..many {
+        script.push(LOOK)?;
+    }
+    Ok(vec![in alloc; script]?)
+}
+
+// The state that is given back for this fault, from which a view goes on: what that shows.
+fn shown_after<R: Threads + Wait + Sync>(
+    rt: &R,
+    alloc: Global,
+    state: Joined,
+    scripts: Vec<Vec<Request>>,
+    policy: Policy,
+    wanted: RunFault,
+) -> Result<(Joined, Option<(u64, Reply)>), Fail> {
+    let stopped = match run_on(rt, alloc, state, scripts, policy, &FreeGate) {
+        Ok(_outcome) => return Err(Fail::new("nothing was refused")),
+        Err(stopped) => stopped,
+    };
+    let (back, fault) = given_back(stopped).ok_or("no state")?;
+    if fault != wanted {
+        return Err(Fail::new(fault));
+    }
+    let outcome = part_of(rt, alloc, back, &[&[VIEW]], &FreeGate)?;
+    Ok((outcome.state, answer_at(&outcome.history, 0, 0)))
+}
+
+// A worker of two rows may have 999,998 requests more. For one more than these, a script too few, other shards or no quota the state
+// comes back as it was.
+#[test]
+fn what_is_refused_gives_the_state_back(rt: HostRuntime) -> Result<(), Fail> {
+    let alloc = rt.alloc();
+    let facts = vases(3)?;
+    let scripts: [&[Request]; 1] = [&[put_up(facts), bid(1, 10, 1)]];
+    let first = run_of(&rt, alloc, &scripts, 2, 2, &FreeGate)?;
+    let policy = policy_of(2, 2);
+    let more_shards = Policy {
+        shards: 5,
+        ..policy
+    };
+    let long = views(alloc, 999_999)?;
+    let seen = Some((0, item_seen(&facts, Some((10, 1)), 1, 3)));
+    let mut state = first.state;
+    for (scripts, policy, fault) in Vec::from_array(
+        alloc,
+        [
+            (Vec::new(alloc), policy, RunFault::Workers),
+            (views(alloc, 1)?, more_shards, RunFault::Shards),
+            (views(alloc, 1)?, policy_of(0, 2), RunFault::Quota),
+            (long, policy, RunFault::TooLong),
+        ],
+    )? {
+        let (next, shown) = shown_after(&rt, alloc, state, scripts, policy, fault)?;
+        assert_same(&rt, &shown, &seen);
+        state = next;
+    }
+    Ok(())
+}
+
+// What a worker looks at is not counted from part to part: 600,000 views in each of two go through.
+#[test]
+fn views_of_earlier_parts_are_not_counted(rt: HostRuntime) -> Result<(), Fail> {
+    let alloc = rt.alloc();
+    let book = OpeningBook::empty(OPENING);
+    let mut state = Joined::resume(alloc, &book, 1, 4)?;
+    for _part in 0..2 {
+        let scripts = views(alloc, 600_000)?;
+        match run_on(&rt, alloc, state, scripts, policy_of(4096, 4096), &FreeGate) {
+            Ok(outcome) => {
+                assert_same(&rt, &outcome.history.len(), &600_000);
+                state = outcome.state;
+            }
+            Err(_stopped) => return Err(Fail::new("stopped")),
+        }
+    }
+    Ok(())
+}

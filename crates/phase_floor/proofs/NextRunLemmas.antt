@@ -1,0 +1,60 @@
+-- A state for another run keeps what is kept between phases, and stands for the same books.
+use Rattle.std.proofs.Common.{◌≡◌, ℕ, suc, ◌≤◌, List, [], ◌∷◌, map, length, sym, subst, arith}
+use Rattle.std.specs.List.{AllByRecursion}
+use Rattle.std.proofs.lemmas.List.{length-map}
+use Rattle.std.proofs.Math.ListN.{get_or-map}
+use Rattle.auction_rows.specs.declared.numbers.Opening.{Opening}
+use Rattle.auction_rows.specs.Book.{Book}
+use Rattle.shard_boxes.specs.States.{ShardState}
+use Rattle.phase_contexts.specs.declared.counters.Counters.{Counters}
+use Rattle.phase_contexts.specs.Splits.{CountsOf}
+use Rattle.phase_closing.specs.Standing.{StandFor, AreOfWorkers, counters_at, stores}
+use Rattle.phase_transactions.specs.Permits.{no_counters}
+use Rattle.phase_floor.specs.NextRun.{stores_as_commits}
+use Rattle.phase_floor.specs.States.{AreOfABook, AreWithinLimit, IsKept, IsWithinLimit}
+
+module _ (counters : List Counters) where
+  abbrev pub new : List Counters
+  new = map stores_as_commits counters
+
+  pub many : length new ≡ length counters
+  many = simp length-map
+
+  pub at_next : (w : ℕ) → counters_at new w ≡ stores_as_commits (counters_at counters w)
+  at_next w = get_or-map stores_as_commits counters w no_counters
+
+  pub stand_next : (states : List ShardState) (book : Book) → StandFor states counters book [] → StandFor states new book []
+  stand_next states book holds = record {
+    shards = holds.shards;
+    counts = λ w low.
+        let own = holds.counts w (omega (arith, low, many)) in
+        subst (CountsOf book w) (sym (at_next w)) (record { items = own.items; bids = own.bids; comments = own.comments; buys = own.buys });
+  }
+
+  limits_next : AreWithinLimit counters → AreWithinLimit new
+  limits_next limits = λ w low.
+      let own = limits w (omega (arith, low, many)) in
+      subst IsWithinLimit (sym (at_next w)) (record { stored = omega arith; commits = omega (arith, own.stored, own.commits) })
+
+  of_a_book_next : (opening : Opening) (states : List ShardState) → AreOfABook opening states counters → AreOfABook opening states new
+  of_a_book_next opening states of_a_book = λ none.
+      of_a_book (λ book is stars own holds. none book is stars (subst (λ n. AreOfWorkers n book) (sym many) own) (stand_next states book holds))
+
+  pub kept_next : (opening : Opening) (states : List ShardState) → IsKept opening states counters → IsKept opening states new
+  kept_next opening states kept = record {
+    some_shards = kept.some_shards;
+    few_shards = kept.few_shards;
+    some_workers = omega (arith, many, kept.some_workers);
+    few_workers = omega (arith, many, kept.few_workers);
+    opened = kept.opened;
+    opening_is = kept.opening_is;
+    limits = limits_next kept.limits;
+    of_a_book = of_a_book_next opening states kept.of_a_book;
+  }
+
+-- each worker's stores are within the limit
+pub stores_within : (counters : List Counters) → AreWithinLimit counters → AllByRecursion (λ c. stores c ≤ 1000000) counters
+stores_within [] limits = tt
+stores_within (c ∷ cs) limits =
+    let first = limits 0 (omega arith) in
+    (omega (arith, first.stored, first.commits), stores_within cs (λ w low. limits (suc w) (omega (arith, low))))

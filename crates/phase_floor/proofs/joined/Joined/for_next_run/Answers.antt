@@ -1,0 +1,30 @@
+use Rattle.std.proofs.Common.{[], map, length, ◌<◌, sym, subst}
+use Rattle.std.proofs.lemmas.List.Elements.{All-from_recursion}
+use Rattle.auction_rows.specs.Book.{worker_of}
+use Rattle.shard_boxes.specs.States.{state_of}
+use Rattle.phase_closing.specs.Standing.{StandFor}
+use Rattle.phase_floor.specs.States.{HasNoBook, IsKept, StandsFor}
+use Rattle.phase_floor.proofs.NextRunLemmas.{kept_next, stand_next, stores_within}
+use Rattle.phase_floor.proofs.joined.Joined.for_next_run.Goals as goal
+
+pub set_commits-requires : goal.set_commits-requires
+set_commits-requires c = stores_within c.self.inside.counters.items c.self.invariant.limits
+
+pub invariant_of-result : goal.invariant_of-result
+invariant_of-result c =
+    let states = map state_of c.self.inside.shards.items in
+    subst (λ counters. IsKept c.self.inside.opening states counters) (sym c.set_commits.ensures) (kept_next c.self.inside.counters.items c.self.inside.opening states c.self.invariant)
+
+pub returns-clause-stands : goal.returns-clause-stands
+returns-clause-stands c = λ book stands.
+    let states = map state_of c.self.inside.shards.items in
+    subst (λ counters. StandFor states counters book []) (sym c.set_commits.ensures)
+    (stand_next c.self.inside.counters.items states book (subst (λ state. StandsFor state book) (sym c.self.view_is) stands))
+
+pub returns-clause-of_a_book : goal.returns-clause-of_a_book
+returns-clause-of_a_book c = λ none.
+    c.self.invariant.of_a_book (λ book is_book stars own stands. subst HasNoBook (sym c.self.view_is) none book (record {
+      is_book = is_book;
+      own = All-from_recursion (λ row. worker_of row < length c.self.inside.counters.items) book own;
+      stands = stands;
+    }))
