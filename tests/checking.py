@@ -17,6 +17,7 @@ from pathlib import Path
 from textwrap import indent
 from typing import Iterator
 
+import helps
 from checks import tell_of
 from inputs import Text, random_options
 from load_model import Plan, load_of
@@ -390,6 +391,15 @@ def small_inputs(folder: Path) -> Iterator[tuple[int, bytes, Path]]:
         yield workers, data, folder / name
 
 
+def help_and_version(tester: Tester) -> None:
+    """help, as docs/CHECKING.md shows it, of which one example reads a pipe, and the version"""
+    said = helps.help_and_version(tester.tally, tester.checker, "rubis_check", "CHECKING.md", ("--history=none",))
+    scripts = EXAMPLES / "contended.csv"
+    (tester.folder / "scripts.csv").write_bytes(scripts.read_bytes())
+    (tester.folder / "engine.history").write_bytes(run([*SMALL_ENGINE, scripts, "3"]).stdout)
+    helps.examples(tester.tally, said, "rubis_check", tester.folder, {"rubis_check": tester.checker, "rubis_auction": tester.program})
+
+
 def shown(tester: Tester) -> None:
     """what docs/CHECKING.md shows: the example's history, and the small engine with its bug"""
     page, path, scripts = (DOCUMENTS / "CHECKING.md").read_text(), EXAMPLES / "contended.csv", load_of(WALK)
@@ -413,6 +423,7 @@ CHECKS = (
     refused_memory,
     changed_at_random,
     small_engine,
+    help_and_version,
     shown,
     loads,
 )

@@ -1,7 +1,7 @@
 #!/usr/bin/env python3
 """Shows that the documents speak of what there is: a name in backticks is in the code, a path and a link lead to a file, in commands too, each block of code of
 docs/TUTORIAL.md is in the file named above it, each definition that the pages of definitions (docs/DEFINITIONS.md, docs/ENGINE_DEFINITIONS.md) quote is, except
-for layout, that of the file named above it, each definition that they or the table of printed lines of docs/FORMATS.md name with a file is there, each crate
+for layout, that of the file named above it, each definition that they name with a file, or that the table of printed lines names, is there, each crate
 and each law has its place, what bench/run wrote has the figures of figures.csv, each picture is what its script draws, and the pages of users are not too long.
 
     tests/documents.py
@@ -20,7 +20,6 @@ ROOT = TESTS.parent
 CODE = {".rt", ".rs", ".antt", ".py", ".c", ".sh", ".sql", ".txt", ".edit"}
 TUTORIAL = DOCUMENTS / "TUTORIAL.md"
 DEFINITIONS = (DOCUMENTS / "DEFINITIONS.md", DOCUMENTS / "ENGINE_DEFINITIONS.md")
-FORMATS = DOCUMENTS / "FORMATS.md"
 PRINTED = "## From a printed line to its definition\n"
 # A block before which no file is named is the reader's own.
 THE_READERS = ""
@@ -205,18 +204,18 @@ def defines(place: Path, name: str) -> bool:
 
 
 def printed_lines(tally: Tally) -> None:
-    """definitions that docs/FORMATS.md names behind printed lines"""
-    section = FORMATS.read_text().partition(PRINTED)[2].partition("\n## ")[0]
+    """definitions behind printed lines"""
+    section = DEFINITIONS[0].read_text().partition(PRINTED)[2].partition("\n## ")[0]
     for line in re.findall(r"(?m)^\| .* \|$", section)[1:]:
         printed, _, names, files = line.strip("| ").split(" | ")
         places = places_of(files)
         for name in re.findall(r"`(\w+)`", names):
-            tally.check(any(stands_in(place, name) for place in places), f"FORMATS.md, {printed}: {name} stands in {files}")
+            tally.check(any(stands_in(place, name) for place in places), f"{DEFINITIONS[0].name}, {printed}: {name} stands in {files}")
 
 
 def places_of(files: str) -> list[Path]:
     """The files to which a cell leads."""
-    return [FORMATS.parent / path for path in re.findall(r"\]\(([^)]+)\)", files)]
+    return [DOCUMENTS / path for path in re.findall(r"\]\(([^)]+)\)", files)]
 
 
 def stands_in(place: Path, name: str) -> bool:

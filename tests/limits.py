@@ -9,13 +9,13 @@ A run that leaves something running, or takes longer than ten minutes, has faile
 
 import re
 import shutil
-import textwrap
-from dataclasses import Field, fields, replace
+from dataclasses import fields, replace
 from itertools import product
 
+import helps
 from checks import FEW, MILLION, SEEN, VASE, VIEW, Tester, main
 from model import Options, Outcome, expected
-from program import DOCUMENTS, EXAMPLES, described, fault, run
+from program import EXAMPLES, described, fault, run
 from records import BYTE_ORDER_MARK
 
 
@@ -273,32 +273,16 @@ def odd_words(tester: Tester) -> None:
 
 
 def help_and_version(tester: Tester) -> None:
-    """help, as docs/FORMATS.md shows it, with each option's limits and what it is without words, and the version"""
-    formats = (DOCUMENTS / "FORMATS.md").read_text()
-    for word in ("--help", "-h"):
-        got = run([tester.program, word], VIEW)
-        tester.tally.check(got.status == 1 and got.stdout == b"", f"{word}: {described(got)}")
-        said = got.stderr.decode()
-        tester.tally.check(indented(said) in formats, f"docs/FORMATS.md shows what {word} prints")
-        for option in fields(Options):
-            line = next((line for line in said.splitlines() if line.startswith(f"      --{option.name} ")), "")
-            tester.tally.check(says_of_option(line, option), f"what {word} says of --{option.name}: {line!r}")
-    for word in ("--version", "-V"):
-        got = run([tester.program, word], VIEW)
-        right = got.status == 1 and got.stdout == b"" and re.fullmatch(rb"rubis_auction \d+\.\d+\.\d+\n", got.stderr)
-        tester.tally.check(bool(right), f"{word}: {described(got)}")
-
-
-def indented(text: str) -> str:
-    return textwrap.indent(text, "    ")
-
-
-def says_of_option(line: str, option: Field) -> bool:
-    """A number's line has its limits and what it is without words; a flag's has a text."""
-    if option.name not in OPTION_LIMITS:
-        return re.fullmatch(r" +--\w+ +\w.*", line) is not None
-    least, most = OPTION_LIMITS[option.name]
-    return f", {least} to {most} [default: {option.default}]" in line
+    """help, as docs/FORMATS.md shows it, with each option's limits and what it is without words, its examples, and the version"""
+    said = helps.help_and_version(tester.tally, tester.program, "rubis_auction", "FORMATS.md")
+    numbers = {option: (int(least), int(most), int(usual)) for option, least, most, usual in helps.NUMBER.findall(said)}
+    wanted = {option: (*limits, getattr(Options(), option)) for option, limits in OPTION_LIMITS.items()}
+    tester.tally.check(numbers == wanted, f"what --help says of numbers: {numbers}")
+    flags = {option.name for option in fields(Options)} - set(OPTION_LIMITS)
+    tester.tally.check(set(helps.OPTION.findall(said)) == {*wanted, *flags, "help", "version"}, "what --help has a line of")
+    for name in ("first.csv", "load.csv"):
+        (tester.folder / name).write_bytes(tester.example)
+    helps.examples(tester.tally, said, "rubis_auction", tester.folder, {"rubis_auction": tester.program})
 
 
 def names(tester: Tester) -> None:

@@ -17,6 +17,7 @@ from collections import Counter
 from dataclasses import replace
 from pathlib import Path
 
+import helps
 from load_model import Plan, load_of
 from model import Book, Entry, Options, Outcome, Run, choose_hot, is_put_off, is_split, open_auction, quota, report_text
 from program import EXAMPLES, Tally, build_shim, built, described, run
@@ -167,6 +168,14 @@ def run_in_turn(book: Book, scripts: list[list]) -> Run:
     return done
 
 
+def help_and_version(tester: Tester) -> None:
+    """help, as docs/LOADS.md shows it, and the version"""
+    said = helps.help_and_version(tester.tally, tester.generator, "rubis_load", "LOADS.md")
+    usual = {f"--{option}={usual}" for option, _, _, usual in helps.NUMBER.findall(said)}
+    tester.tally.check(usual == set(map(str, Plan().words())), f"what --help says of numbers: {usual}")
+    helps.examples(tester.tally, said, "rubis_load", tester.folder, {"rubis_load": tester.generator})
+
+
 def refused_words(tester: Tester) -> None:
     """words that are refused, and the longest load"""
     for words in (
@@ -234,7 +243,7 @@ def main() -> None:
     tally = Tally()
     with tempfile.TemporaryDirectory() as folder:
         tester = Tester(asked.generator.resolve(), asked.auction.resolve(), Path(folder), tally)
-        for part in (same_bytes, shares, skews, named_alike, taken, example, refused_words, refused_output, refused_memory):
+        for part in (same_bytes, shares, skews, named_alike, taken, example, help_and_version, refused_words, refused_output, refused_memory):
             before = tally.passed
             part(tester)
             print(f"{tally.passed - before:6} checks: {part.__doc__}", flush=True)

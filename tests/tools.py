@@ -1,5 +1,6 @@
 #!/usr/bin/env python3
-"""Tests what helps to use the auction: bench/tune, whose command has to run, and examples/timeline.py, whose picture has to have each line of a history.
+"""Tests what helps to use the auction: bench/tune, whose command has to run, examples/timeline.py, whose picture has to have each line of a history, and the help
+of watch_auction.
 
     tests/tools.py [PROGRAM]
 """
@@ -11,7 +12,9 @@ from pathlib import Path
 from tempfile import TemporaryDirectory
 from xml.etree import ElementTree
 
-from program import BUILT, EXAMPLES, TESTS, Tally, described, run
+import helps
+from model import Outcome
+from program import BUILT, EXAMPLES, TESTS, Tally, built, described, run
 
 TUNE = TESTS.parent / "bench" / "tune"
 TIMELINE = EXAMPLES / "timeline.py"
@@ -89,12 +92,20 @@ def drawn(tally: Tally, history: bytes, words: list) -> tuple[dict[str, float], 
     return boxes, circles
 
 
+def help_of_watch_auction(tally: Tally, program: Path) -> None:
+    """help and version of watch_auction, and what it makes of other words"""
+    watcher = built("watch_auction")
+    said = helps.help_and_version(tally, watcher, "watch_auction", None)
+    for words in (["x"], ["bench", "x"], [""]):
+        tally.same(f"watch_auction {words}", run([watcher, *words]), Outcome(1, b"", said.encode()))
+
+
 def main() -> None:
     parser = argparse.ArgumentParser(description=__doc__, formatter_class=argparse.RawDescriptionHelpFormatter)
     parser.add_argument("program", type=Path, nargs="?", default=BUILT)
     program = parser.parse_args().program.resolve()
     tally = Tally()
-    for check in (tuned, timelines):
+    for check in (tuned, timelines, help_of_watch_auction):
         passed = tally.passed
         check(tally, program)
         print(f"{tally.passed - passed:6} passed: {check.__doc__}")

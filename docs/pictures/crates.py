@@ -20,7 +20,7 @@ LAYERS = {
                "phase_workers": 420, "auction_run": 560},
     "texts": {"program_options": 420, "auction_text": 940, "history_check": 230},
     "programs, examples and tests": {"auction_program": 560, "load_program": 940, "rubis_auction": 490, "rubis_check": 300, "rubis_load": 940,
-                                     "watch_auction": 780, "engine_tests": 630, "phase_tests": 673},
+                                     "watch_auction": 780, "engine_tests": 630, "phase_tests": 673, "hot_vase": 195, "drive_phases": 423},
 }
 MODEL = "auction_rows"
 KNOWS, KNOWS_NOT = "#b3261e", "#3d6e91"

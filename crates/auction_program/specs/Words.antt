@@ -1,16 +1,12 @@
 -- What the program's words say of its options, by the parser of words (`clap`).
-use Rattle.std.specs.Prelude.{ℕ, true, List, [], ◌∷◌, Option, fold, codes}
+use Rattle.std.specs.Prelude.{ℕ, List, [], ◌∷◌, Option, fold, codes}
 use Rattle.auction_rows.specs.declared.limits.TheConstants.{MOST_HOT, MOST_SHARDS, MOST_WORKERS}
-use Rattle.clap.specs.Simple.{App, new_app, on_top, with_rule}
+use Rattle.clap.specs.Simple.{App, with_rule}
 use Rattle.clap.specs.Walk.{Rule}
-use Rattle.program_options.specs.Options.{flag_rule, is_set, number_of, number_rule}
+use Rattle.program_options.specs.Options.{flag_rule, is_set, named_rule, number_of, versioned_program}
 use Rattle.program_options.specs.Words.{text_in}
 use Rattle.program_options.specs.declared.options.TheConstants.{MOST_ASKED}
 use Rattle.auction_program.specs.declared.options.Options.{Options}
-
--- `--id NUMBER`, for which help has a word
-abbrev pub named_rule : List ℕ → ℕ → ℕ → List ℕ → Rule
-named_rule id least greatest usual = record (number_rule id least greatest usual) { value_names = 1 }
 
 -- the program's options
 abbrev pub option_rules : List Rule
@@ -28,12 +24,8 @@ option_rules =
     ∷ flag_rule (codes "report")
     ∷ []
 
--- the program without them: it has a version
-abbrev pub bare_program : App
-bare_program = on_top (λ shape. record shape { has_version = true }) (new_app (codes "rubis_auction"))
-
 abbrev pub program : App
-program = fold with_rule bare_program option_rules
+program = fold with_rule (versioned_program (codes "rubis_auction")) option_rules
 
 -- the options, by the text of each
 abbrev pub options_of : (List ℕ → Option (List ℕ)) → Options

@@ -1,19 +1,18 @@
 //! The options of the program.
-ghost use Rattle.std.specs.Prelude.{◌≡◌, IfOk, IfErr, OnOk, false, map, string_bytes};
-ghost use Rattle.clap.specs.Words.{app_of, found_of, one_text, rule_of};
-ghost use Rattle.program_options.specs.Options.{flag_rule};
+ghost use Rattle.std.specs.Prelude.{◌≡◌, IfOk, IfErr, OnOk, map, string_bytes};
+ghost use Rattle.clap.specs.Words.{app_of, found_of, one_text};
 ghost use Rattle.program_options.specs.Words.{AreTaken, HaveNumbers};
 ghost use Rattle.program_options.specs.declared.faults.UsageFault.{UsageFault};
 ghost use Rattle.auction_program.specs.Options.{AreInRange};
-ghost use Rattle.auction_program.specs.Words.{bare_program, named_rule, options_in, options_of, program};
+ghost use Rattle.auction_program.specs.Words.{options_in, options_of, program};
 
 use crate::help;
 use auction_rows::{MOST_HOT, MOST_SHARDS, MOST_WORKERS, Opening};
 use auction_run::Policy;
-use clap::{Arg, ArgMatches, Command};
+use clap::{ArgMatches, Command};
 use program_options::{
-    FROM_ONE, FROM_ZERO, NumberRange, UsageFault, flag, flag_of, number_of, number_option,
-    parse_words,
+    FROM_ONE, FROM_ZERO, NumberRange, UsageFault, described_flag, described_number,
+    described_program, flag_of, number_of, parse_words,
 };
 use std::alloc::{AllocError, Global};
 
@@ -86,39 +85,6 @@ const HOT: NumberRange = NumberRange {
     greatest: MOST_HOT as u32,
 };
 
-fn described_number<'a>(
-    alloc: Global,
-    id: &'a str,
-    range: NumberRange,
-    usual: &'a str,
-    help: &'a str,
-) -> Arg<'a>
-    ensures rule { rule_of result ≡ named_rule id.entry.now range.least range.greatest usual.entry.now }
-    ensures local { result.global ≡ false }
-{
-    number_option(alloc, id, range, usual)
-        .value_name("N")
-        .help(help)
-}
-
-fn described_flag<'a>(alloc: Global, id: &'a str, help: &'a str) -> Arg<'a>
-    ensures rule { rule_of result ≡ flag_rule id.entry.now }
-    ensures local { result.global ≡ false }
-{
-    flag(alloc, id).help(help)
-}
-
-// The program without its options.
-fn bare_command<'a>(alloc: Global) -> Command<'a>
-    ensures { app_of result ≡ bare_program }
-{
-    Command::new(alloc, "rubis_auction")
-        .version(help::VERSION)
-        .about(help::ABOUT)
-        .override_usage(help::USAGE)
-        .after_help(help::FORMATS)
-}
-
 fn command<'a>(alloc: Global) -> Result<Command<'a>, AllocError>
     ensures { IfOk result (λ command. app_of command ≡ program) }
 {
@@ -135,7 +101,7 @@ fn command<'a>(alloc: Global) -> Result<Command<'a>, AllocError>
         described_flag(alloc, "rows", help::ROWS),
         described_flag(alloc, "report", help::REPORT),
     ]?;
-    bare_command(alloc).args(options)
+    described_program(alloc, "rubis_auction", help::DESCRIPTION).args(options)
 }
 
 fn options_of(matches: &ArgMatches<'_>) -> Options

@@ -5,9 +5,9 @@ use Rattle.auction_rows.specs.declared.limits.TheConstants.{MOST_OF_A_WORKER, MO
 use Rattle.auction_text.specs.declared.scripts.TheConstants.{MOST_RECORDS}
 use Rattle.clap.specs.declared.builder.action.ArgAction.TheVariants.{Set}
 use Rattle.clap.specs.declared.builder.value_parser.ValueParser.TheVariants.{Unsigned}
-use Rattle.clap.specs.Simple.{App, new_app, new_rule, with_rule}
+use Rattle.clap.specs.Simple.{App, new_rule, with_rule}
 use Rattle.clap.specs.Walk.{Rule}
-use Rattle.program_options.specs.Options.{SaysNumber, number_rule}
+use Rattle.program_options.specs.Options.{SaysNumber, named_rule, versioned_program}
 use Rattle.program_options.specs.declared.options.TheConstants.{MOST_ASKED}
 use Rattle.program_options.specs.declared.faults.UsageFault.TheVariants as usage
 use Rattle.load_program.specs.declared.faults.PlanFault.{PlanFault}
@@ -17,32 +17,36 @@ use Rattle.load_program.specs.declared.plan.Mix.{Mix}
 use Rattle.load_program.specs.declared.plan.Plan.{Plan}
 
 -- `--seed NUMBER`, with any number of 64 bits; 1 where the words don't have it
-abbrev pub seed_rule : Rule
-seed_rule = record (new_rule (codes "seed")) {
+abbrev pub plain_seed_rule : Rule
+plain_seed_rule = record (new_rule (codes "seed")) {
   long = Some (codes "seed");
   action = Some Set;
   defaults = codes "1" ∷ [];
   parser = Some (Unsigned 0 18446744073709551615);
 }
 
+-- the same, for which help has a word
+abbrev pub seed_rule : Rule
+seed_rule = record plain_seed_rule { value_names = 1 }
+
 -- the program's options
 abbrev pub option_rules : List Rule
 option_rules =
-    number_rule (codes "requests") 0 MOST_RECORDS (codes "1000")
-    ∷ number_rule (codes "workers") 1 MOST_WORKERS (codes "1")
-    ∷ number_rule (codes "items") 1 MOST_ASKED (codes "100")
-    ∷ number_rule (codes "users") 1 MOST_ASKED (codes "100")
-    ∷ number_rule (codes "categories") 1 MOST_ASKED (codes "10")
-    ∷ number_rule (codes "skew") 0 200 (codes "0")
-    ∷ number_rule (codes "views") 0 100 (codes "85")
-    ∷ number_rule (codes "comments") 0 100 (codes "3")
-    ∷ number_rule (codes "purchases") 0 100 (codes "2")
-    ∷ number_rule (codes "new-items") 0 100 (codes "2")
+    named_rule (codes "requests") 0 MOST_RECORDS (codes "1000")
+    ∷ named_rule (codes "workers") 1 MOST_WORKERS (codes "1")
+    ∷ named_rule (codes "items") 1 MOST_ASKED (codes "100")
+    ∷ named_rule (codes "users") 1 MOST_ASKED (codes "100")
+    ∷ named_rule (codes "categories") 1 MOST_ASKED (codes "10")
+    ∷ named_rule (codes "skew") 0 200 (codes "0")
+    ∷ named_rule (codes "views") 0 100 (codes "85")
+    ∷ named_rule (codes "comments") 0 100 (codes "3")
+    ∷ named_rule (codes "purchases") 0 100 (codes "2")
+    ∷ named_rule (codes "new-items") 0 100 (codes "2")
     ∷ seed_rule
     ∷ []
 
 abbrev pub program : App
-program = fold with_rule (new_app (codes "rubis_load")) option_rules
+program = fold with_rule (versioned_program (codes "rubis_load")) option_rules
 
 -- The texts of options say these counts.
 pub record SayCounts (text : List ℕ → Option (List ℕ)) (counts : Counts) : Type 0 where

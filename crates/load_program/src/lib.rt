@@ -4,6 +4,7 @@
 mod draws;
 mod faults;
 mod generate;
+mod help;
 mod lines;
 mod options;
 mod plan;

@@ -1,16 +1,19 @@
 //! The options of the program.
 ghost use Rattle.std.specs.Prelude.{◌≡◌, IfOk, IfErr, MatchOption, OnOk, false, codes, map, string_bytes};
 ghost use Rattle.clap.specs.Words.{app_of, found_of, one_text, rule_of};
-ghost use Rattle.program_options.specs.Options.{SaysNumber, number_rule};
+ghost use Rattle.program_options.specs.Options.{SaysNumber};
 ghost use Rattle.program_options.specs.Words.{AreTaken, text_in};
-ghost use Rattle.load_program.specs.Words.{Fits, IsCauseOf, SayCounts, SayMix, SayPlan, SayTooMuch, program, seed_rule};
+ghost use Rattle.load_program.specs.Words.{Fits, IsCauseOf, SayCounts, SayMix, SayPlan, SayTooMuch, plain_seed_rule, program, seed_rule};
 
 use crate::faults::PlanFault;
+use crate::help;
 use crate::plan::{Counts, Mix, Plan};
 use auction_rows::{MOST_OF_A_WORKER, MOST_WORKERS};
 use auction_text::MOST_RECORDS;
 use clap::{Arg, ArgAction, ArgMatches, Command};
-use program_options::{FROM_ONE, NumberRange, UsageFault, number_of, number_option, parse_words};
+use program_options::{
+    FROM_ONE, NumberRange, UsageFault, described_number, described_program, number_of, parse_words,
+};
 use std::alloc::{AllocError, Global};
 
 const REQUESTS: NumberRange = NumberRange {
@@ -34,7 +37,7 @@ const SHARES: NumberRange = NumberRange {
 };
 
 fn plain_seed<'a>(alloc: Global) -> Arg<'a>
-    ensures rule { rule_of result ≡ seed_rule }
+    ensures rule { rule_of result ≡ plain_seed_rule }
     ensures local { result.global ≡ false }
 {
     Arg::new(alloc, "seed")
@@ -44,45 +47,30 @@ fn plain_seed<'a>(alloc: Global) -> Arg<'a>
         .default_value("1")
 }
 
-fn described<'a>(
-    alloc: Global,
-    id: &'a str,
-    range: NumberRange,
-    usual: &'a str,
-    help: &'a str,
-) -> Arg<'a>
-    ensures rule { rule_of result ≡ number_rule id.entry.now range.least range.greatest usual.entry.now }
-    ensures local { result.global ≡ false }
-{
-    number_option(alloc, id, range, usual).help(help)
-}
-
 fn seed_option<'a>(alloc: Global) -> Arg<'a>
     ensures rule { rule_of result ≡ seed_rule }
     ensures local { result.global ≡ false }
 {
-    plain_seed(alloc).help("Where the draws begin: one seed gives one load")
+    plain_seed(alloc).value_name("N").help(help::SEED)
 }
 
 fn command<'a>(alloc: Global) -> Result<Command<'a>, AllocError>
     ensures { IfOk result (λ command. app_of command ≡ program) }
 {
-    let items = "How many items are stored first";
-    let skew = "Exponent of Zipf's law of the items, in hundredths";
     let options = vec![in alloc;
-        described(alloc, "requests", REQUESTS, "1000", "How many requests"),
-        described(alloc, "workers", WORKERS, "1", "How many workers"),
-        described(alloc, "items", FROM_ONE, "100", items),
-        described(alloc, "users", FROM_ONE, "100", "How many users"),
-        described(alloc, "categories", FROM_ONE, "10", "How many categories"),
-        described(alloc, "skew", SKEWS, "0", skew),
-        described(alloc, "views", SHARES, "85", "Percent of views"),
-        described(alloc, "comments", SHARES, "3", "Percent of comments"),
-        described(alloc, "purchases", SHARES, "2", "Percent of purchases"),
-        described(alloc, "new-items", SHARES, "2", "Percent of new items"),
+        described_number(alloc, "requests", REQUESTS, "1000", help::REQUESTS),
+        described_number(alloc, "workers", WORKERS, "1", help::WORKERS),
+        described_number(alloc, "items", FROM_ONE, "100", help::ITEMS),
+        described_number(alloc, "users", FROM_ONE, "100", help::USERS),
+        described_number(alloc, "categories", FROM_ONE, "10", help::CATEGORIES),
+        described_number(alloc, "skew", SKEWS, "0", help::SKEW),
+        described_number(alloc, "views", SHARES, "85", help::VIEWS),
+        described_number(alloc, "comments", SHARES, "3", help::COMMENTS),
+        described_number(alloc, "purchases", SHARES, "2", help::PURCHASES),
+        described_number(alloc, "new-items", SHARES, "2", help::NEW_ITEMS),
         seed_option(alloc),
     ]?;
-    Command::new(alloc, "rubis_load").args(options)
+    described_program(alloc, "rubis_load", help::DESCRIPTION).args(options)
 }
 
 fn seed_of(matches: &ArgMatches<'_>) -> u64

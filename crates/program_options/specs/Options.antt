@@ -1,10 +1,10 @@
 -- Options of numbers and flags, as rules of the parser of words (`clap`), and what their texts say.
-use Rattle.std.specs.Prelude.{◌≡◌, ◌≤◌, ℕ, Bool, false, List, [], ◌∷◌, Option, Some, None, codes, pos, ⊤}
+use Rattle.std.specs.Prelude.{◌≡◌, ◌≤◌, ℕ, Bool, true, false, List, [], ◌∷◌, Option, Some, None, codes, pos, ⊤}
 use Rattle.std.specs.Str.{bytes_eq}
 use Rattle.std.specs.Str.Parse.{IsNumeral, digits_value, without_leading_plus}
 use Rattle.clap.specs.declared.builder.action.ArgAction.TheVariants.{Set, SetTrue}
 use Rattle.clap.specs.declared.builder.value_parser.ValueParser.TheVariants.{Signed}
-use Rattle.clap.specs.Simple.{new_rule}
+use Rattle.clap.specs.Simple.{App, new_app, new_rule, on_top}
 use Rattle.clap.specs.Walk.{Rule}
 
 -- `--id NUMBER`, with a number from the least to the greatest; the usual one where the words don't have it
@@ -16,9 +16,17 @@ number_rule id least greatest usual = record (new_rule id) {
   parser = Some (Signed (pos least) (pos greatest));
 }
 
+-- the same, for which help has a word
+abbrev pub named_rule : List ℕ → ℕ → ℕ → List ℕ → Rule
+named_rule id least greatest usual = record (number_rule id least greatest usual) { value_names = 1 }
+
 -- `--id`
 abbrev pub flag_rule : List ℕ → Rule
 flag_rule id = record (new_rule id) { long = Some id; action = Some SetTrue }
+
+-- a program with no options but those for help and its version
+abbrev pub versioned_program : List ℕ → App
+versioned_program name = on_top (λ shape. record shape { has_version = true }) (new_app name)
 
 -- the number that a text says
 abbrev pub number_of : Option (List ℕ) → ℕ

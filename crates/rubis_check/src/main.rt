@@ -4,6 +4,7 @@
 mod executing;
 mod faults;
 mod finding;
+mod help;
 mod options;
 
 use executing::execute;

@@ -3,13 +3,15 @@ ghost use Rattle.std.specs.Prelude.{◌≡◌, ◌≤◌, IfOk, IfErr, OnOk, fal
 ghost use Rattle.clap.specs.Words.{app_of, first_value, found_of, one_text, rule_of};
 ghost use Rattle.program_options.specs.Words.{AreTaken, HaveNumbers, text_in, value_in};
 ghost use Rattle.program_options.specs.declared.faults.UsageFault.{UsageFault};
-ghost use Rattle.rubis_check.specs.Words.{SayOptions, history_rule, order_of, program};
+ghost use Rattle.rubis_check.specs.Words.{SayOptions, history_rule, order_of, plain_history_rule, program};
 
+use crate::help;
 use auction_rows::{MOST_WORKERS, Opening};
 use clap::{Arg, ArgAction, ArgMatches, Command};
 use history_check::Order;
 use program_options::{
-    FROM_ZERO, NumberRange, UsageFault, flag, flag_of, number_of, number_option, parse_words,
+    FROM_ZERO, NumberRange, UsageFault, described_flag, described_number, described_program,
+    flag_of, number_of, parse_words,
 };
 use std::alloc::{AllocError, Global};
 
@@ -32,8 +34,8 @@ const WORKERS: NumberRange = NumberRange {
     greatest: MOST_WORKERS as u32,
 };
 
-fn history_option<'a>(alloc: Global) -> Arg<'a>
-    ensures rule { rule_of result ≡ history_rule }
+fn plain_history<'a>(alloc: Global) -> Arg<'a>
+    ensures rule { rule_of result ≡ plain_history_rule }
     ensures local { result.global ≡ false }
 {
     Arg::new(alloc, "history")
@@ -42,18 +44,25 @@ fn history_option<'a>(alloc: Global) -> Arg<'a>
         .required(true)
 }
 
+fn history_option<'a>(alloc: Global) -> Arg<'a>
+    ensures rule { rule_of result ≡ history_rule }
+    ensures local { result.global ≡ false }
+{
+    plain_history(alloc).value_name("FILE").help(help::HISTORY)
+}
+
 fn command<'a>(alloc: Global) -> Result<Command<'a>, AllocError>
     ensures { IfOk result (λ command. app_of command ≡ program) }
 {
     let options = vec![in alloc;
         history_option(alloc),
-        number_option(alloc, "workers", WORKERS, "1"),
-        number_option(alloc, "users", FROM_ZERO, "100"),
-        number_option(alloc, "categories", FROM_ZERO, "10"),
-        flag(alloc, "order"),
-        flag(alloc, "strict"),
+        described_number(alloc, "workers", WORKERS, "1", help::WORKERS),
+        described_number(alloc, "users", FROM_ZERO, "100", help::USERS),
+        described_number(alloc, "categories", FROM_ZERO, "10", help::CATEGORIES),
+        described_flag(alloc, "order", help::ORDER),
+        described_flag(alloc, "strict", help::STRICT),
     ]?;
-    Command::new(alloc, "rubis_check").args(options)
+    described_program(alloc, "rubis_check", help::DESCRIPTION).args(options)
 }
 
 // The order that flags ask for.

@@ -9,10 +9,13 @@ use crate::watching::watched_run;
 use anyhow::{Result, bail};
 use auction_rows::{ItemId, Refusal, Reply, Request};
 use auction_window::Seen;
+use program_options::{VERSION, program_words};
 use std::alloc::Global;
+use std::io;
+use std::process::ExitCode;
+use std::rt::{Clock, Env};
 use std::sync::Wait;
 use std::thread::Threads;
-use std::{env, io};
 
 /// What is asked of the vase.
 pub(crate) const VIEW: Request = Request::ViewItem {
@@ -24,15 +27,64 @@ pub(crate) const VIEW: Request = Request::ViewItem {
 
 const FREE_RUNS: u32 = 20;
 
-fn main(rt: HostRuntime) -> Result<()> {
-    let alloc = rt.alloc();
-    let word = env::args(&rt)?.nth(1);
-    if word.is_some_and(|word| word.as_str() == "bench") {
-        return bench::measure(&rt, alloc);
+const HELP: &str = "\
+Shows an auction to a thread through a window, while two workers bid on a vase.
+
+Usage: watch_auction [bench]
+
+Arguments:
+  bench                 Measure windows instead: some seconds, on an idle machine
+
+Options:
+  -h, --help            Print help
+  -V, --version         Print version
+
+Reads nothing. Writes a line per view, or figures, to standard output.
+Faults, this help and the version go to standard error.
+Status: 0 all done, 1 words, help or a fault.
+
+Examples:
+  watch_auction
+  watch_auction bench";
+
+/// What is done about the program's words.
+enum Done {
+    Shown,
+    AskedForVersion,
+    AskedForHelp,
+}
+
+fn main(rt: HostRuntime) -> ExitCode {
+    // What can't be written still has its status.
+    let _ = match perform(&rt) {
+        Ok(Done::Shown) => return ExitCode::SUCCESS,
+        Ok(Done::AskedForVersion) => eprintln!(rt; "watch_auction {VERSION}"),
+        Ok(Done::AskedForHelp) => eprintln!(rt; "{HELP}"),
+        Err(fault) => eprintln!(rt; "{fault}"),
+    };
+    ExitCode::FAILURE
+}
+
+// Shows what the program's words ask for.
+fn perform<R>(rt: &R) -> Result<Done>
+where
+    R: Env + Print + Alloc<A = Global> + Threads + Wait + Sync + Clock,
+{
+    let words = program_words(rt)?;
+    match words.get(1).map(String::as_str) {
+        None => watch(rt, rt.alloc())?,
+        Some("bench") if words.len() == 2 => bench::measure(rt, rt.alloc())?,
+        Some("--version" | "-V") => return Ok(Done::AskedForVersion),
+        Some(_) => return Ok(Done::AskedForHelp),
     }
-    let shown = watched_run(&rt, alloc, true)?;
-    print_all(&rt, &shown)?;
-    watch_free_runs(&rt, alloc, &shown)?;
+    Ok(Done::Shown)
+}
+
+// Watches a run that waits for its watcher, and then runs that don't.
+fn watch<R: Threads + Wait + Sync + Print>(rt: &R, alloc: Global) -> Result<()> {
+    let shown = watched_run(rt, alloc, true)?;
+    print_all(rt, &shown)?;
+    watch_free_runs(rt, alloc, &shown)?;
     println!(rt; "{FREE_RUNS} runs with no gate: each view was one of these, and none went back")?;
     Ok(())
 }

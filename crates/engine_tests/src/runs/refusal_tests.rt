@@ -77,3 +77,19 @@ fn a_row_of_a_worker_without_a_script_is_refused(rt: HostRuntime) -> Result<(), 
     assert_same(&rt, &got, &Some(RunFault::Workers));
     Ok(())
 }
+
+#[test]
+fn policies_for_throughput_are_taken(rt: HostRuntime) -> Result<(), Fail> {
+    let book = OpeningBook::empty(OPENING);
+    for (workers, shards) in [(1, 4), (2, 8), (16, 64)] {
+        let policy = Policy::for_throughput(workers);
+        let scripts = views_of(rt.alloc(), workers as usize, 65)?;
+        let done = run(&rt, rt.alloc(), &book, scripts, policy, &FreeGate)?;
+        let got = (policy.shards, done.hot.len(), done.history.len());
+        assert_same(&rt, &got, &(shards, 2, 65 * workers as usize));
+    }
+    for (workers, shards) in [(0, 4), (17, 64), (u32::MAX, 64)] {
+        assert_same(&rt, &Policy::for_throughput(workers).shards, &shards);
+    }
+    Ok(())
+}

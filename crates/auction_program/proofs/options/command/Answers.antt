@@ -18,5 +18,5 @@ returns c =
     let rules : map rule_of options ≡ option_rules = λ i. c.described_number.ensures.rule i ∷ c.described_number-2.ensures.rule i ∷ c.described_number-3.ensures.rule i ∷ c.described_number-4.ensures.rule i ∷ c.described_number-5.ensures.rule i ∷ c.described_number-6.ensures.rule i
     ∷ c.described_number-7.ensures.rule i ∷ c.described_number-8.ensures.rule i ∷ c.described_flag.ensures.rule i ∷ c.described_flag-2.ensures.rule i ∷ c.described_flag-3.ensures.rule i ∷ [] in
     IfOk-weaker c.args-2.result _ (λ command. app_of command ≡ program) (λ command added.
-    rules_added c.bare_command.result command options local (subst (λ all. AddsInTurn AddsArg c.bare_command.result all command) c.in_ok-options.ensures.items added)
-    ∙ ap₂ (fold with_rule) c.bare_command.ensures rules) c.args-2.ensures
+    rules_added c.described_program.result command options local (subst (λ all. AddsInTurn AddsArg c.described_program.result all command) c.in_ok-options.ensures.items added)
+    ∙ ap₂ (fold with_rule) c.described_program.ensures rules) c.args-2.ensures

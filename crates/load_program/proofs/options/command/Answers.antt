@@ -12,11 +12,11 @@ use Rattle.load_program.proofs.options.command.Goals as goal
 
 pub returns : goal.returns
 returns c =
-    let options : List Arg = c.described.result ∷ c.described-2.result ∷ c.described-3.result ∷ c.described-4.result ∷ c.described-5.result ∷ c.described-6.result
-    ∷ c.described-7.result ∷ c.described-8.result ∷ c.described-9.result ∷ c.described-10.result ∷ c.seed_option.result ∷ [] in
-    let local : AllByRecursion (λ a. a.global ≡ false) options = (c.described.ensures.local, (c.described-2.ensures.local, (c.described-3.ensures.local, (c.described-4.ensures.local, (c.described-5.ensures.local, (c.described-6.ensures.local, (c.described-7.ensures.local, (c.described-8.ensures.local, (c.described-9.ensures.local, (c.described-10.ensures.local, (c.seed_option.ensures.local, tt))))))))))) in
-    let rules : map rule_of options ≡ option_rules = λ i. c.described.ensures.rule i ∷ c.described-2.ensures.rule i ∷ c.described-3.ensures.rule i ∷ c.described-4.ensures.rule i ∷ c.described-5.ensures.rule i ∷ c.described-6.ensures.rule i
-    ∷ c.described-7.ensures.rule i ∷ c.described-8.ensures.rule i ∷ c.described-9.ensures.rule i ∷ c.described-10.ensures.rule i ∷ c.seed_option.ensures.rule i ∷ [] in
+    let options : List Arg = c.described_number.result ∷ c.described_number-2.result ∷ c.described_number-3.result ∷ c.described_number-4.result ∷ c.described_number-5.result ∷ c.described_number-6.result
+    ∷ c.described_number-7.result ∷ c.described_number-8.result ∷ c.described_number-9.result ∷ c.described_number-10.result ∷ c.seed_option.result ∷ [] in
+    let local : AllByRecursion (λ a. a.global ≡ false) options = (c.described_number.ensures.local, (c.described_number-2.ensures.local, (c.described_number-3.ensures.local, (c.described_number-4.ensures.local, (c.described_number-5.ensures.local, (c.described_number-6.ensures.local, (c.described_number-7.ensures.local, (c.described_number-8.ensures.local, (c.described_number-9.ensures.local, (c.described_number-10.ensures.local, (c.seed_option.ensures.local, tt))))))))))) in
+    let rules : map rule_of options ≡ option_rules = λ i. c.described_number.ensures.rule i ∷ c.described_number-2.ensures.rule i ∷ c.described_number-3.ensures.rule i ∷ c.described_number-4.ensures.rule i ∷ c.described_number-5.ensures.rule i ∷ c.described_number-6.ensures.rule i
+    ∷ c.described_number-7.ensures.rule i ∷ c.described_number-8.ensures.rule i ∷ c.described_number-9.ensures.rule i ∷ c.described_number-10.ensures.rule i ∷ c.seed_option.ensures.rule i ∷ [] in
     IfOk-weaker c.args-2.result _ (λ command. app_of command ≡ program) (λ command added.
-    rules_added c.new.result command options local (subst (λ all. AddsInTurn AddsArg c.new.result all command) c.in_ok-options.ensures.items added)
-    ∙ ap₂ (fold with_rule) c.new.ensures.app rules) c.args-2.ensures
+    rules_added c.described_program.result command options local (subst (λ all. AddsInTurn AddsArg c.described_program.result all command) c.in_ok-options.ensures.items added)
+    ∙ ap₂ (fold with_rule) c.described_program.ensures rules) c.args-2.ensures

@@ -1,6 +1,6 @@
 use Rattle.std.proofs.Common.{◌∙◌, true, ap}
 use Rattle.clap.specs.Simple.{app_of_fields, on_top}
-use Rattle.auction_program.proofs.options.bare_command.Goals as goal
+use Rattle.program_options.proofs.described.described_program.Goals as goal
 
 pub returns : goal.returns
 returns c =

@@ -1,0 +1,54 @@
+//! The client of a worker: what it asks, and what it was answered.
+use auction_rows::{Reply, Request};
+use phase_transactions::PermitFault;
+use std::alloc::Global;
+use std::io;
+
+/// Whom a worker serves.
+#[derive(Drop)]
+pub struct Client {
+    worker: u32,
+    script: Vec<Request>,
+    asked: usize,
+    replies: Vec<(u32, Reply)>,
+}
+
+impl Client {
+    /// The client of a worker, with the requests that it will send.
+    pub fn new(alloc: Global, worker: u32, script: Vec<Request>) -> Client {
+        Client {
+            worker,
+            script,
+            asked: 0,
+            replies: Vec::new(alloc),
+        }
+    }
+
+    /// The next request, with its index.
+    pub fn ask(&mut self) -> Option<(u32, Request)> {
+        let request = *self.script.get(self.asked)?;
+        let index = u32::try_from(self.asked).ok()?;
+        self.asked += 1;
+        Some((index, request))
+    }
+
+    /// Whether there is none.
+    pub fn has_asked_all(&self) -> bool {
+        self.asked >= self.script.len()
+    }
+
+    /// Takes the reply to a request. A server would send it from here.
+    pub fn answer(&mut self, index: u32, reply: Reply) -> Result<(), PermitFault> {
+        let sent = self.replies.push((index, reply));
+        sent.map_err(|_| PermitFault::Memory)
+    }
+
+    /// Prints the replies that came since the last time.
+    pub fn print<R: Print>(&mut self, rt: &R) -> io::Result<()> {
+        let worker = self.worker;
+        for (index, reply) in self.replies.drain(..) {
+            println!(rt; "  {worker},{index}: {reply:?}")?;
+        }
+        Ok(())
+    }
+}
