@@ -25,11 +25,10 @@ mod text_laws;
 mod worker_texts;
 mod writing;
 
-pub use block::Block;
 pub use faults::{Cause, ReadFault, WriteFault};
 pub use fields::read_u64;
 pub use reading_laws::rows_come_first;
-pub use replies::{push_reply, set_reply};
+pub use replies::push_reply;
 pub use report::ReportLines;
 pub use row_lines::push_quoted;
 pub use scripts::{Input, MOST_RECORDS, read_scripts};

@@ -39,26 +39,30 @@ fn show_parts<J: WindowName, R: Threads + Wait + Sync + Abort>(
     requires opening { opening_of book.now ≡ J.opening }
     requires rows { rows_of book.now ≡ J.rows }
 {
-    let [one, other] = windows;
     let policy = policy_of(2, 2);
     let scripts: [&[Request]; 2] = [&[put_up(*facts), bid(1, 10, 1), bid(1, 20, 2)], &[LOOK]];
     let scripts = own_scripts(alloc, &scripts)?;
-    let first = run_shown(rt, alloc, book, scripts, policy, &FreeGate, board)?;
-    assert_same(rt, &first.state.phase(), &2);
-    assert_shows(rt, one, 2, item_seen(facts, Some((20, 1)), 2, 3));
+    let state = run_shown(rt, alloc, book, scripts, policy, &FreeGate, board)?.state;
+    assert_same(rt, &state.phase(), &2);
+    assert_shows(
+        rt,
+        &mut windows[0],
+        2,
+        item_seen(facts, Some((20, 1)), 2, 3),
+    );
 
     let scripts: [&[Request]; 2] = [&[purchase(4, 1, 9)?, VIEW], &[bid(2, 30, 3)]];
     let scripts = own_scripts(alloc, &scripts)?;
-    let second = match run_on_shown(rt, alloc, first.state, scripts, policy, &FreeGate, board) {
-        Ok(outcome) => outcome,
+    let state = match run_on_shown(rt, alloc, state, scripts, policy, &FreeGate, board) {
+        Ok(outcome) => outcome.state,
         Err(_stopped) => return Err(Fail::new("stopped")),
     };
-    assert_same(rt, &second.state.phase(), &1);
+    assert_same(rt, &state.phase(), &1);
     let seen = item_seen(facts, Some((30, 2)), 3, 2);
-    assert_shows(rt, one, 3, seen);
+    assert_shows(rt, &mut windows[0], 3, seen);
 
     let none = Vec::new(alloc);
-    let refused = run_on_shown(rt, alloc, second.state, none, policy, &FreeGate, board);
+    let refused = run_on_shown(rt, alloc, state, none, policy, &FreeGate, board);
     let (state, fault) = refused.err().and_then(given_back).ok_or("no state")?;
     assert_same(
         rt,
@@ -66,7 +70,7 @@ fn show_parts<J: WindowName, R: Threads + Wait + Sync + Abort>(
         &(Some(seen), RunFault::Workers),
     );
     for told in board.told.take() {
-        other.learn(told);
+        windows[1].learn(told);
     }
     for window in windows {
         assert_shows(rt, window, 3, seen);
