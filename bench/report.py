@@ -297,8 +297,8 @@ def cost(rows):
     said = [beside_plain(found) for found in (work, own_rates)]
     if not all(said):
         return LEFT_OUT
-    return (f"A request takes {said[0]} times the instructions of the same algorithm in plain Rust; with {in_workers(own_rates[0].workers)}, "
-            f"{said[1]} times its throughput")
+    return (f"{said[0]} times the instructions and, with {in_workers(own_rates[0].workers)}, {said[1]} times the throughput "
+            f"of the same algorithm in plain Rust")
 
 
 def beside_plain(rows):
