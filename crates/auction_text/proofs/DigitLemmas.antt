@@ -1,5 +1,5 @@
 -- Digits that are read in place.
-use Rattle.std.proofs.Common.{arith, [], cond, nat_lt, ◌&&◌, ◌⊎◌, None, add-one, ◌≡◌, ◌==◌, ◌≤◌, ◌<◌, ◌+◌, ◌-◌, ◌*◌, ◌%◌, ◌^◌, ◌∷◌, ◌++◌, ◌∙◌, ℕ, List, Option, Some, Bool, true, false, drop, get_or, length, take, refl, sym, ap, subst, inl, inr, get_or-drop}
+use Rattle.std.proofs.Common.{arith, [], cond, nat_lt, ◌&&◌, ◌⊎◌, None, add-one, ◌≡◌, ◌==◌, ◌≤◌, ◌<◌, ◌+◌, ◌-◌, ◌*◌, ◌%◌, ◌^◌, ◌∷◌, ◌++◌, ◌∙◌, ℕ, List, Some, Bool, true, false, drop, get_or, length, take, refl, sym, ap, subst, inl, inr, get_or-drop}
 use Rattle.std.proofs.lemmas.Grind.{common_steps}
 use Rattle.std.proofs.lemmas.Bool.{cases_lt, cases_Bool, and_parts, and_from, eqb-true, false_from_ne_true, lt-ltb}
 use Rattle.std.specs.Char.{is_ascii_digit}
@@ -9,7 +9,7 @@ use Rattle.auction_text.proofs.NumberLemmas.{digit_bound, digits_more, next_boun
 use Rattle.std.proofs.Math.Nat.{pow-le-pow_right}
 use Rattle.std.proofs.Math.Seq.{drop-cons}
 use Rattle.std.proofs.lemmas.List.{take-append-drop, drop-drop}
-use Rattle.auction_text.specs.Fields.{is_empty, is_numeral, number}
+use Rattle.auction_text.specs.Fields.{is_numeral, number}
 use Rattle.auction_text.specs.Lines.{EndsLine, IsFieldTo, IsNumberTo}
 
 -- the bytes from a place up to another

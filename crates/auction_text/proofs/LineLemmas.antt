@@ -1,5 +1,5 @@
 -- What `csv` reads of plain fields and lines.
-use Rattle.std.proofs.Common.{arith, ◌≡◌, ◌==◌, ◌&&◌, ◌<◌, ◌+◌, not, ◌++◌, ◌∷◌, ◌∙◌, [], ℕ, zero, suc, List, Bool, Option, Some, None, refl, sym, ap, true, false, append_assoc, length, inl, inr}
+use Rattle.std.proofs.Common.{arith, ◌≡◌, ◌==◌, ◌&&◌, ◌<◌, ◌+◌, not, ◌++◌, ◌∷◌, ◌∙◌, [], ℕ, zero, suc, List, Bool, Option, Some, None, refl, ap, true, false, append_assoc, length, inl, inr}
 use Rattle.std.specs.List.{list_all}
 use Rattle.std.proofs.lemmas.List.{append-nil}
 use Rattle.std.proofs.lemmas.Bool.{and_parts}
@@ -7,8 +7,9 @@ use Rattle.csv.specs.Machine.{Read, ends_at_end, next_record}
 use Rattle.csv.specs.Reading.{default_config, records, records_from, records_next, strip_bom}
 use Rattle.csv.specs.declared.parser.State.{State}
 use Rattle.csv.specs.declared.parser.State.TheVariants as st
-use Rattle.auction_text.specs.Lines.{HasRead, IsLineEnd, ReadsFirst, is_plain, is_quoted, joins}
-use Rattle.auction_text.proofs.RecordsLeft.{Left, left_all, left_more, shorter}
+use Rattle.auction_text.specs.Lines.{HasRead, IsLineEnd, ReadsFirst, is_plain, joins}
+use Rattle.auction_text.specs.RecordsLeft.{Left}
+use Rattle.auction_text.proofs.RecordsLeft.{left_all, left_more, shorter}
 
 not_true : (b : Bool) → not b ≡ true → b ≡ false
 not_true true e = absurd (cc e)

@@ -1,5 +1,5 @@
 -- Fields that are read in place are the fields that `csv` reads.
-use Rattle.std.proofs.Common.{arith, ◌≡◌, ◌==◌, ◌&&◌, ◌≤◌, ◌<◌, ◌+◌, ◌-◌, ◌∷◌, ◌++◌, ◌∙◌, [], ℕ, List, Option, Some, None, Bool, true, false, not, nat_lt, add-one, drop, get_or, get_or-drop, length, take, refl, sym, ap, ap₂, append_assoc, drop-cons, inl, inr}
+use Rattle.std.proofs.Common.{arith, ◌≡◌, ◌==◌, ◌&&◌, ◌≤◌, ◌<◌, ◌+◌, ◌-◌, ◌∷◌, ◌++◌, ◌∙◌, [], ℕ, List, Some, Bool, true, false, not, nat_lt, add-one, drop, get_or, get_or-drop, length, take, refl, sym, ap, ap₂, append_assoc, drop-cons, inl, inr}
 use Rattle.std.proofs.Math.Seq.{drop-append-add}
 use Rattle.std.proofs.lemmas.Grind.{common_steps}
 use Rattle.std.proofs.lemmas.Bool.{and_from, and_parts, eqb-true, false_from_ne_true, false≢true, lt-ltb, ne_eqb}
@@ -7,7 +7,6 @@ use Rattle.std.proofs.lemmas.List.Folds.{list_all-append, list_all_more}
 use Rattle.std.specs.Char.{is_ascii_digit}
 use Rattle.std.specs.List.{list_all, position, position_or_len}
 use Rattle.csv.specs.Reading.{strip_bom}
-use Rattle.auction_rows.specs.declared.ids.ItemId.{ItemId}
 use Rattle.auction_text.specs.Fields.{id_of_parts, is_point, item_id, item_id_at, number}
 use Rattle.auction_text.specs.Lines.{HasRead, IsFieldTo, IsItemTo, IsLastField, IsLastItem, IsLastNumber, IsNumberTo, ReadsFirst, is_plain, is_quoted, joins}
 use Rattle.auction_text.proofs.DigitLemmas.{span}
@@ -76,18 +75,23 @@ inside byte = not (byte == 34) && joins byte
 inside_byte : (b : ℕ) → (b ≡ 44 → ⊥) → (b ≡ 10 → ⊥) → (b ≡ 13 → ⊥) → (b ≡ 34 → ⊥) → inside b ≡ true
 inside_byte b comma feed back quote = rw (ne_eqb b 34 quote, ne_eqb b 44 comma, ne_eqb b 13 back, ne_eqb b 10 feed) refl
 
--- one byte more
-pub inside_more : (text : List ℕ) (from at : ℕ) → from ≤ at → at < length text → (get_or text at 0 ≡ 44 → ⊥) → (get_or text at 0 ≡ 10 → ⊥) → (get_or text at 0 ≡ 13 → ⊥) → (get_or text at 0 ≡ 34 → ⊥)
-    → list_all inside (span text from at) ≡ true → list_all inside (span text from (at + 1)) ≡ true
-inside_more text from at reaches within comma feed back quote so_far =
+-- one byte more of a sort
+pub span_more : (is : ℕ → Bool) (text : List ℕ) (from at : ℕ) → from ≤ at → at < length text → is (get_or text at 0) ≡ true
+    → list_all is (span text from at) ≡ true → list_all is (span text from (at + 1)) ≡ true
+span_more is text from at reaches within byte so_far =
     let i = at - from in
     let ds = drop from text in
     let short : i < length ds = grind (arith, common_steps) in
     let place : from + i ≡ at = omega arith in
     let here : get_or ds i 0 ≡ get_or text at 0 = get_or-drop from text i 0 ∙ (rw place refl) in
     let one : at + 1 - from ≡ i + 1 = omega arith in
-    let byte : inside (get_or ds i 0) ≡ true = rw here (inside_byte (get_or text at 0) comma feed back quote) in
-    rw one (list_all_more inside ds i 0 short ∙ and_from (list_all inside (span text from at)) (inside (get_or ds i 0)) so_far byte)
+    let next : is (get_or ds i 0) ≡ true = rw here byte in
+    rw one (list_all_more is ds i 0 short ∙ and_from (list_all is (span text from at)) (is (get_or ds i 0)) so_far next)
+
+pub inside_more : (text : List ℕ) (from at : ℕ) → from ≤ at → at < length text → (get_or text at 0 ≡ 44 → ⊥) → (get_or text at 0 ≡ 10 → ⊥) → (get_or text at 0 ≡ 13 → ⊥) → (get_or text at 0 ≡ 34 → ⊥)
+    → list_all inside (span text from at) ≡ true → list_all inside (span text from (at + 1)) ≡ true
+inside_more text from at reaches within comma feed back quote so_far =
+    span_more inside text from at reaches within (inside_byte (get_or text at 0) comma feed back quote) so_far
 
 all_join : (xs : List ℕ) → list_all inside xs ≡ true → list_all joins xs ≡ true
 all_join [] all = refl

@@ -1,18 +1,18 @@
 -- Plain lines that are read in place say what their records say.
-use Rattle.std.proofs.Common.{arith, ◌≡◌, ◌==◌, ◌&&◌, ◌<◌, ◌+◌, ◌∷◌, ◌++◌, ◌∙◌, [], ℕ, suc, ℤ, List, Ok, Option, Some, None, IfSome, Bool, true, false, nat_lt, drop, get_or, length, refl, sym, ap, append_assoc, add-one, drop-cons}
+use Rattle.std.proofs.Common.{arith, ◌≡◌, ◌<◌, ◌+◌, ◌∷◌, ◌++◌, ◌∙◌, [], ℕ, suc, ℤ, List, Ok, Option, Some, None, IfSome, Bool, true, false, nat_lt, drop, get_or, length, refl, sym, ap, append_assoc, add-one, drop-cons}
 use Rattle.std.proofs.lemmas.Grind.{common_steps}
 use Rattle.std.proofs.lemmas.Bool.{lt-ltb}
 use Rattle.csv.specs.Records.{field_at}
 use Rattle.auction_rows.specs.declared.requests.Request.{Request}
 use Rattle.auction_rows.specs.declared.requests.Request.TheVariants as request
 use Rattle.auction_rows.specs.declared.ids.ItemId.{ItemId}
-use Rattle.auction_text.specs.Fields.{name, number, quantity, stars}
+use Rattle.auction_text.specs.Fields.{name, quantity, stars}
 use Rattle.auction_text.specs.Kinds.{has_count, kind_of}
-use Rattle.auction_text.specs.Records.{put_up, read_record, request_of}
-use Rattle.auction_text.specs.declared.faults.Cause.{Cause}
+use Rattle.auction_text.specs.Records.{put_up, request_of}
 use Rattle.auction_text.specs.declared.kinds.RequestKind.{RequestKind}
 use Rattle.auction_text.specs.declared.kinds.RequestKind.TheVariants as kind
-use Rattle.auction_text.specs.Lines.{EndsWithFields, HasRead, HasWordAt, IsEndOfItem, IsFieldTo, IsItemTo, IsLastField, IsLastItem, IsLastNumber, IsLine, IsNumberTo, IsPutUp, IsRequestAt, IsRestOf, is_plain}
+use Rattle.auction_text.specs.Lines.{HasRead, HasWordAt, IsEndOfItem, IsFieldTo, IsItemTo, IsLastField, IsLastItem, IsLastNumber, IsLine, IsNumberTo, IsPutUp, IsRequestAt, IsRestOf, is_plain}
+use Rattle.auction_text.specs.QuotedFields.{HasNextField}
 use Rattle.auction_text.proofs.LineLemmas.{first_and_comma, next_and_comma}
 use Rattle.auction_text.proofs.PlainFieldLemmas.{comma_in_place, digits_no_bom, digits_plain, end_in_place}
 
@@ -146,16 +146,16 @@ put_up_is (q ∷ r ∷ s) count is a b c d e f g h = absurd is
 
 -- the fields of an item
 pub item_in_place : (text : List ℕ) (at seller at_category category at_name : ℕ) (middle called : List ℕ) (at_start start at_closes closes at_time time count next : ℕ)
-    → IsNumberTo text at 44 32 seller at_category → IsNumberTo text at_category 44 32 category at_name → IsFieldTo text at_name 44 at_start middle → is_plain middle ≡ true → name middle ≡ Some called
+    → IsNumberTo text at 44 32 seller at_category → IsNumberTo text at_category 44 32 category at_name → HasNextField text at_name middle at_start → name middle ≡ Some called
     → IsNumberTo text at_start 44 64 start at_closes → IsNumberTo text at_closes 44 64 closes at_time → IsEndOfItem text at_time time count next
     → IsRestOf kind.Item text at (request.StoreItem (record { seller = seller; category = category; name = called; start = start; closes = closes; quantity = count }) time) next
 unfolding field_at
-item_in_place text at seller at_category category at_name middle called at_start start at_closes closes at_time time count next s c there plain is a b t = record {
+item_in_place text at seller at_category category at_name middle called at_start start at_closes closes at_time time count next s c there is a b t = record {
   fields = s.field ∷ c.field ∷ middle ∷ a.field ∷ b.field ∷ t.first ∷ t.others;
   reads = λ more line before read.
       let one = comma_in_place text at at_category s.field more line before (digits_plain s.field s.digits) s.there read in
       let two = comma_in_place text at_category at_name c.field more line (before ++ (s.field ∷ [])) (digits_plain c.field c.digits) c.there one in
-      let three = comma_in_place text at_name at_start middle more line ((before ++ (s.field ∷ [])) ++ (c.field ∷ [])) plain there two in
+      let three = there.reads more line ((before ++ (s.field ∷ [])) ++ (c.field ∷ [])) two in
       let four = comma_in_place text at_start at_closes a.field more line (((before ++ (s.field ∷ [])) ++ (c.field ∷ [])) ++ (middle ∷ [])) (digits_plain a.field a.digits) a.there three in
       let five = comma_in_place text at_closes at_time b.field more line ((((before ++ (s.field ∷ [])) ++ (c.field ∷ [])) ++ (middle ∷ [])) ++ (a.field ∷ [])) (digits_plain b.field b.digits) b.there four in
       let six = t.reads more line (((((before ++ (s.field ∷ [])) ++ (c.field ∷ [])) ++ (middle ∷ [])) ++ (a.field ∷ [])) ++ (b.field ∷ [])) five in

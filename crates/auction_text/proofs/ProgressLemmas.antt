@@ -1,16 +1,15 @@
 -- How far an input is read, line by line.
-use Rattle.std.proofs.Common.{arith, ◌≡◌, ◌==◌, ◌&&◌, ◌||◌, ◌<◌, ◌≤◌, ◌+◌, ◌∷◌, ◌++◌, ◌∙◌, [], ℕ, List, Bool, Option, Some, true, false, not, drop, length, refl, sym, ap, append_assoc, if◌then◌else◌}
+use Rattle.std.proofs.Common.{arith, ◌≡◌, ◌==◌, ◌&&◌, ◌<◌, ◌≤◌, ◌+◌, ◌∷◌, ◌++◌, ◌∙◌, [], ℕ, List, Bool, Option, true, false, drop, length, refl, sym, append_assoc, if◌then◌else◌}
 use Rattle.std.proofs.lemmas.List.{append-nil, length-map}
-use Rattle.csv.specs.Reading.{default_config, records, source_of, strip_bom}
+use Rattle.csv.specs.Reading.{default_config, records, strip_bom}
 use Rattle.csv.specs.declared.reader.Reader.{Reader}
-use Rattle.csv.specs.declared.parser.State.TheVariants as st
 use Rattle.auction_text.specs.declared.progress.Progress.{Progress}
 use Rattle.auction_text.specs.declared.record.Record.{Record}
 use Rattle.auction_text.specs.declared.scripts.TheConstants.{MOST_RECORDS}
-use Rattle.auction_text.specs.Lines.{IsLine, ReadsFirst}
-use Rattle.auction_text.specs.Progress.{HasAdded, IsReadUpTo, ReadsOn, SoFar, unmarked}
-use Rattle.auction_text.specs.Reading.{IsAtStart, nothing_asked, with_record}
-use Rattle.auction_text.specs.Scripts.{Asked, asked_by, records_of}
+use Rattle.auction_text.specs.Lines.{IsLine}
+use Rattle.auction_text.specs.Progress.{HasAdded, IsReadUpTo, ReadsOn, unmarked}
+use Rattle.auction_text.specs.Reading.{IsAtStart, nothing_asked}
+use Rattle.auction_text.specs.Scripts.{asked_by, records_of}
 use Rattle.auction_text.proofs.LineLemmas.{feed_no_bom, records_after_feed}
 use Rattle.auction_text.proofs.RecordsLeft.{left_all}
 use Rattle.auction_text.proofs.SoFar.{IsReading, so_far_more, so_far_none}
@@ -44,7 +43,7 @@ reads_on_before old new x y tail read = record {
 pub read_on_alone : (workers : ℕ) (bytes : List ℕ) (old new : Progress) (from to : List ℕ) → ReadsOn old from new to → IsReadUpTo workers bytes old from → IsReadUpTo workers bytes new to
 read_on_alone workers bytes old new from to read up_to = rw (append-nil to) at (read.reads workers bytes [] (rw (append-nil from) up_to))
 
-same_if : (b : Bool) (xs ys : List ℕ) → xs ≡ ys → (if b then xs else ys) ≡ ys
+pub same_if : (b : Bool) (xs ys : List ℕ) → xs ≡ ys → (if b then xs else ys) ≡ ys
 same_if true xs ys e = e
 same_if false xs ys e = refl
 
@@ -69,7 +68,7 @@ reads_on_line old new text at said next line added room below early = record {
 abbrev pub front : ℕ → List ℕ
 front count = if count == 0 then [] else (10 ∷ [])
 
-front_of : (first : Bool) (count : ℕ) (source : List ℕ) → (count == 0) ≡ first
+pub front_of : (first : Bool) (count : ℕ) (source : List ℕ) → (count == 0) ≡ first
     → (records default_config (unmarked count (front count ++ source)) ≡ records default_config (unmarked count source)) × (unmarked count (front count ++ source) ≡ strip_bom (front count ++ source))
 front_of true count source is = (rw is refl, rw is refl)
 front_of false count source is = (rw is (records_after_feed source), rw is (sym (feed_no_bom source)))

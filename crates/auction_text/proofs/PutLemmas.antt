@@ -84,6 +84,10 @@ pub put_failed : {W T : Type 0} (contents : W → Option (List ℕ)) (old new : 
 put_failed contents old new waiting left text (Ok x) fault is write part = absurd is
 put_failed contents old new waiting left text (Err other) fault is write part = record { whole = tt; part = (is ∙ write, part) }
 
+-- nothing is written where a line cannot be
+pub none_put : {W T : Type 0} (contents : W → Option (List ℕ)) (writer : W) (waiting left text : List ℕ) → PutsText {T = T} contents writer writer waiting left text (Err Write)
+none_put contents writer waiting left text = record { whole = tt; part = (refl, (0, Appends-nil (contents writer))) }
+
 -- nothing was put
 pub nothing_put : {W T : Type 0} (contents : W → Option (List ℕ)) (writer : W) (waiting text : List ℕ) (done : T) → text ≡ []
     → PutsText contents writer writer waiting waiting text (Ok done)

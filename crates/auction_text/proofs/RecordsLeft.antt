@@ -10,6 +10,7 @@ use Rattle.csv.specs.declared.parser.Terminator.{Terminator}
 use Rattle.csv.specs.declared.parser.Terminator.TheVariants as term
 use Rattle.csv.specs.declared.reader.Reader.{Reader}
 use Rattle.csv.proofs.ReadFacts.{rows-end, rows-more}
+use Rattle.auction_text.specs.RecordsLeft.{Left}
 
 -- a choice between two steps has what both have
 both : (b : Bool) (x y : State × Action) (P : State × Action → Type 0) → P x → P y → P (if b then x else y)
@@ -88,13 +89,6 @@ shorter cfg s [] p b e = absurd (cc (rw b at e))
 shorter cfg s (c ∷ xs) p b e =
     let l : Leaves (length xs) p = leaves_either (is_end (step cfg s c).1) _ p _ (length xs) (λ h. (between cfg s c h, omega arith)) (λ h. leaves cfg _ _ _ xs p h) e in
     (l.0, omega (arith, l.1))
-
--- these are the records that are left in state s with the bytes y
-pub record Left (s : State) (y : List ℕ) (rows : List (List (List ℕ))) : Type 0 where
-  pub turns : ℕ
-  pub enough : length y < turns
-  pub between : ends_at_end s ≡ false
-  pub are : rows ≡ records_from default_config turns s y
 
 more_from : (turns : ℕ) (s s2 : State) (y z : List ℕ) (f : List (List ℕ)) → length y < turns → ends_at_end s ≡ false → next_record default_config s [] [] y ≡ Some (f, s2, z)
     → (more : List (List (List ℕ))) × (records_from default_config turns s y ≡ f ∷ more) × Left s2 z more

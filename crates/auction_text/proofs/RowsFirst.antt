@@ -49,7 +49,7 @@ checked_by (Some w) workers check said f g h e = (w, within (nat_lt w workers) (
     within false r e = absurd (cc e)
 
 -- a record that stands after a request is no row
-request_after : (workers place : ℕ) (fields : List (List ℕ)) (said : Record) → read_record workers place true fields ≡ Ok said → said.is_row ≡ false
+pub request_after : (workers place : ℕ) (fields : List (List ℕ)) (said : Record) → read_record workers place true fields ≡ Ok said → said.is_row ≡ false
 request_after workers place fields said e =
     let (w, checks) = checked_by (number 32 (field fields 0)) workers (λ w. checked true w fields) said (fault.Line place cause.Number) (fault.Worker place) (λ c. fault.Line place c) e in
     not_late (kind_in fields) _ (λ kind. request_of kind fields) w said checks

@@ -18,7 +18,8 @@ use Rattle.auction_text.specs.Reading.{nothing_asked, with_record}
 use Rattle.auction_text.specs.Records.{and_then, read_record}
 use Rattle.auction_text.specs.Scripts.{Asked, asked_in, input_of, read_records, records_of, request_by, row_in, rows, script}
 use Rattle.auction_text.specs.Progress.{SoFar}
-use Rattle.auction_text.proofs.RecordsLeft.{Left, left_all, read_end, read_more}
+use Rattle.auction_text.specs.RecordsLeft.{Left}
+use Rattle.auction_text.proofs.RecordsLeft.{left_all, read_end, read_more}
 
 none_before : (r : Result (List Record) ReadFault) → r ≡ and_then r (λ others. Ok ([] ++ others))
 none_before (Ok others) = refl
@@ -42,14 +43,14 @@ not_past : (m n : ℕ) → n ≤ m → nat_lt m n ≡ false
 not_past m n h = grind (arith, common_steps)
 
 -- one more record adds its row
-rows_more : (said : List Record) (first : Record) (asked : Asked) → rows said ≡ asked.rows → rows (said ++ (first ∷ [])) ≡ (with_record first asked).rows
+pub rows_more : (said : List Record) (first : Record) (asked : Asked) → rows said ≡ asked.rows → rows (said ++ (first ∷ [])) ≡ (with_record first asked).rows
 rows_more said first asked are = elim (cases_Bool first.is_row) [
   | inl row ↦ rw (filter_map-append row_in said (first ∷ []), row, are) refl
   | inr request ↦ rw (filter_map-append row_in said (first ∷ []), request, are, append-nil asked.rows) refl
 ]
 
 -- and its request to its own worker's script
-script_more : (said : List Record) (first : Record) (asked : Asked) (w : ℕ) → first.worker < length asked.scripts
+pub script_more : (said : List Record) (first : Record) (asked : Asked) (w : ℕ) → first.worker < length asked.scripts
     → script w said ≡ get_or asked.scripts w [] → script w (said ++ (first ∷ [])) ≡ get_or (with_record first asked).scripts w []
 script_more said first asked w within are = elim (cases_Bool first.is_row) [
   | inl row ↦ rw (filter_map-append (request_by w) said (first ∷ []), row, are, append-nil (get_or asked.scripts w [])) refl
@@ -63,7 +64,7 @@ script_more said first asked w within are = elim (cases_Bool first.is_row) [
   ]
 ]
 
-count_more : (first : Record) (asked : Asked) → length (with_record first asked).scripts ≡ length asked.scripts
+pub count_more : (first : Record) (asked : Asked) → length (with_record first asked).scripts ≡ length asked.scripts
 count_more first asked = elim (cases_Bool first.is_row) [
   | inl row ↦ rw row refl
   | inr request ↦ rw request (length-set asked.scripts first.worker _)

@@ -1,5 +1,5 @@
 -- Plain lines of a text, and what `csv` reads of them.
-use Rattle.std.specs.Prelude.{ℕ, Bool, true, false, not, ◌==◌, ◌&&◌, ◌≡◌, ◌≤◌, ◌<◌, ◌-◌, ◌+◌, ◌⊎◌, Ok, List, [], ◌∷◌, ◌++◌, Option, Some, drop, get_or, length}
+use Rattle.std.specs.Prelude.{ℕ, Bool, true, false, not, ◌==◌, ◌&&◌, ◌≡◌, ◌≤◌, ◌<◌, ◌-◌, ◌+◌, ◌⊎◌, Ok, List, [], ◌∷◌, ◌++◌, Some, drop, get_or, length}
 use Rattle.std.specs.Char.{is_ascii_digit}
 use Rattle.std.specs.List.{list_all}
 use Rattle.csv.specs.Machine.{next_record}
@@ -10,7 +10,6 @@ use Rattle.auction_rows.specs.declared.requests.Request.{Request}
 use Rattle.auction_text.specs.Fields.{item_id, number, quantity}
 use Rattle.auction_text.specs.Kinds.{has_count, kind_of}
 use Rattle.auction_text.specs.Records.{read_record, request_of}
-use Rattle.auction_text.specs.declared.kinds.Kind.{Kind}
 use Rattle.auction_text.specs.declared.kinds.RequestKind.{RequestKind}
 use Rattle.auction_text.specs.declared.record.Record.{Record}
 

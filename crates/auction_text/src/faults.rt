@@ -37,10 +37,10 @@ pub enum Cause {
 pub enum ReadFault {
     /// A record is not what its kind asks for.
     #[error("record {0}: {1}")]
-    Line(u32, Cause),
+    Line(u64, Cause),
     /// A record's worker is not below the number of workers.
     #[error("record {0}: no such worker")]
-    Worker(u32),
+    Worker(u64),
     /// A read of the input failed.
     #[error("input cannot be read")]
     Read,

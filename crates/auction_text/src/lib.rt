@@ -2,11 +2,14 @@
 //! that are written.
 #![tactic(auto)]
 
+mod before;
 mod block;
 mod faults;
 mod fields;
 mod kinds;
+mod line_buffer;
 mod numeral;
+mod parts;
 mod plain_fields;
 mod plain_lines;
 mod plain_text;
@@ -19,21 +22,25 @@ mod report;
 mod row_lines;
 mod scripts;
 mod short_text;
+mod taking;
 mod text;
 mod text_blocks;
 mod text_laws;
 mod worker_texts;
 mod writing;
 
+pub use before::Before;
 pub use faults::{Cause, ReadFault, WriteFault};
 pub use fields::read_u64;
-pub use reading_laws::rows_come_first;
+pub use parts::{InputLeft, Part, PartEnd};
+pub use reading_laws::{all_is_readable, rows_come_first};
 pub use replies::push_reply;
 pub use report::ReportLines;
 pub use row_lines::push_quoted;
 pub use scripts::{Input, MOST_RECORDS, read_scripts};
 pub use text::{push_labelled, push_labelled_id, push_number, push_text};
-pub use text_laws::{replies_in_order, rows_of_histories};
+pub use text_laws::{moved_in_order, replies_in_order, rows_of_histories};
 pub use writing::{
-    write_history, write_replies, write_replies_by_threads, write_report, write_rows,
+    write_history, write_history_on, write_replies, write_replies_by_threads, write_replies_on,
+    write_report, write_rows,
 };

@@ -24,7 +24,7 @@ pub fn put_digits(bytes: &mut [u8], at: usize, number: u64) -> usize
 /// A number and its digits. Contracts see the number.
 #[derive(Drop)]
 pub struct Numeral {
-    number: u32,
+    number: u64,
     digits: [u8; MOST_DIGITS],
     len: usize,
 }
@@ -41,22 +41,20 @@ impl Model for Numeral {
 }
 
 impl Numeral {
-    /// That of a number.
-    pub fn of(number: u32) -> Numeral
-        ensures { result ≡ number }
+    /// That of 0.
+    pub fn zero() -> Numeral
+        ensures { result ≡ 0 }
     {
-        let mut digits = [0; MOST_DIGITS];
-        let len = put_digits(&mut digits, 0, u64::from(number));
         Numeral {
-            number,
-            digits,
-            len,
+            number: 0,
+            digits: [b'0'; MOST_DIGITS],
+            len: 1,
         }
     }
 
     /// Makes it that of another number, which mostly is the next one.
     #[inline(always)]
-    pub fn turn(&mut self, number: u32)
+    pub fn turn(&mut self, number: u64)
         ensures { self.new ≡ number }
     {
         if !self.count_up_to(number) {
@@ -66,11 +64,14 @@ impl Numeral {
 
     // Counts it up, where the number is the next one and the last digit is no nine.
     #[inline(always)]
-    fn count_up_to(&mut self, number: u32) -> bool
+    fn count_up_to(&mut self, number: u64) -> bool
         ensures { IsTrue result → self.new ≡ number }
     {
         let last = self.digits[self.len - 1];
-        if u64::from(number) != u64::from(self.number) + 1 || last >= b'9' {
+        let Some(next) = self.number.checked_add(1) else {
+            return false;
+        };
+        if number != next || last >= b'9' {
             return false;
         }
         self.digits[self.len - 1] = last + 1;
@@ -79,10 +80,10 @@ impl Numeral {
     }
 
     #[inline(never)]
-    fn set(&mut self, number: u32)
+    fn set(&mut self, number: u64)
         ensures { self.new ≡ number }
     {
-        self.len = put_digits(&mut self.digits, 0, u64::from(number));
+        self.len = put_digits(&mut self.digits, 0, number);
         self.number = number;
     }
 

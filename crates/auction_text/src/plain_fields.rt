@@ -1,6 +1,7 @@
-//! Plain fields of a text, read where they lie.
+//! Fields of a text, plain or in quotes, read where they lie.
 ghost use Rattle.std.specs.Prelude.{◌≡◌, ◌<◌, ◌≤◌, ◌-◌, true, drop, length, take, IfSome};
 ghost use Rattle.auction_text.specs.Lines.{EndsLine, HasWordAt, IsFieldTo, IsItemTo, IsLastField, IsLastItem, IsLastNumber, IsNumberTo, comma, has_no_feed, is_plain};
+ghost use Rattle.auction_text.specs.QuotedFields.{HasNextField, IsQuotedTo, has_no_quote};
 
 use auction_rows::ItemId;
 
@@ -150,6 +151,53 @@ pub fn field_to_comma(text: &[u8], from: usize) -> Option<(&[u8], usize)>
         return None;
     }
     Some((&text[from..at], at + 1))
+}
+
+// The place of the first quote or line feed, from a place on.
+fn quote_or_feed(text: &[u8], from: usize) -> usize
+    requires ends { EndsLine text.now }
+    requires within { from < length text.now }
+    ensures after { from ≤ result }
+    ensures within { result < length text.now }
+    ensures unquoted { has_no_quote (take (result - from) (drop from text.now)) ≡ true }
+{
+    let mut at = from;
+    loop {
+        let byte = text[at];
+        if byte == b'\n' || byte == b'"' {
+            break;
+        }
+        at += 1;
+    }
+    at
+}
+
+// The field in quotes from a place on, up to a comma, and the place after the comma; none if a quote or a line feed is in it.
+fn quoted_to_comma(text: &[u8], from: usize) -> Option<(&[u8], usize)>
+    requires ends { EndsLine text.now }
+    requires within { from < length text.now }
+    ensures { IfSome result (λ p. IsQuotedTo text.now from p.0.now p.1) }
+{
+    if text[from] != b'"' {
+        return None;
+    }
+    let at = quote_or_feed(text, from + 1);
+    if text[at] != b'"' || text[at + 1] != b',' {
+        return None;
+    }
+    Some((&text[from + 1..at], at + 2))
+}
+
+/// The field from a place on, plain or in quotes, up to a comma, and the place after the comma; none if a quote is in it.
+pub fn next_field(text: &[u8], from: usize) -> Option<(&[u8], usize)>
+    requires ends { EndsLine text.now }
+    requires within { from < length text.now }
+    ensures { IfSome result (λ p. HasNextField text.now from p.0.now p.1) }
+{
+    match quoted_to_comma(text, from) {
+        Some(read) => Some(read),
+        None => field_to_comma(text, from),
+    }
 }
 
 /// A line's last field, from a place on, and the place after the line; none if a quote is before its end.

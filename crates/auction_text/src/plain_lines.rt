@@ -1,12 +1,12 @@
-//! Lines of plain fields, read where they lie.
+//! Lines of plain fields, of which an item's name may be in quotes, read where they lie.
 ghost use Rattle.std.specs.Prelude.{ℕ, ◌≡◌, ◌+◌, ◌<◌, false, true, get_or, length, IfSome};
 ghost use Rattle.auction_text.specs.declared.kinds.RequestKind.TheVariants as kind;
 ghost use Rattle.auction_text.specs.Lines.{EndsLine, IsEndOfItem, IsLine, IsRequestAt, IsRestOf, plus};
 
 use crate::fields::{read_name, read_quantity, read_stars};
 use crate::plain_fields::{
-    begins, field_to_comma, item_to_comma, last_field, last_item, last_number, last_u32, number_to,
-    u32_to,
+    begins, field_to_comma, item_to_comma, last_field, last_item, last_number, last_u32,
+    next_field, number_to, u32_to,
 };
 use crate::record::Record;
 use auction_rows::{Facts, Quantity, Request};
@@ -74,7 +74,7 @@ fn item(text: &[u8], at: usize) -> Option<(Request, usize)>
 {
     let (seller, at_category) = u32_to(text, at, b',')?;
     let (category, at_name) = u32_to(text, at_category, b',')?;
-    let (field, at_start) = field_to_comma(text, at_name)?;
+    let (field, at_start) = next_field(text, at_name)?;
     let name = read_name(field)?;
     let (start, at_closes) = number_to(text, at_start, b',')?;
     let (closes, at_time) = number_to(text, at_closes, b',')?;

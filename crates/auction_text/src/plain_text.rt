@@ -93,8 +93,8 @@ fn read_plain(progress: &mut Progress, text: &[u8]) -> Result<usize, ReadFault>
     Ok(at)
 }
 
-// The place after the last end of a line in a text: 0 if it has none.
-fn lines_end(text: &[u8]) -> usize
+/// The place after the last end of a line in a text: 0 if it has none.
+pub fn lines_end(text: &[u8]) -> usize
     ensures within { result ≤ length text.now }
     ensures ends { 0 < result → EndsLine (take result text.now) }
 {
@@ -105,8 +105,12 @@ fn lines_end(text: &[u8]) -> usize
     end
 }
 
-// Fills a buffer on from a place, and returns the place after what was read: the same if nothing is left, or no room.
-fn read_more<R: Read>(buffer: &mut [u8], filled: usize, reader: &mut R) -> Result<usize, ReadFault>
+/// Fills a buffer on from a place, and returns the place after what was read: the same if nothing is left, or no room.
+pub fn read_more<R: Read>(
+    buffer: &mut [u8],
+    filled: usize,
+    reader: &mut R,
+) -> Result<usize, ReadFault>
     requires filled { filled ≤ length buffer.old }
     ensures len { length buffer.new ≡ length buffer.old }
     ensures more { IfOk result (λ now. filled ≤ now) }

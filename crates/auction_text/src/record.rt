@@ -198,7 +198,7 @@ fn kind_in(fields: &ByteRecord) -> Result<Kind, Cause>
 pub fn read_record(
     fields: &ByteRecord,
     workers: u32,
-    place: u32,
+    place: u64,
     begun: bool,
 ) -> Result<Record, ReadFault>
     ensures value { result ≡ read_record workers place begun (fields_of fields.now) }

@@ -4,7 +4,7 @@ ghost use Rattle.std.specs.List.{flat_map};
 ghost use Rattle.auction_rows.specs.StoreReplies.{reply_of};
 ghost use Rattle.auction_text.specs.Replies.{bid_text, facts_text, history_line, item_text, labelled, place_text, refusal_text, reply_line, reply_text, score_text, state_text};
 
-use crate::block::{Block, MOST_OF_A_LINE, MOST_OF_A_REPLY, ROOM};
+use crate::block::{Block, MOST_OF_A_LINE, MOST_OF_A_REPLY};
 use crate::text::push_text;
 use auction_rows::{BidShown, ItemShown, Refusal, Reply, StoreReply, Ten};
 use std::alloc::AllocError;
@@ -25,8 +25,14 @@ fn text_of_refusal(refusal: Refusal) -> &'static [u8]
     }
 }
 
-fn put_facts(block: &mut Block, seller: u32, category: u32, start: u64, closes: u64)
-    requires { 121 + length block.old ≤ ROOM }
+fn put_facts<const N: usize>(
+    block: &mut Block<N>,
+    seller: u32,
+    category: u32,
+    start: u64,
+    closes: u64,
+)
+    requires { 121 + length block.old ≤ N }
     ensures text { block.new ≡ block.old ++ facts_text seller category start closes }
     ensures length { length block.new ≤ 121 + length block.old }
 {
@@ -36,8 +42,14 @@ fn put_facts(block: &mut Block, seller: u32, category: u32, start: u64, closes: 
     block.push_labelled(b" closes=", closes);
 }
 
-fn put_state(block: &mut Block, highest: Option<u64>, bidder: Option<u32>, bids: u64, left: u32)
-    requires { 109 + length block.old ≤ ROOM }
+fn put_state<const N: usize>(
+    block: &mut Block<N>,
+    highest: Option<u64>,
+    bidder: Option<u32>,
+    bids: u64,
+    left: u32,
+)
+    requires { 109 + length block.old ≤ N }
     ensures text { block.new ≡ block.old ++ state_text highest bidder bids left }
     ensures length { length block.new ≤ 109 + length block.old }
 {
@@ -47,8 +59,8 @@ fn put_state(block: &mut Block, highest: Option<u64>, bidder: Option<u32>, bids:
     block.push_labelled(b" left=", u64::from(left));
 }
 
-fn put_bid(block: &mut Block, bid: BidShown)
-    requires { 105 + length block.old ≤ ROOM }
+fn put_bid<const N: usize>(block: &mut Block<N>, bid: BidShown)
+    requires { 105 + length block.old ≤ N }
     ensures text { block.new ≡ block.old ++ bid_text bid }
     ensures length { length block.new ≤ 105 + length block.old }
 {
@@ -58,8 +70,8 @@ fn put_bid(block: &mut Block, bid: BidShown)
     block.push_id(b":", bid.id.worker, bid.id.serial);
 }
 
-fn put_bids(block: &mut Block, bids: &Ten<BidShown>)
-    requires { MOST_OF_A_REPLY + length block.old ≤ ROOM }
+fn put_bids<const N: usize>(block: &mut Block<N>, bids: &Ten<BidShown>)
+    requires { MOST_OF_A_REPLY + length block.old ≤ N }
     ensures text { block.new ≡ block.old ++ (codes "bids" ++ flat_map bid_text bids.now) }
     ensures length { length block.new ≤ MOST_OF_A_REPLY + length block.old }
 {
@@ -69,8 +81,8 @@ fn put_bids(block: &mut Block, bids: &Ten<BidShown>)
     }
 }
 
-fn put_item(block: &mut Block, item: ItemShown)
-    requires { 63 + length block.old ≤ ROOM }
+fn put_item<const N: usize>(block: &mut Block<N>, item: ItemShown)
+    requires { 63 + length block.old ≤ N }
     ensures text { block.new ≡ block.old ++ item_text item }
     ensures length { length block.new ≤ 63 + length block.old }
 {
@@ -78,8 +90,8 @@ fn put_item(block: &mut Block, item: ItemShown)
     block.push_id(b":", item.id.worker, item.id.serial);
 }
 
-fn put_items(block: &mut Block, items: &Ten<ItemShown>)
-    requires { 636 + length block.old ≤ ROOM }
+fn put_items<const N: usize>(block: &mut Block<N>, items: &Ten<ItemShown>)
+    requires { 636 + length block.old ≤ N }
     ensures text { block.new ≡ block.old ++ (codes "latest" ++ flat_map item_text items.now) }
     ensures length { length block.new ≤ 636 + length block.old }
 {
@@ -89,8 +101,8 @@ fn put_items(block: &mut Block, items: &Ten<ItemShown>)
     }
 }
 
-fn put_score(block: &mut Block, rating: i64, comments: u64)
-    requires { 58 + length block.old ≤ ROOM }
+fn put_score<const N: usize>(block: &mut Block<N>, rating: i64, comments: u64)
+    requires { 58 + length block.old ≤ N }
     ensures text { block.new ≡ block.old ++ score_text rating comments }
     ensures length { length block.new ≤ 58 + length block.old }
 {
@@ -99,8 +111,8 @@ fn put_score(block: &mut Block, rating: i64, comments: u64)
 }
 
 #[inline(always)]
-fn put_store_reply(block: &mut Block, reply: StoreReply)
-    requires { 49 + length block.old ≤ ROOM }
+fn put_store_reply<const N: usize>(block: &mut Block<N>, reply: StoreReply)
+    requires { 49 + length block.old ≤ N }
     ensures text { block.new ≡ block.old ++ reply_text (reply_of reply) }
     ensures length { length block.new ≤ 49 + length block.old }
 {
@@ -114,8 +126,8 @@ fn put_store_reply(block: &mut Block, reply: StoreReply)
 }
 
 // Adds the text of a reply.
-fn put_reply(block: &mut Block, reply: &Reply)
-    requires { MOST_OF_A_REPLY + length block.old ≤ ROOM }
+fn put_reply<const N: usize>(block: &mut Block<N>, reply: &Reply)
+    requires { MOST_OF_A_REPLY + length block.old ≤ N }
     ensures text { block.new ≡ block.old ++ reply_text reply.now }
     ensures length { length block.new ≤ MOST_OF_A_REPLY + length block.old }
 {
@@ -151,7 +163,7 @@ fn put_reply(block: &mut Block, reply: &Reply)
 }
 
 /// Makes a block the text of a reply, whatever it was.
-pub fn set_reply(block: &mut Block, reply: &Reply)
+pub fn set_reply(block: &mut Block<MOST_OF_A_REPLY>, reply: &Reply)
     ensures { block.new ≡ reply_text reply.now }
 {
     block.clear();
@@ -169,8 +181,8 @@ pub fn push_reply(text: &mut Vec<u8>, reply: &Reply) -> Result<(), AllocError>
 
 // Adds the text of an entry's reply to a view, which is made whole.
 #[inline(never)]
-fn put_view(block: &mut Block, entry: &EntryRef<'_>)
-    requires { MOST_OF_A_REPLY + length block.old ≤ ROOM }
+fn put_view<const N: usize>(block: &mut Block<N>, entry: &EntryRef<'_>)
+    requires { MOST_OF_A_REPLY + length block.old ≤ N }
     ensures text { block.new ≡ block.old ++ reply_text entry.now.reply }
     ensures length { length block.new ≤ MOST_OF_A_REPLY + length block.old }
 {
@@ -179,8 +191,8 @@ fn put_view(block: &mut Block, entry: &EntryRef<'_>)
 
 // Adds the text of an entry's reply.
 #[inline(always)]
-fn put_reply_of(block: &mut Block, entry: &EntryRef<'_>)
-    requires { MOST_OF_A_REPLY + length block.old ≤ ROOM }
+fn put_reply_of<const N: usize>(block: &mut Block<N>, entry: &EntryRef<'_>)
+    requires { MOST_OF_A_REPLY + length block.old ≤ N }
     ensures text { block.new ≡ block.old ++ reply_text entry.now.reply }
     ensures length { length block.new ≤ MOST_OF_A_REPLY + length block.old }
 {
@@ -190,38 +202,43 @@ fn put_reply_of(block: &mut Block, entry: &EntryRef<'_>)
     }
 }
 
-/// Adds the line of an entry among the replies.
+/// Adds the line of an entry among the replies, with this index.
 #[inline(always)]
-pub fn put_reply_line(block: &mut Block, entry: &EntryRef<'_>)
-    requires { MOST_OF_A_LINE + length block.old ≤ ROOM }
-    ensures { block.new ≡ block.old ++ reply_line entry.now }
+pub fn put_reply_line<const N: usize>(block: &mut Block<N>, entry: &EntryRef<'_>, index: u64)
+    requires { MOST_OF_A_LINE + length block.old ≤ N }
+    ensures { block.new ≡ block.old ++ reply_line (record entry.now { index = index }) }
 {
     block.push_number(u64::from(entry.worker()));
     block.push(b",");
-    block.push_index(entry.index());
+    block.push_index(index);
     block.push(b",");
     put_reply_of(block, entry);
     block.push(b"\n");
 }
 
-// Adds the place of an entry in a history.
-fn put_place(block: &mut Block, entry: &EntryRef<'_>)
-    requires { 83 + length block.old ≤ ROOM }
-    ensures text { block.new ≡ block.old ++ place_text entry.now }
+// Adds the place of an entry in a history, with this phase and index.
+fn put_place<const N: usize>(block: &mut Block<N>, entry: &EntryRef<'_>, phase: u64, index: u64)
+    requires { 83 + length block.old ≤ N }
+    ensures text { block.new ≡ block.old ++ place_text (record entry.now { phase = phase; index = index }) }
     ensures length { length block.new ≤ 83 + length block.old }
 {
-    block.push_number(entry.phase());
+    block.push_number(phase);
     block.push_labelled(b" ", entry.number());
     block.push_labelled(b" ", u64::from(entry.worker()));
-    block.push_labelled(b" ", u64::from(entry.index()));
+    block.push_labelled(b" ", index);
 }
 
-/// Adds the line of an entry in a history.
-pub fn put_history_line(block: &mut Block, entry: &EntryRef<'_>)
-    requires { MOST_OF_A_LINE + length block.old ≤ ROOM }
-    ensures { block.new ≡ block.old ++ history_line entry.now }
+/// Adds the line of an entry in a history, with this phase and index.
+pub fn put_history_line<const N: usize>(
+    block: &mut Block<N>,
+    entry: &EntryRef<'_>,
+    phase: u64,
+    index: u64,
+)
+    requires { MOST_OF_A_LINE + length block.old ≤ N }
+    ensures { block.new ≡ block.old ++ history_line (record entry.now { phase = phase; index = index }) }
 {
-    put_place(block, entry);
+    put_place(block, entry, phase, index);
     block.push(b" ");
     put_reply_of(block, entry);
     block.push(b"\n");

@@ -3,13 +3,15 @@ ghost use Rattle.std.specs.Prelude.{◌≡◌, ◌≤◌, ◌<◌, ◌^◌, None
 ghost use Rattle.std.specs.List.{AllByRecursion};
 ghost use Rattle.phase_laws.specs.Order.{part};
 ghost use Rattle.worker_journals.specs.Journals.{entry_worker};
+ghost use Rattle.auction_text.specs.Moved.{all_moved, gone_by, line_after};
 ghost use Rattle.auction_text.specs.Order.{comes_before, in_order};
-ghost use Rattle.auction_text.specs.Replies.{lines, replies_text, reply_line};
+ghost use Rattle.auction_text.specs.Replies.{lines, replies_text};
 ghost use Rattle.auction_text.specs.Turns.{front, late, rest};
-ghost use Rattle.auction_text.specs.Workers.{AreEach, late_of, replies_of};
+ghost use Rattle.auction_text.specs.Workers.{AreEach, late_of};
 ghost use Rattle.auction_text.specs.Writing.{PutsText};
 
-use crate::block::Block;
+use crate::before::Before;
+use crate::block::{Block, ROOM};
 use crate::faults::WriteFault;
 use crate::text_blocks::put_reply;
 use std::alloc::{AllocError, Global};
@@ -85,23 +87,24 @@ pub fn all_late_entries(
 #[inline(never)]
 fn put_before<W: Write>(
     writer: &mut W,
-    block: &mut Block,
+    block: &mut Block<ROOM>,
     entries: &[EntryRef<'_>],
     from: usize,
     entry: &EntryRef<'_>,
+    gone: u64,
 ) -> Result<usize, WriteFault>
     requires { from ≤ length entries.now }
     ensures within { IfOk result (λ place. place ≤ length entries.now) }
     ensures rest { IfOk result (λ place. drop place entries.now ≡ rest comes_before entry.now (drop from entries.now)) }
     ensures puts { PutsText W.contents writer.old writer.new block.old block.new
-        (lines reply_line (front comes_before entry.now (drop from entries.now))) result }
+        (lines (line_after gone) (front comes_before entry.now (drop from entries.now))) result }
 {
     let mut place = from;
     while let Some(next) = entries.get(place) {
         if !comes_before(next, entry) {
             break;
         }
-        put_reply(writer, block, next)?;
+        put_reply(writer, block, next, gone)?;
         place += 1;
     }
     Ok(place)
@@ -111,19 +114,20 @@ fn put_before<W: Write>(
 #[inline(always)]
 fn put_any_before<W: Write>(
     writer: &mut W,
-    block: &mut Block,
+    block: &mut Block<ROOM>,
     entries: &[EntryRef<'_>],
     from: usize,
     entry: &EntryRef<'_>,
+    gone: u64,
 ) -> Result<usize, WriteFault>
     requires { from ≤ length entries.now }
     ensures within { IfOk result (λ place. place ≤ length entries.now) }
     ensures rest { IfOk result (λ place. drop place entries.now ≡ rest comes_before entry.now (drop from entries.now)) }
     ensures puts { PutsText W.contents writer.old writer.new block.old block.new
-        (lines reply_line (front comes_before entry.now (drop from entries.now))) result }
+        (lines (line_after gone) (front comes_before entry.now (drop from entries.now))) result }
 {
     if from < entries.len() {
-        return put_before(writer, block, entries, from, entry);
+        return put_before(writer, block, entries, from, entry, gone);
     }
     Ok(from)
 }
@@ -131,52 +135,56 @@ fn put_any_before<W: Write>(
 #[inline(never)]
 fn put_replies<W: Write>(
     writer: &mut W,
-    block: &mut Block,
+    block: &mut Block<ROOM>,
     entries: &[EntryRef<'_>],
+    gone: u64,
 ) -> Result<(), WriteFault>
-    ensures { PutsText W.contents writer.old writer.new block.old block.new (lines reply_line entries.now) result }
+    ensures { PutsText W.contents writer.old writer.new block.old block.new (lines (line_after gone) entries.now) result }
 {
     for entry in entries {
-        put_reply(writer, block, entry)?;
+        put_reply(writer, block, entry, gone)?;
     }
     Ok(())
 }
 
-/// Puts the lines of a worker's entries among the replies, by index, then place. They are read where they lie, in the order of
-/// their commits, and those that are late, which are given in order, are put in between.
+/// Puts the lines of a worker's entries among the replies, by index, then place, after so many requests of it. They are read
+/// where they lie, in the order of their commits, and those that are late, which are given in order, are put in between.
 pub fn put_replies_of<W: Write>(
     writer: &mut W,
-    block: &mut Block,
+    block: &mut Block<ROOM>,
     history: &History,
     worker: u32,
     delayed: &[EntryRef<'_>],
+    gone: u64,
 ) -> Result<(), WriteFault>
     requires { delayed.now ≡ late_of history.now.entries worker }
-    ensures { PutsText W.contents writer.old writer.new block.old block.new (replies_of history.now.entries worker) result }
+    ensures { PutsText W.contents writer.old writer.new block.old block.new
+        (lines (line_after gone) (in_order (part entry_worker worker history.now.entries))) result }
 {
     let mut told = 0;
     let mut next = 0;
     for entry in history.of_worker(worker) {
         if !is_late(next, &entry) {
-            told = put_any_before(writer, block, delayed, told, &entry)?;
-            put_reply(writer, block, &entry)?;
+            told = put_any_before(writer, block, delayed, told, &entry, gone)?;
+            put_reply(writer, block, &entry, gone)?;
             next = u64::from(entry.index()) + 1;
         }
     }
-    put_replies(writer, block, &delayed[told..])
+    put_replies(writer, block, &delayed[told..], gone)
 }
 
-/// Puts the lines of all workers' entries among the replies, by worker, then index, then place.
+/// Puts the lines of all workers' entries among the replies, by worker, then index, then place, after what went before.
 pub fn put_all_replies<W: Write>(
     writer: &mut W,
-    block: &mut Block,
+    block: &mut Block<ROOM>,
     history: &History,
     delayed: &[Vec<EntryRef<'_>>],
+    before: &Before,
 ) -> Result<(), WriteFault>
     requires late { AreEach (late_of history.now.entries) delayed.now }
     requires workers { AllByRecursion (λ entry. entry.worker < length delayed.now) history.now.entries }
     requires few { length delayed.now ≤ 2 ^ 32 }
-    ensures { PutsText W.contents writer.old writer.new block.old block.new (replies_text history.now.entries) result }
+    ensures { PutsText W.contents writer.old writer.new block.old block.new (replies_text (all_moved (gone_by before.now) history.now.entries)) result }
 {
     for worker in 0..delayed.len() {
         put_replies_of(
@@ -185,6 +193,7 @@ pub fn put_all_replies<W: Write>(
             history,
             worker as u32,
             delayed[worker].as_slice(),
+            before.requests_of(worker as u32),
         )?;
     }
     Ok(())

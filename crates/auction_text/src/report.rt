@@ -4,7 +4,7 @@ ghost use Rattle.std.specs.List.{flat_map};
 ghost use Rattle.auction_text.specs.Report.{category_line, count_line, counts_text, hot_line, numbered_lines, object_text, refused_count, user_line};
 ghost use Rattle.auction_text.specs.Replies.{score_text};
 
-use crate::block::Block;
+use crate::block::{Block, MOST_OF_A_REPLY};
 use crate::replies::set_reply;
 use crate::text::{push_labelled, push_labelled_id, push_signed, push_text};
 use auction_rows::{Object, Reply};
@@ -89,7 +89,7 @@ pub fn push_hot_lines(text: &mut Vec<u8>, hot: &[IndexSet<Object>]) -> Result<()
 
 fn push_category_line(
     text: &mut Vec<u8>,
-    block: &mut Block,
+    block: &mut Block<MOST_OF_A_REPLY>,
     category: u64,
     seen: &Reply,
 ) -> Result<(), AllocError>

@@ -30,7 +30,8 @@ pub struct Input {
     pub scripts: Vec<Vec<Request>>,
 }
 
-fn fault_of(error: csv::Error) -> ReadFault
+/// Why a record could not be read.
+pub fn fault_of(error: csv::Error) -> ReadFault
     ensures { IsInputFault result → ⊥ }
 {
     match error.into_kind() {
@@ -53,8 +54,8 @@ fn read_next<R: Read>(records: &mut Reader<R>, fields: &mut ByteRecord) -> Resul
     }
 }
 
-// No rows, and an empty script for each worker.
-fn empty_input(alloc: Global, workers: u32) -> Result<Input, ReadFault>
+/// No rows, and an empty script for each worker.
+pub fn empty_input(alloc: Global, workers: u32) -> Result<Input, ReadFault>
     ensures empty { IfOk result (λ input. asked_by input ≡ nothing_asked workers) }
     ensures count { IfOk result (λ input. vec_len input.scripts ≡ workers) }
     ensures fails { IfErr result (λ fault. IsInputFault fault → ⊥) }
@@ -116,7 +117,8 @@ fn read_all<R: Read>(
         if !read_next(records, fields)? {
             return Ok(());
         }
-        let said = read_record(fields, workers, progress.count + 1, progress.begun)?;
+        let place = progress.count + 1;
+        let said = read_record(fields, workers, place as u64, progress.begun)?;
         add(progress, &said)?;
     }
     if read_next(records, fields)? {
@@ -155,8 +157,8 @@ fn read_rest<R: Read + Drop>(
     read_all(&mut records, &mut fields, workers, progress)
 }
 
-// What the rest of an input is read after: the end of a line, so that no byte order mark is taken off within the input.
-fn front_of(count: u32) -> &'static [u8]
+/// What the rest of an input is read after: the end of a line, so that no byte order mark is taken off within the input.
+pub fn front_of(count: u64) -> &'static [u8]
     ensures { result.now ≡ (if count == 0 then [] else (line_feed ∷ [])) }
 {
     if count == 0 { b"" } else { b"\n" }
@@ -181,7 +183,7 @@ fn hand_over<R: Read + Drop>(
         IsReadUpTo workers bytes progress.old (held.now ++ left) →
         input_of workers bytes ≡ Err fault)) }
 {
-    let front = front_of(progress.count);
+    let front = front_of(progress.count as u64);
     let rest = front.chain(held).chain(reader);
     read_rest(alloc, rest, workers, progress)
 }

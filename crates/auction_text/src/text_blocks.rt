@@ -1,9 +1,11 @@
 //! Texts that are written a block at a time.
 ghost use Rattle.std.specs.Prelude.{◌≡◌, ◌+◌, ◌≤◌, [], length, IfErr, OnOk};
 ghost use Rattle.std.specs.Io.KnownBytes.{Appends};
-ghost use Rattle.auction_text.specs.Replies.{history_line, reply_line};
+ghost use Rattle.auction_text.specs.Moved.{gone_by, line_after, moved};
+ghost use Rattle.auction_text.specs.Replies.{history_line};
 ghost use Rattle.auction_text.specs.Writing.{IsPartWritten, PutsText};
 
+use crate::before::Before;
 use crate::block::{Block, MOST_OF_A_LINE, ROOM};
 use crate::faults::WriteFault;
 use crate::replies::{put_history_line, put_reply_line};
@@ -50,7 +52,7 @@ pub fn write_last<W: Write>(writer: &mut W, part: &[u8]) -> Result<(), WriteFaul
 
 // Writes what a block has, and makes it empty.
 #[inline(never)]
-fn write_block<W: Write>(writer: &mut W, block: &mut Block) -> Result<(), WriteFault>
+fn write_block<W: Write>(writer: &mut W, block: &mut Block<ROOM>) -> Result<(), WriteFault>
     ensures puts { PutsText W.contents writer.old writer.new block.old block.new [] result }
     ensures empty { OnOk result (block.new ≡ []) }
 {
@@ -61,39 +63,47 @@ fn write_block<W: Write>(writer: &mut W, block: &mut Block) -> Result<(), WriteF
 
 // Writes what a block has, where there may be no room for a line.
 #[inline(always)]
-fn make_room<W: Write>(writer: &mut W, block: &mut Block) -> Result<(), WriteFault>
+fn make_room<W: Write>(writer: &mut W, block: &mut Block<ROOM>) -> Result<(), WriteFault>
     ensures puts { PutsText W.contents writer.old writer.new block.old block.new [] result }
     ensures room { OnOk result (MOST_OF_A_LINE + length block.new ≤ ROOM) }
 {
-    if block.is_full() {
+    if block.len() > ROOM - MOST_OF_A_LINE {
         return write_block(writer, block);
     }
     Ok(())
 }
 
-/// Puts the line of an entry among the replies.
+/// Puts the line of an entry among the replies, after so many requests of its worker. An index past 64 bits is not written.
 #[inline(always)]
 pub fn put_reply<W: Write>(
     writer: &mut W,
-    block: &mut Block,
+    block: &mut Block<ROOM>,
     entry: &EntryRef<'_>,
+    gone: u64,
 ) -> Result<(), WriteFault>
-    ensures { PutsText W.contents writer.old writer.new block.old block.new (reply_line entry.now) result }
+    ensures { PutsText W.contents writer.old writer.new block.old block.new (line_after gone entry.now) result }
 {
+    let Some(index) = gone.checked_add(u64::from(entry.index())) else {
+        return Err(WriteFault::Write);
+    };
     make_room(writer, block)?;
-    put_reply_line(block, entry);
+    put_reply_line(block, entry, index);
     Ok(())
 }
 
-/// Puts the line of an entry in a history.
+/// Puts the line of an entry in a history, after what went before. A phase or an index past 64 bits is not written.
 pub fn put_entry<W: Write>(
     writer: &mut W,
-    block: &mut Block,
+    block: &mut Block<ROOM>,
     entry: &EntryRef<'_>,
+    before: &Before,
 ) -> Result<(), WriteFault>
-    ensures { PutsText W.contents writer.old writer.new block.old block.new (history_line entry.now) result }
+    ensures { PutsText W.contents writer.old writer.new block.old block.new (history_line (moved (gone_by before.now) entry.now)) result }
 {
+    let Some((phase, index)) = before.place_of(entry) else {
+        return Err(WriteFault::Write);
+    };
     make_room(writer, block)?;
-    put_history_line(block, entry);
+    put_history_line(block, entry, phase, index);
     Ok(())
 }

@@ -5,6 +5,7 @@ ghost use Rattle.auction_rows.specs.declared.numbers.Opening.{Opening};
 ghost use Rattle.auction_rows.specs.declared.rows.Entry.{Entry as Commit};
 ghost use Rattle.auction_rows.specs.Book.{Book};
 ghost use Rattle.auction_rows.specs.History.{ReplaysFrom, book_after};
+ghost use Rattle.auction_text.specs.Moved.{Gone, all_moved};
 ghost use Rattle.auction_text.specs.Order.{in_order, precedence};
 ghost use Rattle.auction_text.specs.Replies.{lines, replies_text, reply_line};
 ghost use Rattle.auction_text.specs.RowLines.{row_line, rows_text};
@@ -24,4 +25,9 @@ pub fn rows_of_histories()
     ensures { (opening : Opening) (book : Book) (entries : List Commit) →
         ReplaysFrom opening book entries →
         rows_text book entries ≡ lines row_line (book_after opening book entries) }
+{}
+
+/// The entries of a part stand in the same order if they are moved to where they stand in the whole.
+pub fn moved_in_order()
+    ensures { (gone : Gone) (entries : List Commit) → in_order (all_moved gone entries) ≡ all_moved gone (in_order entries) }
 {}

@@ -4,7 +4,7 @@ ghost use Rattle.std.specs.List.{flat_map};
 ghost use Rattle.auction_text.specs.Workers.{AreEach, replies_of};
 ghost use Rattle.auction_text.specs.Writing.{PutsText};
 
-use crate::block::Block;
+use crate::block::{Block, ROOM};
 use crate::faults::WriteFault;
 use crate::reply_order::{late_entries, put_replies_of};
 use crate::text::push_text;
@@ -29,8 +29,8 @@ fn worker_text(
 {
     let late = late_entries(alloc, history, worker)?;
     let mut text = Vec::with_capacity(alloc, replies.saturating_mul(ROOM_OF_A_REPLY))?;
-    let mut block = Block::new();
-    let Ok(()) = put_replies_of(&mut text, &mut block, history, worker, late.as_slice()) else {
+    let mut block = Block::<ROOM>::new();
+    let Ok(()) = put_replies_of(&mut text, &mut block, history, worker, late.as_slice(), 0) else {
         return Err(AllocError);
     };
     push_text(&mut text, block.bytes())?;

@@ -1,12 +1,14 @@
 //! The writing of texts.
 ghost use Rattle.std.specs.Prelude.{◌≡◌, ◌↔◌, ◌++◌, map, IfOk, IsErr, IsOkAnd, OnOk};
 ghost use Rattle.std.specs.Io.KnownBytes.{Appends};
+ghost use Rattle.auction_text.specs.Moved.{all_moved, gone_by};
 ghost use Rattle.auction_text.specs.Replies.{history_text, replies_text};
 ghost use Rattle.auction_text.specs.Report.{report_text};
 ghost use Rattle.auction_text.specs.RowLines.{rows_text};
 ghost use Rattle.auction_text.specs.Writing.{IsPartWritten, PutsText, WritesText};
 
-use crate::block::Block;
+use crate::before::Before;
+use crate::block::{Block, ROOM};
 use crate::faults::WriteFault;
 use crate::reply_order::{all_late_entries, put_all_replies};
 use crate::report::{
@@ -47,16 +49,17 @@ fn write_made<W: Write>(writer: &mut W, made: Result<Vec<u8>, AllocError>) -> Re
     write_last(writer, text.as_slice())
 }
 
-// Puts the line of each entry, in the order given.
+// Puts the line of each entry, in the order given, after what went before.
 fn put_entries<W: Write>(
     writer: &mut W,
-    block: &mut Block,
+    block: &mut Block<ROOM>,
     history: &History,
+    before: &Before,
 ) -> Result<(), WriteFault>
-    ensures { PutsText W.contents writer.old writer.new block.old block.new (history_text history.now.entries) result }
+    ensures { PutsText W.contents writer.old writer.new block.old block.new (history_text (all_moved (gone_by before.now) history.now.entries)) result }
 {
     for entry in history.iter() {
-        put_entry(writer, block, &entry)?;
+        put_entry(writer, block, &entry, before)?;
     }
     Ok(())
 }
@@ -112,11 +115,26 @@ pub fn write_replies<W: Write>(
 ) -> Result<(), WriteFault>
     ensures { WritesText W.contents writer.old writer.new (replies_text history.now.entries) result }
 {
+    write_replies_on(alloc, writer, history, &Before::none())
+}
+
+/// Writes the replies of a part of a run as `write_replies` does: their indexes go on from the requests that went before.
+///
+/// `Memory` comes before the first byte is written; after `Write` a prefix of the text was written. An index past 64 bits is
+/// not written: `Write`.
+pub fn write_replies_on<W: Write>(
+    alloc: Global,
+    writer: &mut W,
+    history: &History,
+    before: &Before,
+) -> Result<(), WriteFault>
+    ensures { WritesText W.contents writer.old writer.new (replies_text (all_moved (gone_by before.now) history.now.entries)) result }
+{
     let Ok(delayed) = all_late_entries(alloc, history) else {
         return Err(WriteFault::Memory);
     };
-    let mut block = Block::new();
-    put_all_replies(writer, &mut block, history, delayed.as_slice())?;
+    let mut block = Block::<ROOM>::new();
+    put_all_replies(writer, &mut block, history, delayed.as_slice(), before)?;
     write_last(writer, block.bytes())
 }
 
@@ -149,8 +167,21 @@ pub fn write_replies_by_threads<R: Threads + Sync, W: Write>(
 pub fn write_history<W: Write>(writer: &mut W, history: &History) -> Result<(), WriteFault>
     ensures { WritesText W.contents writer.old writer.new (history_text history.now.entries) result }
 {
-    let mut block = Block::new();
-    put_entries(writer, &mut block, history)?;
+    write_history_on(writer, history, &Before::none())
+}
+
+/// Writes the entries of a part of a run as `write_history` does: their phases and indexes go on from what went before.
+///
+/// After `Write` a prefix of the text was written. A phase or an index past 64 bits is not written: `Write`.
+pub fn write_history_on<W: Write>(
+    writer: &mut W,
+    history: &History,
+    before: &Before,
+) -> Result<(), WriteFault>
+    ensures { WritesText W.contents writer.old writer.new (history_text (all_moved (gone_by before.now) history.now.entries)) result }
+{
+    let mut block = Block::<ROOM>::new();
+    put_entries(writer, &mut block, history, before)?;
     write_last(writer, block.bytes())
 }
 

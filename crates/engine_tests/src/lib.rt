@@ -6,6 +6,8 @@ mod calls;
 #[cfg(test)]
 mod comparing;
 #[cfg(test)]
+mod logs;
+#[cfg(test)]
 mod program;
 #[cfg(test)]
 mod rows;

@@ -1,2 +1,3 @@
-//! Tests of how `auction_text` writes to writers that fail.
+//! Tests of how `auction_text` writes the texts of parts, and writes to writers that fail.
+mod moved_tests;
 mod writing_tests;

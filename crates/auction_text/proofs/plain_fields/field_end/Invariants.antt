@@ -1,6 +1,5 @@
 use Rattle.std.proofs.Common.{◌≡◌, ◌≤◌, ◌<◌, ◌-◌, true, length}
 use Rattle.std.specs.List.{list_all}
-use Rattle.auction_text.specs.Lines.{joins}
 use Rattle.auction_text.proofs.DigitLemmas.{span}
 use Rattle.auction_text.proofs.PlainFieldLemmas.{inside}
 use Rattle.auction_text.proofs.plain_fields.field_end.Given as goal

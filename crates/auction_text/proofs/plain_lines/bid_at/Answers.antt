@@ -1,6 +1,6 @@
 use Rattle.std.proofs.Common.{codes, rules, refl, false}
 use Rattle.auction_text.specs.declared.kinds.RequestKind.TheVariants as kind
-use Rattle.auction_text.specs.Lines.{HasWordAt, IsRequestAt}
+use Rattle.auction_text.specs.Lines.{IsRequestAt}
 use Rattle.auction_text.proofs.PlainLineLemmas.{line_in_place}
 use Rattle.auction_text.proofs.plain_lines.bid_at.Goals as goal
 

@@ -1,5 +1,5 @@
-use Rattle.std.proofs.Common.{◌≡◌, ◌&&◌, Bool, arith, ap, drop, false, inl, inr, refl, true}
-use Rattle.auction_text.proofs.ProgressLemmas.{reads_on_line, reads_on_none}
+use Rattle.std.proofs.Common.{◌≡◌, ◌&&◌, Bool, arith, ap, false, inr, refl, true}
+use Rattle.auction_text.proofs.ProgressLemmas.{reads_on_line}
 use Rattle.auction_text.proofs.plain_text.add_line.Goals.{else-said-via-then-said+else-progress, else-said-via-else-said}
 use Rattle.auction_text.proofs.plain_text.add_line.Goals as goal
 

@@ -1,4 +1,4 @@
-use Rattle.std.proofs.Common.{arith, ◌∙◌, ◌+◌, ◌-◌, ◌++◌, List, ℕ, take, length, sym, ap, append_assoc}
+use Rattle.std.proofs.Common.{◌∙◌, ◌-◌, ◌++◌, List, ℕ, take, length, sym, ap, append_assoc}
 use Rattle.auction_text.proofs.BufferLemmas.{consumed, put_after}
 use Rattle.auction_text.proofs.plain_text.read_more.Goals as goal
 

@@ -1,7 +1,7 @@
-use Rattle.std.proofs.Common.{arith, ◌≤◌, ◌+◌, ◌++◌, ◌-◌, length, take, drop}
+use Rattle.std.proofs.Common.{arith, ◌≤◌, ◌+◌, ◌-◌, take, drop}
 use Rattle.std.proofs.lemmas.Grind.{common_steps}
 use Rattle.auction_text.proofs.BufferLemmas.{ends_later, held, moved}
-use Rattle.auction_text.proofs.ProgressLemmas.{reads_on_before, reads_on_none}
+use Rattle.auction_text.proofs.ProgressLemmas.{reads_on_before}
 use Rattle.auction_text.proofs.plain_text.take_lines.Goals as goal
 
 pub read_plain-requires-clause-ends : goal.read_plain-requires-clause-ends

@@ -4,7 +4,7 @@ use Rattle.auction_text.specs.Replies.{bid_text}
 use Rattle.auction_text.proofs.replies.put_bids.Given as goal
 
 abbrev pub invariant-loop-place : goal.invariant-loop-place
-invariant-loop-place l = record {
+invariant-loop-place g l = record {
   told : l.block ≡ l.fn.block ++ (codes "bids" ++ flat_map bid_text (take l.place l.bids));
   room : length l.block ≤ 4 + 105 * l.place + length l.fn.block;
 }

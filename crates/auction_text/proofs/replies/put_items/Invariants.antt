@@ -4,7 +4,7 @@ use Rattle.auction_text.specs.Replies.{item_text}
 use Rattle.auction_text.proofs.replies.put_items.Given as goal
 
 abbrev pub invariant-loop-place : goal.invariant-loop-place
-invariant-loop-place l = record {
+invariant-loop-place g l = record {
   told : l.block ≡ l.fn.block ++ (codes "latest" ++ flat_map item_text (take l.place l.items));
   room : length l.block ≤ 6 + 63 * l.place + length l.fn.block;
 }

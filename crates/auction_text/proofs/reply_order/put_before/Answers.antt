@@ -1,7 +1,8 @@
 use Rattle.std.proofs.Common.{rules, ◌≡◌, ◌+◌, ◌∙◌, [], ◌∷◌, ap, arith, drop, refl, sym}
 use Rattle.std.proofs.lemmas.List.{drop_all}
+use Rattle.auction_text.specs.Moved.{line_after}
 use Rattle.auction_text.specs.Order.{comes_before}
-use Rattle.auction_text.specs.Replies.{lines, reply_line}
+use Rattle.auction_text.specs.Replies.{lines}
 use Rattle.auction_text.specs.Turns.{front, rest}
 use Rattle.auction_text.proofs.PutLemmas.{put_failed, told_all, told_more, told_none, told_part}
 use Rattle.auction_text.proofs.TurnLemmas.{drop_next, front-end, front-more, front-none, rest-end, rest-more, rest-none}
@@ -24,7 +25,7 @@ loop-next-preserved g c =
     record {
       within = omega (arith, within);
       left = sym (ap (rest comes_before e) at ∙ rest-more comes_before e next others less) ∙ inv.left;
-      told = told_more _ _ _ _ _ _ _ (reply_line next) (lines reply_line (front comes_before e others)) _ inv.told (ap (lines reply_line) first) c.in_ok-put_reply.ensures.whole;
+      told = told_more _ _ _ _ _ _ _ (line_after c.args.gone next) (lines (line_after c.args.gone) (front comes_before e others)) _ inv.told (ap (lines (line_after c.args.gone)) first) c.in_ok-put_reply.ensures.whole;
     }
 
 pub returns-in_err-put_reply-clause-puts : goal.returns-in_err-put_reply-clause-puts
@@ -39,7 +40,7 @@ returns-in_err-put_reply-clause-puts g c =
     ap (front comes_before e) at ∙ front-more comes_before e next others less in
     let part = c.in_err-put_reply.ensures.part in
     put_failed g.W.Write.contents _ _ _ _ _ c.from_residual.result c.in_err-put_reply.field-0.0 c.from_residual.ensures.1 part.0
-    (told_part _ _ _ _ _ c.put_reply.new.block _ (reply_line next) (lines reply_line (front comes_before e others)) _ inv.told (ap (lines reply_line) first) part.1)
+    (told_part _ _ _ _ _ c.put_reply.new.block _ (line_after c.args.gone next) (lines (line_after c.args.gone) (front comes_before e others)) _ inv.told (ap (lines (line_after c.args.gone)) first) part.1)
 
 pub returns-then-not-comes_before-clause-rest : goal.returns-then-not-comes_before-clause-rest
 returns-then-not-comes_before-clause-rest g c =
@@ -54,7 +55,7 @@ returns-then-not-comes_before-clause-puts g c =
     let others = drop (c.loop-next.place + 1) c.args.entries.now in
     let none : front comes_before c.args.entry.now (drop c.loop-next.place c.args.entries.now) ≡ [] =
     ap (front comes_before c.args.entry.now) at ∙ front-end comes_before c.args.entry.now c.in-Some.next.now others (sym c.comes_before.ensures ∙ c.if-not-comes_before.true) in
-    record { whole = told_all _ _ _ _ _ _ c.loop-next.invariant.told (ap (lines reply_line) none); part = tt }
+    record { whole = told_all _ _ _ _ _ _ c.loop-next.invariant.told (ap (lines (line_after c.args.gone)) none); part = tt }
 
 pub returns-in_default-clause-rest : goal.returns-in_default-clause-rest
 returns-in_default-clause-rest g c =
@@ -66,4 +67,4 @@ returns-in_default-clause-puts g c =
     let end : drop c.loop-next.place c.args.entries.now ≡ [] = drop_all c.loop-next.place c.args.entries.now (search rules) in
     let none : front comes_before c.args.entry.now (drop c.loop-next.place c.args.entries.now) ≡ [] =
     ap (front comes_before c.args.entry.now) end ∙ front-none comes_before c.args.entry.now in
-    record { whole = told_all _ _ _ _ _ _ c.loop-next.invariant.told (ap (lines reply_line) none); part = tt }
+    record { whole = told_all _ _ _ _ _ _ c.loop-next.invariant.told (ap (lines (line_after c.args.gone)) none); part = tt }

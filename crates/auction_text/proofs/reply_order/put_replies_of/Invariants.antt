@@ -1,8 +1,9 @@
 use Rattle.std.proofs.Common.{◌≤◌, ◌++◌, drop, length}
 use Rattle.phase_laws.specs.Order.{part}
 use Rattle.worker_journals.specs.Journals.{entry_worker}
+use Rattle.auction_text.specs.Moved.{line_after}
 use Rattle.auction_text.specs.Order.{comes_before, in_order, sorted}
-use Rattle.auction_text.specs.Replies.{lines, reply_line}
+use Rattle.auction_text.specs.Replies.{lines}
 use Rattle.auction_text.specs.Turns.{in_turn}
 use Rattle.auction_text.proofs.OwnTurns.{AreOf, HasLast}
 use Rattle.auction_text.proofs.PartLemmas.{entry_order}
@@ -18,6 +19,6 @@ invariant-loop-entry g l = record {
   own : AreOf l.worker l.entry-iterator;
   turn : HasLast l.worker l.next (λ last.
       IsTold (g.W.Write.contents l.initial.writer) l.initial.block (g.W.Write.contents l.writer) l.block
-      (lines reply_line (sorted comes_before (in_turn comes_before last l.entry-iterator ++ drop l.told l.delayed)))
-      (lines reply_line (in_order (part entry_worker l.worker l.history.entries))));
+      (lines (line_after l.gone) (sorted comes_before (in_turn comes_before last l.entry-iterator ++ drop l.told l.delayed)))
+      (lines (line_after l.gone) (in_order (part entry_worker l.worker l.history.entries))));
 }

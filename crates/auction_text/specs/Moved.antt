@@ -1,0 +1,28 @@
+-- The entries of a part of a run, as they stand in the whole.
+use Rattle.std.specs.Prelude.{ℕ, ◌+◌, List, map, slice_index}
+use Rattle.auction_rows.specs.declared.rows.Entry.{Entry}
+use Rattle.auction_text.specs.Replies.{reply_line}
+
+-- What went before a part: how many phases, and how many requests of each worker.
+pub record Gone : Type 0 where
+  pub phases : ℕ
+  pub requests : ℕ → ℕ
+
+-- the same as it is counted: the requests of each worker from 0 on, and none of the others
+pub record BeforeView : Type 0 where
+  pub phases : ℕ
+  pub requests : List ℕ
+
+abbrev pub gone_by : BeforeView → Gone
+gone_by before = record { phases = before.phases; requests = slice_index before.requests }
+
+-- an entry of a part, as it stands in the whole: its phase and its index go on counting
+abbrev pub moved : Gone → Entry → Entry
+moved gone entry = record entry { phase = gone.phases + entry.phase; index = gone.requests entry.worker + entry.index }
+
+abbrev pub all_moved : Gone → List Entry → List Entry
+all_moved gone entries = map (moved gone) entries
+
+-- the line of an entry among the replies, after so many requests of its worker
+abbrev pub line_after : ℕ → Entry → List ℕ
+line_after gone entry = reply_line (record entry { index = gone + entry.index })

@@ -1,0 +1,2 @@
+//! Tests of `part_log`, over files in memory that fail.
+mod log_tests;

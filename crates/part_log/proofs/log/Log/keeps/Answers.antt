@@ -1,0 +1,6 @@
+use Rattle.std.proofs.Common.{sym}
+use Rattle.std.proofs.lemmas.Bool.{false≢true}
+use Rattle.part_log.proofs.log.Log.keeps.Goals as goal
+
+pub returns : goal.returns
+returns g c = λ keeps_none. absurd (false≢true (sym keeps_none))

@@ -1,0 +1,16 @@
+-- What is put by before it is told.
+use Rattle.std.specs.Prelude.{◌⊎◌, ℕ, List, Option}
+use Rattle.std.specs.Io.KnownBytes.{Appends, Keeps}
+use Rattle.auction_text.specs.Writing.{IsPartWritten}
+use Rattle.part_log.specs.declared.telling.TellFault.{TellFault}
+use Rattle.part_log.specs.declared.telling.TellFault.TheVariants.{Log, Write}
+
+-- the log has accepted the rows of a part, and a prefix of its text was written; or neither has changed
+abbrev pub IsLoggedFirst : Option (List ℕ) → Option (List ℕ) → List ℕ → Option (List ℕ) → Option (List ℕ) → List ℕ → Type 0
+IsLoggedFirst log next_log rows writer next_writer text =
+    (Appends log next_log rows × IsPartWritten writer next_writer text) ⊎ (Keeps log next_log × Keeps writer next_writer)
+
+-- a fault of the log, after which nothing was written
+abbrev pub IsUnlogged : TellFault → Type 0
+IsUnlogged (Log fault) = Unit {0}
+IsUnlogged (Write fault) = ⊥
