@@ -3,3 +3,8 @@ pub mod OneAnswer
 pub mod ProgramWords
 pub mod ViewLemmas
 pub mod WrittenLemmas
+pub mod ServingLemmas
+pub mod SessionLemmas
+pub mod ToldLemmas
+pub mod OneHistory
+pub mod FirstPart

@@ -1,8 +1,10 @@
 -- The exit statuses of faults, and their words.
 use Rattle.std.specs.Prelude.{ℕ, List, Option, None}
+use Rattle.part_log.specs.declared.telling.TellFault.{TellFault}
+use Rattle.part_log.specs.declared.telling.TellFault.TheVariants as telling
 use Rattle.program_options.specs.Words.{usage_words}
 use Rattle.auction_program.specs.declared.faults.Fault.{Fault}
-use Rattle.auction_program.specs.declared.faults.Fault.TheVariants.{Usage, Read, Resume, Make, Run, Write}
+use Rattle.auction_program.specs.declared.faults.Fault.TheVariants.{Usage, Read, Resume, Make, Run, Write, Report, OpenLog, Locked, LogRecord, Log}
 
 abbrev pub status : Fault → ℕ
 status (Usage fault) = 1
@@ -11,6 +13,11 @@ status (Resume fault) = 3
 status (Make fault) = 3
 status (Run fault) = 3
 status (Write fault) = 4
+status Report = 1
+status OpenLog = 5
+status Locked = 5
+status (LogRecord fault) = 5
+status (Log fault) = 5
 
 -- the words of the parser of options, where it refused the program's
 abbrev pub parser_words : Fault → Option (List ℕ)
@@ -20,3 +27,13 @@ parser_words (Resume fault) = None
 parser_words (Make fault) = None
 parser_words (Run fault) = None
 parser_words (Write fault) = None
+parser_words Report = None
+parser_words OpenLog = None
+parser_words Locked = None
+parser_words (LogRecord fault) = None
+parser_words (Log fault) = None
+
+-- the fault of a part that was not told
+abbrev pub of_telling : TellFault → Fault
+of_telling (telling.Log fault) = Log fault
+of_telling (telling.Write fault) = Write fault

@@ -35,3 +35,4 @@ pub record AreInRange (options : Options) : Type 0 where
   pub hot : options.hot ≤ MOST_HOT
   pub users : options.users ≤ MOST_ASKED
   pub categories : options.categories ≤ MOST_ASKED
+  pub live : options.live ≤ MOST_ASKED

@@ -3,8 +3,8 @@ use Rattle.std.specs.Prelude.{ℕ, List, [], ◌∷◌, Option, fold, codes}
 use Rattle.auction_rows.specs.declared.limits.TheConstants.{MOST_HOT, MOST_SHARDS, MOST_WORKERS}
 use Rattle.clap.specs.Simple.{App, with_rule}
 use Rattle.clap.specs.Walk.{Rule}
-use Rattle.program_options.specs.Options.{flag_rule, is_set, named_rule, number_of, versioned_program}
-use Rattle.program_options.specs.Words.{text_in}
+use Rattle.program_options.specs.Options.{file_rule, flag_rule, is_set, named_rule, number_of, versioned_program}
+use Rattle.program_options.specs.Words.{text_in, value_in}
 use Rattle.program_options.specs.declared.options.TheConstants.{MOST_ASKED}
 use Rattle.auction_program.specs.declared.options.Options.{Options}
 
@@ -19,6 +19,8 @@ option_rules =
     ∷ named_rule (codes "hot") 0 MOST_HOT (codes "8")
     ∷ named_rule (codes "users") 0 MOST_ASKED (codes "100")
     ∷ named_rule (codes "categories") 0 MOST_ASKED (codes "10")
+    ∷ named_rule (codes "live") 0 MOST_ASKED (codes "0")
+    ∷ file_rule (codes "log")
     ∷ flag_rule (codes "history")
     ∷ flag_rule (codes "rows")
     ∷ flag_rule (codes "report")
@@ -38,6 +40,7 @@ options_of text = record {
   hot = number_of (text (codes "hot"));
   users = number_of (text (codes "users"));
   categories = number_of (text (codes "categories"));
+  live = number_of (text (codes "live"));
   history = is_set (text (codes "history"));
   rows = is_set (text (codes "rows"));
   report = is_set (text (codes "report"));
@@ -46,3 +49,7 @@ options_of text = record {
 -- the options that the words give
 abbrev pub options_in : List (List ℕ) → Options
 options_in words = options_of (text_in program words)
+
+-- the name of the log's file, if the words give one
+abbrev pub log_in : List (List ℕ) → Option (List ℕ)
+log_in words = value_in program words (codes "log")

@@ -8,6 +8,7 @@ use auction_run::RunFault;
 use auction_text::{ReadFault, WriteFault};
 use auction_window::MakeFault;
 use item_shards::ResumeFault;
+use part_log::{LogFault, TellFault};
 use program_options::UsageFault;
 use std::io::Write;
 use thiserror::Error;
@@ -33,6 +34,21 @@ pub enum Fault {
     /// A text could not be written.
     #[error("{0}")]
     Write(WriteFault),
+    /// A report was asked for of requests that are answered while more come.
+    #[error("no report with --live or --log")]
+    Report,
+    /// The log's file could not be opened, read, or freed of a cut line.
+    #[error("log cannot be read")]
+    OpenLog,
+    /// Another program has the log.
+    #[error("log is in use")]
+    Locked,
+    /// A record of the log is no row.
+    #[error("log: {0}")]
+    LogRecord(ReadFault),
+    /// Rows could not be logged.
+    #[error("{0}")]
+    Log(LogFault),
 }
 
 impl From<UsageFault> for Fault {
@@ -95,15 +111,29 @@ impl From<WriteFault> for Fault {
     }
 }
 
-/// The exit status of a fault: 1 for options, 2 for reading, 3 for opening and performing, 4 for writing.
+impl From<TellFault> for Fault {
+    ghost use Rattle.auction_program.specs.Faults.{of_telling};
+
+    ghost from_gives = { λ cause fault. fault ≡ of_telling cause };
+
+    fn from(cause: TellFault) -> Fault {
+        match cause {
+            TellFault::Log(fault) => Fault::Log(fault),
+            TellFault::Write(fault) => Fault::Write(fault),
+        }
+    }
+}
+
+/// The exit status of a fault: 1 for options, 2 for reading, 3 for opening and performing, 4 for writing, 5 for the log.
 pub fn status(fault: &Fault) -> u8
     ensures { result ≡ status fault.now }
 {
     match fault {
-        Fault::Usage(_) => 1,
+        Fault::Usage(_) | Fault::Report => 1,
         Fault::Read(_) => 2,
         Fault::Resume(_) | Fault::Make(_) | Fault::Run(_) => 3,
         Fault::Write(_) => 4,
+        Fault::OpenLog | Fault::Locked | Fault::LogRecord(_) | Fault::Log(_) => 5,
     }
 }
 

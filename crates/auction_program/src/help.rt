@@ -24,6 +24,12 @@ pub const USERS: &str = "Users of the auction, 0 to 1000000";
 
 pub const CATEGORIES: &str = "Categories of the auction, 0 to 1000000";
 
+pub const LIVE: &str =
+    "Answer requests while more come, at most N at a time, 0 to 1000000; 0: read all first";
+
+pub const LOG: &str =
+    "File that keeps the rows, each before its reply is written; the auction opens with them";
+
 pub const HISTORY: &str = "Write the history, in its serial order, in place of the replies";
 
 pub const ROWS: &str = "Write the rows, from which a later run can go on, in place of both";
@@ -43,9 +49,10 @@ Reads from standard input a record a line; ITEM is the worker and serial of an i
   WORKER,viewuser,USER
 Rows to open the auction with come first: their kinds are +item, +bid, +comment and +buynow.
 
-Writes to standard output, once all is performed, a line a request: WORKER,INDEX,REPLY.
+Writes to standard output a line a request, WORKER,INDEX,REPLY: once all is performed, or with
+--live while more requests are to come.
 Faults, this help and the version go to standard error.
-Status: 0 all written, 1 options or help, 2 input, 3 run, 4 output.
+Status: 0 all written, 1 options or help, 2 input, 3 run, 4 output, 5 log.
 
 The defaults are for small inputs: phases are short, so that --history shows how they alternate.
 Phases of at most 256 requests run on one thread. For speed on busy items, with W workers, use

@@ -1,18 +1,18 @@
 //! The options of the program.
-ghost use Rattle.std.specs.Prelude.{◌≡◌, IfOk, IfErr, OnOk, map, string_bytes};
+ghost use Rattle.std.specs.Prelude.{◌≡◌, IfOk, IfErr, OnOk, map, option_map, string_bytes};
 ghost use Rattle.clap.specs.Words.{app_of, found_of, one_text};
 ghost use Rattle.program_options.specs.Words.{AreTaken, HaveNumbers};
 ghost use Rattle.program_options.specs.declared.faults.UsageFault.{UsageFault};
 ghost use Rattle.auction_program.specs.Options.{AreInRange};
-ghost use Rattle.auction_program.specs.Words.{options_in, options_of, program};
+ghost use Rattle.auction_program.specs.Words.{log_in, options_in, options_of, program};
 
 use crate::help;
 use auction_rows::{MOST_HOT, MOST_SHARDS, MOST_WORKERS, Opening};
 use auction_run::Policy;
 use clap::{ArgMatches, Command};
 use program_options::{
-    FROM_ONE, FROM_ZERO, NumberRange, UsageFault, described_flag, described_number,
-    described_program, flag_of, number_of, parse_words,
+    FROM_ONE, FROM_ZERO, NumberRange, UsageFault, described_file, described_flag, described_number,
+    described_program, flag_of, number_of, parse_words, text_of,
 };
 use std::alloc::{AllocError, Global};
 
@@ -35,12 +35,23 @@ pub struct Options {
     pub users: u32,
     /// How many categories there are, at most 1,000,000.
     pub categories: u32,
+    /// How many requests are answered at a time at most, while more are to come: at most 1,000,000, and 0 where all are read first.
+    pub live: u32,
     /// Whether the history is written in place of the replies.
     pub history: bool,
     /// Whether the rows are written in place of the replies, and of the history.
     pub rows: bool,
     /// Whether the report is written after them.
     pub report: bool,
+}
+
+/// What the program's words ask for.
+#[derive(Drop)]
+pub struct Invocation {
+    /// The options.
+    pub options: Options,
+    /// The name of the log's file, if there is to be a log.
+    pub log: Option<String>,
 }
 
 impl Options {
@@ -97,6 +108,8 @@ fn command<'a>(alloc: Global) -> Result<Command<'a>, AllocError>
         described_number(alloc, "hot", HOT, "8", help::HOT),
         described_number(alloc, "users", FROM_ZERO, "100", help::USERS),
         described_number(alloc, "categories", FROM_ZERO, "10", help::CATEGORIES),
+        described_number(alloc, "live", FROM_ZERO, "0", help::LIVE),
+        described_file(alloc, "log", help::LOG),
         described_flag(alloc, "history", help::HISTORY),
         described_flag(alloc, "rows", help::ROWS),
         described_flag(alloc, "report", help::REPORT),
@@ -117,6 +130,7 @@ fn options_of(matches: &ArgMatches<'_>) -> Options
         hot: number_of(matches, "hot", HOT),
         users: number_of(matches, "users", FROM_ZERO),
         categories: number_of(matches, "categories", FROM_ZERO),
+        live: number_of(matches, "live", FROM_ZERO),
         history: flag_of(matches, "history"),
         rows: flag_of(matches, "rows"),
         report: flag_of(matches, "report"),
@@ -124,11 +138,13 @@ fn options_of(matches: &ArgMatches<'_>) -> Options
 }
 
 /// The options that the words give, the first of which is the program's name. Where they say nothing else: one worker, 4 shards,
-/// phases of 64 requests, the threshold 8, 8 hot objects, 100 users, 10 categories, and the replies alone. Words that are
-/// refused, or that ask for help, are answered in `clap`'s words.
-pub fn read_options(alloc: Global, words: &[String]) -> Result<Options, UsageFault>
-    ensures given { IfOk result (λ options. options ≡ options_in (map string_bytes words.now)) }
-    ensures range { IfOk result AreInRange }
+/// phases of 64 requests, the threshold 8, 8 hot objects, 100 users, 10 categories, all
+/// requests are read first, there is no log, and the replies alone are written. Words that are refused, or that ask for help, are
+/// answered in `clap`'s words.
+pub fn read_options(alloc: Global, words: &[String]) -> Result<Invocation, UsageFault>
+    ensures given { IfOk result (λ asked. asked.options ≡ options_in (map string_bytes words.now)) }
+    ensures log { IfOk result (λ asked. option_map string_bytes asked.log ≡ log_in (map string_bytes words.now)) }
+    ensures range { IfOk result (λ asked. AreInRange asked.options) }
     ensures taken { OnOk result (AreTaken program (map string_bytes words.now)) }
     ensures memory { IfErr result (λ fault. AreTaken program (map string_bytes words.now) → fault ≡ UsageFault.Memory) }
 {
@@ -136,5 +152,9 @@ pub fn read_options(alloc: Global, words: &[String]) -> Result<Options, UsageFau
         return Err(UsageFault::Memory);
     };
     let matches = parse_words(alloc, command, words)?;
-    Ok(options_of(&matches))
+    let log = text_of(alloc, &matches, "log")?;
+    Ok(Invocation {
+        options: options_of(&matches),
+        log,
+    })
 }

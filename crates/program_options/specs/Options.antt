@@ -1,4 +1,4 @@
--- Options of numbers and flags, as rules of the parser of words (`clap`), and what their texts say.
+-- Options of numbers and texts, and flags, as rules of the parser of words (`clap`), and what their texts say.
 use Rattle.std.specs.Prelude.{◌≡◌, ◌≤◌, ℕ, Bool, true, false, List, [], ◌∷◌, Option, Some, None, codes, pos, ⊤}
 use Rattle.std.specs.Str.{bytes_eq}
 use Rattle.std.specs.Str.Parse.{IsNumeral, digits_value, without_leading_plus}
@@ -23,6 +23,14 @@ named_rule id least greatest usual = record (number_rule id least greatest usual
 -- `--id`
 abbrev pub flag_rule : List ℕ → Rule
 flag_rule id = record (new_rule id) { long = Some id; action = Some SetTrue }
+
+-- `--id TEXT`, which need not be there
+abbrev pub text_rule : List ℕ → Rule
+text_rule id = record (new_rule id) { long = Some id; action = Some Set }
+
+-- the same, for which help has a word
+abbrev pub file_rule : List ℕ → Rule
+file_rule id = record (text_rule id) { value_names = 1 }
 
 -- a program with no options but those for help and its version
 abbrev pub versioned_program : List ℕ → App

@@ -1,9 +1,9 @@
 //! Programs and options with what help says of them.
 ghost use Rattle.std.specs.Prelude.{◌≡◌, false};
 ghost use Rattle.clap.specs.Words.{app_of, rule_of};
-ghost use Rattle.program_options.specs.Options.{flag_rule, named_rule, versioned_program};
+ghost use Rattle.program_options.specs.Options.{file_rule, flag_rule, named_rule, versioned_program};
 
-use crate::options::{NumberRange, flag, number_option};
+use crate::options::{NumberRange, flag, number_option, text_option};
 use clap::{Arg, Command};
 use std::alloc::Global;
 
@@ -50,6 +50,14 @@ pub fn described_number<'a>(
     number_option(alloc, id, range, usual)
         .value_name("N")
         .help(help)
+}
+
+/// `--id FILE`, with the name of a file, which need not be there.
+pub fn described_file<'a>(alloc: Global, id: &'a str, help: &'a str) -> Arg<'a>
+    ensures rule { rule_of result ≡ file_rule id.entry.now }
+    ensures local { result.global ≡ false }
+{
+    text_option(alloc, id).value_name("FILE").help(help)
 }
 
 /// `--id`, which is there or not.

@@ -1,9 +1,11 @@
-//! Options that take a number, and flags.
-ghost use Rattle.std.specs.Prelude.{◌≡◌, ◌≤◌, false, pos};
-ghost use Rattle.clap.specs.Words.{found_of, one_text, rule_of};
+//! Options that take a number or a text, and flags.
+ghost use Rattle.std.specs.Prelude.{◌≡◌, ◌≤◌, IfErr, IfOk, false, option_map, pos, string_bytes};
+ghost use Rattle.clap.specs.Words.{first_value, found_of, one_text, rule_of};
 ghost use Rattle.clap.specs.declared.builder.value_parser.ValueParser.TheVariants as vp;
-ghost use Rattle.program_options.specs.Options.{SaysNumber, flag_rule, is_set, number_rule};
+ghost use Rattle.program_options.specs.Options.{SaysNumber, flag_rule, is_set, number_rule, text_rule};
+ghost use Rattle.program_options.specs.declared.faults.UsageFault.{UsageFault};
 
+use crate::faults::UsageFault;
 use clap::builder::ValueParser;
 use clap::{Arg, ArgAction, ArgMatches};
 use std::alloc::Global;
@@ -61,6 +63,14 @@ pub fn flag<'a>(alloc: Global, id: &'a str) -> Arg<'a>
     Arg::new(alloc, id).long(id).action(ArgAction::SetTrue)
 }
 
+/// `--id TEXT`, which need not be there.
+pub fn text_option<'a>(alloc: Global, id: &'a str) -> Arg<'a>
+    ensures rule { rule_of result ≡ text_rule id.entry.now }
+    ensures local { result.global ≡ false }
+{
+    Arg::new(alloc, id).long(id).action(ArgAction::Set)
+}
+
 /// The number of an option. Where its parser found it to be in the range, it is the one that its text says.
 pub fn number_of(matches: &ArgMatches<'_>, id: &str, range: NumberRange) -> u32
     ensures least { range.least ≤ result }
@@ -71,6 +81,24 @@ pub fn number_of(matches: &ArgMatches<'_>, id: &str, range: NumberRange) -> u32
         .get_one::<u32>(id)
         .unwrap_or(range.least)
         .clamp(range.least, range.greatest)
+}
+
+/// The text of an option, if it is there.
+pub fn text_of(
+    alloc: Global,
+    matches: &ArgMatches<'_>,
+    id: &str,
+) -> Result<Option<String>, UsageFault>
+    ensures said { IfOk result (λ text. option_map string_bytes text ≡ first_value (found_of matches.now) id.now) }
+    ensures memory { IfErr result (λ fault. fault ≡ UsageFault.Memory) }
+{
+    let Some(text) = matches.get_str(id) else {
+        return Ok(None);
+    };
+    match text.to_owned(alloc) {
+        Ok(owned) => Ok(Some(owned)),
+        Err(_) => Err(UsageFault::Memory),
+    }
 }
 
 /// Whether a flag is there.

@@ -1,17 +1,22 @@
 //! An auction that is opened with the rows of its input, performs its scripts on threads and writes the replies.
 #![tactic(auto)]
 
-use auction_program::{Fault, execute, read_options, status, write_fault};
+use auction_program::{
+    Fault, Invocation, NoLog, OpenedLog, Options, Source, Teller, execute, open_log, read_options,
+    serve, status, write_fault,
+};
 use program_options::program_words;
 use std::alloc::Global;
+use std::fs::File;
 use std::io;
+use std::io::Write;
 use std::process::ExitCode;
-use std::rt::Env;
+use std::rt::{Env, Files};
 use std::sync::Wait;
 use std::thread::Threads;
 
 fn main(rt: HostRuntime) -> ExitCode {
-    match perform(&rt) {
+    match perform(&rt, &mut rt.stderr()) {
         Ok(()) => ExitCode::SUCCESS,
         Err(fault) => {
             // A fault that can't be written still has its status.
@@ -22,12 +27,65 @@ fn main(rt: HostRuntime) -> ExitCode {
 }
 
 // Performs standard input as the program's words say.
-fn perform<R>(rt: &R) -> Result<(), Fault>
+fn perform<R, E>(rt: &R, errors: &mut E) -> Result<(), Fault>
 where
-    R: Env + Input + Print + Alloc<A = Global> + Threads + Wait + Sync,
+    E: Write,
+    R: Env + Files<File = File> + Input + Print + Alloc<A = Global> + Threads + Wait + Sync,
 {
     let alloc = rt.alloc();
     let words = program_words(rt)?;
-    let options = read_options(alloc, words.as_slice())?;
-    execute(rt, alloc, rt.reader(), &mut io::writer(rt), &options)
+    let Invocation { options, log } = read_options(alloc, words.as_slice())?;
+    if options.live == 0 && log.is_none() {
+        return execute(rt, alloc, rt.reader(), &mut io::writer(rt), &options);
+    }
+    if options.report {
+        return Err(Fault::Report);
+    }
+    match log {
+        Some(path) => serve_logged(rt, errors, path.as_str(), &options),
+        None => serve_unlogged(rt, &options),
+    }
+}
+
+// Serves standard input, and keeps no log.
+fn serve_unlogged<R>(rt: &R, options: &Options) -> Result<(), Fault>
+where
+    R: Input + Print + Alloc<A = Global> + Threads + Wait + Sync,
+{
+    let alloc = rt.alloc();
+    let source = Source {
+        logged: Vec::new(alloc),
+        reader: rt.reader(),
+    };
+    let mut teller = Teller {
+        log: NoLog,
+        writer: io::writer(rt),
+    };
+    serve(rt, alloc, source, &mut teller, options)
+}
+
+// Serves standard input after the rows of the log at a path, and logs those that are added.
+fn serve_logged<R, E>(rt: &R, errors: &mut E, path: &str, options: &Options) -> Result<(), Fault>
+where
+    E: Write,
+    R: Files<File = File> + Input + Print + Alloc<A = Global> + Threads + Wait + Sync,
+{
+    let alloc = rt.alloc();
+    let OpenedLog { rows, log, cut } = open_log(rt, alloc, path, options)?;
+    if cut > 0 {
+        // A note that can't be written changes nothing.
+        let _ = writeln!(
+            errors,
+            "rubis_auction: {cut} bytes of a cut line taken off the log"
+        );
+    }
+    let source = Source {
+        logged: rows,
+        reader: rt.reader(),
+    };
+    let mut teller = Teller {
+        log,
+        writer: io::writer(rt),
+    };
+    serve(rt, alloc, source, &mut teller, options)
 }

@@ -16,6 +16,7 @@ returns-clause-given c = λ numbers i. let text = one_text (found_of c.args.matc
   hot = number_is program (codes "hot") 0 MOST_HOT (codes "8") 1 (λ e. absurd cc) refl refl text _ numbers c.number_of-6.ensures.said i;
   users = number_is program (codes "users") 0 MOST_ASKED (codes "100") 1 (λ e. absurd cc) refl refl text _ numbers c.number_of-7.ensures.said i;
   categories = number_is program (codes "categories") 0 MOST_ASKED (codes "10") 1 (λ e. absurd cc) refl refl text _ numbers c.number_of-8.ensures.said i;
+  live = number_is program (codes "live") 0 MOST_ASKED (codes "0") 1 (λ e. absurd cc) refl refl text _ numbers c.number_of-9.ensures.said i;
   history = c.flag_of.ensures i;
   rows = c.flag_of-2.ensures i;
   report = c.flag_of-3.ensures i;
@@ -36,4 +37,5 @@ returns-clause-range c = record {
   hot = c.number_of-6.ensures.greatest;
   users = c.number_of-7.ensures.greatest;
   categories = c.number_of-8.ensures.greatest;
+  live = c.number_of-9.ensures.greatest;
 }
