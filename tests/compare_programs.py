@@ -29,7 +29,13 @@ ROOM = 65536
 # What waits and what comes in a phase is performed by one thread up to 256 requests.
 MOST_OF_A_PHASE = 128
 LINE_ENDS = (b"\r\n", b"\r", b"\n\n", b"\n\r\n", b"\r\r\n")
-FILLERS = (b"0,viewuser,0", b"0,bid,1,0.0,18446744073709551615,12", b'0,viewuser,"0"', b"0,+item,0,0,Vase,1,18446744073709551615,1,1000000")
+FILLERS = (
+    b"0,viewuser,0",
+    b"0,bid,1,0.0,18446744073709551615,12",
+    b'0,viewuser,"0"',
+    b"0,+item,0,0,Vase,1,18446744073709551615,1,1000000",
+    b'0,+item,0,0,"Red, blue",1,18446744073709551615,1',
+)
 
 
 def without_threads(options: Options) -> Options:

@@ -1,8 +1,8 @@
 #!/usr/bin/env python3
 """Shows that the documents speak of what there is: a name in backticks is in the code, a path and a link lead to a file, in commands too, each block of code of
 docs/TUTORIAL.md is in the file named above it, each definition that the pages of definitions (docs/DEFINITIONS.md, docs/ENGINE_DEFINITIONS.md) quote is, except
-for layout, that of the file named above it, each definition that they name with a file, or that the table of printed lines names, is there, each crate
-and each law has its place, what bench/run wrote has the figures of figures.csv, each picture is what its script draws, and the pages of users are not too long.
+for layout, that of the file named above it, each name in a table with a column of files is in a file beside it, each crate and each law has its place, what
+bench/run wrote has the figures of figures.csv, each picture is what its script draws, and the pages of users are not too long.
 
     tests/documents.py
 """
@@ -20,7 +20,8 @@ ROOT = TESTS.parent
 CODE = {".rt", ".rs", ".antt", ".py", ".c", ".sh", ".sql", ".txt", ".edit"}
 TUTORIAL = DOCUMENTS / "TUTORIAL.md"
 DEFINITIONS = (DOCUMENTS / "DEFINITIONS.md", DOCUMENTS / "ENGINE_DEFINITIONS.md")
-PRINTED = "## From a printed line to its definition\n"
+# Which column has the names in a table whose last one has their files.
+OF_NAMES = {"Definition", "Law", "Function"}
 # A block before which no file is named is the reader's own.
 THE_READERS = ""
 # What a page shows whole.
@@ -28,14 +29,14 @@ SHOWN = {
     ROOT / "README.md": ("examples/first_example.csv", "examples/first_example.replies"),
     DOCUMENTS / "WINDOWS.md": ("crates/watch_auction/stdout",),
 }
-# Where each crate and where each law has its place.
-MAP, LAWS = DOCUMENTS / "ARCHITECTURE.md", DOCUMENTS / "PROVED.md"
+# Where each crate has its place, and each law in one of these.
+MAP, PROVED = DOCUMENTS / "ARCHITECTURE.md", DOCUMENTS / "PROVED.md"
 PICTURES = DOCUMENTS / "pictures"
 # Pictures that are drawn of examples.
 DRAWN = {"contended.svg": ("examples/timeline.py", "examples/contended.history", "examples/contended.report")}
 # The pages of users, and how many words they and the first of them may have.
 OF_USERS = ("README", "docs/GUARANTEES", "docs/EXAMPLE", "docs/PERFORMANCE", "docs/FORMATS", "docs/TUTORIAL", "docs/WINDOWS", "docs/CHECKING", "docs/LOADS",
-            "docs/OUTGROWING", "CONTRIBUTING", "CHANGELOG", "tests/README")
+            "docs/OUTGROWING", "docs/SERVING", "CONTRIBUTING", "CHANGELOG", "tests/README")
 MOST_WORDS, MOST_OF_THE_FIRST = 16_000, 1_200
 
 NAME = re.compile(r"[A-Za-z_]\w*(::[A-Za-z_]\w*)*(\(\))?|--[a-z]+")
@@ -129,11 +130,11 @@ def crates(tally: Tally) -> None:
 
 
 def laws(tally: Tally) -> None:
-    """laws, each in docs/PROVED.md"""
-    named = set(in_backticks(LAWS))
+    """laws, each in docs/PROVED.md or a page of definitions"""
+    named = {name for page in (PROVED, *DEFINITIONS) for name in in_backticks(page)}
     for path in ROOT.glob("crates/*/src/**/*.rt"):
         for name in re.findall(r"(?m)^pub fn (\w+)(?:<[^(]*>)?\(\)\n(?:    .*\n)*\{\}", path.read_text()):
-            tally.check(name in named, f"{LAWS.name} speaks of the law {name}")
+            tally.check(name in named, f"{PROVED.name} or a page of definitions speaks of the law {name}")
 
 
 def blocks_of_code(tally: Tally) -> None:
@@ -178,39 +179,22 @@ def parts(code: str) -> list[str]:
     return [" ".join(paragraph.split()) for paragraph in paragraphs if paragraph.strip()]
 
 
-def named_definitions(tally: Tally) -> None:
-    """definitions that the pages of definitions name with their file"""
-    for section in re.split(r"(?m)^## ", "\n".join(map(prose, DEFINITIONS))):
-        folders = re.findall(r"`(crates/\w+/specs)", section.split("\n", 1)[0])
-        for name, file in names_with_files(section):
-            places = [ROOT / folder / f"{file}.antt" for folder in folders]
-            tally.check(any(defines(place, name) for place in places), f"{name} is defined in {file} of {folders}")
+def tables(tally: Tally) -> None:
+    """names in tables, each in a file beside it"""
+    for page in (PROVED, *DEFINITIONS):
+        for names, files in rows_with_files(page):
+            places = places_of(files)
+            for name in re.findall(r"`(?:\w+::)?(\w+)`", names):
+                tally.check(any(stands_in(place, name) for place in places), f"{page.name}: {name} stands in {files}")
 
 
-def names_with_files(section: str) -> Iterator[tuple[str, str]]:
-    """Each name of parentheses that end in a comma and the name of a file; there a semicolon parts names of one file or of two."""
-    for inner in re.findall(r"\(([^()]*`[^()]*)\)", section):
-        file = ""
-        for piece in reversed(inner.split(";")):
-            named = re.search(r"`, ([A-Z]\w+)$", piece)
-            file = named[1] if named else file
-            if file:
-                yield from ((name, file) for name in re.findall(r"`(\w+)`", piece))
-
-
-def defines(place: Path, name: str) -> bool:
-    pattern = rf"(?m)^((abbrev|unfoldable|pub|record|data) )*{name}\b"
-    return place.exists() and re.search(pattern, place.read_text()) is not None
-
-
-def printed_lines(tally: Tally) -> None:
-    """definitions behind printed lines"""
-    section = DEFINITIONS[0].read_text().partition(PRINTED)[2].partition("\n## ")[0]
-    for line in re.findall(r"(?m)^\| .* \|$", section)[1:]:
-        printed, _, names, files = line.strip("| ").split(" | ")
-        places = places_of(files)
-        for name in re.findall(r"`(\w+)`", names):
-            tally.check(any(stands_in(place, name) for place in places), f"{DEFINITIONS[0].name}, {printed}: {name} stands in {files}")
+def rows_with_files(page: Path) -> Iterator[tuple[str, str]]:
+    """The names and the files of each row of the tables that have both."""
+    for table in re.findall(r"(?m)(?:^\|.*\|\n)+", page.read_text()):
+        header, _, *rows = ([cell.strip() for cell in line.strip("|").split(" | ")] for line in table.splitlines())
+        of_names = [at for at, title in enumerate(header) if title in OF_NAMES]
+        if header[-1] == "File":
+            yield from ((row[at], row[-1]) for row in rows for at in of_names)
 
 
 def places_of(files: str) -> list[Path]:
@@ -220,7 +204,7 @@ def places_of(files: str) -> list[Path]:
 
 def stands_in(place: Path, name: str) -> bool:
     """Whether a definition or its field, or a function, has this name there."""
-    pattern = rf"(?m)^ *((abbrev|unfoldable|pub|record|data|fn) )*{name}\b"
+    pattern = rf"(?m)^(?: *(?:(?:abbrev|unfoldable|pub|record|data|fn) )+)?{name}\b"
     return place.exists() and re.search(pattern, place.read_text()) is not None
 
 
@@ -251,7 +235,7 @@ def lengths(tally: Tally) -> None:
 def main() -> None:
     tally = Tally()
     of_names = (names_and_paths, paths_in_commands, links, crates, laws, files_of_specs)
-    of_what_is_shown = (blocks_of_code, shown_files, quoted_definitions, named_definitions, printed_lines, figures, pictures, lengths)
+    of_what_is_shown = (blocks_of_code, shown_files, quoted_definitions, tables, figures, pictures, lengths)
     for check in (*of_names, *of_what_is_shown):
         passed = tally.passed
         check(tally)

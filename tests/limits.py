@@ -276,10 +276,10 @@ def help_and_version(tester: Tester) -> None:
     """help, as docs/FORMATS.md shows it, with each option's limits and what it is without words, its examples, and the version"""
     said = helps.help_and_version(tester.tally, tester.program, "rubis_auction", "FORMATS.md")
     numbers = {option: (int(least), int(most), int(usual)) for option, least, most, usual in helps.NUMBER.findall(said)}
-    wanted = {option: (*limits, getattr(Options(), option)) for option, limits in OPTION_LIMITS.items()}
+    wanted = {option: (*limits, getattr(Options(), option)) for option, limits in OPTION_LIMITS.items()} | {"live": (0, MILLION, 0)}
     tester.tally.check(numbers == wanted, f"what --help says of numbers: {numbers}")
     flags = {option.name for option in fields(Options)} - set(OPTION_LIMITS)
-    tester.tally.check(set(helps.OPTION.findall(said)) == {*wanted, *flags, "help", "version"}, "what --help has a line of")
+    tester.tally.check(set(helps.OPTION.findall(said)) == {*wanted, *flags, "log", "help", "version"}, "what --help has a line of")
     for name in ("first.csv", "load.csv"):
         (tester.folder / name).write_bytes(tester.example)
     helps.examples(tester.tally, said, "rubis_auction", tester.folder, {"rubis_auction": tester.program})

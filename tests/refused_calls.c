@@ -5,7 +5,10 @@
    WRITE_AT_MOST=n     a write to standard output takes n bytes at most
    WRITE_FAILS_AT=k    writes to standard output fail after k bytes in all
    WRITE_STOPS_AT=k    writes to standard output take nothing after k bytes in all
-   THREADS_AT_MOST=n   no more than n threads are started  */
+   THREADS_AT_MOST=n   no more than n threads are started
+   LOG_WRITE_FAILS=n   the nth write to another file takes half, and the next one fails
+   LOG_SYNC_FAILS=n    the nth fdatasync fails
+   LOG_CUT_FAILS=n     the nth ftruncate fails  */
 
 #define _GNU_SOURCE
 #include <dlfcn.h>
@@ -45,6 +48,16 @@ ssize_t read(int file, void *place, size_t size) {
 ssize_t write(int file, const void *place, size_t size) {
     static long done;
     ssize_t (*original)(int, const void *, size_t) = dlsym(RTLD_NEXT, "write");
+    if (file > STDERR_FILENO) {
+        static long written;
+        written += 1;
+        if (written == limit("LOG_WRITE_FAILS") && size > 1) return original(file, place, size / 2);
+        if (written == limit("LOG_WRITE_FAILS") + 1 && limit("LOG_WRITE_FAILS") > 0) {
+            errno = ENOSPC;
+            return -1;
+        }
+        return original(file, place, size);
+    }
     if (file != STDOUT_FILENO) return original(file, place, size);
     long left = left_of(limit("WRITE_FAILS_AT"), done);
     long taken = left_of(limit("WRITE_STOPS_AT"), done);
@@ -56,6 +69,26 @@ ssize_t write(int file, const void *place, size_t size) {
     ssize_t given = original(file, place, cut(cut(cut(size, left), taken), limit("WRITE_AT_MOST")));
     if (given > 0) done += given;
     return given;
+}
+
+int fdatasync(int file) {
+    static long done;
+    int (*original)(int) = dlsym(RTLD_NEXT, "fdatasync");
+    if (++done == limit("LOG_SYNC_FAILS")) {
+        errno = EIO;
+        return -1;
+    }
+    return original(file);
+}
+
+int ftruncate(int file, off_t size) {
+    static long done;
+    int (*original)(int, off_t) = dlsym(RTLD_NEXT, "ftruncate");
+    if (++done == limit("LOG_CUT_FAILS")) {
+        errno = EIO;
+        return -1;
+    }
+    return original(file, size);
 }
 
 int pthread_create(pthread_t *thread, const pthread_attr_t *attributes, void *(*start)(void *), void *argument) {

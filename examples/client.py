@@ -1,0 +1,80 @@
+#!/usr/bin/env python3
+"""A client of the auction: starts it, sends one request, sends many at once, and closes it.
+
+    examples/client.py PROGRAM [OPTION..]
+
+PROGRAM is rubis_auction; the options go to it, for example --log auction.rows."""
+
+import subprocess
+import sys
+from collections import Counter
+
+# So many requests are sent before their replies are read: they fit into a pipe, so that neither side waits for the other.
+BLOCK = 300
+
+
+class Refused(Exception):
+    """The program has ended: its words, and its status."""
+
+
+class Auction:
+    """An auction in a process of its own. A request is the text of its record without the worker, such as `bid,1,0.0,500,3`."""
+
+    def __init__(self, program, *options, most=1000, **how):
+        words = [program, "--live", str(most), *options]
+        self.process = subprocess.Popen(words, stdin=subprocess.PIPE, stdout=subprocess.PIPE, stderr=subprocess.PIPE, **how)
+        self.sent = Counter()
+
+    def one(self, request, worker=0):
+        """The reply to a request."""
+        return self.many([(worker, request)])[0]
+
+    def many(self, requests):
+        """The replies to requests, each with its worker, in the order of the requests."""
+        blocks = [requests[at : at + BLOCK] for at in range(0, len(requests), BLOCK)]
+        return [reply for block in blocks for reply in self.block(block)]
+
+    def block(self, requests):
+        places = []
+        for worker, _ in requests:
+            places.append((worker, self.sent[worker]))
+            self.sent[worker] += 1
+        self.write("".join(f"{worker},{request}\n" for worker, request in requests))
+        replies = dict(self.reply() for _ in requests)
+        return [replies[place] for place in places]
+
+    def write(self, text):
+        try:
+            self.process.stdin.write(text.encode())
+            self.process.stdin.flush()
+        except BrokenPipeError:
+            self.refuse()
+
+    def reply(self):
+        """The next line: worker and index of a request, and its reply."""
+        line = self.process.stdout.readline().decode()
+        if not line.endswith("\n"):
+            self.refuse()
+        worker, index, text = line[:-1].split(",", 2)
+        return (int(worker), int(index)), text
+
+    def refuse(self):
+        words = self.process.stderr.read().decode()
+        raise Refused(words.strip(), self.process.wait())
+
+    def close(self):
+        """Ends the input, and waits for the program."""
+        self.process.stdin.close()
+        if self.process.wait() != 0:
+            self.refuse()
+
+
+def main():
+    auction = Auction(*sys.argv[1:])
+    print(auction.one("item,0,0,Vase,10,100,1"))
+    print(*auction.many([(0, "bid,1,0.0,500,3"), (0, "bid,2,0.0,700,4"), (0, "viewitem,0.0")]), sep="\n")
+    auction.close()
+
+
+if __name__ == "__main__":
+    main()
