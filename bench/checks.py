@@ -5,6 +5,8 @@ import lite
 import loads
 import measures
 import programs
+import redis_server
+import serving
 
 # All kinds of requests, and hot items.
 MIXED = measures.Load("mixed", items=50, skew=150, views=40, comments=10, purchases=5, new_items=5)
@@ -31,6 +33,9 @@ def same_replies(systems):
     if "sqlite" not in systems.asked.skip:
         replies = lite.perform(rows, scripts, measures.USERS, measures.CATEGORIES)[0][0]
         same("SQLite", wanted, "".join(f"0,{place},{lite.text_of(reply)}\n" for place, reply in enumerate(replies)))
+    if redis_server.is_there() and "redis" not in systems.asked.skip:
+        viewed = systems.load(measures.VIEWED, 1, REQUESTS)
+        same("Redis", programs.output_of(systems.command("program", never, 1), viewed), serving.redis_replies(viewed))
     if systems.server:
         systems.server.open(rows, scripts, measures.USERS, measures.CATEGORIES)
         same("PostgreSQL", wanted, systems.server.replies(scripts[0]))

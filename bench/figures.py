@@ -5,7 +5,11 @@ import sys
 from typing import NamedTuple
 
 import instructions
-from measures import BIDDING, LARGE, ONE_ITEM, SMALL, UNIFORM, VIEWED, Load, Policy, Tries
+import loads
+import postgres
+import redis_server
+import serving
+from measures import BIDDING, CATEGORIES, LARGE, ONE_ITEM, SMALL, UNIFORM, USERS, VIEWED, Load, Policy, Tries
 
 AUCTION, UNSPLIT, USUAL = "the auction", "the auction, nothing split", "the auction, default quotas"
 PHASES, SHARDS, LOCK = "plain Rust, the same phases", "plain Rust, a lock a shard", "plain Rust, one lock"
@@ -23,6 +27,13 @@ MODES = {AUCTION: "program", UNSPLIT: "program", USUAL: "program", PHASES: "phas
 RATE, ANSWER, SECONDS, MEMORY = "requests answered a second", "seconds of answering", "seconds, whole command", "megabytes at most"
 RUN, PUBLISHING, VIEW = "seconds of a run", "seconds of publishing", "nanoseconds a view"
 DELAY, LATEST = "requests until a deferred reply, median", "requests until a deferred reply, 99th percentile"
+# Of replies while requests come, with a log that is synced and without: systems, and what is measured.
+AT_ONCE, REDIS, REDIS_LOGGED, POSTGRES_LOGGED = "all read first", "Redis, no log", "Redis, log synced", "PostgreSQL, log synced"
+WAITS = {"microseconds until a reply, median": 0.5, "microseconds until a reply, 99th percentile": 0.99, "microseconds until a reply, 99.9th percentile": 0.999}
+WHOLE_RATE, OPENING = "requests a second, whole command", "seconds to open a log"
+# So many requests of a part at most, and in all so many parts: with a log each waits for the disk.
+MOST_OF_PARTS, PARTS_UNLOGGED, PARTS_LOGGED = (1, 10, 100, 1000), 100_000, 200
+
 SCRIPTS, SCRIPT_SIZE, HISTORY_SIZE = "seconds for the scripts alone", "megabytes of scripts", "megabytes of history"
 
 
@@ -282,8 +293,93 @@ def in_seconds(text):
     return float(number) * {"s": 1, "ms": 1e-3, "µs": 1e-6, "ns": 1e-9}[unit]
 
 
+def live_words(most, is_logged):
+    """What a table calls a way of serving."""
+    return f"`--live {most}{' --log' * is_logged}`"
+
+
+def live(systems, asked):
+    """Replies while requests come: of one worker, by the most requests of a part, with a log and without, beside Redis and PostgreSQL."""
+    words, path = systems.command("program", Policy(), 1), systems.load(VIEWED, 1, asked.requests)
+    yield live_row(AT_ONCE, WHOLE_RATE, rate_of(asked, path, lambda: serving.whole(words, path, None)[0]), asked.requests)
+    for is_logged in (False, True):
+        for most in (1, 1000) if asked.fast else MOST_OF_PARTS:
+            yield from live_program(systems, asked, words, most, is_logged)
+    yield from live_views(asked, words)
+    yield from live_opening(systems, asked, words)
+    yield from live_redis(systems, asked)
+    yield from live_postgres(systems, asked)
+
+
+def live_program(systems, asked, words, most, is_logged):
+    """One request at a time, and many at once."""
+    name, words, log = live_words(most, is_logged), [*words, f"--live={most}"], f"{systems.folder}/log" if is_logged else None
+    say(f"{VIEWED.name}, one worker, {name}")
+    yield from wait_rows(name, serving.session(words, systems.load(VIEWED, 1, session_requests(asked, is_logged)), log))
+    count = min(asked.requests, (PARTS_LOGGED if is_logged else PARTS_UNLOGGED) * most)
+    many = systems.load(VIEWED, 1, count)
+    yield live_row(name, WHOLE_RATE, rate_of(asked, many, lambda: serving.whole(words, many, log)[0]), count)
+
+
+def live_views(asked, words):
+    for count in (100_000, 1_000_000) if asked.fast else (1_000_000, 20_000_000):
+        say(f"{count} views, --live 1000")
+        megabytes = serving.memory_of_views([*words, "--live=1000"], count)
+        yield row_of("live", Load("views"), Policy(), MEMORY, megabytes, 1, count, live_words(1000, False))
+
+
+def live_opening(systems, asked, words):
+    rows, log = systems.rows(ONE_ITEM, 1, asked.requests), f"{systems.folder}/log"
+    seconds = Tries.of(serving.opening([*words, "--live=1000"], rows, log) for _ in range(asked.tries))
+    yield live_row(live_words(1000, True), OPENING, seconds, rows.count(b"\n"))
+
+
+def session_requests(asked, is_logged):
+    return (200 if asked.fast else 2000) if is_logged else (2000 if asked.fast else 20_000)
+
+
+def rate_of(asked, path, seconds):
+    """Requests a second of tries over a file."""
+    requests = len(serving.records_of(path)[1])
+    return Tries.of(requests / seconds() for _ in range(asked.tries))
+
+
+def live_row(system, measure, found, requests):
+    return row_of("live", VIEWED, Policy(), measure, found, 1, requests, system)
+
+
+def wait_rows(system, spent):
+    for measure, share in WAITS.items():
+        yield live_row(system, measure, serving.part(spent, share), len(spent))
+
+
+def live_redis(systems, asked):
+    if "redis" in asked.skip or not redis_server.is_there():
+        return
+    path = systems.load(VIEWED, 1, systems.few())
+    for is_logged, system in ((False, REDIS), (True, REDIS_LOGGED)):
+        say(f"{VIEWED.name}, {system}")
+        few = systems.load(VIEWED, 1, session_requests(asked, is_logged))
+        yield from wait_rows(system, serving.redis_session(is_logged, few))
+        yield live_row(system, WHOLE_RATE, rate_of(asked, path, lambda: serving.redis_whole(is_logged, path)), systems.few())
+
+
+def live_postgres(systems, asked):
+    """With a client that waits for each reply, and with as many as the other tables have workers."""
+    if systems.server is None:
+        return
+    say(f"{VIEWED.name}, {POSTGRES_LOGGED}")
+    with postgres.Server(postgres.DURABLE) as server:
+        rows, scripts = loads.read_load(systems.load(VIEWED, 1, systems.few()), 1)
+        server.open(rows, scripts, USERS, CATEGORIES)
+        yield from wait_rows(POSTGRES_LOGGED, server.waits(scripts[0], asked.seconds))
+        rows, scripts = loads.read_load(systems.load(VIEWED, asked.workers, systems.few()), asked.workers)
+        done, rate = server.perform_anew(rows, scripts, USERS, CATEGORIES, asked.seconds)
+        yield live_row(POSTGRES_LOGGED, WHOLE_RATE, rate, done)._replace(workers=asked.workers)
+
+
 # What measures the figures of other tables, and of "delay" what no clock says.
-APART = {"delay": late_replies, "checking": checking, "instructions": by_instructions, "work": work_beside_plain, "windows": windows}
+APART = {"delay": late_replies, "checking": checking, "instructions": by_instructions, "work": work_beside_plain, "windows": windows, "live": live}
 
 PARTS = list(dict.fromkeys((*TOGETHER, *APART)))
 

@@ -11,6 +11,7 @@ import lite
 import loads
 import postgres
 import programs
+import redis_server
 
 USERS, CATEGORIES, ITEMS, SHARDS = 1000, 100, 10_000, 16
 
@@ -90,6 +91,8 @@ class Systems:
             self.skip("Windows were left out (--skip).")
         if not instructions.is_there():
             self.skip("valgrind is not installed: instructions were left out.")
+        if "redis" in asked.skip or not redis_server.is_there():
+            self.skip("Redis was left out (--skip)." if "redis" in asked.skip else "Redis is not installed: left out.")
         if "referee" not in built:
             self.skip("Checking a history was left out (--skip).")
         if lite.sqlite3 is None and "sqlite" not in asked.skip:
@@ -148,6 +151,10 @@ class Systems:
         path = f"{self.folder}/history"
         programs.write_output([*self.command("program", policy, workers), "--history"], self.load(load, workers, requests), path)
         return path
+
+    def rows(self, load, workers, requests):
+        """The rows that the auction writes of a load."""
+        return programs.output_of([*self.command("program", Policy(), workers), "--rows"], self.load(load, workers, requests)).encode()
 
     def referee_words(self, workers, history):
         return [self.built["referee"], *auction_words(workers), "--order", f"--history={history}"]

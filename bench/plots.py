@@ -2,7 +2,8 @@
 import re
 from typing import NamedTuple
 
-from figures import ALONE, AUCTION, DELAY, LATEST, LOCK, PHASES, POSTGRES, RATE, SHARDS, SQLITE, SYSTEMS, UNSPLIT, USUAL
+from figures import (ALONE, AT_ONCE, AUCTION, DELAY, LATEST, LOCK, MOST_OF_PARTS, PHASES, POSTGRES, POSTGRES_LOGGED, RATE, REDIS, REDIS_LOGGED, SHARDS, SQLITE,
+                     SYSTEMS, UNSPLIT, USUAL, WHOLE_RATE, live_words)
 from measures import BIDDING
 from svg import GREY, INK, Axis, decades, frame, line, mark, path, picture, short, spread, steps, text
 
@@ -132,7 +133,7 @@ def by_requests(rows, place):
                 parts += curve(across, up, own, STYLES[system], dashed)
     parts += entries(names, 104, 78, 400, 1, dashes)
     title = f"Peak memory of the whole command, {rows[0].workers} workers (lower is better)"
-    return picture(900, 500, title, f"A line for each system and load, over the number of requests: {'; '.join(loads)}. The table below it has the figures.",
+    return picture(900, 500, title, f"A line for each system and load, over the number of requests: {'; '.join(loads)}. figures.csv has the figures.",
                    parts + foot(500, place))
 
 
@@ -169,8 +170,36 @@ def delay_point(rows, split):
     return split, *(max(delay.value, 1) / rate.value * 1e3 for delay in (median, latest)), rate
 
 
+# What the plot of parts has a level line for, whatever the parts.
+LEVELS = {AT_ONCE: Style("#c1121f", 0, 1.5), REDIS: Style("#6a994e", 5, 1.5), REDIS_LOGGED: Style("#386641", -3, 1.5), POSTGRES_LOGGED: Style("#7f5539", 6, 1.5)}
+
+
+def by_parts(rows, place):
+    """Throughput by the most requests of a part, with a log and without; a level line for what has no parts."""
+    rates = {row.system: row for row in rows if row.measure == WHOLE_RATE}
+    served = {words: [(most, rates[live_words(most, is_logged)]) for most in MOST_OF_PARTS if live_words(most, is_logged) in rates]
+              for is_logged, words in ((False, "--live N"), (True, "--live N --log"))}
+    if not any(served.values()):
+        return None
+    tics = decades([row.value for row in rates.values()])
+    across, up = Axis(0.8, MOST_OF_PARTS[-1] * 1.25, 84, 870, True), Axis(tics[0], tics[-1], 400, 60, True)
+    parts = list(frame(across, up, [(most, str(most)) for most in MOST_OF_PARTS], [(tic, short(tic)) for tic in tics],
+                       ("N, the most requests of a part (logarithmic)", "requests per second (logarithmic)")))
+    styles = {"--live N": STYLES[AUCTION], "--live N --log": STYLES[PHASES]}
+    for words, points in served.items():
+        parts += curve(across, up, [(most, row.value, row.least, row.greatest) for most, row in points], styles[words])
+    for system, style in LEVELS.items():
+        if system in rates:
+            parts.append(path([(x, up.at(rates[system].value)) for x in (across.begin, across.end)], style.colour, style.width, "6 4"))
+    entered = [*((words, styles[words]) for words in served), *((system, style._replace(corners=0)) for system, style in LEVELS.items() if system in rates)]
+    parts += entries(entered, 120, 470, 380, dashes={system: "6 4" for system in LEVELS})
+    title = "Requests per second, many at once, by the most requests of a part (one worker)"
+    about = f"A line with a log and one without over N, and level lines for {', '.join(system for system in LEVELS if system in rates)}. The table below it has the figures."
+    return picture(900, 560, title, about + bars_said(rows), parts + foot(560, place, bars_said(rows)))
+
+
 # What draws the plot of a table, and its file's name.
-DRAWN = {"workers": by_workers, "skew": by_skew, "memory": by_requests, "delay": by_delay}
+DRAWN = {"workers": by_workers, "skew": by_skew, "memory": by_requests, "delay": by_delay, "live": by_parts}
 
 
 def all_plots(rows, page):

@@ -1,5 +1,5 @@
 """The auction in PostgreSQL, for bench/run alone: a server of its own in a folder of its own, over a socket, with nothing
-durable, and `pgbench` with a client for each worker."""
+durable unless that is asked for, and `pgbench` with a client for each worker."""
 import glob
 import os
 import re
@@ -17,6 +17,8 @@ SETTINGS = {
     # Tables are empty as their first plans are made, which are kept: each look-up is to go by an index from the first on.
     "enable_seqscan": "off", "enable_bitmapscan": "off",
 }
+
+DURABLE = SETTINGS | {"fsync": "on", "synchronous_commit": "on", "full_page_writes": "on"}
 
 # One request a transaction: the client's next one.
 SCRIPT = "\\set place :place + 1\nSELECT act(:client_id, :place);\n"
@@ -45,8 +47,8 @@ def tools():
 class Server:
     """A server that lives as long as a `with` over it."""
 
-    def __init__(self):
-        self.tools = tools()
+    def __init__(self, settings=None):
+        self.settings, self.tools = settings or SETTINGS, tools()
         # The server does not run as root: Debian's package has made a user for it.
         self.leave = ["runuser", "-u", "postgres", "--"] if os.geteuid() == 0 else []
 
@@ -55,7 +57,7 @@ class Server:
         if self.leave:
             shutil.chown(self.folder, "postgres")
         self.call("initdb", "-D", f"{self.folder}/data", "-A", "trust", "-U", "bench", "--no-sync", "--locale=C", "-E", "UTF8")
-        settings = " ".join(f"-c {name}='{value}'" for name, value in SETTINGS.items())
+        settings = " ".join(f"-c {name}='{value}'" for name, value in self.settings.items())
         self.call("pg_ctl", "-D", f"{self.folder}/data", "-w", "-l", f"{self.folder}/log", "-o",
                   f"{settings} -c unix_socket_directories='{self.folder}'", "start")
         return self
@@ -80,7 +82,10 @@ class Server:
 
     def open(self, rows, scripts, users, categories):
         """A new auction with these rows, whose input has the scripts."""
-        self.ask("DROP SCHEMA public CASCADE; CREATE SCHEMA public;" + "".join(map(text_of, CODE)))
+        code = "".join(map(text_of, CODE))
+        if self.settings["fsync"] == "on":
+            code = code.replace("UNLOGGED TABLE", "TABLE")
+        self.ask("DROP SCHEMA public CASCADE; CREATE SCHEMA public;" + code)
         lines = ("\t".join(map(column, record)) for record in [*rows, *(record for script in scripts for record in script)])
         self.ask("COPY input FROM stdin;\n" + "".join(f"{line}\n" for line in lines) + "\\.\n")
         self.ask(f"""
@@ -103,14 +108,22 @@ class Server:
         rest = max(1, min(each - first, int(rate * seconds / len(scripts))))
         return (first + rest) * len(scripts), self.clients(len(scripts), rest, first)
 
-    def clients(self, workers, each, place):
+    def waits(self, script, seconds):
+        """Of one client the microseconds of each request, sorted, of as much of a script as it does in about so many seconds."""
+        first = min(FIRST, len(script) // 2)
+        rest = max(1, min(len(script) - first, int(self.clients(1, first, 0) * seconds)))
+        self.clients(1, rest, first, "-l", f"--log-prefix={self.folder}/waits")
+        lines = [line for path in glob.glob(f"{self.folder}/waits.*") for line in text_of(path).splitlines()]
+        return sorted(float(line.split()[2]) for line in lines)
+
+    def clients(self, workers, each, place, *words):
         """Requests a second where each worker's client does so many from a place of its script on."""
         path = f"{self.folder}/script"
         with open(path, "w") as script:
             script.write(SCRIPT)
         os.chmod(path, 0o644)
         said = self.call("pgbench", "-h", self.folder, "-U", "bench", "-n", "-M", "prepared", "-c", str(workers), "-j", str(workers),
-                         "-t", str(each), "-D", f"place={place - 1}", "-f", path, "postgres")
+                         "-t", str(each), "-D", f"place={place - 1}", *words, "-f", path, "postgres")
         if f"actually processed: {each * workers}/{each * workers}" not in said:
             raise SystemExit(said)
         return float(re.search(r"tps = ([0-9.]+) \(without initial connection time\)", said).group(1))

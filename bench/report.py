@@ -10,8 +10,9 @@ import figures
 import lite
 import measures
 import plots
+import redis_server
 from figures import (ALL_THREADS, ANSWER, AUCTION, DELAY, FIRST_THREAD, INSTRUCTIONS, LATEST, MEMORY, PUBLISHING, RATE, RUN, SCRIPTS, SECONDS,
-                     SYSTEMS, UNSPLIT, VIEW, Figure)
+                     OPENING, SYSTEMS, UNSPLIT, VIEW, WAITS, WHOLE_RATE, Figure)
 from measures import BIDDING, LARGE, ONE_ITEM, UNIFORM, Policy
 from programs import ROOT
 
@@ -48,8 +49,8 @@ def number(value):
 
 
 def table(heads, rows):
-    lines = [heads, ["---"] * len(heads), *rows]
-    return "\n".join("| " + " | ".join(line) + " |" for line in lines) + "\n"
+    first, *others = ("| " + " | ".join(line) + " |" for line in (heads, *rows))
+    return "\n".join([first, "|" + "---|" * len(heads), *others]) + "\n"
 
 
 def in_words(value):
@@ -80,7 +81,7 @@ def spread(rows):
     if not parts:
         return ""
     most, half = (f"{part * 100:.0f} %" for part in (parts[-1], parts[len(parts) // 2]))
-    return f"Least and greatest try differ by at most {most} of it, for half of the figures by at most {half}.\n"
+    return f"The least and the greatest try of a figure differ by at most {most} of it, and for half of the figures by at most {half}.\n"
 
 
 def by_workers(rows):
@@ -99,7 +100,8 @@ def by_skew(rows):
     rows = values(rows, table="skew")
     names = list(dict.fromkeys(row.load for row in rows))
     heads = [name.split("exponent ")[-1].replace("bids on ", "") for name in names]
-    lines = [[system, *(number(value(rows, load=name, system=system)) for name in names)] for system in present(rows)]
+    drawn = [system for system in present(rows) if system in (*plots.COMPARED, figures.SHARDS)]
+    lines = [[system, *(number(value(rows, load=name, system=system)) for name in names)] for system in drawn]
     return table(["Requests per second, by the exponent of Zipf's law", *heads], lines)
 
 
@@ -158,15 +160,12 @@ def growth(rows):
             return ""
         least, most = min(found, key=lambda row: row.requests), max(found, key=lambda row: row.requests)
         grown.append(round((most.value - least.value) * 1e6 / (most.requests - least.requests), -1))
-    return f"\nThe auction's memory grows by about {grown[0]:.0f} bytes per bid and {grown[1]:.0f} per request of the bidding mix.\n"
+    return f"The auction's memory grows by about {grown[0]:.0f} bytes per bid and {grown[1]:.0f} per request of the bidding mix.\n"
 
 
 def memory(rows):
-    rows = values(rows, table="memory")
-    counts = sorted({row.requests for row in rows})
-    lines = [[f"{system}, {load}", *(number(value(rows, load=load, system=system, requests=count)) for count in counts)]
-             for load in dict.fromkeys(row.load for row in rows) for system in present(rows)]
-    return table(["Peak memory in MB, by requests", *(f"{count:,}" for count in counts)], lines) + growth(rows)
+    """The plot has the figures."""
+    return growth(values(rows, table="memory"))
 
 
 def checking(rows):
@@ -237,7 +236,7 @@ def most_gain(rows, loads):
         gains.append(total / (total - shared + shared / figures.MOST_WORKERS))
     return (f"\nThe first thread reads, executes the share of one worker, and writes.\n"
             f"If time followed instructions, {figures.MOST_WORKERS} workers on as many processors would make a whole command "
-            f"{from_to(gains)} times as fast as one worker on these loads, and no machine more.\n")
+            f"{from_to(gains)} times as fast as one worker on these loads. More processors would not help.\n")
 
 
 def from_to(parts, digits=1):
@@ -245,12 +244,35 @@ def from_to(parts, digits=1):
     return " to ".join(dict.fromkeys(f"{part:.{digits}f}" for part in (min(parts), max(parts))))
 
 
+def live(rows):
+    """Replies while requests come: how long each takes, how many a second, and in words what memory views take and how long a log takes to open."""
+    rows = values(rows, table="live")
+    served = values(rows, measure=WHOLE_RATE)
+    lines = []
+    for row in served:
+        waits = (value(rows, system=row.system, measure=measure) for measure in WAITS)
+        clients = f" ({row.workers} clients)" if row.workers > 1 else ""
+        lines.append([row.system, *map(number, waits), number(row.value) + clients])
+    heads = [f"One worker, {served[0].load}", "µs until a reply, one at a time: median", "99th percentile", "99.9th percentile", "Requests per second, many at once"]
+    return table(heads, lines) + kept_small(rows) + opened(rows)
+
+
+def kept_small(rows):
+    found = values(rows, measure=MEMORY)
+    return ("\nPeak memory with `--live 1000`: " + ", ".join(f"{number(row.value)} MB for {row.requests:,} views" for row in found) + ".\n") if found else ""
+
+
+def opened(rows):
+    return "".join(f"A log of {row.requests:,} rows is opened in {number(row.value)} s.\n" for row in values(rows, measure=OPENING))
+
+
 # What the plots show. Those of tables stand above them.
 PLOTS = {"workers": "Requests per second by number of workers", "skew": "Throughput by skew, relative to plain Rust with a lock per shard",
-         "memory": "Memory by requests", "delay": "Throughput against the delay of deferred views, by split quota"}
+         "memory": "Memory by requests", "delay": "Throughput against the delay of deferred views, by split quota",
+         "live": "Throughput by the most requests of a part, with a log and without"}
 
 TABLES = {"workers": by_workers, "skew": by_skew, "quotas": by_quotas, "shards": by_shards, "threshold": by_threshold, "whole": whole,
-          "memory": memory, "checking": checking, "work": work_beside_plain, "instructions": instructions, "windows": windows}
+          "memory": memory, "checking": checking, "work": work_beside_plain, "instructions": instructions, "windows": windows, "live": live}
 
 
 def shown_plot(name):
@@ -342,8 +364,9 @@ CLAIMS = {"rates": rates, "cost": cost, "gain": gain, "usual": usual, "work": wo
 def heading(asked, systems, rows, when, seconds):
     """Date, machine, command and how long it took, and what was left out."""
     lines = [f"Measured on {when}, on {machine()}, in {max(1, round(seconds / 60))} minutes, with", "", f"    {command(asked)}", "",
-             "Each figure is the median of its tries, made in turns with those of all others of the same load.",
-             f"{spread(rows)}Windows, delays and instructions are measured once.", "LOAD is the output of `rubis_load`, HISTORY the output of `rubis_auction --history`:", ""]
+             "Each figure is the median of its tries, made in turns with the tries of all other figures of the same load.",
+             f"{spread(rows)}Windows, delays, sessions and instructions are measured once.",
+             f"LOAD is the output of `rubis_load` (for the referee with {figures.MOST_WORKERS} workers), HISTORY the output of `rubis_auction --history`:", ""]
     for load in (ONE_ITEM, UNIFORM, BIDDING):
         lines.append(f"    rubis_load --requests={asked.requests} --workers={asked.workers} {' '.join(load.words())}")
     lines.append(f"    rubis_auction {' '.join(Policy().words(asked.workers))} < LOAD")
@@ -353,11 +376,13 @@ def heading(asked, systems, rows, when, seconds):
         lines.append("    watch_auction bench")
     lines.append("")
     if systems.server:
-        lines.append(f"PostgreSQL {systems.server_version} executes the first {systems.few():,} requests of each load, or as many of these as it does in "
+        lines.append(f"PostgreSQL {systems.server_version} executes the first {systems.few():,} requests of each load, or as many of these as it can in "
                      f"about {asked.seconds:g} s (`figures.csv` has the number).")
+    if redis_server.is_there() and "redis" not in asked.skip:
+        lines.append(f"Redis is {redis_server.version()}.")
     if "sqlite" not in asked.skip:
-        lines.append(f"SQLite {lite.sqlite3.sqlite_version} executes the first {systems.few():,}.\nAn empty statement takes "
-                     f"{systems.empty_statement / 1000:.2f} µs from Python and back; a bid is five statements, a view one or four.")
+        lines.append(f"SQLite {lite.sqlite3.sqlite_version} executes the first {systems.few():,}.\nAn empty statement, called from Python, "
+                     f"takes {systems.empty_statement / 1000:.2f} µs; a bid is five statements, a view one or four.")
     return "\n".join(lines + systems.said) + "\n"
 
 

@@ -1,0 +1,114 @@
+"""Bids and views of items in Redis, for bench/run alone: a server of its own on loopback, a sorted set of the highest bids of each item and its counters, and a
+script in Lua for each request, which the server executes as one transaction."""
+import shutil
+import socket
+import subprocess
+import tempfile
+import time
+
+SERVER = "redis-server"
+
+# A member of the sorted set has time and id in order, since of equal scores the members decide.
+SCRIPT = """
+local kind, item = ARGV[1], 'item:' .. ARGV[2]
+local row = redis.call('HMGET', item, 'seller', 'category', 'start', 'closes', 'bids', 'left', 'name')
+if not row[1] then return 'refused 3 NoSuchItem' end
+local function padded(digits) return string.rep('0', 20 - #digits) .. digits end
+if kind == 'bid' then
+  local bidder, amount, time = ARGV[3], ARGV[4], ARGV[5]
+  if tonumber(amount) < tonumber(row[3]) then return 'refused 4 BelowStart' end
+  if tonumber(time) >= tonumber(row[4]) then return 'refused 5 Closed' end
+  local serial = redis.call('INCR', 'bids') - 1
+  redis.call('HINCRBY', item, 'bids', 1)
+  redis.call('ZADD', 'top:' .. item, amount, padded(time) .. ':' .. padded(tostring(serial)) .. ':' .. bidder)
+  redis.call('ZREMRANGEBYRANK', 'top:' .. item, 0, -11)
+  return 'bid 0.' .. serial
+end
+local top, highest, bidder = redis.call('ZREVRANGE', 'top:' .. item, 0, 0, 'WITHSCORES'), '-', '-'
+if top[1] then highest, bidder = top[2], string.match(top[1], '[^:]*$') end
+return 'viewitem seller=' .. row[1] .. ' category=' .. row[2] .. ' start=' .. row[3] .. ' closes=' .. row[4] .. ' highest=' .. highest
+  .. ' bidder=' .. bidder .. ' bids=' .. row[5] .. ' left=' .. row[6] .. ' name=' .. row[7]
+"""
+
+
+def is_there():
+    return shutil.which(SERVER) is not None
+
+
+def version():
+    said = subprocess.run([SERVER, "--version"], capture_output=True, text=True).stdout
+    return next((word[2:] for word in said.split() if word.startswith("v=")), "")
+
+
+def packed(*words):
+    """A command as the server reads it."""
+    return b"".join([b"*%d\r\n" % len(words), *(b"$%d\r\n%s\r\n" % (len(word), word) for word in (str(word).encode() for word in words))])
+
+
+class Server:
+    """A server that lives as long as a `with` over it. Its log, if it has one, is synced before each reply."""
+
+    def __init__(self, is_logged):
+        self.is_logged = is_logged
+
+    def __enter__(self):
+        self.folder = tempfile.mkdtemp(prefix="bench-")
+        with socket.socket() as free:
+            free.bind(("127.0.0.1", 0))
+            port = free.getsockname()[1]
+        log = ["--appendonly", "yes", "--appendfsync", "always"] if self.is_logged else ["--appendonly", "no"]
+        words = [SERVER, "--bind", "127.0.0.1", "--port", str(port), "--save", "", "--dir", self.folder, *log]
+        self.process = subprocess.Popen(words, stdout=subprocess.DEVNULL, stderr=subprocess.DEVNULL)
+        self.socket = self.connected(port)
+        self.socket.setsockopt(socket.IPPROTO_TCP, socket.TCP_NODELAY, 1)
+        self.replies = self.socket.makefile("rb")
+        self.script = self.ask("SCRIPT", "LOAD", SCRIPT)
+        return self
+
+    def connected(self, port):
+        for _ in range(200):
+            try:
+                return socket.create_connection(("127.0.0.1", port))
+            except OSError:
+                time.sleep(0.05)
+        raise SystemExit(f"{SERVER} does not answer")
+
+    def __exit__(self, *_):
+        self.replies.close()
+        self.socket.close()
+        self.process.terminate()
+        self.process.wait()
+        shutil.rmtree(self.folder, ignore_errors=True)
+
+    def ask(self, *words):
+        return self.ask_packed(packed(*words))
+
+    def ask_packed(self, command):
+        self.socket.sendall(command)
+        return self.reply()
+
+    def reply(self):
+        line = self.replies.readline()
+        if line[:1] == b"$":
+            return self.replies.read(int(line[1:]) + 2)[:-2].decode()
+        if line[:1] not in (b"+", b":"):
+            raise SystemExit(f"{SERVER}: {line!r}")
+        return line[1:-2].decode()
+
+    def pass_by(self, count):
+        """Reads so many replies of two lines each, and none of their words."""
+        ends = 0
+        while ends < 2 * count:
+            ends += self.socket.recv(1 << 16).count(b"\n")
+
+    def open(self, rows):
+        """A new auction with these items."""
+        self.ask("FLUSHALL")
+        for serial, row in enumerate(rows):
+            self.ask("HSET", f"item:0.{serial}", "seller", row.who, "category", row.other, "start", row.start, "closes", row.closes, "bids", 0,
+                     "left", row.number, "name", row.name)
+
+    def command(self, record):
+        item = f"{record.item_worker}.{record.item_serial}"
+        fields = (record.who, record.amount, record.time) if record.kind == "bid" else ()
+        return packed("EVALSHA", self.script, 0, record.kind, item, *fields)

@@ -1,0 +1,128 @@
+"""Requests that come while others are answered, for bench/run: how long a reply takes, how many are answered a second, and what memory it takes, of the program
+with `--live` and `--log`, of Redis and of PostgreSQL with its log on."""
+import os
+import subprocess
+import time
+
+import loads
+import programs
+import redis_server
+
+# So many requests are sent to Redis before their replies are read.
+PIPELINE = 1000
+
+ITEM, VIEW = b"0,+item,0,0,Vase,1,2,1,1\n", b"0,viewitem,0.0\n"
+
+
+def part(spent, share):
+    """Of sorted times the one that so much of them are not above."""
+    return spent[int(share * (len(spent) - 1))]
+
+
+def anew(log):
+    """The words for a log that is empty, or none."""
+    if log is None:
+        return []
+    if os.path.exists(log):
+        os.unlink(log)
+    return ["--log", log]
+
+
+def timed(ask, requests):
+    """The microseconds of each call, sorted."""
+    spent = []
+    for request in requests:
+        begun = time.perf_counter_ns()
+        ask(request)
+        spent.append((time.perf_counter_ns() - begun) / 1e3)
+    return sorted(spent)
+
+
+def records_of(path):
+    """A load's rows and requests, each a line."""
+    with open(path, "rb") as text:
+        lines = text.readlines()
+    rows = next((at for at, line in enumerate(lines) if not line.split(b",", 2)[1].startswith(b"+")), len(lines))
+    return lines[:rows], lines[rows:]
+
+
+def session(words, path, log):
+    """Of a client that waits for each reply, the microseconds of each, sorted."""
+    rows, requests = records_of(path)
+    process = subprocess.Popen([*words, *anew(log)], stdin=subprocess.PIPE, stdout=subprocess.PIPE, bufsize=0)
+    given, taken = process.stdin.fileno(), process.stdout.fileno()
+
+    def ask(request):
+        os.write(given, request)
+        if not os.read(taken, 1 << 16).endswith(b"\n"):
+            raise SystemExit(f"{' '.join(words)}: no reply to {request!r}")
+
+    os.write(given, b"".join(rows))
+    ask(VIEW)
+    spent = timed(ask, requests)
+    process.stdin.close()
+    if process.wait() != 0:
+        raise SystemExit(f"{' '.join(words)}: status {process.returncode}")
+    process.stdout.close()
+    return spent
+
+
+def whole(words, path, log):
+    """Seconds and megabytes of a whole command over a file."""
+    return programs.whole_of([*words, *anew(log)], path)
+
+
+def opening(words, rows, log):
+    """The seconds of a start with a log of these rows, to its first reply."""
+    with open(log, "wb") as text:
+        text.write(rows)
+    begun = time.perf_counter()
+    subprocess.run([*words, "--log", log], input=VIEW, stdout=subprocess.DEVNULL, check=True)
+    return time.perf_counter() - begun
+
+
+def memory_of_views(words, count):
+    """The megabytes that a command has had at most once it has answered so many views of an item."""
+    process = subprocess.Popen(words, stdin=subprocess.PIPE, stdout=subprocess.DEVNULL)
+    process.stdin.write(ITEM)
+    for _ in range(count // 1000):
+        process.stdin.write(VIEW * 1000)
+    process.stdin.flush()
+    # What is in the pipe is answered meanwhile.
+    time.sleep(0.5)
+    with open(f"/proc/{process.pid}/status") as text:
+        kilobytes = next(int(line.split()[1]) for line in text if line.startswith("VmHWM:"))
+    process.stdin.close()
+    if process.wait() != 0:
+        raise SystemExit(f"{' '.join(words)}: status {process.returncode}")
+    return kilobytes * 1024 / 1e6
+
+
+def redis_session(is_logged, path):
+    """What `session` gives, of Redis."""
+    rows, (requests,) = loads.read_load(path, 1)
+    with redis_server.Server(is_logged) as server:
+        server.open(rows)
+        return timed(server.ask_packed, [server.command(request) for request in requests])
+
+
+def redis_whole(is_logged, path):
+    """The seconds in which Redis answers the requests of a file, of which so many are sent before their replies are read."""
+    rows, (requests,) = loads.read_load(path, 1)
+    with redis_server.Server(is_logged) as server:
+        server.open(rows)
+        commands = [server.command(request) for request in requests]
+        begun = time.perf_counter()
+        for at in range(0, len(commands), PIPELINE):
+            block = commands[at : at + PIPELINE]
+            server.socket.sendall(b"".join(block))
+            server.pass_by(len(block))
+        return time.perf_counter() - begun
+
+
+def redis_replies(path):
+    """The replies of Redis to a load of one worker, as the program writes them."""
+    rows, (requests,) = loads.read_load(path, 1)
+    with redis_server.Server(False) as server:
+        server.open(rows)
+        return "".join(f"0,{index},{server.ask_packed(server.command(request))}\n" for index, request in enumerate(requests))
