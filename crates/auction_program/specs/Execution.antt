@@ -121,15 +121,15 @@ AnswersScripts options book scripts outcome =
     IsAnswer (opening_of options) book (policy_of options) scripts (hot_sets outcome.hot.items) outcome.history.entries
 
 -- the lines of its report, where there are some, are the views that the book at its end gives
-abbrev pub HasLastViews : Options → Book → Outcome → Option ReportLines → Type 0
-HasLastViews options book outcome lines = IfSome lines (λ shown.
-    AreViews (opening_of options) (book_after (opening_of options) book outcome.history.entries) shown.categories.items shown.users.items)
+abbrev pub HasLastViews : Options → Book → List Entry → Option ReportLines → Type 0
+HasLastViews options book history lines = IfSome lines (λ shown.
+    AreViews (opening_of options) (book_after (opening_of options) book history) shown.categories.items shown.users.items)
 
--- The scripts are performed from a book: the run is within the limits, its outcome answers them, and its lines are the last views.
+-- The scripts are performed from a book: the run is within the limits, its history answers them, and its lines are the last views.
 pub record Performs (options : Options) (book : Book) (scripts : List (List Request)) (performed : Performed) : Type 0 where
   pub allowed : IsAllowed (policy_of options) book scripts
-  pub answer : AnswersScripts options book scripts performed.outcome
-  pub lines : HasLastViews options book performed.outcome performed.lines
+  pub answer : IsAnswer (opening_of options) book (policy_of options) scripts (hot_sets performed.hot.items) performed.history.entries
+  pub lines : HasLastViews options book performed.history.entries performed.lines
 
 -- why scripts were not performed: no window could be made for a report, or the run was refused
 abbrev pub IsNotPerformed : Options → Fault → Book → List (List Request) → Type 0

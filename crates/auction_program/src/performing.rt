@@ -12,22 +12,43 @@ ghost use Rattle.auction_program.specs.Report.{AreViews, IsEnd};
 use crate::faults::Fault;
 use crate::options::Options;
 use crate::views::report_lines;
-use auction_rows::{Opening, Request};
+use auction_rows::{Object, Opening, Request};
 use auction_run::{FreeGate, Outcome, WindowBoard, run, run_shown};
 use auction_text::ReportLines;
 use auction_window::{PhaseLog, Publisher, Told, Window, WindowName};
+use indexmap::IndexSet;
 use item_shards::OpeningBook;
 use phase_floor::Joined;
 use std::alloc::Global;
 use std::marker::Brand;
 use std::sync::Wait;
 use std::thread::Threads;
+use worker_journals::History;
 
-/// What a run answered, and the lines of its report: none where it is not asked for, or memory was refused for them.
+/// What is told of a run, whose state is gone.
 #[derive(Drop)]
 pub struct Performed {
-    pub outcome: Outcome,
+    pub history: History,
+    /// What was hot in each phase.
+    pub hot: Vec<IndexSet<Object>>,
+    /// The lines of the report: none if it is not asked for, or memory was refused for them.
     pub lines: Option<ReportLines>,
+}
+
+// What is told of an outcome.
+fn told_of(outcome: Outcome, lines: Option<ReportLines>) -> Performed
+    ensures { result ≡ record { history = outcome.history; hot = outcome.hot; lines = lines } }
+{
+    let Outcome {
+        history,
+        hot,
+        state: _,
+    } = outcome;
+    Performed {
+        history,
+        hot,
+        lines,
+    }
 }
 
 /// Performs the scripts from a book on. Where a report is asked for, its lines are read through a window that was told of
@@ -49,10 +70,7 @@ pub fn perform<R: Threads + Wait + Sync>(
         return perform_watched::<Brand, R>(rt, alloc, PhaseLog::new(), book, scripts, options);
     }
     let outcome = run(rt, alloc, book, scripts, options.policy(), &FreeGate)?;
-    Ok(Performed {
-        outcome,
-        lines: None,
-    })
+    Ok(told_of(outcome, None))
 }
 
 // With a publisher of one window, which is ended whatever the run answers.
@@ -104,7 +122,7 @@ fn watch<J: WindowName, R: Threads + Wait + Sync>(
     let outcome = run_shown(rt, alloc, book, scripts, options.policy(), &FreeGate, board)?;
     let told = board.told.take();
     let lines = last_lines(alloc, told, window, &outcome.state, options.opening());
-    Ok(Performed { outcome, lines })
+    Ok(told_of(outcome, lines))
 }
 
 // The lines of the report at the end of a run: none where memory was refused for them.

@@ -24,24 +24,23 @@ pub fn write_texts<R: Threads + Sync, W: Write>(
     rows: &[Row],
     performed: &Performed,
 ) -> Result<(), WriteFault>
-    requires { HasLastViews options.now rows.now performed.now.outcome performed.now.lines }
+    requires { HasLastViews options.now rows.now performed.now.history.entries performed.now.lines }
     ensures whole { OnOk result (AreWritten (W.contents writer.old) (W.contents writer.new)
-        (commits_text options.now rows.now performed.now.outcome.history.entries)
-        (added_text options.now rows.now performed.now.outcome.history.entries (hot_sets performed.now.outcome.hot.items))) }
+        (commits_text options.now rows.now performed.now.history.entries)
+        (added_text options.now rows.now performed.now.history.entries (hot_sets performed.now.hot.items))) }
     ensures part { IfErr result (λ fault. fault ≡ WriteFault.Write → ArePartWritten (W.contents writer.old) (W.contents writer.new)
-        (commits_text options.now rows.now performed.now.outcome.history.entries)
-        (added_text options.now rows.now performed.now.outcome.history.entries (hot_sets performed.now.outcome.hot.items))) }
+        (commits_text options.now rows.now performed.now.history.entries)
+        (added_text options.now rows.now performed.now.history.entries (hot_sets performed.now.hot.items))) }
     ensures memory { IfErr result (λ fault. fault ≡ WriteFault.Memory → IsOneWritten options.now (W.contents writer.old) (W.contents writer.new)
-        (commits_text options.now rows.now performed.now.outcome.history.entries)
-        (added_text options.now rows.now performed.now.outcome.history.entries (hot_sets performed.now.outcome.hot.items))) }
+        (commits_text options.now rows.now performed.now.history.entries)
+        (added_text options.now rows.now performed.now.history.entries (hot_sets performed.now.hot.items))) }
 {
-    let outcome = &performed.outcome;
-    write_commits(rt, alloc, writer, options, rows, &outcome.history)?;
+    write_commits(rt, alloc, writer, options, rows, &performed.history)?;
     if !options.report {
         return Ok(());
     }
     match &performed.lines {
-        Some(lines) => write_report(alloc, writer, &outcome.history, &outcome.hot, lines),
+        Some(lines) => write_report(alloc, writer, &performed.history, &performed.hot, lines),
         None => Err(WriteFault::Memory),
     }
 }

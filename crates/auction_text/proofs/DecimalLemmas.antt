@@ -1,5 +1,5 @@
 -- The digits of a number where they lie, and the next one's.
-use Rattle.std.proofs.Common.{arith, ◌≡◌, ◌∙◌, ◌<◌, ◌≤◌, ◌+◌, ◌-◌, ◌/◌, ◌%◌, ◌^◌, ℕ, List, [], ◌∷◌, ◌++◌, ap, ap₂, decimal, drop, get_or, inl, inr, length, length-append, refl, set, sym, take}
+use Rattle.std.proofs.Common.{arith, ◌≡◌, ◌∙◌, ◌<◌, ◌≤◌, ◌+◌, ◌-◌, ◌/◌, ◌%◌, ◌^◌, ℕ, List, [], ◌∷◌, ◌++◌, ap, ap₂, decimal, drop, get_or, inl, inr, length, length-append, refl, set, subst, sym, take}
 use Rattle.std.proofs.Math.Seq.{get_or-append_seam, take-append-add, take-append_seam}
 use Rattle.std.proofs.lemmas.Fmt.{decimal_digit, decimal_nonempty, decimal_step}
 use Rattle.std.proofs.lemmas.Bool.{cases_lt}
@@ -38,6 +38,11 @@ module _ (bytes front : List ℕ) (len d : ℕ) (within : len ≤ length bytes) 
   last_at : len ≡ length front + 1
   last_at = omega (arith, length-take-le len bytes within, ap length is, length-append front (d ∷ []))
 
+  front_of : take (len - 1) bytes ≡ front
+  front_of =
+      let at : len - 1 ≡ length front = omega (arith, last_at) in
+      sym (take-take (len - 1) len bytes (omega arith)) ∙ ap₂ (λ (l : List ℕ) (i : ℕ). take i l) is at ∙ take-append_seam front (d ∷ [])
+
   last_read : get_or bytes (len - 1) 0 ≡ d
   last_read =
       let less : len - 1 < len = omega (arith, last_at) in
@@ -47,10 +52,14 @@ module _ (bytes front : List ℕ) (len d : ℕ) (within : len ≤ length bytes) 
   last_written : (v : ℕ) → take len (set bytes (len - 1) v) ≡ front ++ v ∷ []
   last_written v =
       let more : len - 1 + 1 ≡ len = omega (arith, last_at) in
-      let at : len - 1 ≡ length front = omega (arith, last_at) in
-      let before : take (len - 1) bytes ≡ front =
-      sym (take-take (len - 1) len bytes (omega arith)) ∙ ap₂ (λ (l : List ℕ) (i : ℕ). take i l) is at ∙ take-append_seam front (d ∷ []) in
-      ap (λ (i : ℕ). take i (set bytes (len - 1) v)) (sym more) ∙ take_more_set bytes (len - 1) v (omega (arith, last_at)) ∙ ap (λ (l : List ℕ). l ++ v ∷ []) before
+      ap (λ (i : ℕ). take i (set bytes (len - 1) v)) (sym more) ∙ take_more_set bytes (len - 1) v (omega (arith, last_at)) ∙ ap (λ (l : List ℕ). l ++ v ∷ []) front_of
+
+-- a number with two digits or more
+two_digits : (bytes : List ℕ) (len n : ℕ) → HasDigits bytes len n → n < 2 ^ 64 → 2 ≤ len → 10 ≤ n
+two_digits bytes len n has fits some = elim (cases_lt n 10) [
+  | inl few ↦ absurd (omega (arith, some, length-take-le len bytes has.within, ap length has.digits, ap length (decimal_digit n few)))
+  | inr many ↦ many
+]
 
 -- digits are counted up by the last one
 pub counted_up : (bytes : List ℕ) (len n next : ℕ) → HasDigits bytes len n → next ≡ n + 1 → next < 2 ^ 64 → get_or bytes (len - 1) 0 < 57
@@ -63,6 +72,31 @@ counted_up bytes len n next has is fits less =
     record {
       digits = last_written bytes e.front len (48 + n % 10) has.within here (get_or bytes (len - 1) 0 + 1) ∙ ap (λ (v : ℕ). e.front ++ (v + 1) ∷ []) read ∙ sym more;
       within = omega (arith, has.within, length-set bytes (len - 1) (get_or bytes (len - 1) 0 + 1));
+    }
+
+-- digits are counted up by the last two, if only the last one is a nine
+pub carried : (bytes : List ℕ) (len n next : ℕ) → HasDigits bytes len n → next ≡ n + 1 → next < 2 ^ 64 → 2 ≤ len → get_or bytes (len - 1) 0 ≡ 57 → get_or bytes (len - 2) 0 < 57
+    → HasDigits (set (set bytes (len - 2) (get_or bytes (len - 2) 0 + 1)) (len - 1) 48) len next
+carried bytes len n next has is fits some nine less =
+    let many : 10 ≤ n = two_digits bytes len n has (omega (arith, is, fits)) some in
+    let here = has.digits ∙ decimal_step n many (omega (arith, is, fits)) in
+    let read : 57 ≡ 48 + n % 10 = sym nine ∙ last_read bytes (decimal (n / 10)) len (48 + n % 10) has.within here in
+    let shorter : take (len - 1) bytes ≡ decimal (n / 10) = front_of bytes (decimal (n / 10)) len (48 + n % 10) has.within here in
+    let at : len - 1 - 1 ≡ len - 2 = omega arith in
+    let tens : HasDigits (set bytes (len - 2) (get_or bytes (len - 2) 0 + 1)) (len - 1) (n / 10 + 1) =
+    subst (λ (k : ℕ). HasDigits (set bytes k (get_or bytes k 0 + 1)) (len - 1) (n / 10 + 1)) at
+    (counted_up bytes (len - 1) (n / 10) (n / 10 + 1) (record { digits = shorter; within = omega (arith, has.within) }) refl (omega (arith, is, fits))
+    (subst (λ (k : ℕ). get_or bytes k 0 < 57) (sym at) less)) in
+    let more : len - 1 + 1 ≡ len = omega (arith, some) in
+    let long : length (set bytes (len - 2) (get_or bytes (len - 2) 0 + 1)) ≡ length bytes = length-set bytes (len - 2) (get_or bytes (len - 2) 0 + 1) in
+    let up : next / 10 ≡ n / 10 + 1 = omega (arith, is, read) in
+    let zero : 48 + next % 10 ≡ 48 = omega (arith, is, read) in
+    record {
+      digits = ap (λ (i : ℕ). take i (set (set bytes (len - 2) (get_or bytes (len - 2) 0 + 1)) (len - 1) 48)) (sym more)
+          ∙ take_more_set (set bytes (len - 2) (get_or bytes (len - 2) 0 + 1)) (len - 1) 48 (omega (arith, has.within, long))
+          ∙ ap₂ (λ (l : List ℕ) (d : ℕ). l ++ d ∷ []) (tens.digits ∙ ap decimal (sym up)) (sym zero)
+          ∙ sym (decimal_step next (omega (arith, is, many)) fits);
+      within = omega (arith, has.within, long, length-set (set bytes (len - 2) (get_or bytes (len - 2) 0 + 1)) (len - 1) 48);
     }
 
 -- digits that are put down at a place, with what lies behind them

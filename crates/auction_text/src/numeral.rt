@@ -58,7 +58,7 @@ impl Numeral {
         ensures { self.new ≡ number }
     {
         if !self.count_up_to(number) {
-            self.set(number);
+            self.turn_over(number);
         }
     }
 
@@ -68,10 +68,7 @@ impl Numeral {
         ensures { IsTrue result → self.new ≡ number }
     {
         let last = self.digits[self.len - 1];
-        let Some(next) = self.number.checked_add(1) else {
-            return false;
-        };
-        if number != next || last >= b'9' {
+        if number == 0 || self.number != number - 1 || last >= b'9' {
             return false;
         }
         self.digits[self.len - 1] = last + 1;
@@ -79,7 +76,33 @@ impl Numeral {
         true
     }
 
+    // The same of one that is not the next one, or ends in a zero.
     #[inline(never)]
+    fn turn_over(&mut self, number: u64)
+        ensures { self.new ≡ number }
+    {
+        if !self.carry_to(number) {
+            self.set(number);
+        }
+    }
+
+    // Counts it up, where the number is the next one, the last digit is a nine and the one before it is none.
+    fn carry_to(&mut self, number: u64) -> bool
+        ensures { IsTrue result → self.new ≡ number }
+    {
+        if self.len < 2 {
+            return false;
+        }
+        let (tens, last) = (self.digits[self.len - 2], self.digits[self.len - 1]);
+        if number == 0 || self.number != number - 1 || last != b'9' || tens >= b'9' {
+            return false;
+        }
+        self.digits[self.len - 2] = tens + 1;
+        self.digits[self.len - 1] = b'0';
+        self.number = number;
+        true
+    }
+
     fn set(&mut self, number: u64)
         ensures { self.new ≡ number }
     {

@@ -53,9 +53,11 @@ where
     R: Input + Print + Alloc<A = Global> + Threads + Wait + Sync,
 {
     let alloc = rt.alloc();
+    // The reader is large, and what is left of the input moves from part to part.
+    let mut reader = rt.reader();
     let source = Source {
         logged: Vec::new(alloc),
-        reader: rt.reader(),
+        reader: &mut reader,
     };
     let mut teller = Teller {
         log: NoLog,
@@ -79,9 +81,10 @@ where
             "rubis_auction: {cut} bytes of a cut line taken off the log"
         );
     }
+    let mut reader = rt.reader();
     let source = Source {
         logged: rows,
-        reader: rt.reader(),
+        reader: &mut reader,
     };
     let mut teller = Teller {
         log,

@@ -11,10 +11,11 @@ use Rattle.auction_run.proofs.BoardLemmas.{rows_length}
 use Rattle.auction_window.specs.Published.{book_of}
 use Rattle.item_shards.specs.OpeningBooks as opened
 use Rattle.phase_floor.specs.States.{StandsFor}
-use Rattle.auction_program.specs.Execution.{IsNotPerformed, IsNotRun}
+use Rattle.auction_program.specs.Execution.{HasLastViews, IsNotPerformed, IsNotRun}
 use Rattle.auction_program.specs.Options.{opening_of}
 use Rattle.auction_program.specs.Report.{AreViews, IsEnd}
 use Rattle.auction_program.specs.declared.faults.Fault.TheVariants.{Run}
+use Rattle.auction_program.specs.declared.performing.Performed.{Performed}
 use Rattle.auction_program.proofs.Answering.{error_is, not_run}
 use Rattle.auction_program.proofs.performing.watch.Goals as goal
 
@@ -41,8 +42,9 @@ returns-clause-performs g c =
     record {
       allowed = search rules;
       answer = search rules;
-      lines = IfSome_then c.last_lines-lines.result c.last_lines-lines.ensures
-          (λ lines holds. subst (λ o. AreViews o book lines.categories.items lines.users.items) (sym c.requires.opening ∙ c.requires.options) (holds all book told end));
+      lines = subst (λ (told : Performed). HasLastViews options rows told.history.entries told.lines) (sym c.told_of.ensures)
+          (IfSome_then c.last_lines-lines.result c.last_lines-lines.ensures
+          (λ lines holds. subst (λ o. AreViews o book lines.categories.items lines.users.items) (sym c.requires.opening ∙ c.requires.options) (holds all book told end)));
     }
 
 pub returns-in_err-outcome-clause-cause : goal.returns-in_err-outcome-clause-cause

@@ -19,8 +19,8 @@ returns-in-Some g c =
     let new = g.W.Write.contents c.write_report.new.writer in
     let options = c.args.options.now in
     let rows = c.args.rows.now in
-    let history = c.args.performed.now.outcome.history.entries in
-    let hot = hot_sets c.args.performed.now.outcome.hot.items in
+    let history = c.args.performed.now.history.entries in
+    let hot = hot_sets c.args.performed.now.hot.items in
     let text = commits_text options rows history in
     let added = added_text options rows history hot in
     let first : Appends old mid text = c.in_ok-write_commits.ensures.whole in
@@ -42,8 +42,8 @@ pub returns-then-not-options-clause-whole : goal.returns-then-not-options-clause
 returns-then-not-options-clause-whole g c =
     let options = c.args.options.now in
     let rows = c.args.rows.now in
-    let history = c.args.performed.now.outcome.history.entries in
-    let hot = hot_sets c.args.performed.now.outcome.hot.items in
+    let history = c.args.performed.now.history.entries in
+    let hot = hot_sets c.args.performed.now.hot.items in
     let new = g.W.Write.contents c.write_commits.new.writer in
     nothing_added (g.W.Write.contents c.args.writer.now) new new (commits_text options rows history) (added_text options rows history hot)
     (ap (λ b. if b then report_of (opening_of options) (book_after (opening_of options) rows history) history hot else []) c.if-not-options.true)

@@ -1,0 +1,111 @@
+//! Where the parts of an input end, by what its reader gives at a time.
+ghost use Rattle.std.specs.Prelude.{◌≤◌};
+
+use crate::comparing::assert_same;
+use auction_text::{Cause, InputLeft, Part, PartEnd, ReadFault};
+use std::alloc::Global;
+use std::io;
+use std::io::Read;
+use std::process::Abort;
+use std::test::Fail;
+
+// Gives a piece at each read.
+#[derive(Drop)]
+struct Pieces {
+    pieces: &'static [&'static [u8]],
+    at: usize,
+}
+
+impl Read for Pieces {
+    fn read(&mut self, buf: &mut [u8]) -> io::Result<usize> {
+        let Some(piece) = self.pieces.get(self.at) else {
+            return Ok(0);
+        };
+        self.at = self.at.saturating_add(1);
+        let mut rest = *piece;
+        rest.read(buf)
+    }
+}
+
+// How many requests each part has, of at most so many, and the fault that ends them.
+fn parts_of(
+    alloc: Global,
+    pieces: &'static [&'static [u8]],
+    most: u32,
+) -> Result<(Vec<usize>, Option<ReadFault>), Fail>
+    requires { 1 ≤ most }
+{
+    let mut counts = Vec::new(alloc);
+    let mut left = InputLeft::of(alloc, Pieces { pieces, at: 0 }, 1)?;
+    for _ in 0..u64::MAX {
+        let Part { input, end } = left.next_part(alloc, most)?;
+        counts.push(input.scripts[0].len())?;
+        left = match end {
+            PartEnd::More(left) => left,
+            PartEnd::All => return Ok((counts, None)),
+            PartEnd::Fault(fault) => return Ok((counts, Some(fault))),
+        };
+    }
+    Err(Fail::new("an input without end"))
+}
+
+// Asserts how many requests each part has.
+fn assert_parts(
+    rt: &impl Abort,
+    alloc: Global,
+    pieces: &'static [&'static [u8]],
+    most: u32,
+    counts: &[usize],
+    fault: Option<ReadFault>,
+) -> Result<(), Fail>
+    requires { 1 ≤ most }
+{
+    let (found, met) = parts_of(alloc, pieces, most)?;
+    assert_same(rt, &(found.as_slice(), met), &(counts, fault));
+    Ok(())
+}
+
+#[test]
+fn a_part_ends_where_more_would_have_to_be_waited_for(rt: HostRuntime) -> Result<(), Fail> {
+    let alloc = rt.alloc();
+    let halves: &[&[u8]] = &[b"0,viewuser,0\n0,view", b"user,1\n", b"0,viewuser,2"];
+    assert_parts(&rt, alloc, halves, 9, &[1, 1, 1, 0], None)?;
+    let quoted: &[&[u8]] = &[
+        b"0,\"viewuser\",0\r\n0,viewuser,0\r\n",
+        b"\r\n0,viewuser,1\r\n",
+    ];
+    assert_parts(&rt, alloc, quoted, 9, &[2, 1, 0], None)?;
+    let returns: &[&[u8]] = &[b"0,viewuser,0\r", b"0,viewuser,1\r0,viewuser,2\r"];
+    assert_parts(&rt, alloc, returns, 9, &[1, 1, 1, 0], None)
+}
+
+#[test]
+fn a_part_has_at_most_so_many_requests(rt: HostRuntime) -> Result<(), Fail> {
+    let alloc = rt.alloc();
+    let five: &[&[u8]] = &[
+        b"0,viewuser,0\n0,viewuser,0\n0,viewuser,0\n0,viewuser,0\n0,viewuser,0\n",
+    ];
+    assert_parts(&rt, alloc, five, 2, &[2, 2, 1, 0], None)?;
+    assert_parts(&rt, alloc, five, 5, &[5, 0], None)
+}
+
+#[test]
+fn what_stands_before_a_fault_is_read(rt: HostRuntime) -> Result<(), Fail> {
+    let alloc = rt.alloc();
+    let bad: &[&[u8]] = &[b"0,viewuser,0\n0,viewuser,0\nbad\n0,viewuser,0\n"];
+    let fault = Some(ReadFault::Line(3, Cause::Number));
+    assert_parts(&rt, alloc, bad, 9, &[2, 0], fault)?;
+    assert_parts(&rt, alloc, bad, 1, &[1, 1, 0], fault)?;
+    let late: &[&[u8]] = &[
+        b"0,+comment,0,1,0.0,1\n0,viewuser,0\n",
+        b"0,+comment,0,1,0.0,1\n",
+    ];
+    assert_parts(
+        &rt,
+        alloc,
+        late,
+        9,
+        &[1, 0],
+        Some(ReadFault::Line(3, Cause::Late)),
+    )
+}
