@@ -5,7 +5,7 @@ pub const DESCRIPTION: Description<'static> = Description {
     about: "Writes a load for rubis_auction: rows with items, then requests of all workers.",
     usage: "rubis_load [OPTIONS] > OUTPUT",
     after: "\
-The remaining percentage is bids. Equal options give equal bytes.
+All other requests are bids. The same options give the same bytes.
 Reads nothing. Writes a record per line to standard output, in the format that rubis_auction reads;
 give that program at least the same --workers, --users and --categories.
 Faults, this help and the version go to standard error.
@@ -18,15 +18,16 @@ Examples:
 
 pub const REQUESTS: &str = "Requests, 0 to 16000000";
 
-pub const WORKERS: &str = "Workers to whom they are dealt by turns, 1 to 16";
+pub const WORKERS: &str = "Workers that get the requests in turn, 1 to 16";
 
-pub const ITEMS: &str = "Items in rows, 1 to 1000000";
+pub const ITEMS: &str = "Items, each in a row at the beginning, 1 to 1000000";
 
 pub const USERS: &str = "Users, 1 to 1000000";
 
 pub const CATEGORIES: &str = "Categories, 1 to 1000000";
 
-pub const SKEW: &str = "Exponent of Zipf's law for items, in hundredths, 0 to 200";
+pub const SKEW: &str =
+    "Exponent of Zipf's law for items, in hundredths (100 is exponent 1), 0 to 200";
 
 pub const VIEWS: &str = "Percentage of views, 0 to 100";
 
