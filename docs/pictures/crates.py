@@ -19,8 +19,9 @@ LAYERS = {
     "engine": {"shard_boxes": 690, "phase_contexts": 575, "phase_transactions": 600, "phase_permits": 960, "phase_closing": 640, "phase_floor": 630,
                "phase_workers": 420, "auction_run": 560},
     "texts": {"program_options": 420, "auction_text": 940, "part_log": 860, "history_check": 230},
-    "programs, examples and tests": {"auction_program": 560, "load_program": 940, "rubis_auction": 490, "rubis_check": 300, "rubis_load": 940,
-                                     "watch_auction": 780, "engine_tests": 630, "phase_tests": 673, "hot_vase": 195, "drive_phases": 423},
+    "programs, examples and tests": {"auction_program": 645, "load_program": 983, "rubis_auction": 575, "rubis_check": 300, "rubis_load": 983,
+                                     "watch_auction": 869, "engine_tests": 524, "program_tests": 715, "phase_tests": 762, "hot_vase": 195,
+                                     "drive_phases": 415},
 }
 MODEL = "auction_rows"
 KNOWS, KNOWS_NOT = "#b3261e", "#3d6e91"
