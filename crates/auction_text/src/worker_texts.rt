@@ -14,11 +14,11 @@ use std::io::Write;
 use std::thread::{Threads, map_indices};
 use worker_journals::History;
 
-// The bytes that the reply to a bid takes at most where numbers have six digits: so much room is asked for ahead for each of a
-// worker's replies, and longer ones make its text grow.
-const ROOM_OF_A_REPLY: usize = 25;
+// So much room is asked for ahead for each of a worker's replies: few take more, and of it all only what is filled is touched. A text
+// that grows is copied, and the memory that it leaves may stay with the program.
+const ROOM_OF_A_REPLY: usize = 128;
 
-// A worker's replies, with room for so many to bids.
+// A worker's replies, with room for so many.
 fn worker_text(
     alloc: Global,
     history: &History,
