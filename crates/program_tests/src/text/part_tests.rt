@@ -39,7 +39,8 @@ fn parts_of(
     let mut left = InputLeft::of(alloc, Pieces { pieces, at: 0 }, 1)?;
     for _ in 0..u64::MAX {
         let Part { input, end } = left.next_part(alloc, most)?;
-        counts.push(input.scripts[0].len())?;
+        let script = input.scripts.first().ok_or("a script")?;
+        counts.push(script.len())?;
         left = match end {
             PartEnd::More(left) => left,
             PartEnd::All => return Ok((counts, None)),
