@@ -1,5 +1,5 @@
-"""Bids and views of items in Redis, for bench/run alone: a server of its own on loopback, a sorted set of the highest bids of each item and its counters, and a
-script in Lua for each request, which the server executes as one transaction."""
+"""Bids and views in Redis, for bench/run alone: a server of its own on loopback, a sorted set of the highest bids of each item and its counters, a sorted set of the
+latest items of each category, and a script in Lua for each request, which the server executes as one transaction. No load of it has comments or new items."""
 import shutil
 import socket
 import subprocess
@@ -11,6 +11,15 @@ SERVER = "redis-server"
 # A member of the sorted set has time and id in order, since of equal scores the members decide.
 SCRIPT = """
 local kind, item = ARGV[1], 'item:' .. ARGV[2]
+if kind == 'viewuser' then
+  local score = redis.call('HMGET', 'user:' .. ARGV[2], 'rating', 'comments')
+  return 'user rating=' .. (score[1] or 0) .. ' comments=' .. (score[2] or 0)
+end
+if kind == 'viewcategory' then
+  local latest, text = redis.call('ZREVRANGE', 'category:' .. ARGV[2], 0, 9, 'WITHSCORES'), 'latest'
+  for at = 1, #latest, 2 do text = text .. ' ' .. latest[at + 1] .. ':' .. latest[at] end
+  return text
+end
 local row = redis.call('HMGET', item, 'seller', 'category', 'start', 'closes', 'bids', 'left', 'name')
 if not row[1] then return 'refused 3 NoSuchItem' end
 local function padded(digits) return string.rep('0', 20 - #digits) .. digits end
@@ -23,6 +32,14 @@ if kind == 'bid' then
   redis.call('ZADD', 'top:' .. item, amount, padded(time) .. ':' .. padded(tostring(serial)) .. ':' .. bidder)
   redis.call('ZREMRANGEBYRANK', 'top:' .. item, 0, -11)
   return 'bid 0.' .. serial
+end
+if kind == 'viewbids' then
+  local bids, text = redis.call('ZREVRANGE', 'top:' .. item, 0, 9, 'WITHSCORES'), 'bids'
+  for at = 1, #bids, 2 do
+    local time, serial, bidder = string.match(bids[at], '^0*(%d+):0*(%d+):(%d+)$')
+    text = text .. ' ' .. bids[at + 1] .. ':' .. time .. ':' .. bidder .. ':0.' .. serial
+  end
+  return text
 end
 local top, highest, bidder = redis.call('ZREVRANGE', 'top:' .. item, 0, 0, 'WITHSCORES'), '-', '-'
 if top[1] then highest, bidder = top[2], string.match(top[1], '[^:]*$') end
@@ -107,8 +124,11 @@ class Server:
         for serial, row in enumerate(rows):
             self.ask("HSET", f"item:0.{serial}", "seller", row.who, "category", row.other, "start", row.start, "closes", row.closes, "bids", 0,
                      "left", row.number, "name", row.name)
+            self.ask("ZADD", f"category:{row.other}", row.time, f"0.{serial}")
 
     def command(self, record):
+        if record.kind in ("viewuser", "viewcategory"):
+            return packed("EVALSHA", self.script, 0, record.kind, record.who)
         item = f"{record.item_worker}.{record.item_serial}"
         fields = (record.who, record.amount, record.time) if record.kind == "bid" else ()
         return packed("EVALSHA", self.script, 0, record.kind, item, *fields)
