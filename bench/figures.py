@@ -9,7 +9,7 @@ import loads
 import postgres
 import redis_server
 import serving
-from measures import BIDDING, CATEGORIES, LARGE, ONE_ITEM, SMALL, UNIFORM, USERS, VIEWED, Load, Policy, Tries
+from measures import BIDDING, CATEGORIES, LARGE, ONE_ITEM, SERVING, SMALL, UNIFORM, USERS, VIEWED, Load, Policy, Tries
 
 AUCTION, UNSPLIT, USUAL = "the auction", "the auction, nothing split", "the auction, default quotas"
 PHASES, SHARDS, LOCK = "plain Rust, the same phases", "plain Rust, a lock a shard", "plain Rust, one lock"
@@ -300,7 +300,7 @@ def live_words(most, is_logged):
 
 def live(systems, asked):
     """Replies while requests come: of one worker, by the most requests of a part, with a log and without, beside Redis and PostgreSQL."""
-    words, path = systems.command("program", Policy(), 1), systems.load(VIEWED, 1, asked.requests)
+    words, path = systems.command("program", Policy(SERVING), 1), systems.load(VIEWED, 1, asked.requests)
     yield live_row(AT_ONCE, WHOLE_RATE, rate_of(asked, path, lambda: serving.whole(words, path, None)[0]), asked.requests)
     for is_logged in (False, True):
         for most in (1, 1000) if asked.fast else MOST_OF_PARTS:
@@ -325,7 +325,7 @@ def live_views(asked, words):
     for count in (100_000, 1_000_000) if asked.fast else (1_000_000, 20_000_000):
         say(f"{count} views, --live 1000")
         megabytes = serving.memory_of_views([*words, "--live=1000"], count)
-        yield row_of("live", Load("views"), Policy(), MEMORY, megabytes, 1, count, live_words(1000, False))
+        yield row_of("live", Load("views"), Policy(SERVING), MEMORY, megabytes, 1, count, live_words(1000, False))
 
 
 def live_opening(systems, asked, words):
@@ -345,7 +345,7 @@ def rate_of(asked, path, seconds):
 
 
 def live_row(system, measure, found, requests):
-    return row_of("live", VIEWED, Policy(), measure, found, 1, requests, system)
+    return row_of("live", VIEWED, Policy(SERVING), measure, found, 1, requests, system)
 
 
 def wait_rows(system, spent):

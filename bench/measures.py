@@ -16,6 +16,8 @@ import redis_server
 USERS, CATEGORIES, ITEMS, SHARDS = 1000, 100, 10_000, 16
 
 SMALL, LARGE = (64, 64), (64, 4096)
+# With replies while requests come, a part of at most so many requests is one joined phase.
+SERVING = (128, 4096)
 
 # What `rubis_check` ends with where a request stands in no line.
 LACKING = 6

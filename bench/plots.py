@@ -91,7 +91,7 @@ def by_workers(rows, place):
     present = [system for system in SYSTEMS if any(row.system == system for row in rows)]
     parts += entries([(legend(system), STYLES[system]) for system in present], 200, 440, 360)
     about = f"Three panels, one for each of {', '.join(loads)}; a line for each system. The table below it has the figures.{bars_said(rows)}"
-    return picture(1080, 560, title, about, parts + foot(560, place, bars_said(rows)))
+    return picture(1080, 584, title, about, parts + foot(584, place, bars_said(rows)))
 
 
 def by_skew(rows, place):
