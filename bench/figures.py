@@ -324,7 +324,7 @@ def live_program(systems, asked, words, most, is_logged):
 def live_views(asked, words):
     for count in (100_000, 1_000_000) if asked.fast else (1_000_000, 20_000_000):
         say(f"{count} views, --live 1000")
-        megabytes = serving.memory_of_views([*words, "--live=1000"], count)
+        megabytes = Tries.of(serving.memory_of_views([*words, "--live=1000"], count) for _ in range(asked.tries))
         yield row_of("live", Load("views"), Policy(SERVING), MEMORY, megabytes, 1, count, live_words(1000, False))
 
 

@@ -85,15 +85,25 @@ def spread(rows):
 
 
 def by_workers(rows):
-    """A table for each load."""
+    """A table for each load, and one of the databases; one lock is in the plot alone."""
     rows = values(rows, table="workers")
     counts = sorted({row.workers for row in rows})
     parts = []
     for load in dict.fromkeys(row.load for row in rows):
-        own = values(rows, load=load)
+        own = [row for row in values(rows, load=load) if row.system not in (figures.LOCK, *figures.DATABASES)]
         lines = [[system, *(number(value(own, system=system, workers=count)) for count in counts)] for system in present(own)]
         parts.append(table([f"Requests per second, {plots.load_title(load)}, by workers", *map(str, counts)], lines))
-    return "\n".join(parts)
+    return "\n".join(parts + databases([row for row in rows if row.system in figures.DATABASES]))
+
+
+def databases(rows):
+    """With as many workers as the other tables have."""
+    if not rows:
+        return []
+    workers = max(row.workers for row in rows)
+    loads = list(dict.fromkeys(row.load for row in rows))
+    lines = [[system, *(number(value(rows, load=load, system=system, workers=workers)) for load in loads)] for system in present(rows)]
+    return [table([f"Requests per second, {workers} workers", *map(plots.load_title, loads)], lines)]
 
 
 def by_skew(rows):
@@ -117,8 +127,8 @@ def by_answers(rows):
     lines = []
     for joined, split in dict.fromkeys((row.joined, row.split) for row in rows):
         same = values(rows, joined=joined, split=split)
-        lines.append([f"{joined} / {split}", *(number(value(same, load=load, hot=hot)) for load in loads for hot in (8, 0))])
-    return table(["Answering, s, by quotas", *(f"{load}{', nothing split' * (hot == 0)}" for load in loads for hot in (8, 0))], lines)
+        lines.append([f"{joined} / {split}", *(number(value(same, load=load, hot=8)) for load in loads)])
+    return table(["Answering, s, by quotas", *loads], lines)
 
 
 def by_delay(rows):
@@ -147,7 +157,7 @@ def whole(rows):
     loads = list(dict.fromkeys(row.load for row in rows))
     cells = {(row.system, row.load, row.measure): number(row.value) for row in rows}
     lines = [[system, *(" / ".join(cells.get((system, load, measure), "-") for measure in (SECONDS, ANSWER, MEMORY)) for load in loads)]
-             for system in present(rows)]
+             for system in present(rows) if system != figures.LOCK]
     return table(["Whole command, s / answering, s / peak memory, MB", *loads], lines)
 
 
@@ -170,7 +180,8 @@ def memory(rows):
 
 def checking(rows):
     rows = values(rows, table="checking")
-    counts = sorted({row.requests for row in rows})
+    # Each is twice the one before: every other one shows that time and memory grow with the requests.
+    counts = sorted({row.requests for row in rows})[::2]
     cells = {(row.load, row.requests, row.measure): number(row.value) for row in rows}
     lines = [[load, *(" / ".join(cells.get((load, count, measure), "-") for measure in (SECONDS, SCRIPTS, MEMORY)) for count in counts)]
              for load in dict.fromkeys(row.load for row in rows)]
@@ -186,7 +197,7 @@ def instructions(rows):
     loads = list(dict.fromkeys(row.load for row in rows))
     heads = [f"{load}{', nothing split' * (system == UNSPLIT)}" for load in loads for system in (AUCTION, UNSPLIT)]
     lines = [[NAMED.get(measure, measure), *(number(value(rows, load=load, system=system, measure=measure)) for load in loads for system in (AUCTION, UNSPLIT))]
-             for measure in INSTRUCTIONS]
+             for measure in INSTRUCTIONS if any(row.value for row in values(rows, measure=measure))]
     return table(["Instructions per request, one worker", *heads], lines)
 
 
@@ -377,7 +388,7 @@ def heading(asked, systems, rows, when, seconds):
     lines.append("")
     if systems.server:
         lines.append(f"PostgreSQL {systems.server_version} executes the first {systems.few():,} requests of each load, or as many of these as it can in "
-                     f"about {asked.seconds:g} s (`figures.csv` has the number).")
+                     f"about {asked.seconds:g} s.")
     if redis_server.is_there() and "redis" not in asked.skip:
         lines.append(f"Redis is {redis_server.version()}.")
     if "sqlite" not in asked.skip:
