@@ -11,7 +11,7 @@ import redis_server
 import serving
 from measures import BIDDING, CATEGORIES, LARGE, ONE_ITEM, SERVING, SMALL, UNIFORM, USERS, VIEWED, Load, Policy, Tries
 
-AUCTION, UNSPLIT, USUAL = "the auction", "the auction, nothing split", "the auction, default quotas"
+AUCTION, UNSPLIT, USUAL = "the auction", "the auction, without splitting", "the auction, default quotas"
 PHASES, SHARDS, LOCK = "plain Rust, the same phases", "plain Rust, a lock a shard", "plain Rust, one lock"
 ALONE = "plain Rust, one thread, no lock"
 SQLITE, POSTGRES = "SQLite in memory", "PostgreSQL"

@@ -81,7 +81,7 @@ def spread(rows):
     if not parts:
         return ""
     most, half = (f"{part * 100:.0f} %" for part in (parts[-1], parts[len(parts) // 2]))
-    return f"The least and the greatest try of a figure differ by at most {most} of it, and for half of the figures by at most {half}.\n"
+    return f"The least and the greatest try of a figure differ by at most {most} of the median, for half of the figures by at most {half}.\n"
 
 
 def by_workers(rows):
@@ -195,7 +195,7 @@ NAMED = {"of it the kit's reader of records": "of which the kit's CSV reader", "
 def instructions(rows):
     rows = values(rows, table="instructions")
     loads = list(dict.fromkeys(row.load for row in rows))
-    heads = [f"{load}{', nothing split' * (system == UNSPLIT)}" for load in loads for system in (AUCTION, UNSPLIT)]
+    heads = [f"{load}{', without splitting' * (system == UNSPLIT)}" for load in loads for system in (AUCTION, UNSPLIT)]
     lines = [[NAMED.get(measure, measure), *(number(value(rows, load=load, system=system, measure=measure)) for load in loads for system in (AUCTION, UNSPLIT))]
              for measure in INSTRUCTIONS if any(row.value for row in values(rows, measure=measure))]
     return table(["Instructions per request, one worker", *heads], lines)
@@ -213,7 +213,7 @@ def windows(rows):
         own = beside[at:end]
         shown = "nobody" if row.workers == 0 else f"{row.workers} window{'s' * (row.workers > 1)}" + ("" if value(own, measure=VIEW) else ", no views")
         lines.append([shown, number(row.value), number(value(own, measure=PUBLISHING)), number(value(own, measure=VIEW))])
-    return text + "\n" + table(["A million bids by four workers on one item, published to", "Seconds", "Publishing, s", "Nanoseconds per view meanwhile"], lines)
+    return text + "\n" + table(["1,000,000 bids by 4 workers on one item, published to", "Seconds", "Publishing, s", "Nanoseconds per view meanwhile"], lines)
 
 
 def work_beside_plain(rows):
@@ -223,7 +223,7 @@ def work_beside_plain(rows):
     ways = list(dict.fromkeys((row.workers, row.joined, row.split) for row in rows))
     lines = [[f"{system}, {in_workers(workers)}, {joined} / {split}", *(" / ".join(map(number, all_and_first(rows, load, system, workers, split))) for load in loads)]
              for workers, joined, split in ways for system in present(rows)]
-    heads = ["Instructions per request, whole command; with several workers all threads / first thread", *map(plots.load_title, loads)]
+    heads = ["Instructions per request, whole command (4 workers: all threads / first thread)", *map(plots.load_title, loads)]
     return table(heads, lines) + most_gain(rows, loads)
 
 
@@ -299,7 +299,7 @@ def tables(rows):
 
 
 # The systems that README.md shows, with their names there.
-SHOWN = {AUCTION: "Fundreivo", UNSPLIT: "Fundreivo, nothing split", figures.PHASES: "the same algorithm in plain Rust",
+SHOWN = {AUCTION: "Fundreivo", UNSPLIT: "Fundreivo, without splitting", figures.PHASES: "the same algorithm in plain Rust",
          figures.ALONE: "plain Rust, one thread, no locks"}
 
 
@@ -346,8 +346,8 @@ def gain(rows):
     split, unsplit = (value(rows, system=system) for system in (AUCTION, UNSPLIT))
     if not (split and unsplit):
         return LEFT_OUT
-    return (f"All bids on one item, {in_workers(rows[0].workers)}, `--split {LARGE[1]}`: {in_words(split)} requests per second, "
-            f"{in_words(unsplit)} without splitting")
+    return (f"{in_words(split)} requests per second instead of {in_words(unsplit)} "
+            f"(all bids on one item, {in_workers(rows[0].workers)}, `--split {LARGE[1]}`)")
 
 
 def usual(rows):
@@ -387,7 +387,7 @@ def heading(asked, systems, rows, when, seconds):
         lines.append("    watch_auction bench")
     lines.append("")
     if systems.server:
-        lines.append(f"PostgreSQL {systems.server_version} executes the first {systems.few():,} requests of each load, or as many of these as it can in "
+        lines.append(f"PostgreSQL {systems.server_version} executes as many of the first {systems.few():,} requests of each load as it can in "
                      f"about {asked.seconds:g} s.")
     if redis_server.is_there() and "redis" not in asked.skip:
         lines.append(f"Redis is {redis_server.version()}.")
