@@ -17,12 +17,12 @@ from program import DOCUMENTS, Tally
 from tutorial import copy_of_sources
 
 CRATE = "spending"
-LINE = f"{CRATE}: auction_rows shard_boxes phase_transactions auction_window left_right crossbeam_utils logbook\n"
+LINE = f"{CRATE}: auction_rows shard_boxes phase_permits auction_window left_right crossbeam_utils logbook\n"
 HEAD = """//! Functions that let go what has to be spent, or spend it twice.
 #![tactic(auto)]
 
 use auction_window::{Publisher, WindowName};
-use phase_transactions::{JoinedPermit, SplitPermit};
+use phase_permits::{JoinedPermit, SplitPermit};
 use shard_boxes::{Boxes, Held, Key, PhaseName};
 use std::sync::Wait;
 

@@ -16,7 +16,7 @@ LAYERS = {
     "theory": {"phase_laws": 420, "run_laws": 210, "ghost_log": 860},
     "model and records": {"auction_rows": 420, "split_records": 670, "top_records": 670, "item_shards": 690, "worker_journals": 420, "run_serving": 210,
                           "auction_window": 350, "mean_price": 880},
-    "engine": {"shard_boxes": 690, "phase_contexts": 575, "phase_transactions": 600, "phase_permits": 960, "phase_closing": 640, "phase_floor": 630,
+    "engine": {"shard_boxes": 690, "phase_permits": 600, "phase_closing": 640, "phase_floor": 630,
                "phase_workers": 420, "auction_run": 560},
     "texts": {"program_options": 420, "auction_text": 940, "part_log": 860, "history_check": 230},
     "programs, examples and tests": {"auction_program": 645, "load_program": 983, "rubis_auction": 575, "rubis_check": 300, "rubis_load": 983,

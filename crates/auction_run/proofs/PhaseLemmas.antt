@@ -23,12 +23,12 @@ use Rattle.run_serving.specs.Serving.{call_of, script_of}
 use Rattle.run_serving.proofs.ScriptLemmas.{lists_length, past_end}
 use Rattle.shard_boxes.specs.Keys.{BoxId}
 use Rattle.shard_boxes.specs.States.{ShardState, state_of}
-use Rattle.phase_contexts.specs.Slicing.{objects_of, stocks_of, slices_of}
-use Rattle.phase_contexts.specs.Stashes.{StashState}
-use Rattle.phase_transactions.specs.declared.fault.PermitFault.{PermitFault}
-use Rattle.phase_transactions.specs.declared.fault.PermitFault.TheVariants as permit
-use Rattle.phase_transactions.specs.Permits.{PermitState}
-use Rattle.phase_transactions.specs.Single.{HaveOpening}
+use Rattle.phase_permits.specs.Slicing.{objects_of, stocks_of, slices_of}
+use Rattle.phase_permits.specs.Stashes.{StashState}
+use Rattle.phase_permits.specs.declared.fault.PermitFault.{PermitFault}
+use Rattle.phase_permits.specs.declared.fault.PermitFault.TheVariants as permit
+use Rattle.phase_permits.specs.Workers.{WorkerState}
+use Rattle.phase_permits.specs.Performing.{HaveOpening}
 use Rattle.phase_closing.specs.Phases.{no_receipt, receipt_at, journal_of, counters_of}
 use Rattle.phase_closing.specs.Standing.{StandFor, counters_at}
 use Rattle.worker_journals.specs.Histories.{HistoryView}
@@ -53,14 +53,14 @@ use Rattle.auction_run.proofs.ScriptLemmas.{past_stashes}
 
 -- ---- tasks, by worker
 
-pub tasks_all : (P : Task → Type 0) (permits : List PermitState) (scripts : List (List Request)) (first : ℕ) → length permits ≡ length scripts →
+pub tasks_all : (P : Task → Type 0) (permits : List WorkerState) (scripts : List (List Request)) (first : ℕ) → length permits ≡ length scripts →
     ((w : ℕ) → w < length permits → P (task (receipt_at permits w) (script_of scripts w) first)) → AllByRecursion P (tasks permits scripts first)
 tasks_all P [] scripts first same each = tt
 tasks_all P (p ∷ ps) [] first same each = absurd (omega (arith, same))
 tasks_all P (p ∷ ps) (s ∷ ss) first same each =
     (each 0 (omega arith), tasks_all P ps ss first (omega (arith, same)) (λ w less. each (suc w) (omega (arith, less))))
 
-pub done_count : (P : Task → PermitState → Type 0) (permits receipts : List PermitState) (scripts : List (List Request)) (first : ℕ) → length permits ≡ length scripts →
+pub done_count : (P : Task → WorkerState → Type 0) (permits receipts : List WorkerState) (scripts : List (List Request)) (first : ℕ) → length permits ≡ length scripts →
     AllZip P (tasks permits scripts first) receipts → length receipts ≡ length permits
 done_count P [] [] scripts first same all = refl
 done_count P [] (r ∷ rs) scripts first same all = absurd all
@@ -68,7 +68,7 @@ done_count P (p ∷ ps) receipts [] first same all = absurd (omega (arith, same)
 done_count P (p ∷ ps) [] (s ∷ ss) first same all = absurd all
 done_count P (p ∷ ps) (r ∷ rs) (s ∷ ss) first same all = ap suc (done_count P ps rs ss first (omega (arith, same)) all.1)
 
-pub done_at : (P : Task → PermitState → Type 0) (permits receipts : List PermitState) (scripts : List (List Request)) (first : ℕ) → length permits ≡ length scripts →
+pub done_at : (P : Task → WorkerState → Type 0) (permits receipts : List WorkerState) (scripts : List (List Request)) (first : ℕ) → length permits ≡ length scripts →
     AllZip P (tasks permits scripts first) receipts → (w : ℕ) → w < length permits → P (task (receipt_at permits w) (script_of scripts w) first) (receipt_at receipts w)
 done_at P [] receipts scripts first same all w less = absurd (omega (arith, less))
 done_at P (p ∷ ps) receipts [] first same all w less = absurd (omega (arith, same))
@@ -144,11 +144,11 @@ given_none policy phase =
 -- ---- what a phase takes of a stash
 
 -- it is all that waits, where nothing waits that is not taken
-all_are_taken : (takes : Bool) (permit : PermitState) (waiting : List (ℕ × Request)) → stashed permit ≡ waiting → (takes ≡ false → waiting ≡ []) → taken takes permit ≡ waiting
+all_are_taken : (takes : Bool) (permit : WorkerState) (waiting : List (ℕ × Request)) → stashed permit ≡ waiting → (takes ≡ false → waiting ≡ []) → taken takes permit ≡ waiting
 all_are_taken true permit waiting is none = is
 all_are_taken false permit waiting is none = sym (none refl)
 
-none_kept : (takes : Bool) (permit : PermitState) (waiting : List (ℕ × Request)) → stashed permit ≡ waiting → (takes ≡ false → waiting ≡ []) → kept takes permit ≡ []
+none_kept : (takes : Bool) (permit : WorkerState) (waiting : List (ℕ × Request)) → stashed permit ≡ waiting → (takes ≡ false → waiting ≡ []) → kept takes permit ≡ []
 none_kept true permit waiting is none = refl
 none_kept false permit waiting is none = is ∙ none refl
 
@@ -158,7 +158,7 @@ empty_at (q ∷ qs) zero = refl
 empty_at (q ∷ qs) (suc w) = empty_at qs w
 
 -- of the workers of a phase, by number
-of_workers : (phase n : ℕ) (permits : List PermitState) → ((w : ℕ) → w < length permits → IsPermitOf phase (n + w) (receipt_at permits w)) → ArePermitsOf phase n permits
+of_workers : (phase n : ℕ) (permits : List WorkerState) → ((w : ℕ) → w < length permits → IsPermitOf phase (n + w) (receipt_at permits w)) → ArePermitsOf phase n permits
 of_workers phase n [] each = tt
 of_workers phase n (p ∷ ps) each =
     let first : n + 0 ≡ n = omega arith in (
@@ -169,18 +169,18 @@ of_workers phase n (p ∷ ps) each =
 
 -- Permits of a phase are ready to be served: each worker can perform what it is given of its script, from this index on.
 pub record AreReady (opening : List ShardState) (boxes : List BoxId) (phase first : ℕ) (scripts : List (List Request))
-    (permits : List PermitState) : Type 0 where
+    (permits : List WorkerState) : Type 0 where
   pub can : AllByRecursion (CanBeDone opening boxes) (tasks permits scripts first)
   pub of : ArePermitsOf phase 0 permits
 
 -- permits show themselves
-pub shown : {policy : Policy} {scripts : List (List Request)} {state : JoinedState} {stashes : List StashState} {hot : List Object} {floor : FloorState} {permits : List PermitState} →
+pub shown : {policy : Policy} {scripts : List (List Request)} {state : JoinedState} {stashes : List StashState} {hot : List Object} {floor : FloorState} {permits : List WorkerState} →
     HasBegun policy scripts state stashes hot floor permits → HasBegun policy scripts state stashes hot floor (map (λ permit. permit) permits)
 shown {policy} {scripts} {state} {stashes} {hot} {floor} {permits} begun = subst (HasBegun policy scripts state stashes hot floor) (sym (map-id permits)) begun
 
 module _ {policy : Policy} {scripts : List (List Request)} {state : JoinedState} {stashes : List StashState} {hot : List Object} {first : ℕ}
     (first_is : first ≡ first_index policy state.phase) (may : MayPerform policy scripts state stashes hot)
-    {floor : FloorState} {permits : List PermitState} (begun : HasBegun policy scripts state stashes hot floor permits) where
+    {floor : FloorState} {permits : List WorkerState} (begun : HasBegun policy scripts state stashes hot floor permits) where
   workers_are : length floor.counters ≡ length scripts
   workers_are = ap length begun.counters_are ∙ sym may.scripts_are
 
@@ -190,14 +190,14 @@ module _ {policy : Policy} {scripts : List (List Request)} {state : JoinedState}
   begins : (w : ℕ) → w < length scripts → IsBegun floor w (slice_index begun.quotas w) (stash_at begun.handed w) (receipt_at permits w)
   begins w less = begun.new.1 w no_receipt (omega (arith, less, workers_are))
 
-  left_is : (w : ℕ) → w < length scripts → (receipt_at permits w).split.context.left ≡ quota_of policy state.phase (script_of scripts w)
-  left_is w less = ap (λ (p : PermitState). p.split.context.left) (begins w less).new ∙ begun.quotas_are w less
+  left_is : (w : ℕ) → w < length scripts → (receipt_at permits w).left ≡ quota_of policy state.phase (script_of scripts w)
+  left_is w less = ap (λ (p : WorkerState). p.left) (begins w less).new ∙ begun.quotas_are w less
 
   stash_is : (w : ℕ) → w < length scripts → stashed (receipt_at permits w) ≡ waiting_in stashes w
-  stash_is w less = ap (λ (p : PermitState). stashed p) (begins w less).new ∙ begun.handed_are w
+  stash_is w less = ap (λ (p : WorkerState). stashed p) (begins w less).new ∙ begun.handed_are w
 
   none_committed : (w : ℕ) → w < length scripts → committed (receipt_at permits w) ≡ []
-  none_committed w less = ap (λ (p : PermitState). committed p) (begins w less).new
+  none_committed w less = ap (λ (p : WorkerState). committed p) (begins w less).new
 
   calls_given_are : (w : ℕ) → w < length scripts → calls_for (task (receipt_at permits w) (script_of scripts w) first) ≡ calls_given policy state.phase (script_of scripts w)
   calls_given_are w less =
@@ -210,11 +210,11 @@ module _ {policy : Policy} {scripts : List (List Request)} {state : JoinedState}
       let less : w < length scripts = omega (arith, below, as_many) in
       let left = left_is w less in
       let waits : length (stashed (receipt_at permits w)) ≡ length (waiting_in stashes w) = ap length (stash_is w less) in
-      let tries : (receipt_at permits w).split.context.tries ≡ 0 = ap (λ (p : PermitState). p.split.context.tries) (begins w less).new in
+      let tries : (receipt_at permits w).tries ≡ 0 = ap (λ (p : WorkerState). p.tries) (begins w less).new in
       let few = may.room w (omega (arith, less, may.scripts_are)) in
       let fits = within (cond (is_split state.phase) policy.split_quota policy.joined_quota) (length (script_of scripts w)) (first_index policy state.phase) first first_is in record {
         boxes_are = (begins w less).key.boxes_are ∙ sym same;
-        opening_is = subst (HaveOpening opening) (sym (ap (λ (p : PermitState). p.split.context.opening) (begins w less).new)) have;
+        opening_is = subst (HaveOpening opening) (sym (ap (λ (p : WorkerState). p.opening) (begins w less).new)) have;
         short = may.short w;
         given = subst (λ n. n ≤ length (script_of scripts w) - first) (sym left) fits;
         tries = omega (arith, left, waits, tries, few);
@@ -227,15 +227,15 @@ module _ {policy : Policy} {scripts : List (List Request)} {state : JoinedState}
     can = can_all opening boxes same have;
     of = of_workers phase 0 permits (λ w below.
         let less : w < length scripts = omega (arith, below, as_many) in record {
-          phase_is = ap (λ (p : PermitState). p.split.context.journal.phase) (begins w less).new ∙ begun.phase_is ∙ sym now;
+          phase_is = ap (λ (p : WorkerState). p.journal.phase) (begins w less).new ∙ begun.phase_is ∙ sym now;
           worker_is = (begins w less).key.worker_is ∙ (let e : w ≡ 0 + w = omega arith in e);
         });
   }
 
-  module _ (receipts : List PermitState) (count : length receipts ≡ length permits)
+  module _ (receipts : List WorkerState) (count : length receipts ≡ length permits)
       (same : (w : ℕ) → w < length scripts → IsSamePermit (receipt_at permits w) (receipt_at receipts w)) where
-    journal_phase : (w : ℕ) → w < length scripts → (receipt_at receipts w).split.context.journal.phase ≡ floor.phase
-    journal_phase w less = (same w less).phase ∙ ap (λ (p : PermitState). p.split.context.journal.phase) (begins w less).new
+    journal_phase : (w : ℕ) → w < length scripts → (receipt_at receipts w).journal.phase ≡ floor.phase
+    journal_phase w less = (same w less).phase ∙ ap (λ (p : WorkerState). p.journal.phase) (begins w less).new
 
     -- the receipts are those of the phase
     are_receipts : AreReceiptsOf floor receipts
@@ -245,10 +245,10 @@ module _ {policy : Policy} {scripts : List (List Request)} {state : JoinedState}
           let less : w < length scripts = omega (arith, below, workers_are) in record {
             boxes_are = (same w less).boxes ∙ (begins w less).key.boxes_are;
             worker_is = (same w less).worker ∙ (begins w less).key.worker_is;
-            opening_is = (same w less).opening ∙ ap (λ (p : PermitState). p.split.context.opening) (begins w less).new;
+            opening_is = (same w less).opening ∙ ap (λ (p : WorkerState). p.opening) (begins w less).new;
             phase_is = journal_phase w less;
-            stocks_are = (same w less).stocks ∙ ap (λ (p : PermitState). stocks_of p.split.slices) (begins w less).new ∙ stocks_back floor.stocks;
-            begun = (same w less).begun ∙ ap (λ (p : PermitState). p.split.context.begun) (begins w less).new;
+            stocks_are = (same w less).stocks ∙ ap (λ (p : WorkerState). stocks_of p.slices) (begins w less).new ∙ stocks_back floor.stocks;
+            begun = (same w less).begun ∙ ap (λ (p : WorkerState). p.begun) (begins w less).new;
           },
     )
 
@@ -266,7 +266,7 @@ module _ {policy : Policy} {scripts : List (List Request)} {state : JoinedState}
           at (inl less) =
               let before : AreOfPhase (receipt_at permits w) = subst AreOfPhase (sym (begins w less).new) tt in
               subst (λ n. AllByRecursion (λ (e : Entry). e.phase ≡ n) (journal_of (receipt_at receipts w)).entries) (journal_phase w less ∙ begun.phase_is) ((same w less).own before)
-          at (inr beyond) = subst (λ (p : PermitState). AllByRecursion (λ (e : Entry). e.phase ≡ state.phase) (journal_of p).entries) (sym (past w beyond)) tt
+          at (inr beyond) = subst (λ (p : WorkerState). AllByRecursion (λ (e : Entry). e.phase ≡ state.phase) (journal_of p).entries) (sym (past w beyond)) tt
 
       of_phase : AllByRecursion (λ (e : Entry). e.phase ≡ state.phase) entries
       of_phase = all_of_parts entry_worker (λ e. e.phase ≡ state.phase) entries (λ w. subst (AllByRecursion (λ (e : Entry). e.phase ≡ state.phase)) (sym (parts w)) (own_at w))
@@ -291,7 +291,7 @@ module _ {policy : Policy} {scripts : List (List Request)} {state : JoinedState}
         asked w = waiting_in stashes w ++ calls_given policy state.phase (script_of scripts w)
 
         hot_is : (w : ℕ) → w < length scripts → hot_for (receipt_at permits w) ≡ hot
-        hot_is w less = ap (λ (p : PermitState). hot_for p) (begins w less).new ∙ objects_back floor.stocks ∙ begun.hot_are
+        hot_is w less = ap (λ (p : WorkerState). hot_for p) (begins w less).new ∙ objects_back floor.stocks ∙ begun.hot_are
 
         asked_is : (w : ℕ) → w < length scripts → to_do takes (task (receipt_at permits w) (script_of scripts w) first) ≡ asked w
         asked_is w less =
@@ -308,25 +308,25 @@ module _ {policy : Policy} {scripts : List (List Request)} {state : JoinedState}
           where
             at : (w < length scripts) ⊎ (length scripts ≤ w) → calls_of w entries ≡ not_put_off hot (asked w)
             at (inl less) =
-                let permit : PermitState = receipt_at permits w in
+                let permit : WorkerState = receipt_at permits w in
                 let given : List (ℕ × Request) = to_do takes (task permit (script_of scripts w) first) in
                 calls_are w ∙ (done w less).calls
                 ∙ ap (λ cs. cs ++ not_put_off (hot_for permit) given) (none_committed w less)
                 ∙ ap (λ h. not_put_off h given) (hot_is w less)
                 ∙ ap (not_put_off hot) (asked_is w less)
-            at (inr beyond) = calls_are w ∙ ap (λ (p : PermitState). committed p) (past w beyond) ∙ sym (ap (not_put_off hot) (none_asked w beyond))
+            at (inr beyond) = calls_are w ∙ ap (λ (p : WorkerState). committed p) (past w beyond) ∙ sym (ap (not_put_off hot) (none_asked w beyond))
 
         stash_left : (w : ℕ) → waiting_in (map stash_of receipts) w ≡ put_off hot (asked w)
         stash_left w = at (cases_lt w (length scripts))
           where
             at : (w < length scripts) ⊎ (length scripts ≤ w) → waiting_in (map stash_of receipts) w ≡ put_off hot (asked w)
             at (inl less) =
-                let permit : PermitState = receipt_at permits w in
+                let permit : WorkerState = receipt_at permits w in
                 waits_after w ∙ (done w less).stash
                 ∙ ap (λ ss. ss ++ put_off (hot_for permit) (to_do takes (task permit (script_of scripts w) first))) (none_kept takes permit (waiting_in stashes w) (stash_is w less) (none w))
                 ∙ ap (λ h. put_off h (to_do takes (task permit (script_of scripts w) first))) (hot_is w less)
                 ∙ ap (put_off hot) (asked_is w less)
-            at (inr beyond) = waits_after w ∙ ap (λ (p : PermitState). stashed p) (past w beyond) ∙ sym (ap (put_off hot) (none_asked w beyond))
+            at (inr beyond) = waits_after w ∙ ap (λ (p : WorkerState). stashed p) (past w beyond) ∙ sym (ap (put_off hot) (none_asked w beyond))
 
         performed : HasPerformed policy scripts state.phase hot (waiting_in stashes) (waiting_in (map stash_of receipts)) entries
         performed = record {
@@ -338,7 +338,7 @@ module _ {policy : Policy} {scripts : List (List Request)} {state : JoinedState}
         }
 
   -- receipts show themselves
-  module _ (takes : Bool) (receipts : List PermitState) (served : AllZip (IsDone takes) (tasks permits scripts first) (map (λ receipt. receipt) receipts)) where
+  module _ (takes : Bool) (receipts : List WorkerState) (served : AllZip (IsDone takes) (tasks permits scripts first) (map (λ receipt. receipt) receipts)) where
     all : AllZip (IsDone takes) (tasks permits scripts first) receipts
     all = subst (AllZip (IsDone takes) (tasks permits scripts first)) (map-id receipts) served
 

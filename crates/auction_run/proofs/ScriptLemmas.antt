@@ -6,7 +6,7 @@ use Rattle.std.proofs.lemmas.List.{get_or_default, get_or_past}
 use Rattle.auction_rows.specs.declared.requests.Request.{Request}
 use Rattle.auction_rows.specs.Book.{Book}
 use Rattle.item_shards.specs.OpeningRows.{rows_by}
-use Rattle.phase_contexts.specs.Stashes.{StashState}
+use Rattle.phase_permits.specs.Stashes.{StashState}
 use Rattle.phase_floor.specs.Floors.{no_stash}
 use Rattle.run_serving.specs.Serving.{script_of}
 use Rattle.run_serving.proofs.ScriptLemmas.{script_at, past_end, lists_length}

@@ -4,7 +4,7 @@ use Rattle.auction_rows.specs.declared.ids.Object.{Object}
 use Rattle.auction_rows.specs.declared.requests.Request.{Request}
 use Rattle.auction_rows.specs.declared.rows.Entry.{Entry}
 use Rattle.auction_rows.specs.Phases.{IsNumbered}
-use Rattle.phase_contexts.specs.Stashes.{StashState}
+use Rattle.phase_permits.specs.Stashes.{StashState}
 use Rattle.phase_closing.specs.Standing.{counters_at}
 use Rattle.phase_floor.specs.States.{JoinedState, StandsFor}
 use Rattle.worker_journals.specs.Histories.{HistoryView}

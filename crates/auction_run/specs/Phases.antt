@@ -4,7 +4,7 @@ use Rattle.std.specs.HashSet.{HashSet}
 use Rattle.auction_rows.specs.declared.limits.TheConstants.{MOST_OF_A_WORKER}
 use Rattle.auction_rows.specs.declared.ids.Object.{Object}
 use Rattle.auction_rows.specs.declared.requests.Request.{Request}
-use Rattle.phase_contexts.specs.Stashes.{StashState}
+use Rattle.phase_permits.specs.Stashes.{StashState}
 use Rattle.phase_closing.specs.Standing.{counters_at}
 use Rattle.phase_floor.specs.Floors.{stash_at}
 use Rattle.phase_floor.specs.States.{JoinedState, states_of, DoAllExist}
@@ -12,7 +12,7 @@ use Rattle.run_laws.specs.Phases.{is_split, quota}
 use Rattle.run_serving.specs.declared.policy.Policy.{Policy}
 use Rattle.run_serving.specs.Run.{first_index}
 use Rattle.run_serving.specs.Serving.{script_of}
-use Rattle.phase_transactions.specs.declared.fault.PermitFault.TheVariants as worker_fault
+use Rattle.phase_permits.specs.declared.fault.PermitFault.TheVariants as worker_fault
 use Rattle.phase_workers.specs.declared.fault.ServingFault.{ServingFault}
 use Rattle.phase_workers.specs.declared.fault.ServingFault.TheVariants as serving
 use Rattle.auction_run.specs.declared.plan.Plan.{Plan}

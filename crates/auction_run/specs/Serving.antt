@@ -2,11 +2,11 @@
 use Rattle.std.specs.Prelude.{ℕ, ◌≡◌, ◌<◌, List, length, slice_index}
 use Rattle.auction_rows.specs.declared.ids.Object.{Object}
 use Rattle.auction_rows.specs.declared.requests.Request.{Request}
-use Rattle.phase_contexts.specs.Slicing.{objects_of}
-use Rattle.phase_contexts.specs.Stashes.{StashState}
+use Rattle.phase_permits.specs.Slicing.{objects_of}
+use Rattle.phase_permits.specs.Stashes.{StashState}
 use Rattle.phase_floor.specs.Floors.{FloorState, AreBegun, stash_at}
 use Rattle.phase_floor.specs.States.{JoinedState}
-use Rattle.phase_transactions.specs.Permits.{PermitState}
+use Rattle.phase_permits.specs.Workers.{WorkerState}
 use Rattle.run_serving.specs.declared.policy.Policy.{Policy}
 use Rattle.run_serving.specs.Serving.{script_of}
 use Rattle.auction_run.specs.Phases.{waiting_in, quota_of}
@@ -14,7 +14,7 @@ use Rattle.auction_run.specs.Phases.{waiting_in, quota_of}
 -- The next phase of a state has begun, with these hot objects: each worker's permit is a new one, for its quota, with what waits in
 -- its stash.
 pub record HasBegun (policy : Policy) (scripts : List (List Request)) (state : JoinedState) (stashes : List StashState) (hot : List Object)
-    (floor : FloorState) (permits : List PermitState) : Type 0 where
+    (floor : FloorState) (permits : List WorkerState) : Type 0 where
   pub opening_is : floor.opening ≡ state.opening
   pub phase_is : floor.phase ≡ state.phase
   pub counters_are : floor.counters ≡ state.counters

@@ -2,7 +2,7 @@
 ghost use Rattle.std.specs.Prelude.{◌≡◌};
 
 use phase_floor::FloorFault;
-use phase_transactions::PermitFault;
+use phase_permits::PermitFault;
 use phase_workers::ServingFault;
 use std::alloc::{AllocError, AllocFailed};
 use thiserror::Error;

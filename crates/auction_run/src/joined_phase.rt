@@ -13,7 +13,7 @@ use crate::phase::{Closed, begin_fault};
 use crate::plan::Plan;
 use crate::quotas::quotas;
 use phase_floor::{Joined, JoinedFloor};
-use phase_transactions::{JoinedPermit, Stash};
+use phase_permits::{JoinedPermit, Stash};
 use phase_workers::{Gate, serve_all};
 use shard_boxes::PhaseName;
 use std::alloc::Global;

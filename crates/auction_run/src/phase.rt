@@ -12,7 +12,7 @@ use crate::split_phase::perform_split_phase;
 use auction_rows::Object;
 use indexmap::IndexSet;
 use phase_floor::{BeginFault, Joined};
-use phase_transactions::Stash;
+use phase_permits::Stash;
 use phase_workers::Gate;
 use std::alloc::Global;
 use std::marker::Brand;

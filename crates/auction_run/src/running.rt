@@ -32,7 +32,7 @@ use auction_window::last_rows;
 use indexmap::IndexSet;
 use item_shards::OpeningBook;
 use phase_floor::Joined;
-use phase_transactions::Stash;
+use phase_permits::Stash;
 use phase_workers::Gate;
 use run_serving::Policy;
 use std::alloc::{AllocError, Global};

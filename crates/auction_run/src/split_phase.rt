@@ -15,7 +15,7 @@ use crate::quotas::quotas;
 use auction_rows::Object;
 use indexmap::IndexSet;
 use phase_floor::{Joined, SplitFloor};
-use phase_transactions::{SplitPermit, Stash};
+use phase_permits::{SplitPermit, Stash};
 use phase_workers::{Gate, serve_all};
 use shard_boxes::PhaseName;
 use std::alloc::Global;

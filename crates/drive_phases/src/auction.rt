@@ -5,7 +5,7 @@ ghost use Rattle.drive_phases.specs.Auctions.{IsOfTwo};
 use crate::client::Client;
 use auction_rows::{Opening, Request};
 use phase_floor::Joined;
-use phase_transactions::{PermitFault, Stash};
+use phase_permits::{PermitFault, Stash};
 use std::alloc::{AllocError, Global};
 use worker_journals::History;
 

@@ -1,6 +1,6 @@
 //! The client of a worker: what it asks, and what it was answered.
 use auction_rows::{Reply, Request};
-use phase_transactions::PermitFault;
+use phase_permits::PermitFault;
 use std::alloc::Global;
 use std::io;
 

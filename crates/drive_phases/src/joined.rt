@@ -10,7 +10,7 @@ use crate::pairs::both;
 use anyhow::bail;
 use auction_rows::MOST_TRIES;
 use phase_floor::{Joined, JoinedFloor};
-use phase_transactions::{JoinedPermit, JoinedReceipt, PermitFault, Stash};
+use phase_permits::{JoinedPermit, JoinedReceipt, PermitFault, Stash};
 use shard_boxes::PhaseName;
 use std::alloc::Global;
 use std::sync::Wait;

@@ -11,7 +11,7 @@ use anyhow::bail;
 use auction_rows::{MOST_TRIES, Object};
 use indexmap::IndexSet;
 use phase_floor::{Joined, SplitFloor};
-use phase_transactions::{Done, PermitFault, SplitPermit, SplitReceipt};
+use phase_permits::{Done, PermitFault, SplitPermit, SplitReceipt};
 use shard_boxes::PhaseName;
 use std::alloc::Global;
 use std::sync::Wait;

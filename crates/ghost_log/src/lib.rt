@@ -30,6 +30,7 @@ impl<A, B> Log<A, B> {
     }
 
     /// The list with one more pair at its end.
+    #[inline(always)]
     pub fn and(&self, first: &A, second: &B) -> Log<A, B>
         ensures { result.items ≡ self.now.items ++ (first.now, second.now) ∷ [] }
     {
@@ -51,6 +52,7 @@ impl<T> Model for Ghost<T> {
 
 impl<T> Ghost<T> {
     /// What a reference shows.
+    #[inline(always)]
     pub fn of(value: &T) -> Ghost<T>
         ensures { result ≡ value.now }
     {

@@ -25,6 +25,7 @@ pub struct Answered {
 }
 
 /// The first reason for which an item refuses a request, by its facts and how many are left, where it is stored.
+#[inline(always)]
 pub fn refusal_with(stock: &Option<(Facts, u32)>, request: &Request) -> Option<Refusal>
     ensures { result ≡ refusal_with stock.now request.now }
 {

@@ -25,6 +25,7 @@ impl Places {
     }
 
     /// The place that was noted for an item of one shard of so many.
+    #[inline(always)]
     fn noted(&self, item: ItemId, shards: u32) -> Option<usize>
         requires { 0 < shards }
     {
@@ -55,6 +56,7 @@ impl Shard {
     ghost use Rattle.item_shards.specs.ShardContents.{HasRoom, IsPlaceOf};
 
     // The place that is noted for an item, and its record, where the item lies there.
+    #[inline(always)]
     fn find_noted(&self, item: ItemId) -> Option<(usize, &ItemRecord)>
         ensures record { IfSome result (λ found. get same_item self.now.parts.value.items item ≡ Some found.1.now) }
         ensures place { IfSome result (λ found. IsPlaceOf self.now.parts.value.items item found.0) }
@@ -69,6 +71,7 @@ impl Shard {
     }
 
     /// The place of an item, and its record, where there is room for it.
+    #[inline(always)]
     pub(crate) fn find(&self, item: ItemId) -> Option<(usize, &ItemRecord)>
         ensures record { option_map (λ found. found.1.now) result ≡ get same_item self.now.parts.value.items item }
         ensures place { IfSome result (λ found. IsPlaceOf self.now.parts.value.items item found.0) }
@@ -81,6 +84,7 @@ impl Shard {
     }
 
     /// The record of an item, where there is room for it.
+    #[inline(always)]
     pub(crate) fn record(&self, item: ItemId) -> Option<&ItemRecord>
         ensures { option_map (λ found. found.now) result ≡ get same_item self.now.parts.value.items item }
     {
@@ -89,6 +93,7 @@ impl Shard {
     }
 
     /// The place of an item in the map of items.
+    #[inline(always)]
     pub(crate) fn place_of(&self, item: ItemId) -> usize
         requires room { HasRoom self.now item }
         ensures { IsPlaceOf self.now.parts.value.items item result }

@@ -9,8 +9,8 @@ use Rattle.item_shards.specs.Standing.{ContentsStandsFor}
 use Rattle.shard_boxes.specs.Keys.{key_at, lines_at, holds_at}
 use Rattle.shard_boxes.specs.Lines.{lines_of}
 use Rattle.shard_boxes.specs.States.{state_at}
-use Rattle.phase_contexts.specs.Txns.{hot_in, line_on, lines_owed}
-use Rattle.phase_contexts.specs.Splits.{CountsOf}
+use Rattle.phase_permits.specs.Txns.{hot_in, line_on, lines_owed}
+use Rattle.phase_permits.specs.Replying.{CountsOf}
 use Rattle.phase_closing.specs.Phases.{HasClosed, IsReceiptOf, receipt_at}
 use Rattle.phase_closing.specs.Standing.{StandFor, counters_at}
 use Rattle.phase_closing.specs.Example.{setting, counters, txn, line, key, receipt, opened, example_book, example_phase}

@@ -23,8 +23,8 @@ use Rattle.item_shards.specs.declared.slices.Slice.{Slice}
 use Rattle.item_shards.specs.declared.slices.Slice.TheVariants as slice
 use Rattle.item_shards.specs.Values.{Value, value}
 use Rattle.shard_boxes.specs.States.{ShardState, state_at}
-use Rattle.phase_transactions.specs.Permits.{PermitState}
-use Rattle.phase_contexts.specs.Slicing.{objects_of, slices_in, slices_of, slice_of, HasAtMost, AreFew}
+use Rattle.phase_permits.specs.Workers.{WorkerState}
+use Rattle.phase_permits.specs.Slicing.{objects_of, slices_in, slices_of, slice_of, HasAtMost, AreFew}
 use Rattle.phase_closing.specs.Phases.{value_on}
 use Rattle.phase_closing.specs.Merging.{merged_with, with_slice, after_merge, slices_left, CanMerge}
 use Rattle.phase_closing.proofs.MergeLemmas.{value_merged}
@@ -157,8 +157,8 @@ good_from hot (stock ∷ stocks) rows among few = (
   good_from hot stocks rows (λ object is. among object (or_right (same_object stock.0 object) (is_hot (objects_of stocks) object) is)) few.1,
 )
 
-module _ (stocks : List (Object × Option (Facts × ℕ))) (rows_by : PermitState → Book) where
-  pub all_once : (receipts : List PermitState) → AllByRecursion (λ receipt. receipt.split.slices ≡ slices_of stocks (rows_by receipt)) receipts → IsDistinct same_object (objects_of stocks)
+module _ (stocks : List (Object × Option (Facts × ℕ))) (rows_by : WorkerState → Book) where
+  pub all_once : (receipts : List WorkerState) → AllByRecursion (λ receipt. receipt.slices ≡ slices_of stocks (rows_by receipt)) receipts → IsDistinct same_object (objects_of stocks)
       → (object : Object) → how_many object (slices_left receipts) ≤ length receipts
   all_once [] sliced distinct object = omega arith
   all_once (receipt ∷ receipts) sliced distinct object =
@@ -167,14 +167,14 @@ module _ (stocks : List (Object × Option (Facts × ℕ))) (rows_by : PermitStat
         arith,
         first,
         all_once receipts sliced.1 distinct object,
-        sum_by-append (λ p. cond (is_of object p) 1 0) (slices_in receipt.split.slices) (slices_left receipts),
+        sum_by-append (λ p. cond (is_of object p) 1 0) (slices_in receipt.slices) (slices_left receipts),
       )
 
-  pub all_good : (receipts : List PermitState) → AllByRecursion (λ receipt. receipt.split.slices ≡ slices_of stocks (rows_by receipt)) receipts
-      → AllByRecursion (λ receipt. AreFew 1000000 receipt.split.slices) receipts → AllByRecursion (IsGood (objects_of stocks)) (slices_left receipts)
+  pub all_good : (receipts : List WorkerState) → AllByRecursion (λ receipt. receipt.slices ≡ slices_of stocks (rows_by receipt)) receipts
+      → AllByRecursion (λ receipt. AreFew 1000000 receipt.slices) receipts → AllByRecursion (IsGood (objects_of stocks)) (slices_left receipts)
   all_good [] sliced few = tt
   all_good (receipt ∷ receipts) sliced few =
-      all-append (IsGood (objects_of stocks)) (slices_in receipt.split.slices) (slices_left receipts)
+      all-append (IsGood (objects_of stocks)) (slices_in receipt.slices) (slices_left receipts)
       (subst (λ slices. AllByRecursion (IsGood (objects_of stocks)) (slices_in slices)) (sym sliced.0)
       (good_from (objects_of stocks) stocks (rows_by receipt) (λ object is. is) (subst (AreFew 1000000) sliced.0 few.0)))
       (all_good receipts sliced.1 few.1)

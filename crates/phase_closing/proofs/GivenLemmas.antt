@@ -16,7 +16,7 @@ use Rattle.item_shards.specs.Writing.{acts_of, is_cold_in, is_done_on}
 use Rattle.item_shards.proofs.EntryLemmas.{padded_leaves}
 use Rattle.shard_boxes.specs.Lines.{after, after_line}
 use Rattle.shard_boxes.specs.States.{ShardState, state_at}
-use Rattle.phase_contexts.specs.Txns.{Setting, Txn, hot_in, takes, line_on}
+use Rattle.phase_permits.specs.Txns.{Setting, Txn, hot_in, takes, line_on}
 use Rattle.phase_closing.specs.Phases.{Phase, HasClosed, value_on}
 use Rattle.phase_closing.specs.Histories.{worker_line}
 use Rattle.phase_closing.proofs.ListLemmas.{all_txns, box, list_is}

@@ -9,7 +9,7 @@ use Rattle.item_shards.specs.Contents.{Contents}
 use Rattle.shard_boxes.specs.declared.line.Line.{Line}
 use Rattle.shard_boxes.specs.Lines.{IsHistory}
 use Rattle.shard_boxes.specs.States.{ShardState, state_at}
-use Rattle.phase_contexts.specs.Txns.{hot_in}
+use Rattle.phase_permits.specs.Txns.{hot_in}
 use Rattle.phase_closing.specs.Phases.{Phase, HasClosed, value_on}
 use Rattle.phase_closing.specs.Merging.{after_merge, slices_left, IsReconciled}
 use Rattle.phase_closing.specs.Lawful.{with_slices_by, AreSliced, AreHotMerged, AreOthersAsGiven, ClosesLawfully}

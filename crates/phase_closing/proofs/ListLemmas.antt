@@ -15,7 +15,7 @@ use Rattle.shard_boxes.specs.declared.line.Line.{Line}
 use Rattle.shard_boxes.specs.Closed.{IsClosedBox}
 use Rattle.shard_boxes.specs.Lines.{lines_of}
 use Rattle.shard_boxes.specs.States.{state_at}
-use Rattle.phase_contexts.specs.Txns.{Setting, Txn, hot_in, entry_of, number_of, clock_found, greatest_clock, takes, line_on, lines_owed}
+use Rattle.phase_permits.specs.Txns.{Setting, Txn, hot_in, entry_of, number_of, clock_found, greatest_clock, takes, line_on, lines_owed}
 use Rattle.phase_closing.specs.Phases.{Phase, HasClosed, key_of}
 use Rattle.phase_closing.specs.Histories.{worker_line, HoldTheEntries, FollowWhatTheyShare}
 use Rattle.phase_closing.proofs.ReceiptLemmas.{txns_by, no_txns, own, numbered, entries_are, lines_are}

@@ -15,12 +15,11 @@ use Rattle.item_shards.specs.Contents.{Contents, after_acts}
 use Rattle.item_shards.specs.Standing.{ContentsStandsFor}
 use Rattle.item_shards.proofs.EntryLemmas.{entry_stands, untaken_stands}
 use Rattle.shard_boxes.specs.Lines.{AreTrueOf}
-use Rattle.phase_contexts.specs.declared.counters.Counters.{Counters}
-use Rattle.phase_contexts.specs.Txns.{Setting, Txn, hot_in, takes, line_on, counted, after_txn, IsAnswered}
-use Rattle.phase_contexts.specs.Slicing.{stock_of}
-use Rattle.phase_contexts.specs.Splits.{CountsOf}
-use Rattle.phase_transactions.specs.Replying.{HasFixed}
-use Rattle.phase_transactions.proofs.RightLemmas.{txn_right}
+use Rattle.phase_permits.specs.declared.counters.Counters.{Counters}
+use Rattle.phase_permits.specs.Txns.{Setting, Txn, hot_in, takes, line_on, counted, after_txn, IsAnswered}
+use Rattle.phase_permits.specs.Slicing.{stock_of}
+use Rattle.phase_permits.specs.Replying.{CountsOf, HasFixed}
+use Rattle.phase_permits.proofs.RightLemmas.{txn_right}
 use Rattle.phase_closing.proofs.CountLemmas.{own_commit, other_commit}
 use Rattle.phase_closing.proofs.FixedLemmas.{HasItems, fixed_next}
 

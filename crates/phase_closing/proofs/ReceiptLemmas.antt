@@ -9,22 +9,22 @@ use Rattle.phase_laws.specs.Replay.{SawInTurn}
 use Rattle.auction_rows.specs.History.{rows_of}
 use Rattle.worker_journals.specs.Merged.{entries_of}
 use Rattle.shard_boxes.specs.Keys.{key_at, lines_at}
-use Rattle.phase_contexts.specs.declared.counters.Counters.{Counters}
-use Rattle.phase_contexts.specs.Txns.{Setting, Txn, entry_of, number_of, greatest_clock, lines_owed, IsAnswered, after_txn}
-use Rattle.phase_transactions.specs.Permits.{PermitState, work_of}
-use Rattle.phase_contexts.specs.Slicing.{slices_of}
-use Rattle.phase_contexts.specs.Works.{IsWorkOf}
+use Rattle.phase_permits.specs.declared.counters.Counters.{Counters}
+use Rattle.phase_permits.specs.Txns.{Setting, Txn, entry_of, number_of, greatest_clock, lines_owed, IsAnswered, after_txn}
+use Rattle.phase_permits.specs.Workers.{WorkerState, work_of}
+use Rattle.phase_permits.specs.Slicing.{slices_of}
+use Rattle.phase_permits.specs.Works.{IsWorkOf}
 use Rattle.phase_closing.specs.Standing.{counters_at}
 use Rattle.phase_closing.specs.Phases.{Phase, HasClosed, IsReceiptOf, no_receipt, receipt_at, key_of, journal_of, counters_of, txns_of}
 
 -- a receipt is explained, in the setting and of the worker of the phase
-explained_of : (z : Setting) (w : ℕ) (opened : Counters) (receipt : PermitState) → IsReceiptOf z w opened receipt → IsWorkOf z w (work_of receipt.split receipt.key)
+explained_of : (z : Setting) (w : ℕ) (opened : Counters) (receipt : WorkerState) → IsReceiptOf z w opened receipt → IsWorkOf z w (work_of receipt)
 explained_of z w opened receipt is =
-    subst (λ v. IsWorkOf z v (work_of receipt.split receipt.key)) is.worker_is
-    (subst (λ (y : Setting). IsWorkOf y receipt.key.worker (work_of receipt.split receipt.key)) is.setting is.explained.work)
+    subst (λ v. IsWorkOf z v (work_of receipt)) is.worker_is
+    (subst (λ (y : Setting). IsWorkOf y receipt.key.worker (work_of receipt)) is.setting is.explained.work)
 
 -- of journals of workers in order from this one on, the entries of a worker are those of its own
-entries_from : (k : ℕ) (receipts : List PermitState) → ((i : ℕ) → i < length receipts → (journal_of (receipt_at receipts i)).worker ≡ k + i)
+entries_from : (k : ℕ) (receipts : List WorkerState) → ((i : ℕ) → i < length receipts → (journal_of (receipt_at receipts i)).worker ≡ k + i)
     → (w : ℕ) → entries_of (k + w) (map journal_of receipts) ≡ (journal_of (receipt_at receipts w)).entries
 entries_from k [] are w = refl
 entries_from k (receipt ∷ receipts) are zero =
@@ -39,13 +39,13 @@ module _ (p : Phase) (closed : HasClosed p) where
   abbrev workers : ℕ
   workers = length p.receipts
 
-  abbrev pub receipt : ℕ → PermitState
+  abbrev pub receipt : ℕ → WorkerState
   receipt w = receipt_at p.receipts w
 
   abbrev pub txns_by : ℕ → List Txn
   txns_by w = txns_of (receipt w)
 
-  work : (w : ℕ) → w < workers → IsWorkOf p.setting w (work_of (receipt w).split (receipt w).key)
+  work : (w : ℕ) → w < workers → IsWorkOf p.setting w (work_of (receipt w))
   work w known = explained_of p.setting w (counters_at p.counters w) (receipt w) (closed.receipts w known)
 
   none_past : (w : ℕ) → workers ≤ w → receipt w ≡ no_receipt
@@ -82,7 +82,7 @@ module _ (p : Phase) (closed : HasClosed p) where
   journal_entries w = at (cases_lt w workers) where
     at : (w < workers) ⊎ (workers ≤ w) → (journal_of (receipt w)).entries ≡ map entry_of (txns_by w)
     at (inl known) = (work w known).entries
-    at (inr past) = subst (λ (r : PermitState). (journal_of r).entries ≡ map entry_of (txns_of r)) (sym (none_past w past)) refl
+    at (inr past) = subst (λ (r : WorkerState). (journal_of r).entries ≡ map entry_of (txns_of r)) (sym (none_past w past)) refl
 
   pub entries_are : (w : ℕ) → entries_of w (map journal_of p.receipts) ≡ map entry_of (txns_by w)
   entries_are w =
@@ -93,7 +93,7 @@ module _ (p : Phase) (closed : HasClosed p) where
   lines_are w known s = ap (λ key. lines_at key s) (get_or-map key_of p.receipts w no_receipt) ∙ (work w known).lines s
 
   -- a worker's slices are those of the rows of its journal
-  pub sliced : (w : ℕ) → w < workers → (receipt w).split.slices ≡ slices_of p.setting.stocks (rows_of (journal_of (receipt w)).entries)
+  pub sliced : (w : ℕ) → w < workers → (receipt w).slices ≡ slices_of p.setting.stocks (rows_of (journal_of (receipt w)).entries)
   sliced w known = (work w known).sliced
 
   pub counters_are : (w : ℕ) → counters_at (map counters_of p.receipts) w ≡ counters_of (receipt w)

@@ -21,9 +21,9 @@ use Rattle.item_shards.specs.Standing.{ContentsStandsFor}
 use Rattle.item_shards.specs.Values.{Value, blank, value}
 use Rattle.worker_journals.specs.Journals.{entry_worker}
 use Rattle.shard_boxes.specs.States.{ShardState, state_at}
-use Rattle.phase_contexts.specs.Txns.{Setting, hot_in}
-use Rattle.phase_transactions.specs.Permits.{PermitState}
-use Rattle.phase_contexts.specs.Slicing.{slices_of, slice_of}
+use Rattle.phase_permits.specs.Txns.{Setting, hot_in}
+use Rattle.phase_permits.specs.Workers.{WorkerState}
+use Rattle.phase_permits.specs.Slicing.{slices_of, slice_of}
 use Rattle.phase_closing.specs.Phases.{Phase, HasClosed, value_on, counters_of, journal_of, no_receipt}
 use Rattle.phase_closing.specs.Standing.{StandFor}
 use Rattle.phase_closing.specs.Merging.{merged_with, after_merge, slices_left, IsReconciled}
@@ -42,23 +42,23 @@ all_present : (n : ℕ) (entries : List Entry) → AllByRecursion (λ entry. ent
 all_present n [] below = tt
 all_present n (entry ∷ entries) below = (up_from_has 0 n (entry_worker entry) (omega arith) (omega (arith, below.0)), all_present n entries below.1)
 
-abbrev pub rows_by : PermitState → Book
+abbrev pub rows_by : WorkerState → Book
 rows_by receipt = rows_of (journal_of receipt).entries
 
 -- the slices of one object merged, kind by kind
-items_folded : (id : ItemId) (receipts : List PermitState) (v : Value)
+items_folded : (id : ItemId) (receipts : List WorkerState) (v : Value)
     → fold (λ u receipt. merged_with (slice_of (Item id) (value (rows_by receipt) (Item id))) u) v receipts
     ≡ record v { bids = fold with_bids v.bids (map (λ receipt. (value (rows_by receipt) (Item id)).bids) receipts) }
 items_folded id [] v = refl
 items_folded id (receipt ∷ receipts) v = items_folded id receipts (bids_merged (value (rows_by receipt) (Item id)).bids v)
 
-users_folded : (user : ℕ) (receipts : List PermitState) (v : Value)
+users_folded : (user : ℕ) (receipts : List WorkerState) (v : Value)
     → fold (λ u receipt. merged_with (slice_of (User user) (value (rows_by receipt) (User user))) u) v receipts
     ≡ record v { comments = fold with_comments v.comments (map (λ receipt. (value (rows_by receipt) (User user)).comments) receipts) }
 users_folded user [] v = refl
 users_folded user (receipt ∷ receipts) v = users_folded user receipts (comments_merged (value (rows_by receipt) (User user)).comments v)
 
-categories_folded : (category : ℕ) (receipts : List PermitState) (v : Value)
+categories_folded : (category : ℕ) (receipts : List WorkerState) (v : Value)
     → fold (λ u receipt. merged_with (slice_of (Category category) (value (rows_by receipt) (Category category))) u) v receipts
     ≡ record v { items = fold with_items v.items (map (λ receipt. (value (rows_by receipt) (Category category)).items) receipts) }
 categories_folded category [] v = refl
@@ -74,8 +74,8 @@ module _ (p : Phase) (closed : HasClosed p) where
   present : AllByRecursion (λ entry. list_any (λ v. entry_worker entry == v) workers ≡ true) p.entries
   present = all_present (length p.receipts) p.entries (entries_below p closed)
 
-  pub all_sliced : AllByRecursion (λ receipt. receipt.split.slices ≡ slices_of z.stocks (rows_by receipt)) p.receipts
-  all_sliced = every_from (λ receipt. receipt.split.slices ≡ slices_of z.stocks (rows_by receipt)) p.receipts no_receipt (sliced p closed)
+  pub all_sliced : AllByRecursion (λ receipt. receipt.slices ≡ slices_of z.stocks (rows_by receipt)) p.receipts
+  all_sliced = every_from (λ receipt. receipt.slices ≡ slices_of z.stocks (rows_by receipt)) p.receipts no_receipt (sliced p closed)
 
   -- what is made of each worker's journal is what is made of its part of the entries
   by_parts : {R : Type 0} (f : Book → R) → map (λ receipt. f (rows_by receipt)) p.receipts ≡ map (λ w. f (rows_of (part entry_worker w p.entries))) workers

@@ -19,9 +19,9 @@ use Rattle.item_shards.proofs.AnswerLemmas.{stock_is}
 use Rattle.shard_boxes.specs.declared.line.Line.{Line}
 use Rattle.shard_boxes.specs.Lines.{AreTrueOf, after_line}
 use Rattle.shard_boxes.specs.States.{ShardState, state_at}
-use Rattle.phase_contexts.specs.declared.counters.Counters.{Counters}
-use Rattle.phase_contexts.specs.Txns.{Setting, Txn, hot_in, entry_of, takes, line_on, IsAnswered, after_txn}
-use Rattle.phase_contexts.specs.Splits.{CountsOf}
+use Rattle.phase_permits.specs.declared.counters.Counters.{Counters}
+use Rattle.phase_permits.specs.Txns.{Setting, Txn, hot_in, entry_of, takes, line_on, IsAnswered, after_txn}
+use Rattle.phase_permits.specs.Replying.{CountsOf}
 use Rattle.phase_closing.specs.Phases.{Phase, HasClosed, counters_of, value_on}
 use Rattle.phase_closing.specs.Standing.{ShardsStandFor, StandFor, counters_at}
 use Rattle.phase_closing.specs.Histories.{ReplaysAndStands, worker_line}

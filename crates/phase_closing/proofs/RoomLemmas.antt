@@ -13,8 +13,8 @@ use Rattle.auction_rows.specs.Requests.{shard_of}
 use Rattle.item_shards.specs.declared.slices.Slice.{Slice}
 use Rattle.item_shards.specs.Values.{Value, stock}
 use Rattle.shard_boxes.specs.States.{state_at, IsOpened, AreOpened}
-use Rattle.phase_contexts.specs.Txns.{hot_in}
-use Rattle.phase_contexts.specs.Slicing.{AreFew}
+use Rattle.phase_permits.specs.Txns.{hot_in}
+use Rattle.phase_permits.specs.Slicing.{AreFew}
 use Rattle.phase_closing.specs.Phases.{Phase, HasClosed, value_on}
 use Rattle.phase_closing.specs.Merging.{after_merge, slices_left, CanMerge}
 use Rattle.phase_closing.proofs.FitLemmas.{HasRoomFor, how_many, all_once, all_good, all_in_turn}
@@ -45,7 +45,7 @@ module _ (p : Phase) (closed : HasClosed p) (opened : AreOpened p.opening) where
   )
   room_opened (Category category) n few hot = tt
 
-  pub merges_can_be_done : length p.receipts ≤ 16 → AllByRecursion (λ receipt. AreFew 1000000 receipt.split.slices) p.receipts
+  pub merges_can_be_done : length p.receipts ≤ 16 → AllByRecursion (λ receipt. AreFew 1000000 receipt.slices) p.receipts
       → (order : List (Object × Slice)) → IsPermutation (slices_left p.receipts) order → SawInTurn CanMerge after_merge p.given order
   merges_can_be_done workers few order moved =
       all_in_turn (hot_in p.setting) (slices_left p.receipts) order p.given (subst (λ n. 0 < n) (sym closed.boxes.0) closed.begun.some) moved

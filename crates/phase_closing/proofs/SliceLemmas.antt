@@ -17,8 +17,8 @@ use Rattle.item_shards.specs.declared.slices.UserSlice.{UserSlice}
 use Rattle.item_shards.specs.declared.slices.CategorySlice.{CategorySlice}
 use Rattle.item_shards.specs.SliceLaws.{item_laws, user_laws, category_laws}
 use Rattle.item_shards.specs.Values.{Value, value}
-use Rattle.phase_transactions.specs.Permits.{PermitState}
-use Rattle.phase_contexts.specs.Slicing.{objects_of, slices_in, slices_of, slice_of}
+use Rattle.phase_permits.specs.Workers.{WorkerState}
+use Rattle.phase_permits.specs.Slicing.{objects_of, slices_in, slices_of, slice_of}
 use Rattle.phase_closing.specs.Merging.{merged_with, slices_left}
 
 -- a slice that is an object's is merged into its value
@@ -89,23 +89,23 @@ hot_slices (stock ∷ stocks) rows object v distinct hot =
       at false same rest = rest (subst (λ b. (b || is_hot (objects_of stocks) object) ≡ true) same hot)
 
 -- The slices of all workers, each made by its rows.
-module _ (stocks : List (Object × Option (Facts × ℕ))) (rows_by : PermitState → Book) (object : Object) where
-  abbrev AreSliced : List PermitState → Type 0
-  AreSliced receipts = AllByRecursion (λ receipt. receipt.split.slices ≡ slices_of stocks (rows_by receipt)) receipts
+module _ (stocks : List (Object × Option (Facts × ℕ))) (rows_by : WorkerState → Book) (object : Object) where
+  abbrev AreSliced : List WorkerState → Type 0
+  AreSliced receipts = AllByRecursion (λ receipt. receipt.slices ≡ slices_of stocks (rows_by receipt)) receipts
 
-  pub all_cold : (receipts : List PermitState) → AreSliced receipts → is_hot (objects_of stocks) object ≡ false → (v : Value) → fold (merge_at object) v (slices_left receipts) ≡ v
+  pub all_cold : (receipts : List WorkerState) → AreSliced receipts → is_hot (objects_of stocks) object ≡ false → (v : Value) → fold (merge_at object) v (slices_left receipts) ≡ v
   all_cold [] sliced cold v = refl
   all_cold (receipt ∷ receipts) sliced cold v =
-      fold-append (merge_at object) v (slices_in receipt.split.slices) (slices_left receipts)
+      fold-append (merge_at object) v (slices_in receipt.slices) (slices_left receipts)
       ∙ ap (λ u. fold (merge_at object) u (slices_left receipts))
       (ap (λ slices. fold (merge_at object) v (slices_in slices)) sliced.0 ∙ cold_slices stocks (rows_by receipt) object v cold)
       ∙ all_cold receipts sliced.1 cold v
 
-  pub all_hot : (receipts : List PermitState) → AreSliced receipts → IsDistinct same_object (objects_of stocks) → is_hot (objects_of stocks) object ≡ true → (v : Value)
+  pub all_hot : (receipts : List WorkerState) → AreSliced receipts → IsDistinct same_object (objects_of stocks) → is_hot (objects_of stocks) object ≡ true → (v : Value)
       → fold (merge_at object) v (slices_left receipts) ≡ fold (λ u receipt. merged_with (slice_of object (value (rows_by receipt) object)) u) v receipts
   all_hot [] sliced distinct hot v = refl
   all_hot (receipt ∷ receipts) sliced distinct hot v =
-      fold-append (merge_at object) v (slices_in receipt.split.slices) (slices_left receipts)
+      fold-append (merge_at object) v (slices_in receipt.slices) (slices_left receipts)
       ∙ ap (λ u. fold (merge_at object) u (slices_left receipts))
       (ap (λ slices. fold (merge_at object) v (slices_in slices)) sliced.0 ∙ hot_slices stocks (rows_by receipt) object v distinct hot)
       ∙ all_hot receipts sliced.1 distinct hot (merged_with (slice_of object (value (rows_by receipt) object)) v)

@@ -15,7 +15,7 @@ use Rattle.auction_rows.specs.Replies.{row_of, row_if}
 use Rattle.item_shards.specs.Counting.{worker_of}
 use Rattle.item_shards.specs.Limits.{GivesStars, HasStars}
 use Rattle.worker_journals.specs.Journals.{entry_worker}
-use Rattle.phase_contexts.specs.Txns.{entry_of}
+use Rattle.phase_permits.specs.Txns.{entry_of}
 use Rattle.phase_closing.specs.Phases.{Phase, HasClosed, journal_of, receipt_at}
 use Rattle.phase_closing.proofs.ReceiptLemmas.{no_txns, entries_are, journal_entries}
 

@@ -14,10 +14,10 @@ use Rattle.shard_boxes.specs.declared.line.Line.{Line}
 use Rattle.shard_boxes.specs.Keys.{KeyState}
 use Rattle.shard_boxes.specs.Lines.{after_line}
 use Rattle.shard_boxes.specs.States.{ShardState}
-use Rattle.phase_contexts.specs.declared.counters.Counters.{Counters}
-use Rattle.phase_contexts.specs.Txns.{Setting, Txn, line_on, after_txn}
-use Rattle.phase_contexts.specs.Slicing.{slices_of}
-use Rattle.phase_transactions.specs.Permits.{PermitState}
+use Rattle.phase_permits.specs.declared.counters.Counters.{Counters}
+use Rattle.phase_permits.specs.Txns.{Setting, Txn, line_on, after_txn}
+use Rattle.phase_permits.specs.Slicing.{slices_of}
+use Rattle.phase_permits.specs.Workers.{WorkerState}
 use Rattle.phase_closing.specs.Phases.{Phase}
 
 abbrev pub first_item : ItemId
@@ -57,23 +57,19 @@ module _ (facts : Facts) where
   abbrev pub key : KeyState
   key = record { boxes = []; worker = 0; seats = record { holds = false; lines = line ∷ []; seen = (0, line) ∷ [] } ∷ [] }
 
-  abbrev pub receipt : PermitState
+  abbrev pub receipt : WorkerState
   receipt = record {
-    split = record {
-      context = record {
-        opening = setting.opening;
-        begun = (counters, 0) ∷ [];
-        counters = after_txn counters txn;
-        journal = record { phase = 1; worker = 0; room = 1; entries = entry ∷ [] };
-        stash = record { requests = []; done = []; room = 0 };
-        left = 0;
-        tries = 1;
-        clock = 1;
-        txns = txn ∷ [];
-      };
-      slices = slices_of setting.stocks (rows_of (entry ∷ []));
-    };
     key = key;
+    opening = setting.opening;
+    begun = (counters, 0);
+    counters = after_txn counters txn;
+    journal = record { phase = 1; worker = 0; room = 1; entries = entry ∷ [] };
+    stash = record { requests = []; done = []; room = 0 };
+    slices = slices_of setting.stocks (rows_of (entry ∷ []));
+    left = 0;
+    tries = 1;
+    clock = 1;
+    txns = txn ∷ [];
   }
 
   abbrev pub example_phase : Phase

@@ -10,7 +10,7 @@ use Rattle.auction_rows.specs.Footprint.{footprint, takes_shard}
 use Rattle.auction_rows.specs.History.{ReplaysFrom, book_after}
 use Rattle.worker_journals.specs.Journals.{entry_number, entry_worker}
 use Rattle.shard_boxes.specs.declared.line.Line.{Line}
-use Rattle.phase_contexts.specs.Txns.{Setting, Txn, hot_in, entry_of, takes, line_on}
+use Rattle.phase_permits.specs.Txns.{Setting, Txn, hot_in, entry_of, takes, line_on}
 use Rattle.phase_closing.specs.Phases.{Phase, HasClosed, counters_of, txns_of, receipt_at}
 use Rattle.phase_closing.specs.Standing.{StandFor}
 

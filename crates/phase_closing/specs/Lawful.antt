@@ -10,25 +10,25 @@ use Rattle.item_shards.specs.Values.{Value, value}
 use Rattle.worker_journals.specs.Journals.{entry_worker}
 use Rattle.shard_boxes.specs.Lines.{IsHistory}
 use Rattle.shard_boxes.specs.States.{ShardState, state_at}
-use Rattle.phase_contexts.specs.Txns.{Txn, hot_in, entry_of, takes}
-use Rattle.phase_contexts.specs.Slicing.{slice_of, slices_of}
-use Rattle.phase_transactions.specs.Permits.{PermitState}
+use Rattle.phase_permits.specs.Txns.{Txn, hot_in, entry_of, takes}
+use Rattle.phase_permits.specs.Slicing.{slice_of, slices_of}
+use Rattle.phase_permits.specs.Workers.{WorkerState}
 use Rattle.phase_closing.specs.Phases.{Phase, value_on, journal_of, receipt_at}
 use Rattle.phase_closing.specs.Histories.{worker_line}
 use Rattle.phase_closing.specs.Merging.{merged_with}
 
 -- a worker's slice of an object: it has the value that the accepted stores of the worker's journal give the object
-abbrev pub slice_by : PermitState → Object → Slice
+abbrev pub slice_by : WorkerState → Object → Slice
 slice_by receipt object = slice_of object (value (rows_of (journal_of receipt).entries) object)
 
 -- a value of an object with one such slice of each worker merged
-abbrev pub with_slices_by : List PermitState → Object → Value → Value
+abbrev pub with_slices_by : List WorkerState → Object → Value → Value
 with_slices_by receipts object old = fold (λ merged receipt. merged_with (slice_by receipt object) merged) old receipts
 
 -- each worker has one slice of each hot object, and this is what its journal makes of it
 abbrev pub AreSliced : Phase → Type 0
 AreSliced p = (w : ℕ) → w < length p.receipts →
-    let receipt = receipt_at p.receipts w in receipt.split.slices ≡ slices_of p.setting.stocks (rows_of (journal_of receipt).entries)
+    let receipt = receipt_at p.receipts w in receipt.slices ≡ slices_of p.setting.stocks (rows_of (journal_of receipt).entries)
 
 -- each hot object has what it had as the phase began, with one slice of each worker merged
 abbrev pub AreHotMerged : Phase → List ShardState → Type 0

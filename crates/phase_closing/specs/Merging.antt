@@ -11,8 +11,8 @@ use Rattle.item_shards.specs.declared.slices.Slice.TheVariants as slice
 use Rattle.item_shards.specs.Contents.{changed, bids_merged, comments_merged, items_merged}
 use Rattle.item_shards.specs.Values.{Value}
 use Rattle.shard_boxes.specs.States.{ShardState, state_at}
-use Rattle.phase_transactions.specs.Permits.{PermitState}
-use Rattle.phase_contexts.specs.Slicing.{slices_in}
+use Rattle.phase_permits.specs.Workers.{WorkerState}
+use Rattle.phase_permits.specs.Slicing.{slices_in}
 use Rattle.phase_closing.specs.Phases.{Phase, value_on}
 
 -- a value with a slice of its object merged
@@ -30,8 +30,8 @@ abbrev pub after_merge : List ShardState → Object × Slice → List ShardState
 after_merge states pair = let s = shard_of pair.0 (length states) in slice_set states s (with_slice (state_at states s) pair)
 
 -- the slices of all workers, each with its object
-abbrev pub slices_left : List PermitState → List (Object × Slice)
-slices_left receipts = flat_map (λ receipt. slices_in receipt.split.slices) receipts
+abbrev pub slices_left : List WorkerState → List (Object × Slice)
+slices_left receipts = flat_map (λ receipt. slices_in receipt.slices) receipts
 
 -- A slice can be merged into a value of its object: the object is of its kind, an item is stored, and the sums that are made fit their types.
 abbrev pub CanTake : Value → Object × Slice → Type 0

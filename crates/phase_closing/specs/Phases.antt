@@ -13,11 +13,10 @@ use Rattle.worker_journals.specs.Merged.{entries_of}
 use Rattle.shard_boxes.specs.Closed.{AreClosed}
 use Rattle.shard_boxes.specs.Keys.{KeyState, no_key}
 use Rattle.shard_boxes.specs.States.{ShardState, state_at}
-use Rattle.phase_contexts.specs.declared.counters.Counters.{Counters}
-use Rattle.phase_contexts.specs.Txns.{Setting, Txn, hot_in}
-use Rattle.phase_transactions.specs.Permits.{PermitState, IsExplained, permit, no_counters, first_of}
-use Rattle.phase_contexts.specs.Slicing.{IsStocked}
-use Rattle.phase_contexts.specs.Splits.{new_split, setting_of}
+use Rattle.phase_permits.specs.declared.counters.Counters.{Counters}
+use Rattle.phase_permits.specs.Txns.{Setting, Txn, hot_in}
+use Rattle.phase_permits.specs.Workers.{WorkerState, IsExplained, no_counters, new_worker, setting_of}
+use Rattle.phase_permits.specs.Slicing.{IsStocked}
 use Rattle.phase_closing.specs.Standing.{counters_at}
 
 -- its setting; the shards and each worker's counters as it began; each worker's receipt; the shards that the boxes gave back,
@@ -30,32 +29,32 @@ pub record Phase : Type 0 where
   -- each worker's counters as it began
   pub counters : List Counters
   -- each worker's receipt
-  pub receipts : List PermitState
+  pub receipts : List WorkerState
   -- the shards that the boxes gave back
   pub given : List ShardState
   -- the entries of all journals
   pub entries : List Entry
 
 -- of a worker that is none of the phase's: it has done nothing
-abbrev pub no_receipt : PermitState
+abbrev pub no_receipt : WorkerState
 no_receipt =
-    permit (new_split (record { users = 0; categories = 0 }) no_counters (empty_journal 0 0 0) (record { requests = []; done = []; room = 0 }) [] 0 0) no_key
+    new_worker no_key (record { users = 0; categories = 0 }) no_counters (empty_journal 0 0 0) (record { requests = []; done = []; room = 0 }) [] 0 0
 
-abbrev pub receipt_at : List PermitState → ℕ → PermitState
+abbrev pub receipt_at : List WorkerState → ℕ → WorkerState
 receipt_at receipts worker = slice_index_or receipts worker no_receipt
 
 -- what a receipt has: its key, its journal, the counters after the phase, and the transactions behind them
-abbrev pub key_of : PermitState → KeyState
+abbrev pub key_of : WorkerState → KeyState
 key_of receipt = receipt.key
 
-abbrev pub journal_of : PermitState → JournalView
-journal_of receipt = receipt.split.context.journal
+abbrev pub journal_of : WorkerState → JournalView
+journal_of receipt = receipt.journal
 
-abbrev pub counters_of : PermitState → Counters
-counters_of receipt = receipt.split.context.counters
+abbrev pub counters_of : WorkerState → Counters
+counters_of receipt = receipt.counters
 
-abbrev pub txns_of : PermitState → List Txn
-txns_of receipt = receipt.split.context.txns
+abbrev pub txns_of : WorkerState → List Txn
+txns_of receipt = receipt.txns
 
 -- The value of an object on the shard in which it lies.
 abbrev pub value_on : List ShardState → Object → Value
@@ -84,15 +83,15 @@ pub record IsBegun (p : Phase) : Type 0 where
   pub read : AllByRecursion (IsReadFrom p.opening) p.setting.stocks
 
 -- a worker's receipt, in a phase that it began with these counters and with clock 0
-pub record IsReceiptOf (z : Setting) (worker : ℕ) (opened : Counters) (receipt : PermitState) : Type 0 where
+pub record IsReceiptOf (z : Setting) (worker : ℕ) (opened : Counters) (receipt : WorkerState) : Type 0 where
   -- its transactions explain it
-  pub explained : IsExplained z.shards receipt.split receipt.key
+  pub explained : IsExplained z.shards receipt
   -- it is the worker's
   pub worker_is : receipt.key.worker ≡ worker
   -- it is of this phase
-  pub setting : setting_of receipt.split z.shards ≡ z
+  pub setting : setting_of receipt z.shards ≡ z
   -- it began with these counters, at clock 0
-  pub begun : first_of receipt.split.context.begun ≡ (opened, 0)
+  pub begun : receipt.begun ≡ (opened, 0)
 
 -- a receipt of each worker, in order
 abbrev pub AreReceipts : Phase → Type 0

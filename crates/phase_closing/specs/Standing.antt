@@ -6,9 +6,9 @@ use Rattle.auction_rows.specs.Book.{Book}
 use Rattle.item_shards.specs.Counting.{worker_of}
 use Rattle.item_shards.specs.Standing.{ContentsStandsFor}
 use Rattle.shard_boxes.specs.States.{ShardState, state_at}
-use Rattle.phase_contexts.specs.declared.counters.Counters.{Counters}
-use Rattle.phase_transactions.specs.Permits.{no_counters}
-use Rattle.phase_contexts.specs.Splits.{CountsOf}
+use Rattle.phase_permits.specs.declared.counters.Counters.{Counters}
+use Rattle.phase_permits.specs.Workers.{no_counters}
+use Rattle.phase_permits.specs.Replying.{CountsOf}
 
 abbrev pub counters_at : List Counters → ℕ → Counters
 counters_at counters worker = slice_index_or counters worker no_counters

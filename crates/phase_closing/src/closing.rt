@@ -4,7 +4,7 @@ ghost use Rattle.std.specs.List.{AllByRecursion};
 ghost use Rattle.auction_rows.specs.Book.{Book};
 ghost use Rattle.auction_rows.specs.History.{IsBook, book_after};
 ghost use Rattle.item_shards.specs.Limits.{GivesStars, HasStars};
-ghost use Rattle.phase_contexts.specs.Txns.{hot_in};
+ghost use Rattle.phase_permits.specs.Txns.{hot_in};
 ghost use Rattle.phase_closing.specs.Phases.{Phase, HasClosed, receipt_at, counters_of, journal_of};
 ghost use Rattle.phase_closing.specs.Standing.{StandFor, AreOfWorkers, counters_at, stores};
 ghost use Rattle.phase_closing.specs.Histories.{HoldTheEntries, FollowWhatTheyShare, ReplaysAndStands};

@@ -8,9 +8,9 @@ ghost use Rattle.auction_rows.specs.Book.{Book};
 ghost use Rattle.auction_rows.specs.History.{book_after};
 ghost use Rattle.item_shards.specs.declared.slices.Slice.{Slice};
 ghost use Rattle.shard_boxes.specs.States.{ShardState, AreOpened};
-ghost use Rattle.phase_contexts.specs.Txns.{hot_in};
-ghost use Rattle.phase_transactions.specs.Permits.{PermitState};
-ghost use Rattle.phase_contexts.specs.Slicing.{AreFew, slices_in};
+ghost use Rattle.phase_permits.specs.Txns.{hot_in};
+ghost use Rattle.phase_permits.specs.Workers.{WorkerState};
+ghost use Rattle.phase_permits.specs.Slicing.{AreFew, slices_in};
 ghost use Rattle.phase_closing.specs.Phases.{Phase, HasClosed, counters_of};
 ghost use Rattle.phase_closing.specs.Standing.{StandFor};
 ghost use Rattle.phase_closing.specs.Merging.{IsReconciled, CanMerge, after_merge, slices_left};
@@ -49,13 +49,13 @@ pub fn phases_close_lawfully()
 /// most 1,000,000 operations.
 pub fn slices_can_be_merged()
     ensures { (p : Phase) → HasClosed p → AreOpened p.opening → length p.receipts ≤ MOST_WORKERS →
-        AllByRecursion (λ receipt. AreFew MOST_OF_A_WORKER receipt.split.slices) p.receipts →
+        AllByRecursion (λ receipt. AreFew MOST_OF_A_WORKER receipt.slices) p.receipts →
         (order : List (Object × Slice)) → IsPermutation (slices_left p.receipts) order →
         SawInTurn CanMerge after_merge p.given order }
 {}
 
 /// Where the workers' slices are taken out one worker after the other, each from the last on, all are taken once.
 pub fn slices_may_be_popped()
-    ensures { (receipts : List PermitState) → IsPermutation (slices_left receipts)
-        (flat_map (λ receipt. reverse (slices_in receipt.split.slices)) receipts) }
+    ensures { (receipts : List WorkerState) → IsPermutation (slices_left receipts)
+        (flat_map (λ receipt. reverse (slices_in receipt.slices)) receipts) }
 {}

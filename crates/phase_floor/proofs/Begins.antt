@@ -11,13 +11,12 @@ use Rattle.auction_rows.specs.Footprint.{is_hot}
 use Rattle.shard_boxes.specs.Keys.{KeyState, SeatState, no_key, IsNewKey, AreNewKeys}
 use Rattle.shard_boxes.specs.States.{ShardState}
 use Rattle.shard_boxes.proofs.Each.{at_head}
-use Rattle.phase_contexts.specs.declared.counters.Counters.{Counters}
-use Rattle.phase_contexts.specs.declared.slices.Hot.{Hot}
-use Rattle.phase_contexts.specs.Slicing.{slices_of}
-use Rattle.phase_contexts.specs.Splits.{HasStashRoom}
-use Rattle.phase_contexts.specs.Stashes.{StashState}
-use Rattle.phase_contexts.proofs.Places.{stocks_of_rows}
-use Rattle.phase_transactions.specs.Permits.{PermitState, IsNewPermit}
+use Rattle.phase_permits.specs.declared.counters.Counters.{Counters}
+use Rattle.phase_permits.specs.declared.slices.Hot.{Hot}
+use Rattle.phase_permits.specs.Slicing.{slices_of}
+use Rattle.phase_permits.specs.Workers.{HasStashRoom, WorkerState, CanStart}
+use Rattle.phase_permits.specs.Stashes.{StashState}
+use Rattle.phase_permits.proofs.Places.{stocks_of_rows}
 use Rattle.phase_closing.specs.Phases.{no_receipt}
 use Rattle.phase_closing.specs.Standing.{counters_at}
 use Rattle.phase_floor.specs.declared.fault.BeginFault.TheVariants.{UnknownHot, TooLong, Memory}
@@ -82,34 +81,32 @@ passed_on done now left next all x made pushed same took was =
     ap (λ l. l ++ next) (pushed ∙ ap (λ one. done ++ one ∷ []) same) ∙ append_assoc done (x ∷ []) next ∙ ap (λ l. done ++ l) (sym took) ∙ was
 
 -- a worker can start with what is begun, where it asks for no more than 1,000,000
-pub can_start : (opening : List ShardState) (workers : ℕ) (floor : FloorState) → IsOpen opening workers floor → (w quota : ℕ) (stash : StashState) (start : PermitState) → w < workers
-    → (counters_at floor.counters w).commits + length stash.requests + quota ≤ 1000000 → HasStashRoom (slices_of floor.stocks []) quota stash.room → IsBegun floor w quota stash start → IsNewPermit start
+pub can_start : (opening : List ShardState) (workers : ℕ) (floor : FloorState) → IsOpen opening workers floor → (w quota : ℕ) (stash : StashState) (start : WorkerState) → w < workers
+    → (counters_at floor.counters w).commits + length stash.requests + quota ≤ 1000000 → HasStashRoom (slices_of floor.stocks []) quota stash.room → IsBegun floor w quota stash start → CanStart start
 can_start opening workers floor is_open w quota stash start below fits room begun =
     let low : w < length floor.counters = omega (arith, below, is_open.workers_are) in
     let limit = is_open.kept.limits w low in
-    subst IsNewPermit (sym begun.new) (record {
+    subst CanStart (sym begun.new) (record {
       key = λ s. (ap (λ (seat : SeatState). seat.holds) (begun.key.unused s), ap (λ (seat : SeatState). seat.lines) (begun.key.unused s));
       worker = sym begun.key.worker_is;
-      start = record {
-        empty = refl;
-        identities = sym (ap (λ s. slices_of s []) (stocks_of_rows floor.stocks []));
-        room = omega arith;
-        stash_room = room;
-        limit = fits;
-        counted = record { items = omega (arith, limit.stored); bids = omega (arith, limit.stored); comments = omega (arith, limit.stored); buys = omega (arith, limit.stored) };
-        stored = λ item hot own.
-            let some = hot_is_stored opening floor.stocks is_open.stocks_are.stocked is_open.stocks_are.read item
-            (sym (ap (λ os. is_hot os (Item item)) (objects_of_slices floor.stocks [])) ∙ hot) in
-            let before = stored_before floor.opening opening floor.counters is_open.kept item some (omega (arith, own, low)) in
-            omega (arith, before, ap (λ v. (counters_at floor.counters v).items) own);
-      };
+      empty = refl;
+      identities = sym (ap (λ s. slices_of s []) (stocks_of_rows floor.stocks []));
+      room = omega arith;
+      stash_room = room;
+      limit = fits;
+      counted = record { items = omega (arith, limit.stored); bids = omega (arith, limit.stored); comments = omega (arith, limit.stored); buys = omega (arith, limit.stored) };
+      stored = λ item hot own.
+          let some = hot_is_stored opening floor.stocks is_open.stocks_are.stocked is_open.stocks_are.read item
+          (sym (ap (λ os. is_hot os (Item item)) (objects_of_slices floor.stocks [])) ∙ hot) in
+          let before = stored_before floor.opening opening floor.counters is_open.kept item some (omega (arith, own, low)) in
+          omega (arith, before, ap (λ v. (counters_at floor.counters v).items) own);
     })
 
 -- where nothing is hot no worker has slices
-pub no_slices : (floor : FloorState) (quotas : List ℕ) (stashes : List StashState) (starts : List PermitState) → floor.stocks ≡ [] → AreBegun floor quotas stashes starts
+pub no_slices : (floor : FloorState) (quotas : List ℕ) (stashes : List StashState) (starts : List WorkerState) → floor.stocks ≡ [] → AreBegun floor quotas stashes starts
     → AllByRecursion HasNoSlices starts
 no_slices floor quotas stashes starts cold are =
-    every_from HasNoSlices starts no_receipt (λ w low. ap (λ (p : PermitState). p.split.slices) (are.1 w no_receipt (omega (arith, low, are.0))).new ∙ ap (λ s. slices_of s []) cold)
+    every_from HasNoSlices starts no_receipt (λ w low. ap (λ (p : WorkerState). p.slices) (are.1 w no_receipt (omega (arith, low, are.0))).new ∙ ap (λ s. slices_of s []) cold)
 
 -- in empty stashes nothing waits
 nothing_waits : (quotas : List ℕ) (w : ℕ) → length (stash_at (map empty_stash quotas) w).requests ≡ 0

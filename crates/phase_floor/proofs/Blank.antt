@@ -9,9 +9,9 @@ use Rattle.item_shards.specs.ShardContents.{IsNewShard}
 use Rattle.item_shards.specs.Values.{Value}
 use Rattle.item_shards.proofs.StandingLemmas.{blank_of_none}
 use Rattle.shard_boxes.specs.States.{ShardState, state_of, state_at, IsOpened}
-use Rattle.phase_contexts.specs.declared.counters.Counters.{Counters}
-use Rattle.phase_contexts.specs.Splits.{CountsOf}
-use Rattle.phase_transactions.specs.Permits.{no_counters}
+use Rattle.phase_permits.specs.declared.counters.Counters.{Counters}
+use Rattle.phase_permits.specs.Replying.{CountsOf}
+use Rattle.phase_permits.specs.Workers.{no_counters}
 use Rattle.phase_floor.specs.Making.{IsBlank, AreBlank}
 use Rattle.phase_closing.specs.Standing.{counters_at}
 use Rattle.phase_floor.specs.States.{joined_of, StandsFor, IsWithinLimit, IsKept}

@@ -10,7 +10,7 @@ use Rattle.worker_journals.specs.Journals.{JournalView, entry_number, entry_work
 use Rattle.worker_journals.specs.Merged.{AreByWorker, added, entries_of}
 use Rattle.shard_boxes.specs.Closed.{AreClosed, AreSpent, IsSpent}
 use Rattle.shard_boxes.specs.States.{ShardState}
-use Rattle.phase_transactions.specs.Permits.{PermitState, first_of}
+use Rattle.phase_permits.specs.Workers.{WorkerState}
 use Rattle.phase_closing.specs.Phases.{receipt_at, no_receipt, key_of, journal_of, HasClosed}
 use Rattle.phase_floor.specs.Closings.{AreReceiptsOf, IsFinished, phase_of}
 use Rattle.phase_floor.specs.Floors.{FloorState, IsOpen}
@@ -21,21 +21,21 @@ pub nothing_added : {X : Type 0} (xs : List X) → xs ≡ xs ++ added xs xs
 nothing_added xs = sym (append-nil xs) ∙ ap (λ t. xs ++ t) (sym (drop-append_seam xs []) ∙ ap (drop (length xs)) (append-nil xs))
 
 -- journals of workers that count up from a number stand in the order of the workers
-all_later : (n : ℕ) (receipts : List PermitState) (from : ℕ) → n < from → ((w : ℕ) → w < length receipts → (journal_of (receipt_at receipts w)).worker ≡ from + w)
+all_later : (n : ℕ) (receipts : List WorkerState) (from : ℕ) → n < from → ((w : ℕ) → w < length receipts → (journal_of (receipt_at receipts w)).worker ≡ from + w)
     → AllByRecursion (λ (later : JournalView). n < later.worker) (map journal_of receipts)
 all_later n [] from low h = tt
 all_later n (r ∷ receipts) from low h =
     let first = h 0 (omega arith) in
     (omega (arith, first, low), all_later n receipts (from + 1) (omega (arith, low)) (λ w below. let next = h (suc w) (omega (arith, below)) in omega (arith, next)))
 
-pub by_worker : (receipts : List PermitState) (from : ℕ) → ((w : ℕ) → w < length receipts → (journal_of (receipt_at receipts w)).worker ≡ from + w) → AreByWorker (map journal_of receipts)
+pub by_worker : (receipts : List WorkerState) (from : ℕ) → ((w : ℕ) → w < length receipts → (journal_of (receipt_at receipts w)).worker ≡ from + w) → AreByWorker (map journal_of receipts)
 by_worker [] from h = tt
 by_worker (r ∷ receipts) from h =
     let first = h 0 (omega arith) in
     let rest = λ (w : ℕ) (below : w < length receipts). let next = h (suc w) (omega (arith, below)) in let e : (journal_of (receipt_at receipts w)).worker ≡ from + 1 + w = omega (arith, next) in e in
     (all_later (journal_of r).worker receipts (from + 1) (omega (arith, first)) rest, by_worker receipts (from + 1) rest)
 
-module _ (opening : List ShardState) (workers : ℕ) (floor : FloorState) (is_open : IsOpen opening workers floor) (receipts : List PermitState) (are : AreReceiptsOf floor receipts)
+module _ (opening : List ShardState) (workers : ℕ) (floor : FloorState) (is_open : IsOpen opening workers floor) (receipts : List WorkerState) (are : AreReceiptsOf floor receipts)
     (all : AllByRecursion (IsFinished (length opening)) receipts) where
   pub finished : (w : ℕ) → w < length receipts → IsFinished (length opening) (receipt_at receipts w)
   finished w below = at_place (IsFinished (length opening)) receipts all w no_receipt below
@@ -77,7 +77,7 @@ module _ (opening : List ShardState) (workers : ℕ) (floor : FloorState) (is_op
           explained = (finished w below).explained;
           worker_is = receipt.worker_is;
           setting = (λ i. record { opening = receipt.opening_is i; shards = length opening; stocks = receipt.stocks_are i });
-          begun = ap first_of receipt.begun;
+          begun = receipt.begun;
         };
     boxes = subst (λ n. AreClosed opening n (map key_of receipts) given) (sym is_open.workers_are ∙ sym are.0) boxes;
     merged = record { ascending = ascending; parts = parts };

@@ -7,9 +7,9 @@ use Rattle.auction_rows.specs.declared.ids.Object.{Object}
 use Rattle.auction_rows.specs.declared.rows.Entry.{Entry}
 use Rattle.item_shards.specs.declared.slices.Slice.{Slice}
 use Rattle.shard_boxes.specs.States.{ShardState}
-use Rattle.phase_contexts.specs.declared.slices.Hot.{Hot}
-use Rattle.phase_contexts.specs.Slicing.{stocks_of, slices_in}
-use Rattle.phase_transactions.specs.Permits.{PermitState}
+use Rattle.phase_permits.specs.declared.slices.Hot.{Hot}
+use Rattle.phase_permits.specs.Slicing.{stocks_of, slices_in}
+use Rattle.phase_permits.specs.Workers.{WorkerState}
 use Rattle.phase_closing.specs.Merging.{after_merge, slices_left}
 use Rattle.phase_closing.specs.Phases.{no_receipt}
 use Rattle.phase_floor.specs.Closings.{AreReceiptsOf, HasSettled, HasReconciled, at_start}
@@ -20,15 +20,15 @@ none_held : (slices : List (Object × Hot)) → stocks_of slices ≡ [] → slic
 none_held [] none = refl
 none_held (hot ∷ slices) none = absurd (omega (arith, ap length none))
 
-none_left : (receipts : List PermitState) → AllByRecursion (λ receipt. stocks_of receipt.split.slices ≡ []) receipts → slices_left receipts ≡ []
+none_left : (receipts : List WorkerState) → AllByRecursion (λ receipt. stocks_of receipt.slices ≡ []) receipts → slices_left receipts ≡ []
 none_left [] none = refl
-none_left (receipt ∷ receipts) none = ap (λ l. l ++ slices_left receipts) (none_held receipt.split.slices none.0) ∙ none_left receipts none.1
+none_left (receipt ∷ receipts) none = ap (λ l. l ++ slices_left receipts) (none_held receipt.slices none.0) ∙ none_left receipts none.1
 
-pub has_settled : (opening : List ShardState) (floor : FloorState) (receipts : List PermitState) (states : List ShardState) (entries : List Entry)
+pub has_settled : (opening : List ShardState) (floor : FloorState) (receipts : List WorkerState) (states : List ShardState) (entries : List Entry)
     → floor.stocks ≡ [] → AreReceiptsOf floor receipts → HasReconciled opening floor receipts states entries → HasSettled opening floor receipts states entries
 has_settled opening floor receipts states entries cold are reconciled =
-    let each : AllByRecursion (λ receipt. stocks_of receipt.split.slices ≡ []) receipts =
-    every_from (λ receipt. stocks_of receipt.split.slices ≡ []) receipts no_receipt (λ w below. (are.1 w (omega (arith, below, are.0))).stocks_are ∙ cold) in
+    let each : AllByRecursion (λ receipt. stocks_of receipt.slices ≡ []) receipts =
+    every_from (λ receipt. stocks_of receipt.slices ≡ []) receipts no_receipt (λ w below. (are.1 w (omega (arith, below, are.0))).stocks_are ∙ cold) in
     let none : reconciled.order ≡ [] =
     nil_from_length reconciled.order (length_permutation (slices_left receipts) reconciled.order reconciled.each ∙ ap length (none_left receipts each)) in record {
       given = reconciled.given;

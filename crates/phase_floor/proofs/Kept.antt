@@ -18,8 +18,8 @@ use Rattle.item_shards.specs.ShardContents.{kept}
 use Rattle.item_shards.specs.Values.{Value, blank, value}
 use Rattle.item_shards.proofs.CountLemmas.{bids_at_most, comments_at_most, rating_at_most}
 use Rattle.shard_boxes.specs.States.{ShardState, state_of, state_at, IsWithin, AreOpened}
-use Rattle.phase_contexts.specs.declared.counters.Counters.{Counters}
-use Rattle.phase_transactions.specs.Permits.{PermitState}
+use Rattle.phase_permits.specs.declared.counters.Counters.{Counters}
+use Rattle.phase_permits.specs.Workers.{WorkerState}
 use Rattle.phase_closing.specs.Phases.{HasClosed, receipt_at, counters_of}
 use Rattle.phase_closing.specs.Standing.{StandFor, AreOfWorkers, counters_at}
 use Rattle.phase_closing.proofs.CommitLemmas.{book_left, stores_few, stars_go_on, workers_go_on}
@@ -87,7 +87,7 @@ module _ (opening : Opening) (shards : List Shard) (counters : List Counters) (r
     within = within s below;
   }
 
-module _ (opening : List ShardState) (workers : ℕ) (floor : FloorState) (is_open : IsOpen opening workers floor) (receipts : List PermitState) (are : AreReceiptsOf floor receipts)
+module _ (opening : List ShardState) (workers : ℕ) (floor : FloorState) (is_open : IsOpen opening workers floor) (receipts : List WorkerState) (are : AreReceiptsOf floor receipts)
     (given : List ShardState) (entries : List Entry) (closed : HasClosed (phase_of opening floor receipts given entries))
     (limit : (w : ℕ) → w < length receipts → (counters_of (receipt_at receipts w)).commits ≤ 1000000)
     (stars : AllByRecursion (λ entry. GivesStars entry.request) entries) where

@@ -6,7 +6,7 @@ use Rattle.auction_rows.specs.declared.ids.Object.{Object}
 use Rattle.auction_rows.specs.declared.rows.Entry.{Entry}
 use Rattle.auction_rows.specs.Requests.{shard_of}
 use Rattle.shard_boxes.specs.States.{ShardState, state_at, no_shard}
-use Rattle.phase_transactions.specs.Permits.{PermitState}
+use Rattle.phase_permits.specs.Workers.{WorkerState}
 use Rattle.phase_closing.specs.Lawful.{ClosesLawfully}
 use Rattle.phase_closing.specs.Merging.{after_merge}
 use Rattle.phase_closing.specs.Phases.{Phase, value_on}
@@ -38,7 +38,7 @@ started p states lawful = record {
 left : (p : Phase) (states closing : List ShardState) → closing ≡ map at_start states → ClosesLawfully p states → ClosesLawfully p closing
 left p states closing are lawful = subst (ClosesLawfully p) (sym are) (started p states lawful)
 
-module _ (opening : List ShardState) (floor : FloorState) (receipts : List PermitState) (states : List ShardState) (entries : List Entry) where
+module _ (opening : List ShardState) (floor : FloorState) (receipts : List WorkerState) (states : List ShardState) (entries : List Entry) where
   pub reconciled_lawful : HasReconciled opening floor receipts states entries → HasClosedLawfully opening floor receipts states entries
   reconciled_lawful reconciled =
       let p = phase_of opening floor receipts reconciled.given entries in

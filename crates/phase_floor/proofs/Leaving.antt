@@ -16,10 +16,10 @@ use Rattle.worker_journals.specs.Histories.{HistoryView, with_phase}
 use Rattle.worker_journals.specs.Journals.{JournalView, IsLawful}
 use Rattle.worker_journals.specs.Merged.{AreByWorker, added, entries_of}
 use Rattle.worker_journals.proofs.AddedLemmas.{added_ascends, added_parts}
-use Rattle.phase_contexts.specs.declared.counters.Counters.{Counters}
-use Rattle.phase_contexts.specs.declared.slices.Hot.{Hot}
-use Rattle.phase_contexts.specs.Stashes.{StashState}
-use Rattle.phase_transactions.specs.Permits.{PermitState}
+use Rattle.phase_permits.specs.declared.counters.Counters.{Counters}
+use Rattle.phase_permits.specs.declared.slices.Hot.{Hot}
+use Rattle.phase_permits.specs.Stashes.{StashState}
+use Rattle.phase_permits.specs.Workers.{WorkerState}
 use Rattle.phase_closing.specs.Merging.{CanMerge, after_merge}
 use Rattle.phase_closing.specs.Phases.{HasClosed, counters_of}
 use Rattle.phase_closing.specs.Standing.{StandFor, counters_at}
@@ -34,7 +34,7 @@ use Rattle.phase_floor.proofs.Lawfully.{reconciled_lawful}
 use Rattle.phase_floor.proofs.Reconciled.{order_of, all_once, given_one, given_known, given_can, as_many, ready, stand_after}
 
 -- what the parts of the receipts, the boxes and the history tell: the phase has reconciled
-module _ (opening : List ShardState) (workers : ℕ) (floor : FloorState) (is_open : IsOpen opening workers floor) (receipts : List PermitState) (are : AreReceiptsOf floor receipts)
+module _ (opening : List ShardState) (workers : ℕ) (floor : FloorState) (is_open : IsOpen opening workers floor) (receipts : List WorkerState) (are : AreReceiptsOf floor receipts)
     (all : AllByRecursion (IsFinished (length opening)) receipts) (given : List ShardState) (old new : HistoryView) (journals : List JournalView) (stashes : List StashState) (keys : List KeyState)
     (counters : List Counters) (slices : List (List (Object × Hot))) (parts : ArePartsOf receipts journals stashes keys counters slices) (is : new ≡ with_phase old journals)
     (lawful : AllByRecursion IsLawful journals) (boxes : AreClosed opening workers keys given) where
@@ -65,7 +65,7 @@ module _ (opening : List ShardState) (workers : ℕ) (floor : FloorState) (is_op
     states_are = states_are ∙ ap (λ (order : List (Object × Slice)). map at_start (fold after_merge given order)) parts.slices_are;
   }
 
-module _ (opening : List ShardState) (workers : ℕ) (floor : FloorState) (is_open : IsOpen opening workers floor) (receipts : List PermitState) (are : AreReceiptsOf floor receipts)
+module _ (opening : List ShardState) (workers : ℕ) (floor : FloorState) (is_open : IsOpen opening workers floor) (receipts : List WorkerState) (are : AreReceiptsOf floor receipts)
     (all : AllByRecursion (IsFinished (length opening)) receipts) (entries : List Entry) (stars : AllByRecursion (λ entry. GivesStars entry.request) entries) (shards : List Shard)
     (e : HasReconciled opening floor receipts (map state_of shards) entries) (start : Opening) (counters : List Counters) (start_is : start ≡ floor.opening) (counters_are : counters ≡ map counters_of receipts) where
   pub kept_left : IsKept start (map state_of shards) counters

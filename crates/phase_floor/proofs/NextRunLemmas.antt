@@ -6,10 +6,10 @@ use Rattle.std.proofs.Math.ListN.{get_or-map}
 use Rattle.auction_rows.specs.declared.numbers.Opening.{Opening}
 use Rattle.auction_rows.specs.Book.{Book}
 use Rattle.shard_boxes.specs.States.{ShardState}
-use Rattle.phase_contexts.specs.declared.counters.Counters.{Counters}
-use Rattle.phase_contexts.specs.Splits.{CountsOf}
+use Rattle.phase_permits.specs.declared.counters.Counters.{Counters}
+use Rattle.phase_permits.specs.Replying.{CountsOf}
 use Rattle.phase_closing.specs.Standing.{StandFor, AreOfWorkers, counters_at, stores}
-use Rattle.phase_transactions.specs.Permits.{no_counters}
+use Rattle.phase_permits.specs.Workers.{no_counters}
 use Rattle.phase_floor.specs.NextRun.{stores_as_commits}
 use Rattle.phase_floor.specs.States.{AreOfABook, AreWithinLimit, IsKept, IsWithinLimit}
 

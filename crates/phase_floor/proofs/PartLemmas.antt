@@ -8,18 +8,18 @@ use Rattle.auction_rows.specs.declared.ids.Object.{Object}
 use Rattle.shard_boxes.specs.Keys.{KeyState}
 use Rattle.shard_boxes.proofs.Each.{map_push}
 use Rattle.worker_journals.specs.Journals.{JournalView}
-use Rattle.phase_contexts.specs.declared.counters.Counters.{Counters}
-use Rattle.phase_contexts.specs.declared.slices.Hot.{Hot}
-use Rattle.phase_contexts.specs.Stashes.{StashState}
-use Rattle.phase_transactions.specs.Permits.{PermitState}
+use Rattle.phase_permits.specs.declared.counters.Counters.{Counters}
+use Rattle.phase_permits.specs.declared.slices.Hot.{Hot}
+use Rattle.phase_permits.specs.Stashes.{StashState}
+use Rattle.phase_permits.specs.Workers.{WorkerState}
 use Rattle.phase_closing.specs.Phases.{key_of, journal_of, counters_of}
 use Rattle.phase_floor.specs.Closings.{ArePartsOf, stash_of, sliced_of, from_the_last}
 
 -- what was there, with one more at the end
-more : {B : Type 0} (f : PermitState → B) (receipts : List PermitState) (receipt : PermitState) (old new : List B) → new ≡ old ++ f receipt ∷ [] → old ≡ map f receipts → new ≡ map f (receipts ++ receipt ∷ [])
+more : {B : Type 0} (f : WorkerState → B) (receipts : List WorkerState) (receipt : WorkerState) (old new : List B) → new ≡ old ++ f receipt ∷ [] → old ≡ map f receipts → new ≡ map f (receipts ++ receipt ∷ [])
 more f receipts receipt old new pushed was = pushed ∙ ap (λ l. l ++ f receipt ∷ []) was ∙ sym (map_push f receipts receipt)
 
-module _ (receipts : List PermitState) (receipt : PermitState) (old_journals journals : List JournalView) (old_stashes stashes : List StashState) (old_keys keys : List KeyState)
+module _ (receipts : List WorkerState) (receipt : WorkerState) (old_journals journals : List JournalView) (old_stashes stashes : List StashState) (old_keys keys : List KeyState)
     (old_counters counters : List Counters) (old_slices slices : List (List (Object × Hot))) where
   pub parts_next : ArePartsOf receipts old_journals old_stashes old_keys old_counters old_slices
       → journals ≡ old_journals ++ journal_of receipt ∷ [] → stashes ≡ old_stashes ++ stash_of receipt ∷ [] → keys ≡ old_keys ++ key_of receipt ∷ []

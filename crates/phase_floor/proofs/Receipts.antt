@@ -6,37 +6,36 @@ use Rattle.auction_rows.specs.declared.requests.Request.{Request}
 use Rattle.auction_rows.specs.Replies.{row_of}
 use Rattle.item_shards.specs.Writing.{writes_if}
 use Rattle.shard_boxes.specs.States.{ShardState}
-use Rattle.phase_contexts.specs.Slicing.{stocks_of}
-use Rattle.phase_contexts.specs.Stashes.{StashState}
-use Rattle.phase_contexts.proofs.Places.{stocks_of_rows}
-use Rattle.phase_transactions.specs.Stashed.{with_first_called, HasPerformedFirst}
-use Rattle.phase_transactions.proofs.Hots.{stocks-acts}
-use Rattle.phase_transactions.specs.declared.fault.Done.{Done}
-use Rattle.phase_transactions.specs.declared.fault.Done.TheVariants.{Committed, Stashed}
-use Rattle.phase_transactions.specs.Performing.{HasDealtWith, with_try}
-use Rattle.phase_transactions.specs.Permits.{PermitState, HasCommitted}
+use Rattle.phase_permits.specs.Slicing.{stocks_of}
+use Rattle.phase_permits.specs.Stashes.{StashState}
+use Rattle.phase_permits.proofs.Places.{stocks_of_rows}
+use Rattle.phase_permits.specs.Workers.{with_first_called, with_try, WorkerState}
+use Rattle.phase_permits.specs.Performing.{HasPerformedFirst, HasDealtWith, HasCommitted}
+use Rattle.phase_permits.proofs.PermitLemmas.{stocks-acts}
+use Rattle.phase_permits.specs.declared.fault.Done.{Done}
+use Rattle.phase_permits.specs.declared.fault.Done.TheVariants.{Committed, Stashed}
 use Rattle.phase_closing.specs.Phases.{no_receipt}
 use Rattle.phase_floor.specs.Closings.{IsReceipt, AreReceiptsOf}
 use Rattle.phase_floor.specs.Floors.{FloorState, IsBegun, AreBegun}
 
-begun_receipt : (floor : FloorState) (w quota : ℕ) (stash : StashState) (permit : PermitState) → IsBegun floor w quota stash permit → IsReceipt floor w permit
+begun_receipt : (floor : FloorState) (w quota : ℕ) (stash : StashState) (permit : WorkerState) → IsBegun floor w quota stash permit → IsReceipt floor w permit
 begun_receipt floor w quota stash permit begun = record {
   boxes_are = begun.key.boxes_are;
   worker_is = begun.key.worker_is;
-  opening_is = ap (λ (p : PermitState). p.split.context.opening) begun.new;
-  phase_is = ap (λ (p : PermitState). p.split.context.journal.phase) begun.new;
-  stocks_are = ap (λ (p : PermitState). stocks_of p.split.slices) begun.new ∙ stocks_of_rows floor.stocks [];
-  begun = ap (λ (p : PermitState). p.split.context.begun) begun.new;
+  opening_is = ap (λ (p : WorkerState). p.opening) begun.new;
+  phase_is = ap (λ (p : WorkerState). p.journal.phase) begun.new;
+  stocks_are = ap (λ (p : WorkerState). stocks_of p.slices) begun.new ∙ stocks_of_rows floor.stocks [];
+  begun = ap (λ (p : WorkerState). p.begun) begun.new;
 }
 
 -- new permits are such
-pub begun_receipts : (floor : FloorState) (quotas : List ℕ) (stashes : List StashState) (permits : List PermitState) → AreBegun floor quotas stashes permits → AreReceiptsOf floor permits
+pub begun_receipts : (floor : FloorState) (quotas : List ℕ) (stashes : List StashState) (permits : List WorkerState) → AreBegun floor quotas stashes permits → AreReceiptsOf floor permits
 begun_receipts floor quotas stashes permits begun = (begun.0, λ w low. begun_receipt floor w _ _ _ (begun.1 w no_receipt low))
 
 -- a permit of the same worker, boxes and phase is such, too
-still_receipt : (floor : FloorState) (w : ℕ) (old new : PermitState) → IsReceipt floor w old → new.key.boxes ≡ old.key.boxes → new.key.worker ≡ old.key.worker
-    → new.split.context.opening ≡ old.split.context.opening → new.split.context.journal.phase ≡ old.split.context.journal.phase → new.split.context.begun ≡ old.split.context.begun
-    → stocks_of new.split.slices ≡ stocks_of old.split.slices → IsReceipt floor w new
+still_receipt : (floor : FloorState) (w : ℕ) (old new : WorkerState) → IsReceipt floor w old → new.key.boxes ≡ old.key.boxes → new.key.worker ≡ old.key.worker
+    → new.opening ≡ old.opening → new.journal.phase ≡ old.journal.phase → new.begun ≡ old.begun
+    → stocks_of new.slices ≡ stocks_of old.slices → IsReceipt floor w new
 still_receipt floor w old new was boxes worker opening phase begun stocks = record {
   boxes_are = boxes ∙ was.boxes_are;
   worker_is = worker ∙ was.worker_is;
@@ -46,20 +45,20 @@ still_receipt floor w old new was boxes worker opening phase begun stocks = reco
   begun = begun ∙ was.begun;
 }
 
-module _ (opening : List ShardState) (floor : FloorState) (w : ℕ) (old new : PermitState) (was : IsReceipt floor w old) (request : Request) (index : ℕ) where
+module _ (opening : List ShardState) (floor : FloorState) (w : ℕ) (old new : WorkerState) (was : IsReceipt floor w old) (request : Request) (index : ℕ) where
   pub committed : (answer : Reply) → HasCommitted opening (with_try old) new request index answer → IsReceipt floor w new
   committed answer h =
-      still_receipt floor w old new was h.boxes h.worker (ap (λ d. d.opening) h.context) (ap (λ d. d.journal.phase) h.context) (ap (λ d. d.begun) h.context)
-      (ap stocks_of h.slices ∙ stocks-acts old.split.slices (writes_if (row_of old.split.context.journal.worker request answer)))
+      still_receipt floor w old new was h.boxes h.owner (ap (λ (d : WorkerState). d.opening) h.worker) (ap (λ (d : WorkerState). d.journal.phase) h.worker) (ap (λ (d : WorkerState). d.begun) h.worker)
+      (ap (λ (d : WorkerState). stocks_of d.slices) h.worker ∙ stocks-acts old.slices (writes_if (row_of old.journal.worker request answer)))
 
   pub dealt : (done : Done) → HasDealtWith opening (with_try old) new request index done → IsReceipt floor w new
   dealt (Committed answer) h = committed answer h
   dealt Stashed h =
-      still_receipt floor w old new was (ap (λ k. k.boxes) h.key) (ap (λ k. k.worker) h.key) (ap (λ d. d.opening) h.context) (ap (λ d. d.journal.phase) h.context) (ap (λ d. d.begun) h.context)
-      (ap stocks_of h.slices)
+      still_receipt floor w old new was (ap (λ (d : WorkerState). d.key.boxes) h.worker) (ap (λ (d : WorkerState). d.key.worker) h.worker) (ap (λ (d : WorkerState). d.opening) h.worker) (ap (λ (d : WorkerState). d.journal.phase) h.worker) (ap (λ (d : WorkerState). d.begun) h.worker)
+      (ap (λ (d : WorkerState). stocks_of d.slices) h.worker)
 
 -- the permit that has performed what waited longest, if anything did
-pub performed_first : (opening : List ShardState) (floor : FloorState) (w : ℕ) (old new : PermitState) → IsReceipt floor w old → (answer : Option Reply)
+pub performed_first : (opening : List ShardState) (floor : FloorState) (w : ℕ) (old new : WorkerState) → IsReceipt floor w old → (answer : Option Reply)
     → IfNone answer (new ≡ with_try old) → IfSome answer (HasPerformedFirst opening (with_try old) new) → IsReceipt floor w new
 performed_first opening floor w old new was None unchanged done = subst (IsReceipt floor w) (sym unchanged) (still_receipt floor w old (with_try old) was refl refl refl refl refl refl)
 performed_first opening floor w old new was (Some answer) unchanged done =

@@ -15,9 +15,9 @@ use Rattle.auction_rows.specs.Book.{Book}
 use Rattle.auction_rows.specs.History.{book_after}
 use Rattle.item_shards.specs.declared.slices.Slice.{Slice}
 use Rattle.shard_boxes.specs.States.{ShardState, state_at}
-use Rattle.phase_contexts.specs.declared.slices.Hot.{Hot}
-use Rattle.phase_contexts.specs.Slicing.{objects_of, stocks_of, slices_in, AreFew}
-use Rattle.phase_transactions.specs.Permits.{PermitState}
+use Rattle.phase_permits.specs.declared.slices.Hot.{Hot}
+use Rattle.phase_permits.specs.Slicing.{objects_of, stocks_of, slices_in, AreFew}
+use Rattle.phase_permits.specs.Workers.{WorkerState}
 use Rattle.phase_closing.specs.Phases.{HasClosed, receipt_at, no_receipt, counters_of}
 use Rattle.phase_closing.specs.Standing.{StandFor}
 use Rattle.phase_closing.specs.Merging.{after_merge, slices_left, CanMerge}
@@ -32,15 +32,15 @@ use Rattle.phase_floor.proofs.Started.{same_length, started, start_stands}
 use Rattle.phase_floor.proofs.Turns.{one_after, opening_after}
 
 -- the order in which they are merged
-abbrev pub order_of : List PermitState → List (Object × Slice)
+abbrev pub order_of : List WorkerState → List (Object × Slice)
 order_of receipts = flat_map from_the_last (map sliced_of receipts)
 
 -- each stands there once
-pub all_once : (receipts : List PermitState) → IsPermutation (slices_left receipts) (order_of receipts)
+pub all_once : (receipts : List WorkerState) → IsPermutation (slices_left receipts) (order_of receipts)
 all_once [] = IsPermutation-refl []
 all_once (receipt ∷ receipts) =
-    IsPermutation-append (slices_in receipt.split.slices) (from_the_last receipt.split.slices) (slices_left receipts) (order_of receipts)
-    (IsPermutation-reverse (slices_in receipt.split.slices)) (all_once receipts)
+    IsPermutation-append (slices_in receipt.slices) (from_the_last receipt.slices) (slices_left receipts) (order_of receipts)
+    (IsPermutation-reverse (slices_in receipt.slices)) (all_once receipts)
 
 -- What exists has a number.
 
@@ -55,14 +55,14 @@ slices_numbered opening states [] exist = tt
 slices_numbered opening states (hot ∷ hots) exist = (exists_known opening states hot.0 exist.0, slices_numbered opening states hots exist.1)
 
 all_numbered : (opening : Opening) (states : List ShardState) (stocks : List (Object × Option (Facts × ℕ))) → DoAllExist opening states (objects_of stocks)
-    → (receipts : List PermitState) → AllByRecursion (λ receipt. stocks_of receipt.split.slices ≡ stocks) receipts → AllByRecursion (λ pair. IsKnown opening pair.0) (slices_left receipts)
+    → (receipts : List WorkerState) → AllByRecursion (λ receipt. stocks_of receipt.slices ≡ stocks) receipts → AllByRecursion (λ pair. IsKnown opening pair.0) (slices_left receipts)
 all_numbered opening states stocks exist [] are = tt
 all_numbered opening states stocks exist (receipt ∷ receipts) are =
-    all-append (λ (pair : Object × Slice). IsKnown opening pair.0) (slices_in receipt.split.slices) (slices_left receipts)
-    (slices_numbered opening states receipt.split.slices (subst (λ s. DoAllExist opening states (objects_of s)) (sym are.0) exist))
+    all-append (λ (pair : Object × Slice). IsKnown opening pair.0) (slices_in receipt.slices) (slices_left receipts)
+    (slices_numbered opening states receipt.slices (subst (λ s. DoAllExist opening states (objects_of s)) (sym are.0) exist))
     (all_numbered opening states stocks exist receipts are.1)
 
-module _ (opening : List ShardState) (workers : ℕ) (floor : FloorState) (is_open : IsOpen opening workers floor) (receipts : List PermitState) (are : AreReceiptsOf floor receipts)
+module _ (opening : List ShardState) (workers : ℕ) (floor : FloorState) (is_open : IsOpen opening workers floor) (receipts : List WorkerState) (are : AreReceiptsOf floor receipts)
     (given : List ShardState) (entries : List Entry) (closed : HasClosed (phase_of opening floor receipts given entries)) where
   given_opening : (s : ℕ) → s < length given → (state_at given s).opening ≡ floor.opening
   given_opening s below =
@@ -84,16 +84,16 @@ module _ (opening : List ShardState) (workers : ℕ) (floor : FloorState) (is_op
   pub given_known : AreKnown given (order_of receipts)
   given_known =
       let P : Object × Slice → Type 0 = λ pair. IsKnown (opening_in given) pair.0 in
-      let stocks : AllByRecursion (λ receipt. stocks_of receipt.split.slices ≡ floor.stocks) receipts =
-      every_from (λ receipt. stocks_of receipt.split.slices ≡ floor.stocks) receipts no_receipt (λ w below. (are.1 w (omega (arith, below, are.0))).stocks_are) in
+      let stocks : AllByRecursion (λ receipt. stocks_of receipt.slices ≡ floor.stocks) receipts =
+      every_from (λ receipt. stocks_of receipt.slices ≡ floor.stocks) receipts no_receipt (λ w below. (are.1 w (omega (arith, below, are.0))).stocks_are) in
       let left = subst (λ (o : Opening). AllByRecursion (λ (pair : Object × Slice). IsKnown o pair.0) (slices_left receipts)) (sym first)
       (all_numbered floor.opening opening floor.stocks is_open.stocks_are.exist receipts stocks) in
       recursion_from_All P (order_of receipts) (All-permutation P (slices_left receipts) (order_of receipts) (all_once receipts) (All-from_recursion P (slices_left receipts) left))
 
-  pub given_can : ((w : ℕ) → w < length receipts → AreFew 1000000 (receipt_at receipts w).split.slices) → SawInTurn CanMerge after_merge given (order_of receipts)
+  pub given_can : ((w : ℕ) → w < length receipts → AreFew 1000000 (receipt_at receipts w).slices) → SawInTurn CanMerge after_merge given (order_of receipts)
   given_can few =
       merges_can_be_done (phase_of opening floor receipts given entries) closed is_open.kept.opened (omega (arith, are.0, is_open.kept.few_workers))
-      (every_from (λ receipt. AreFew 1000000 receipt.split.slices) receipts no_receipt few) (order_of receipts) (all_once receipts)
+      (every_from (λ receipt. AreFew 1000000 receipt.slices) receipts no_receipt few) (order_of receipts) (all_once receipts)
 
   -- merged in any order
   module _ (order : List (Object × Slice)) (each : IsPermutation (slices_left receipts) order) (states : List ShardState) (states_are : states ≡ map at_start (fold after_merge given order)) where

@@ -9,8 +9,8 @@ use Rattle.item_shards.specs.declared.shard.Shard.{Shard}
 use Rattle.item_shards.specs.Limits.{IsWithinLimits}
 use Rattle.item_shards.specs.OpeningRows.{rows_by}
 use Rattle.shard_boxes.specs.States.{state_of}
-use Rattle.phase_contexts.specs.declared.counters.Counters.{Counters}
-use Rattle.phase_contexts.specs.Splits.{CountsOf}
+use Rattle.phase_permits.specs.declared.counters.Counters.{Counters}
+use Rattle.phase_permits.specs.Replying.{CountsOf}
 use Rattle.phase_closing.specs.Standing.{ShardsStandFor, StandFor, AreOfWorkers, counters_at, stores}
 use Rattle.phase_floor.specs.Resuming.{counters_in, AreReady}
 use Rattle.phase_floor.specs.States.{AreOfABook, IsKept, IsWithinLimit, AreWithinLimit}

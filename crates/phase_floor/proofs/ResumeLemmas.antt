@@ -12,8 +12,8 @@ use Rattle.item_shards.specs.Counting.{worker_of, stored_by, counted}
 use Rattle.item_shards.specs.Limits.{HasStars, IsWithinLimits}
 use Rattle.item_shards.specs.OpeningRows.{rows_by}
 use Rattle.item_shards.proofs.SerialLemmas.{stored_next, stored_few}
-use Rattle.phase_contexts.specs.declared.counters.Counters.{Counters}
-use Rattle.phase_transactions.specs.Permits.{no_counters}
+use Rattle.phase_permits.specs.declared.counters.Counters.{Counters}
+use Rattle.phase_permits.specs.Workers.{no_counters}
 use Rattle.phase_closing.specs.Standing.{counters_at}
 use Rattle.phase_floor.specs.Resuming.{counters_in, with_row, HaveRoom}
 

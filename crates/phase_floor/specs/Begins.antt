@@ -6,12 +6,11 @@ use Rattle.auction_rows.specs.declared.numbers.Opening.{Opening}
 use Rattle.auction_rows.specs.declared.requests.Facts.{Facts}
 use Rattle.shard_boxes.specs.Keys.{KeyState}
 use Rattle.worker_journals.specs.Journals.{JournalView, empty_journal}
-use Rattle.phase_contexts.specs.declared.counters.Counters.{Counters}
-use Rattle.phase_contexts.specs.declared.slices.Hot.{Hot}
-use Rattle.phase_contexts.specs.Slicing.{slices_of}
-use Rattle.phase_contexts.specs.Splits.{HasStashRoom, new_split}
-use Rattle.phase_contexts.specs.Stashes.{StashState}
-use Rattle.phase_transactions.specs.Permits.{PermitState, permit}
+use Rattle.phase_permits.specs.declared.counters.Counters.{Counters}
+use Rattle.phase_permits.specs.declared.slices.Hot.{Hot}
+use Rattle.phase_permits.specs.Slicing.{slices_of}
+use Rattle.phase_permits.specs.Workers.{HasStashRoom, new_worker, WorkerState}
+use Rattle.phase_permits.specs.Stashes.{StashState}
 use Rattle.phase_closing.specs.Standing.{counters_at}
 use Rattle.phase_floor.specs.declared.kits.Kit.{Kit}
 use Rattle.phase_floor.specs.Floors.{stash_at}
@@ -40,13 +39,13 @@ AreKits phase stocks stashes quotas count kits = (w : ℕ) (d : Kit) → w < cou
     IsKit phase stocks w (length (stash_at stashes w).requests + slice_index quotas w) (slice_index_or kits w d)
 
 -- the permit of a worker who has done nothing in the phase, of its parts
-abbrev pub start_of : KeyState → Opening → Counters → JournalView → StashState → List (Object × Hot) → ℕ → PermitState
-start_of key opening counters journal stash slices quota = permit (new_split opening counters journal stash slices quota 0) key
+abbrev pub start_of : KeyState → Opening → Counters → JournalView → StashState → List (Object × Hot) → ℕ → WorkerState
+start_of key opening counters journal stash slices quota = new_worker key opening counters journal stash slices quota 0
 
 -- each worker's stash has room for its quota, where something is hot
 abbrev pub HaveStashRoom : List (Object × Option (Facts × ℕ)) → List StashState → List ℕ → Type 0
 HaveStashRoom stocks stashes quotas = (w : ℕ) → w < length quotas → HasStashRoom (slices_of stocks []) (slice_index quotas w) (stash_at stashes w).room
 
 -- nothing is hot
-abbrev pub HasNoSlices : PermitState → Type 0
-HasNoSlices start = start.split.slices ≡ []
+abbrev pub HasNoSlices : WorkerState → Type 0
+HasNoSlices start = start.slices ≡ []

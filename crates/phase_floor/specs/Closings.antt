@@ -1,5 +1,5 @@
 -- How a phase closes.
-use Rattle.std.specs.Prelude.{◌≡◌, ℕ, ◌+◌, ◌<◌, ◌≤◌, List, [], ◌∷◌, map, fold, length, reverse, ⊤}
+use Rattle.std.specs.Prelude.{◌≡◌, ℕ, ◌+◌, ◌<◌, ◌≤◌, List, [], map, fold, length, reverse, ⊤}
 use Rattle.std.specs.List.{AllByRecursion, flat_map}
 use Rattle.std.specs.List.Sorted.{IsPermutation}
 use Rattle.auction_rows.specs.declared.limits.TheConstants.{MOST_OF_A_WORKER, MOST_SHARDS}
@@ -13,12 +13,12 @@ use Rattle.item_shards.specs.declared.slices.Slice.{Slice}
 use Rattle.shard_boxes.specs.Keys.{KeyState}
 use Rattle.shard_boxes.specs.States.{ShardState, state_at}
 use Rattle.worker_journals.specs.Journals.{JournalView}
-use Rattle.phase_contexts.specs.declared.counters.Counters.{Counters}
-use Rattle.phase_contexts.specs.declared.slices.Hot.{Hot}
-use Rattle.phase_contexts.specs.Slicing.{stocks_of, slices_in, AreFew}
-use Rattle.phase_contexts.specs.Stashes.{StashState}
-use Rattle.phase_transactions.specs.Permits.{PermitState, IsExplained}
-use Rattle.phase_transactions.specs.Single.{HaveOpening}
+use Rattle.phase_permits.specs.declared.counters.Counters.{Counters}
+use Rattle.phase_permits.specs.declared.slices.Hot.{Hot}
+use Rattle.phase_permits.specs.Slicing.{stocks_of, slices_in, AreFew}
+use Rattle.phase_permits.specs.Stashes.{StashState}
+use Rattle.phase_permits.specs.Workers.{WorkerState, IsExplained}
+use Rattle.phase_permits.specs.Performing.{HaveOpening}
 use Rattle.phase_closing.specs.Phases.{Phase, HasClosed, receipt_at, key_of, journal_of, counters_of}
 use Rattle.phase_closing.specs.Lawful.{ClosesLawfully}
 use Rattle.phase_closing.specs.Merging.{after_merge, slices_left}
@@ -27,39 +27,39 @@ use Rattle.phase_floor.specs.Floors.{FloorState}
 use Rattle.phase_floor.specs.States.{JoinedState, states_of, StandsFor}
 
 -- the worker's receipt of the phase: its key is to the phase's boxes, and it began with the floor's counters, at clock 0
-pub record IsReceipt (floor : FloorState) (worker : ℕ) (receipt : PermitState) : Type 0 where
+pub record IsReceipt (floor : FloorState) (worker : ℕ) (receipt : WorkerState) : Type 0 where
   -- its key is to the phase's boxes
   pub boxes_are : receipt.key.boxes ≡ floor.boxes
   -- it is the worker's
   pub worker_is : receipt.key.worker ≡ worker
   -- it is of the same auction
-  pub opening_is : receipt.split.context.opening ≡ floor.opening
+  pub opening_is : receipt.opening ≡ floor.opening
   -- it is of this phase
-  pub phase_is : receipt.split.context.journal.phase ≡ floor.phase
+  pub phase_is : receipt.journal.phase ≡ floor.phase
   -- of the same hot objects
-  pub stocks_are : stocks_of receipt.split.slices ≡ floor.stocks
+  pub stocks_are : stocks_of receipt.slices ≡ floor.stocks
   -- it began with the floor's counters, at clock 0
-  pub begun : receipt.split.context.begun ≡ (counters_at floor.counters worker, 0) ∷ []
+  pub begun : receipt.begun ≡ (counters_at floor.counters worker, 0)
 
 -- each worker's receipt of the phase, in order
-abbrev pub AreReceiptsOf : FloorState → List PermitState → Type 0
+abbrev pub AreReceiptsOf : FloorState → List WorkerState → Type 0
 AreReceiptsOf floor receipts =
     (length receipts ≡ length floor.counters) × ((w : ℕ) → w < length floor.counters → IsReceipt floor w (receipt_at receipts w))
 
 -- The receipt is of a worker who has ended: its transactions explain it, and its commits, and the operations in a slice, are at most 1,000,000.
-pub record IsFinished (shards : ℕ) (receipt : PermitState) : Type 0 where
-  pub explained : IsExplained shards receipt.split receipt.key
+pub record IsFinished (shards : ℕ) (receipt : WorkerState) : Type 0 where
+  pub explained : IsExplained shards receipt
   pub limit : (counters_of receipt).commits ≤ MOST_OF_A_WORKER
-  pub few : AreFew MOST_OF_A_WORKER receipt.split.slices
+  pub few : AreFew MOST_OF_A_WORKER receipt.slices
 
-abbrev pub stash_of : PermitState → StashState
-stash_of receipt = receipt.split.context.stash
+abbrev pub stash_of : WorkerState → StashState
+stash_of receipt = receipt.stash
 
-abbrev pub sliced_of : PermitState → List (Object × Hot)
-sliced_of receipt = receipt.split.slices
+abbrev pub sliced_of : WorkerState → List (Object × Hot)
+sliced_of receipt = receipt.slices
 
 -- the phase that began with these shards, ended with these receipts, and left these shards and entries
-abbrev pub phase_of : List ShardState → FloorState → List PermitState → List ShardState → List Entry → Phase
+abbrev pub phase_of : List ShardState → FloorState → List WorkerState → List ShardState → List Entry → Phase
 phase_of opening floor receipts given entries = record {
   setting = record { opening = floor.opening; shards = length opening; stocks = floor.stocks };
   opening = opening;
@@ -74,7 +74,7 @@ abbrev pub at_start : ShardState → ShardState
 at_start state = record state { clock = 0 }
 
 -- The phase has closed: the boxes gave back shards, and the states left are these with their clocks at 0.
-pub record HasSettled (opening : List ShardState) (floor : FloorState) (receipts : List PermitState) (states : List ShardState)
+pub record HasSettled (opening : List ShardState) (floor : FloorState) (receipts : List WorkerState) (states : List ShardState)
     (entries : List Entry) : Type 0 where
   pub given : List ShardState
   pub closed : HasClosed (phase_of opening floor receipts given entries)
@@ -82,7 +82,7 @@ pub record HasSettled (opening : List ShardState) (floor : FloorState) (receipts
 
 -- The phase has closed: the boxes gave back shards, into these the slices of all workers were merged, each once, in some order,
 -- and the states left are what came of it, with their clocks at 0.
-pub record HasReconciled (opening : List ShardState) (floor : FloorState) (receipts : List PermitState) (states : List ShardState)
+pub record HasReconciled (opening : List ShardState) (floor : FloorState) (receipts : List WorkerState) (states : List ShardState)
     (entries : List Entry) : Type 0 where
   pub given : List ShardState
   pub closed : HasClosed (phase_of opening floor receipts given entries)
@@ -91,7 +91,7 @@ pub record HasReconciled (opening : List ShardState) (floor : FloorState) (recei
   pub states_are : states ≡ map at_start (fold after_merge given order)
 
 -- The phase closes lawfully with these receipts and entries, by the shards that its boxes gave back, and leaves these states.
-pub record HasClosedLawfully (opening : List ShardState) (floor : FloorState) (receipts : List PermitState) (states : List ShardState)
+pub record HasClosedLawfully (opening : List ShardState) (floor : FloorState) (receipts : List WorkerState) (states : List ShardState)
     (entries : List Entry) : Type 0 where
   pub given : List ShardState
   pub lawful : ClosesLawfully (phase_of opening floor receipts given entries) states
@@ -99,7 +99,7 @@ pub record HasClosedLawfully (opening : List ShardState) (floor : FloorState) (r
 -- What a phase that closes with these receipts and entries leaves: the state after it, and the stashes. Each worker has as many
 -- commits more as its journal has entries; of each book for which the state before the phase stood the entries replay, and the
 -- state after it stands for the book with their rows.
-pub record Leaves (opening : List ShardState) (floor : FloorState) (receipts : List PermitState) (entries : List Entry)
+pub record Leaves (opening : List ShardState) (floor : FloorState) (receipts : List WorkerState) (entries : List Entry)
     (state : JoinedState) (stashes : List StashState) : Type 0 where
   -- it is the next phase of the same auction
   pub opening_is : state.opening ≡ floor.opening
@@ -145,7 +145,7 @@ pub record AreOfOne (states : List ShardState) : Type 0 where
   pub opening_is : HaveOpening states (opening_in states)
 
 -- the parts of receipts, each kind by itself, of slices those that there are
-pub record ArePartsOf (receipts : List PermitState) (journals : List JournalView) (stashes : List StashState) (keys : List KeyState)
+pub record ArePartsOf (receipts : List WorkerState) (journals : List JournalView) (stashes : List StashState) (keys : List KeyState)
     (counters : List Counters) (slices : List (List (Object × Hot))) : Type 0 where
   pub journals_are : journals ≡ map journal_of receipts
   pub stashes_are : stashes ≡ map stash_of receipts

@@ -8,11 +8,10 @@ use Rattle.auction_rows.specs.Requests.{same_object}
 use Rattle.shard_boxes.specs.Keys.{BoxId, KeyState, IsNewKey}
 use Rattle.shard_boxes.specs.States.{ShardState}
 use Rattle.worker_journals.specs.Journals.{empty_journal}
-use Rattle.phase_contexts.specs.declared.counters.Counters.{Counters}
-use Rattle.phase_contexts.specs.Slicing.{objects_of, slices_of, IsStocked}
-use Rattle.phase_contexts.specs.Splits.{new_split}
-use Rattle.phase_contexts.specs.Stashes.{StashState}
-use Rattle.phase_transactions.specs.Permits.{PermitState, permit}
+use Rattle.phase_permits.specs.declared.counters.Counters.{Counters}
+use Rattle.phase_permits.specs.Slicing.{objects_of, slices_of, IsStocked}
+use Rattle.phase_permits.specs.Workers.{new_worker, WorkerState}
+use Rattle.phase_permits.specs.Stashes.{StashState}
 use Rattle.phase_closing.specs.Phases.{IsReadFrom}
 use Rattle.phase_closing.specs.Standing.{counters_at}
 use Rattle.phase_floor.specs.States.{DoAllExist, IsKept}
@@ -52,12 +51,12 @@ pub record IsOpen (states : List ShardState) (workers : ℕ) (floor : FloorState
   pub not_last : floor.phase + 1 < 2 ^ 64
 
 -- the permit of a worker who has done nothing in the phase, with this quota, stash and key
-abbrev pub new_permit : FloorState → ℕ → ℕ → StashState → KeyState → PermitState
+abbrev pub new_permit : FloorState → ℕ → ℕ → StashState → KeyState → WorkerState
 new_permit floor worker quota stash key =
-    permit (new_split floor.opening (counters_at floor.counters worker) (empty_journal floor.phase worker (length stash.requests + quota)) stash (slices_of floor.stocks []) quota 0) key
+    new_worker key floor.opening (counters_at floor.counters worker) (empty_journal floor.phase worker (length stash.requests + quota)) stash (slices_of floor.stocks []) quota 0
 
 -- the worker's permit is such a new one, with a new key to the phase's boxes
-pub record IsBegun (floor : FloorState) (worker quota : ℕ) (stash : StashState) (permit : PermitState) : Type 0 where
+pub record IsBegun (floor : FloorState) (worker quota : ℕ) (stash : StashState) (permit : WorkerState) : Type 0 where
   pub new : permit ≡ new_permit floor worker quota stash permit.key
   pub key : IsNewKey floor.boxes worker permit.key
 
@@ -68,8 +67,8 @@ abbrev pub stash_at : List StashState → ℕ → StashState
 stash_at stashes worker = slice_index_or stashes worker no_stash
 
 -- each worker's permit is newly begun, in order
-abbrev pub AreBegun : FloorState → List ℕ → List StashState → List PermitState → Type 0
+abbrev pub AreBegun : FloorState → List ℕ → List StashState → List WorkerState → Type 0
 AreBegun floor quotas stashes permits =
     (length permits ≡ length floor.counters)
-    × ((w : ℕ) (d : PermitState) → w < length floor.counters →
+    × ((w : ℕ) (d : WorkerState) → w < length floor.counters →
     IsBegun floor w (slice_index quotas w) (stash_at stashes w) (slice_index_or permits w d))

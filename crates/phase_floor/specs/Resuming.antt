@@ -18,8 +18,8 @@ use Rattle.item_shards.specs.Contents.{after_acts}
 use Rattle.item_shards.specs.ShardContents.{HasRoom}
 use Rattle.item_shards.specs.Writing.{writes_of, is_done_on, done_on}
 use Rattle.shard_boxes.specs.States.{ShardState, state_at}
-use Rattle.phase_contexts.specs.declared.counters.Counters.{Counters}
-use Rattle.phase_transactions.specs.Single.{HaveOpening}
+use Rattle.phase_permits.specs.declared.counters.Counters.{Counters}
+use Rattle.phase_permits.specs.Performing.{HaveOpening}
 
 -- a worker's counters by its rows of a book: each row was a commit
 abbrev pub counters_in : Book → ℕ → Counters

@@ -11,8 +11,8 @@ use Rattle.item_shards.specs.declared.shard.Shard.{Shard}
 use Rattle.item_shards.specs.Limits.{HasStars}
 use Rattle.item_shards.specs.Values.{stock}
 use Rattle.shard_boxes.specs.States.{ShardState, state_of, AreOpened}
-use Rattle.phase_contexts.specs.declared.counters.Counters.{Counters}
-use Rattle.phase_transactions.specs.Single.{HaveOpening}
+use Rattle.phase_permits.specs.declared.counters.Counters.{Counters}
+use Rattle.phase_permits.specs.Performing.{HaveOpening}
 use Rattle.phase_closing.specs.Phases.{value_on}
 use Rattle.phase_closing.specs.Standing.{StandFor, AreOfWorkers, counters_at, stores}
 

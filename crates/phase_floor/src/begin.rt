@@ -12,7 +12,7 @@ use crate::kits::{Kit, Stocks, new_kits};
 use crate::quotas::is_too_long;
 use crate::start::{Start, joined_permits};
 use auction_rows::MOST_OF_A_WORKER;
-use phase_transactions::{JoinedPermit, Stash};
+use phase_permits::{JoinedPermit, Stash};
 use shard_boxes::{Boxes, Key, PhaseName};
 use std::alloc::Global;
 use std::sync::Wait;

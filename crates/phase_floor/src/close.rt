@@ -11,7 +11,7 @@ use crate::merge::merge_all;
 use crate::parts::Parts;
 use crate::receipt::Receipt;
 use crate::reset::reset_clocks;
-use phase_transactions::{JoinedReceipt, SplitReceipt, Stash};
+use phase_permits::{JoinedReceipt, SplitReceipt, Stash};
 use shard_boxes::PhaseName;
 use std::alloc::Global;
 use std::sync::Wait;

@@ -1,10 +1,10 @@
 //! A phase that is open.
 ghost use Rattle.std.specs.Prelude.{◌≡◌};
-ghost use Rattle.phase_transactions.specs.Single.{HaveOpening};
+ghost use Rattle.phase_permits.specs.Performing.{HaveOpening};
 
 use crate::kits::Stocks;
 use auction_rows::Opening;
-use phase_transactions::Counters;
+use phase_permits::Counters;
 use shard_boxes::{Boxes, PhaseName};
 use std::marker::Model;
 

@@ -3,7 +3,7 @@ ghost use Rattle.std.specs.Prelude.{◌≡◌};
 
 use auction_rows::Opening;
 use item_shards::Shard;
-use phase_transactions::Counters;
+use phase_permits::Counters;
 use std::marker::Model;
 
 /// An auction between two phases: its 1 to 64 shards, and what each of 1 to 16 workers has committed.

@@ -2,12 +2,12 @@
 ghost use Rattle.std.specs.Prelude.{◌≡◌, ◌+◌, ◌<◌, ◌≤◌, ℕ, length, map, vec_len, IfOk, slice_index};
 ghost use Rattle.std.specs.List.{AllByRecursion, IsDistinct};
 ghost use Rattle.auction_rows.specs.Requests.{same_object};
-ghost use Rattle.phase_contexts.specs.Slicing.{objects_of, IsStocked};
+ghost use Rattle.phase_permits.specs.Slicing.{objects_of, IsStocked};
 ghost use Rattle.phase_floor.specs.Begins.{AreKits, empty_stash};
 ghost use Rattle.phase_floor.specs.Floors.{stash_at};
 
 use auction_rows::{Facts, MOST_OF_A_WORKER, MOST_WORKERS, Object};
-use phase_transactions::{Slices, Stash};
+use phase_permits::{Slices, Stash};
 use std::alloc::{AllocError, Global};
 use worker_journals::Journal;
 

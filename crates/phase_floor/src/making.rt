@@ -1,14 +1,14 @@
 //! How an auction is made.
 ghost use Rattle.std.specs.Prelude.{◌≡◌, ◌<◌, ◌≤◌, [], length, map, vec_len, replicate, IfOk};
 ghost use Rattle.shard_boxes.specs.States.{state_of};
-ghost use Rattle.phase_transactions.specs.Permits.{no_counters};
+ghost use Rattle.phase_permits.specs.Workers.{no_counters};
 ghost use Rattle.phase_floor.specs.Making.{AreBlank};
 ghost use Rattle.phase_floor.specs.States.{StandsFor};
 
 use crate::joined::Joined;
 use auction_rows::{MOST_SHARDS, MOST_WORKERS, Opening};
 use item_shards::Shard;
-use phase_transactions::Counters;
+use phase_permits::Counters;
 use std::alloc::{AllocError, Global};
 
 impl Joined {

@@ -9,7 +9,7 @@ ghost use Rattle.phase_floor.specs.Closings.{AreOfOne, AreKnown, IsKnown, openin
 
 use auction_rows::{Object, shard_of};
 use item_shards::{Shard, Slice};
-use phase_transactions::Slices;
+use phase_permits::Slices;
 
 // Merges a slice of an object into the shard in which it lies.
 pub(crate) fn merge(shards: &mut Vec<Shard>, object: Object, slice: Slice)

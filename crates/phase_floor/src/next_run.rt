@@ -6,7 +6,7 @@ ghost use Rattle.phase_floor.specs.NextRun.{stores_as_commits};
 
 use crate::joined::Joined;
 use auction_rows::{MOST_OF_A_WORKER, MOST_WORKERS};
-use phase_transactions::Counters;
+use phase_permits::Counters;
 
 impl Joined {
     ghost use Rattle.auction_rows.specs.Book.{Book};

@@ -5,7 +5,7 @@ ghost use Rattle.phase_closing.specs.Phases.{key_of, journal_of, counters_of};
 ghost use Rattle.phase_floor.specs.Closings.{ArePartsOf, IsFinished, stash_of, sliced_of, from_the_last};
 
 use crate::receipt::Receipt;
-use phase_transactions::{Counters, Slices, Stash};
+use phase_permits::{Counters, Slices, Stash};
 use shard_boxes::{Key, PhaseName};
 use std::alloc::{AllocError, Global};
 use worker_journals::Journal;

@@ -3,7 +3,7 @@ ghost use Rattle.std.specs.Prelude.{◌≡◌, ◌+◌, ◌<◌, length, IsTrue,
 ghost use Rattle.phase_floor.specs.Begins.{IsTooLong};
 
 use auction_rows::MOST_OF_A_WORKER;
-use phase_transactions::{Counters, Stash};
+use phase_permits::{Counters, Stash};
 
 // Whether these are more than 1,000,000 together.
 pub(crate) fn is_over(commits: u32, waiting: usize, quota: u32) -> bool

@@ -19,7 +19,7 @@ use auction_rows::{
     Row, shard_of,
 };
 use item_shards::{Act, OpeningBook, Shard};
-use phase_transactions::Counters;
+use phase_permits::Counters;
 use std::alloc::{AllocError, Global};
 
 impl Joined {

@@ -12,7 +12,7 @@ use crate::quotas::is_too_long;
 use crate::start::split_permits;
 use auction_rows::{Facts, Object};
 use indexmap::IndexSet;
-use phase_transactions::SplitPermit;
+use phase_permits::SplitPermit;
 use shard_boxes::PhaseName;
 use std::alloc::{AllocError, Global};
 use std::sync::Wait;
@@ -20,7 +20,7 @@ use std::sync::Wait;
 impl Joined {
     ghost use Rattle.std.specs.List.{AllByRecursion};
     ghost use Rattle.phase_closing.specs.Phases.{IsReadFrom};
-    ghost use Rattle.phase_contexts.specs.Slicing.{objects_of, IsStocked};
+    ghost use Rattle.phase_permits.specs.Slicing.{objects_of, IsStocked};
     ghost use Rattle.phase_floor.specs.States.{DoesExist, DoAllExist, states_of};
 
     /// Begins a split phase: a permit for each worker to perform its quota, with a slice of each hot object. The phase is of

@@ -4,7 +4,7 @@ ghost use Rattle.std.specs.List.{AllByRecursion};
 ghost use Rattle.phase_floor.specs.Begins.{HasNoSlices};
 
 use auction_rows::Opening;
-use phase_transactions::{Counters, JoinedPermit, Slices, SplitPermit, Stash};
+use phase_permits::{Counters, JoinedPermit, Slices, SplitPermit, Stash};
 use shard_boxes::{Key, PhaseName};
 use std::marker::Model;
 use worker_journals::Journal;
@@ -22,14 +22,14 @@ pub(crate) struct Start<N: PhaseName> {
 }
 
 impl<N: PhaseName> Model for Start<N> {
-    ghost use Rattle.phase_transactions.specs.Permits.{PermitState, IsNewPermit};
+    ghost use Rattle.phase_permits.specs.Workers.{WorkerState, CanStart};
     ghost use Rattle.phase_floor.specs.Begins.{start_of};
 
-    ghost Value = { PermitState };
+    ghost Value = { WorkerState };
 
     ghost view = { λ s. start_of s.key s.opening s.counters s.journal s.stash s.slices s.quota };
 
-    ghost invariant = { λ s. IsNewPermit (start_of s.key s.opening s.counters s.journal s.stash s.slices s.quota) };
+    ghost invariant = { λ s. CanStart (start_of s.key s.opening s.counters s.journal s.stash s.slices s.quota) };
 }
 
 impl<N: PhaseName> Start<N> {

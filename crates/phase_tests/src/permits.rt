@@ -1,4 +1,4 @@
-//! Tests of `phase_transactions`: permits made by hand, with boxes, journals, stashes and slices.
+//! Tests of `phase_permits`: permits made by hand, with boxes, journals, stashes and slices.
 pub(crate) mod joined;
 mod joined_tests;
 mod split;

@@ -6,8 +6,8 @@ use Rattle.std.specs.List.{AllByRecursion, AllZip}
 use Rattle.std.proofs.lemmas.List.{map-append, length-map}
 use Rattle.std.proofs.lemmas.Slice.Zip.{AllZip-long}
 use Rattle.auction_rows.specs.declared.requests.Request.{Request}
-use Rattle.phase_transactions.specs.declared.fault.PermitFault.{PermitFault}
-use Rattle.phase_transactions.specs.Permits.{PermitState}
+use Rattle.phase_permits.specs.declared.fault.PermitFault.{PermitFault}
+use Rattle.phase_permits.specs.Workers.{WorkerState}
 use Rattle.phase_laws.proofs.ListLemmas.{all-append}
 use Rattle.shard_boxes.specs.States.{ShardState}
 use Rattle.phase_workers.specs.declared.fault.ServingFault.{ServingFault}
@@ -33,7 +33,7 @@ next_within n left rest all one so_far = omega (arith, one, so_far)
 pub one_made : (n m left rest all : ℕ) → m ≡ n + 1 → left + 1 ≡ rest → n + rest ≡ all → m + left ≡ all
 one_made n m left rest all longer one so_far = omega (arith, longer, one, so_far)
 
-pub next_task : {P : Type 0} (shows : P → PermitState) (first : ℕ) (left next : List P) (permit : P) (rest after : List (List Request)) (script : List Request) →
+pub next_task : {P : Type 0} (shows : P → WorkerState) (first : ℕ) (left next : List P) (permit : P) (rest after : List (List Request)) (script : List Request) →
     left ≡ permit ∷ next → rest ≡ script ∷ after → tasks (map shows left) rest first ≡ task (shows permit) script first ∷ tasks (map shows next) after first
 next_task shows first left next permit rest after script is are =
     ap (λ ps. tasks (map shows ps) rest first) is ∙ ap (λ ss. tasks (map shows (permit ∷ next)) ss first) are
@@ -56,7 +56,7 @@ own_more Can CanDo of owns now own rest next all t push is more can left made wh
     )
 
 -- what each worker's answer keeps of its task
-module _ {D T : Type 0} (of : D → Task) (left : T → PermitState) (takes : Bool) (opening : List ShardState) where
+module _ {D T : Type 0} (of : D → Task) (left : T → WorkerState) (takes : Bool) (opening : List ShardState) where
   abbrev Keeps : D → WorkerAnswer T → Type 0
   Keeps own answer = OnOk answer.done (IsDone takes (of own) (left answer.receipt)) × IfErr answer.done (HasMetFault takes opening (of own) (left answer.receipt))
 
@@ -98,13 +98,13 @@ unstarted_by jobs workers P Spawn few is = omega (arith, few, is)
 unstarted_by jobs workers P Memory few is = tt
 unstarted_by jobs workers P (Worker met) few is = absurd is
 
-tasks_few : (permits : List PermitState) (scripts : List (List Request)) (first : ℕ) → length (tasks permits scripts first) ≤ length scripts
+tasks_few : (permits : List WorkerState) (scripts : List (List Request)) (first : ℕ) → length (tasks permits scripts first) ≤ length scripts
 tasks_few [] scripts first = omega arith
 tasks_few (p ∷ ps) [] first = omega arith
 tasks_few (p ∷ ps) (s ∷ ss) first = let again = tasks_few ps ss first in omega (arith, again)
 
 -- there are no more tasks than scripts
-pub tasks_of_few : {D : Type 0} (of : D → Task) (owns : List D) (permits : List PermitState) (scripts : List (Vec Request Global)) (first : ℕ) →
+pub tasks_of_few : {D : Type 0} (of : D → Task) (owns : List D) (permits : List WorkerState) (scripts : List (Vec Request Global)) (first : ℕ) →
     map of owns ≡ tasks permits (lists scripts) first → length owns ≤ length scripts
 tasks_of_few of owns permits scripts first are =
     let mapped : length (map of owns) ≡ length owns = simp length-map in

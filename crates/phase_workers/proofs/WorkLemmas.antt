@@ -1,6 +1,6 @@
 -- What a permit's calls are after one more request.
 use Rattle.std.proofs.Common.{◌≡◌, ℕ, zero, suc, ◌+◌, ◌-◌, ◌<◌, ◌≤◌, Bool, true, false, cond, List, [], ◌∷◌, ◌++◌, length, map, take, drop, Some, None, refl, sym, ap, subst, ◌∙◌, append_assoc, arith}
-use Rattle.std.specs.Prelude.{Option, IfSome, IfNone, Result, Ok, Err, OnOk, IfErr, IsErrAnd, slice_get, not, unwrap_or}
+use Rattle.std.specs.Prelude.{Option, Result, Ok, Err, OnOk, IfErr, IsErrAnd, slice_get, not, unwrap_or}
 use Rattle.std.specs.List.{filter, AllByRecursion}
 use Rattle.std.proofs.Math.Seq.{drop-nil}
 use Rattle.std.proofs.lemmas.Bool.{false≢true}
@@ -13,18 +13,13 @@ use Rattle.auction_rows.specs.declared.rows.Entry.{Entry}
 use Rattle.auction_rows.specs.Phases.{is_put_off}
 use Rattle.auction_rows.specs.Replies.{row_of}
 use Rattle.item_shards.specs.Writing.{writes_if}
-use Rattle.phase_contexts.specs.Contexts.{ContextState}
-use Rattle.phase_contexts.specs.Slicing.{objects_of, stocks_of}
-use Rattle.phase_contexts.proofs.AnswerLemmas.{same_objects_of}
-use Rattle.phase_contexts.proofs.StoredLemmas.{objects-acts}
-use Rattle.phase_transactions.proofs.Hots.{stocks-acts}
-use Rattle.phase_transactions.proofs.PermitLemmas.{none_put_off}
-use Rattle.phase_transactions.specs.declared.fault.Done.{Done}
-use Rattle.phase_transactions.specs.declared.fault.Done.TheVariants.{Committed, Stashed}
-use Rattle.phase_transactions.specs.declared.fault.PermitFault.{PermitFault}
-use Rattle.phase_transactions.specs.Performing.{HasDealtWith, HasFailed, IsCause, with_try}
-use Rattle.phase_transactions.specs.Permits.{PermitState, HasCommitted}
-use Rattle.phase_transactions.specs.Stashed.{with_first_called, HasPerformedFirst, HasFailedFirst}
+use Rattle.phase_permits.specs.Workers.{WorkerState, with_try, with_first_called}
+use Rattle.phase_permits.specs.Slicing.{objects_of, stocks_of}
+use Rattle.phase_permits.proofs.HomeLemmas.{same_objects_of}
+use Rattle.phase_permits.proofs.LawfulLemmas.{objects-acts}
+use Rattle.phase_permits.proofs.PermitLemmas.{stocks-acts, none_put_off}
+use Rattle.phase_permits.specs.declared.fault.PermitFault.{PermitFault}
+use Rattle.phase_permits.specs.Performing.{HasFailed, IsCause, HasCommitted, HasFailedFirst, HasDealt, HasPerformedFirstSome}
 use Rattle.phase_laws.proofs.ListLemmas.{all-append}
 use Rattle.run_serving.specs.Serving.{call_of}
 use Rattle.shard_boxes.specs.States.{ShardState}
@@ -32,10 +27,10 @@ use Rattle.worker_journals.specs.Journals.{JournalView, commit_in}
 use Rattle.phase_workers.specs.Tasks.{task, IsDone}
 use Rattle.phase_workers.specs.Working.{calls_from, committed, stashed, taken, kept, hot_for, put_off, not_put_off, IsSamePermit, HasDealtWithNext, HasPerformedWaiting, HasStopped}
 
-pub same : (permit : PermitState) → IsSamePermit permit permit
+pub same : (permit : WorkerState) → IsSamePermit permit permit
 same permit = record { boxes = refl; worker = refl; opening = refl; begun = refl; phase = refl; writer = refl; hot = refl; stocks = refl; own = λ are. are }
 
-pub same_after : (old mid new : PermitState) → IsSamePermit old mid → IsSamePermit mid new → IsSamePermit old new
+pub same_after : (old mid new : WorkerState) → IsSamePermit old mid → IsSamePermit mid new → IsSamePermit old new
 same_after old mid new a b = record {
   boxes = b.boxes ∙ a.boxes;
   worker = b.worker ∙ a.worker;
@@ -48,59 +43,60 @@ same_after old mid new a b = record {
   own = λ are. b.own (a.own are);
 }
 
-tried : (permit : PermitState) → IsSamePermit permit (with_try permit)
+tried : (permit : WorkerState) → IsSamePermit permit (with_try permit)
 tried permit = record { boxes = refl; worker = refl; opening = refl; begun = refl; phase = refl; writer = refl; hot = refl; stocks = refl; own = λ are. are }
 
-called : (permit : PermitState) → IsSamePermit permit (with_first_called permit)
+called : (permit : WorkerState) → IsSamePermit permit (with_first_called permit)
 called permit = record { boxes = refl; worker = refl; opening = refl; begun = refl; phase = refl; writer = refl; hot = refl; stocks = refl; own = λ are. are }
 
 -- the entries of a journal are of its phase
 abbrev AreOfPhaseIn : JournalView → Type 0
 AreOfPhaseIn journal = AllByRecursion (λ e. e.phase ≡ journal.phase) journal.entries
 
-module _ (opening : List ShardState) (old new : PermitState) (request : Request) (index : ℕ) where
+module _ (opening : List ShardState) (old new : WorkerState) (request : Request) (index : ℕ) where
   pub commit_same : (answer : Reply) → HasCommitted opening old new request index answer → IsSamePermit old new
   commit_same answer h = record {
     boxes = h.boxes;
-    worker = h.worker;
-    opening = ap (λ d. d.opening) h.context;
-    begun = ap (λ d. d.begun) h.context;
-    phase = ap (λ d. d.journal.phase) h.context;
-    writer = ap (λ d. d.journal.worker) h.context;
-    hot = ap objects_of h.slices ∙ objects-acts old.split.slices (writes_if (row_of old.split.context.journal.worker request answer));
-    stocks = ap stocks_of h.slices ∙ stocks-acts old.split.slices (writes_if (row_of old.split.context.journal.worker request answer));
-    own = λ are. subst (λ (d : ContextState). AreOfPhaseIn d.journal) (sym h.context)
-        (all-append (λ (e : Entry). e.phase ≡ old.split.context.journal.phase) old.split.context.journal.entries (commit_in old.split.context.journal h.number index request answer ∷ []) are (refl, tt));
+    worker = h.owner;
+    opening = ap (λ (d : WorkerState). d.opening) h.worker;
+    begun = ap (λ (d : WorkerState). d.begun) h.worker;
+    phase = ap (λ (d : WorkerState). d.journal.phase) h.worker;
+    writer = ap (λ (d : WorkerState). d.journal.worker) h.worker;
+    hot = ap (λ (d : WorkerState). objects_of d.slices) h.worker ∙ objects-acts old.slices (writes_if (row_of old.journal.worker request answer));
+    stocks = ap (λ (d : WorkerState). stocks_of d.slices) h.worker ∙ stocks-acts old.slices (writes_if (row_of old.journal.worker request answer));
+    own = λ are. subst (λ (d : WorkerState). AreOfPhaseIn d.journal) (sym h.worker)
+        (all-append (λ (e : Entry). e.phase ≡ old.journal.phase) old.journal.entries (commit_in old.journal h.number index request answer ∷ []) are (refl, tt));
   }
 
   pub commit_calls : (answer : Reply) → HasCommitted opening old new request index answer → committed new ≡ committed old ++ (index, request) ∷ []
-  commit_calls answer h = ap (λ d. map call_of d.journal.entries) h.context ∙ map-append call_of old.split.context.journal.entries _
+  commit_calls answer h = ap (λ (d : WorkerState). map call_of d.journal.entries) h.worker ∙ map-append call_of old.journal.entries _
 
-pub next_same : (opening : List ShardState) (old new : PermitState) (request : Request) (index : ℕ) (answer : Reply) →
+pub next_same : (opening : List ShardState) (old new : WorkerState) (request : Request) (index : ℕ) (answer : Reply) →
     HasCommitted opening (with_try old) new request index answer → IsSamePermit old new
 next_same opening old new request index answer h = same_after old (with_try old) new (tried old) (commit_same opening (with_try old) new request index answer h)
 
-pub first_same : (opening : List ShardState) (old new : PermitState) (answer : Option Reply) → IfNone answer (new ≡ with_try old) →
-    IfSome answer (HasPerformedFirst opening (with_try old) new) → IsSamePermit old new
-first_same opening old new None unchanged done = subst (IsSamePermit old) (sym unchanged) (tried old)
-first_same opening old new (Some answer) unchanged done =
-    let mid : PermitState = with_first_called (with_try old) in
+pub first_same : (opening : List ShardState) (old new : WorkerState) (some : Bool) → (some ≡ false → new ≡ with_try old) →
+    (some ≡ true → HasPerformedFirstSome opening (with_try old) new) → IsSamePermit old new
+first_same opening old new false unchanged done = subst (IsSamePermit old) (sym (unchanged refl)) (tried old)
+first_same opening old new true unchanged done =
+    let mid : WorkerState = with_first_called (with_try old) in
+    let first = (done refl).1 in
     same_after old (with_try old) new (tried old)
-    (same_after (with_try old) mid new (called (with_try old)) (commit_same opening mid new done.request done.index answer done.committed))
+    (same_after (with_try old) mid new (called (with_try old)) (commit_same opening mid new first.request first.index (done refl).0 first.committed))
 
-pub dealt_same : (opening : List ShardState) (old new : PermitState) (request : Request) (index : ℕ) (done : Done) →
-    HasDealtWith opening (with_try old) new request index done → IsSamePermit old new
-dealt_same opening old new request index (Committed answer) h = next_same opening old new request index answer h
-dealt_same opening old new request index Stashed h = record {
-  boxes = ap (λ k. k.boxes) h.key;
-  worker = ap (λ k. k.worker) h.key;
-  opening = ap (λ d. d.opening) h.context;
-  begun = ap (λ d. d.begun) h.context;
-  phase = ap (λ d. d.journal.phase) h.context;
-  writer = ap (λ d. d.journal.worker) h.context;
-  hot = ap objects_of h.slices;
-  stocks = ap stocks_of h.slices;
-  own = λ are. subst (λ (d : ContextState). AreOfPhaseIn d.journal) (sym h.context) are;
+pub dealt_same : (opening : List ShardState) (old new : WorkerState) (request : Request) (index : ℕ) (kept : Bool) →
+    HasDealt opening (with_try old) new request index kept → IsSamePermit old new
+dealt_same opening old new request index true (answer, h) = next_same opening old new request index answer h
+dealt_same opening old new request index false h = record {
+  boxes = ap (λ (d : WorkerState). d.key.boxes) h.worker;
+  worker = ap (λ (d : WorkerState). d.key.worker) h.worker;
+  opening = ap (λ (d : WorkerState). d.opening) h.worker;
+  begun = ap (λ (d : WorkerState). d.begun) h.worker;
+  phase = ap (λ (d : WorkerState). d.journal.phase) h.worker;
+  writer = ap (λ (d : WorkerState). d.journal.worker) h.worker;
+  hot = ap (λ (d : WorkerState). objects_of d.slices) h.worker;
+  stocks = ap (λ (d : WorkerState). stocks_of d.slices) h.worker;
+  own = λ are. subst (λ (d : WorkerState). AreOfPhaseIn d.journal) (sym h.worker) are;
 }
 
 -- ---- what is put off
@@ -141,22 +137,22 @@ all_kept hot (call ∷ calls) none = at (is_put_off hot call.1) none (λ fewer. 
 -- ---- one request more
 
 -- what a permit did with the next request of its quota
-pub dealt_next : (opening : List ShardState) (old new : PermitState) (request : Request) (index : ℕ) (done : Done) →
-    HasDealtWith opening (with_try old) new request index done → HasDealtWithNext (index, request) old new
-dealt_next opening old new request index (Committed answer) h =
-    let goes : is_put_off (hot_for old) request ≡ false = ap (λ hot. is_put_off hot request) (sym (same_objects_of old.split.slices)) ∙ h.answered.not_put_off in record {
-      same = dealt_same opening old new request index (Committed answer) h;
+pub dealt_next : (opening : List ShardState) (old new : WorkerState) (request : Request) (index : ℕ) (kept : Bool) →
+    HasDealt opening (with_try old) new request index kept → HasDealtWithNext (index, request) old new
+dealt_next opening old new request index true (answer, h) =
+    let goes : is_put_off (hot_for old) request ≡ false = ap (λ hot. is_put_off hot request) (sym (same_objects_of old.slices)) ∙ h.answered.not_put_off in record {
+      same = dealt_same opening old new request index true (answer, h);
       calls = commit_calls opening (with_try old) new request index answer h ∙ ap (λ cs. committed old ++ cs) (sym (one_kept (hot_for old) (index, request) goes));
-      stash = ap (λ d. d.stash.requests) h.context ∙ sym (append-nil (stashed old)) ∙ ap (λ cs. stashed old ++ cs) (sym (none_off (hot_for old) (index, request) goes));
-      left = ap (λ d. d.left) h.context;
-      tries = ap (λ d. d.tries) h.context;
+      stash = ap (λ (d : WorkerState). d.stash.requests) h.worker ∙ sym (append-nil (stashed old)) ∙ ap (λ cs. stashed old ++ cs) (sym (none_off (hot_for old) (index, request) goes));
+      left = ap (λ (d : WorkerState). d.left) h.worker;
+      tries = ap (λ (d : WorkerState). d.tries) h.worker;
     }
-dealt_next opening old new request index Stashed h = record {
-  same = dealt_same opening old new request index Stashed h;
-  calls = ap (λ d. map call_of d.journal.entries) h.context ∙ sym (append-nil (committed old)) ∙ ap (λ cs. committed old ++ cs) (sym (none_kept (hot_for old) (index, request) h.put_off));
-  stash = ap (λ d. d.stash.requests) h.context ∙ ap (λ cs. stashed old ++ cs) (sym (one_off (hot_for old) (index, request) h.put_off));
-  left = ap (λ d. d.left) h.context;
-  tries = ap (λ d. d.tries) h.context;
+dealt_next opening old new request index false h = record {
+  same = dealt_same opening old new request index false h;
+  calls = ap (λ (d : WorkerState). map call_of d.journal.entries) h.worker ∙ sym (append-nil (committed old)) ∙ ap (λ cs. committed old ++ cs) (sym (none_kept (hot_for old) (index, request) h.put_off));
+  stash = ap (λ (d : WorkerState). d.stash.requests) h.worker ∙ ap (λ cs. stashed old ++ cs) (sym (one_off (hot_for old) (index, request) h.put_off));
+  left = ap (λ (d : WorkerState). d.left) h.worker;
+  tries = ap (λ (d : WorkerState). d.tries) h.worker;
 }
 
 -- a place of the quota is one of the script
@@ -212,38 +208,41 @@ next_is k xs x is =
     sym (take-append-drop (k + 1) xs) ∙ ap (λ ys. ys ++ drop (k + 1) xs) is ∙ append_assoc (take k xs) (x ∷ []) (drop (k + 1) xs)
 
 -- what a permit did with the request that waited longest
-pub first_performed : (opening : List ShardState) (old new : PermitState) (answer : Option Reply) →
-    IfNone answer (old.split.context.stash.requests ≡ []) → IfNone answer (new ≡ with_try old) → IfSome answer (HasPerformedFirst opening (with_try old) new) →
+pub first_performed : (opening : List ShardState) (old new : WorkerState) (some : Bool) →
+    (some ≡ false → old.stash.requests ≡ []) → (some ≡ false → new ≡ with_try old) → (some ≡ true → HasPerformedFirstSome opening (with_try old) new) →
     HasPerformedWaiting true old new
-first_performed opening old new None none same done =
-    let tried_once : new.split.context.tries ≡ old.split.context.tries + 1 = ap (λ (p : PermitState). p.split.context.tries) same in record {
-      same = first_same opening old new None same done;
+first_performed opening old new false empty same done =
+    let is : new ≡ with_try old = same refl in
+    let none : old.stash.requests ≡ [] = empty refl in
+    let tried_once : new.tries ≡ old.tries + 1 = ap (λ (p : WorkerState). p.tries) is in record {
+      same = first_same opening old new false same done;
       goes = ap (λ ss. put_off (hot_for old) (take 1 ss)) none;
-      calls = ap (λ (p : PermitState). committed p) same ∙ sym (ap (λ ss. committed old ++ take 1 ss) none ∙ append-nil (committed old));
-      stash = ap (λ (p : PermitState). stashed p) same ∙ none ∙ ap (drop 1) (sym none);
-      left = ap (λ (p : PermitState). p.split.context.left) same;
+      calls = ap (λ (p : WorkerState). committed p) is ∙ sym (ap (λ ss. committed old ++ take 1 ss) none ∙ append-nil (committed old));
+      stash = ap (λ (p : WorkerState). stashed p) is ∙ none ∙ ap (drop 1) (sym none);
+      left = ap (λ (p : WorkerState). p.left) is;
       tries = omega (arith, tried_once);
     }
-first_performed opening old new (Some answer) none same done =
-    let tried_once : new.split.context.tries ≡ old.split.context.tries + 1 = ap (λ (d : ContextState). d.tries) done.committed.context in
-    let one_more : new.split.context.left ≡ old.split.context.left + 1 - 1 = ap (λ (d : ContextState). d.left) done.committed.context in
-    let goes : is_put_off (hot_for old) done.request ≡ false = ap (λ hot. is_put_off hot done.request) (sym (same_objects_of old.split.slices)) ∙ done.committed.answered.not_put_off in record {
-      same = first_same opening old new (Some answer) same done;
-      goes = ap (put_off (hot_for old)) (first_one (stashed old) (done.index, done.request) done.first) ∙ none_off (hot_for old) (done.index, done.request) goes;
-      calls = commit_calls opening (with_first_called (with_try old)) new done.request done.index answer done.committed
-          ∙ ap (λ cs. committed old ++ cs) (sym (first_one (stashed old) (done.index, done.request) done.first));
-      stash = ap (λ (d : ContextState). d.stash.requests) done.committed.context;
+first_performed opening old new true empty same done =
+    let first = (done refl).1 in
+    let tried_once : new.tries ≡ old.tries + 1 = ap (λ (d : WorkerState). d.tries) first.committed.worker in
+    let one_more : new.left ≡ old.left + 1 - 1 = ap (λ (d : WorkerState). d.left) first.committed.worker in
+    let goes : is_put_off (hot_for old) first.request ≡ false = ap (λ hot. is_put_off hot first.request) (sym (same_objects_of old.slices)) ∙ first.committed.answered.not_put_off in record {
+      same = first_same opening old new true same done;
+      goes = ap (put_off (hot_for old)) (first_one (stashed old) (first.index, first.request) first.first) ∙ none_off (hot_for old) (first.index, first.request) goes;
+      calls = commit_calls opening (with_first_called (with_try old)) new first.request first.index (done refl).0 first.committed
+          ∙ ap (λ cs. committed old ++ cs) (sym (first_one (stashed old) (first.index, first.request) first.first));
+      stash = ap (λ (d : WorkerState). d.stash.requests) first.committed.worker;
       left = omega (arith, one_more);
       tries = omega (arith, tried_once);
     }
 
 -- the stash is what is taken of it, where nothing is, and what is kept
-none_taken : (takes : Bool) (permit : PermitState) → taken takes permit ≡ [] → stashed permit ≡ kept takes permit
+none_taken : (takes : Bool) (permit : WorkerState) → taken takes permit ≡ [] → stashed permit ≡ kept takes permit
 none_taken true permit none = none
 none_taken false permit none = refl
 
 -- where none waits there is none to perform
-pub none_waits : (takes : Bool) (permit : PermitState) → slice_get (taken takes permit) 0 ≡ None → HasPerformedWaiting takes permit permit
+pub none_waits : (takes : Bool) (permit : WorkerState) → slice_get (taken takes permit) 0 ≡ None → HasPerformedWaiting takes permit permit
 none_waits takes permit none =
     let empty : taken takes permit ≡ [] = none_there (taken takes permit) none in record {
       same = same permit;
@@ -272,31 +271,31 @@ stash_less k ss waits now less was = less ∙ ap (drop 1) was ∙ drop-drop 1 k 
 -- ---- what is taken of the stash
 
 -- where something is taken the phase takes stashes
-pub takes_some : (takes : Bool) (permit : PermitState) (k : ℕ) → k < length (taken takes permit) → takes ≡ true
+pub takes_some : (takes : Bool) (permit : WorkerState) (k : ℕ) → k < length (taken takes permit) → takes ≡ true
 takes_some true permit k less = refl
 takes_some false permit k less = absurd (omega (arith, less))
 
 -- ---- the whole task
 
 -- first the stash is done, and then the quota
-pub task_done : (takes : Bool) (script : List Request) (first : ℕ) (old mid new : PermitState) → IsSamePermit old mid → put_off (hot_for old) (taken takes old) ≡ [] →
-    committed mid ≡ committed old ++ taken takes old → stashed mid ≡ kept takes old → mid.split.context.left ≡ old.split.context.left →
-    IsSamePermit mid new → committed new ≡ committed mid ++ not_put_off (hot_for mid) (calls_from first mid.split.context.left script) →
-    stashed new ≡ stashed mid ++ put_off (hot_for mid) (calls_from first mid.split.context.left script) → IsDone takes (task old script first) new
+pub task_done : (takes : Bool) (script : List Request) (first : ℕ) (old mid new : WorkerState) → IsSamePermit old mid → put_off (hot_for old) (taken takes old) ≡ [] →
+    committed mid ≡ committed old ++ taken takes old → stashed mid ≡ kept takes old → mid.left ≡ old.left →
+    IsSamePermit mid new → committed new ≡ committed mid ++ not_put_off (hot_for mid) (calls_from first mid.left script) →
+    stashed new ≡ stashed mid ++ put_off (hot_for mid) (calls_from first mid.left script) → IsDone takes (task old script first) new
 task_done takes script first old mid new same_stash go calls on left same_quota more waits =
     let hot : List Object = hot_for old in
-    let own : List (ℕ × Request) = calls_from first old.split.context.left script in
-    let quota_kept : not_put_off (hot_for mid) (calls_from first mid.split.context.left script) ≡ not_put_off hot own =
-    ap (λ h. not_put_off h (calls_from first mid.split.context.left script)) same_stash.hot ∙ ap (λ n. not_put_off hot (calls_from first n script)) left in
-    let quota_off : put_off (hot_for mid) (calls_from first mid.split.context.left script) ≡ put_off hot own =
-    ap (λ h. put_off h (calls_from first mid.split.context.left script)) same_stash.hot ∙ ap (λ n. put_off hot (calls_from first n script)) left in record {
+    let own : List (ℕ × Request) = calls_from first old.left script in
+    let quota_kept : not_put_off (hot_for mid) (calls_from first mid.left script) ≡ not_put_off hot own =
+    ap (λ h. not_put_off h (calls_from first mid.left script)) same_stash.hot ∙ ap (λ n. not_put_off hot (calls_from first n script)) left in
+    let quota_off : put_off (hot_for mid) (calls_from first mid.left script) ≡ put_off hot own =
+    ap (λ h. put_off h (calls_from first mid.left script)) same_stash.hot ∙ ap (λ n. put_off hot (calls_from first n script)) left in record {
       same = same_after old mid new same_stash same_quota;
-      calls = more ∙ ap (λ cs. cs ++ not_put_off (hot_for mid) (calls_from first mid.split.context.left script)) calls
-          ∙ append_assoc (committed old) (taken takes old) (not_put_off (hot_for mid) (calls_from first mid.split.context.left script))
+      calls = more ∙ ap (λ cs. cs ++ not_put_off (hot_for mid) (calls_from first mid.left script)) calls
+          ∙ append_assoc (committed old) (taken takes old) (not_put_off (hot_for mid) (calls_from first mid.left script))
           ∙ ap (λ cs. committed old ++ (taken takes old ++ cs)) quota_kept
           ∙ ap (λ cs. committed old ++ cs)
           (sym (filter-append (λ call. not (is_put_off hot call.1)) (taken takes old) own ∙ ap (λ cs. cs ++ not_put_off hot own) (all_kept hot (taken takes old) go)));
-      stash = waits ∙ ap (λ ss. ss ++ put_off (hot_for mid) (calls_from first mid.split.context.left script)) on
+      stash = waits ∙ ap (λ ss. ss ++ put_off (hot_for mid) (calls_from first mid.left script)) on
           ∙ ap (λ cs. kept takes old ++ cs)
           (quota_off ∙ sym (filter-append (λ call. is_put_off hot call.1) (taken takes old) own ∙ ap (λ cs. cs ++ put_off hot own) go));
     }
@@ -311,7 +310,7 @@ pub err_as : {A E : Type 0} (result : Result A E) (fault : E) (Q : E → Type 0)
 err_as (Ok a) fault Q is q = tt
 err_as (Err e) fault Q is q = subst Q (sym is) q
 
-module _ (opening : List ShardState) (old mid new : PermitState) (fault : PermitFault) where
+module _ (opening : List ShardState) (old mid new : WorkerState) (fault : PermitFault) where
   -- the request that waits longest met a fault
   pub stopped_first : (takes : Bool) (k : ℕ) → takes ≡ true → committed mid ≡ committed old ++ take k (taken takes old) → stashed mid ≡ kept takes old ++ drop k (taken takes old) →
       put_off (hot_for old) (take k (taken takes old)) ≡ [] → HasFailedFirst opening (with_try mid) new fault → HasStopped takes opening (taken takes old) old new fault
@@ -323,12 +322,12 @@ module _ (opening : List ShardState) (old mid new : PermitState) (fault : Permit
         call = (met.index, met.request);
         left = drop (k + 1) (stashed old);
         calls_are = here_is k (stashed old) (met.index, met.request) first;
-        done = ap (λ sp. map call_of sp.context.journal.entries) met.failed.split ∙ was
+        done = ap (λ (d : WorkerState). map call_of d.journal.entries) met.failed.worker ∙ was
             ∙ ap (λ cs. committed old ++ cs) (sym (all_kept (hot_for old) before go));
-        waits = ap (λ sp. sp.context.stash.requests) met.failed.split ∙ waits ∙ ap (λ n. drop n (stashed old)) (sym (reached k (stashed old) (met.index, met.request) first))
+        waits = ap (λ (d : WorkerState). d.stash.requests) met.failed.worker ∙ waits ∙ ap (λ n. drop n (stashed old)) (sym (reached k (stashed old) (met.index, met.request) first))
             ∙ sym (append-nil (drop (length before) (stashed old)))
             ∙ ap (λ cs. drop (length before) (stashed old) ++ cs) (sym go);
-        cause = subst (λ sp. IsCause opening sp new.key met.request fault) (sym met.failed.split) met.failed.cause;
+        cause = subst (λ (d : WorkerState). IsCause opening d new.key met.request fault) (sym met.failed.worker) met.failed.cause;
       }
 
   -- the next request of the quota met a fault
@@ -340,11 +339,11 @@ module _ (opening : List ShardState) (old mid new : PermitState) (fault : Permit
     call = call;
     left = drop (k + 1) calls;
     calls_are = next_is k calls call next;
-    done = ap (λ sp. map call_of sp.context.journal.entries) failed.split ∙ was;
-    waits = ap (λ sp. sp.context.stash.requests) failed.split ∙ waits
+    done = ap (λ (d : WorkerState). map call_of d.journal.entries) failed.worker ∙ was;
+    waits = ap (λ (d : WorkerState). d.stash.requests) failed.worker ∙ waits
         ∙ sym (ap (λ cs. stashed old ++ cs ++ put_off (hot_for old) (take k calls)) (drop-nil (length (take k calls)))
         ∙ ap (λ cs. cs ++ put_off (hot_for old) (take k calls)) (append-nil (stashed old)));
-    cause = subst (λ sp. IsCause opening sp new.key call.1 fault) (sym failed.split) failed.cause;
+    cause = subst (λ (d : WorkerState). IsCause opening d new.key call.1 fault) (sym failed.worker) failed.cause;
   }
 
   -- it stopped in its stash, before the quota

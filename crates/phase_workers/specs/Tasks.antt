@@ -5,9 +5,9 @@ use Rattle.auction_rows.specs.declared.limits.TheConstants.{MOST_OF_A_WORKER}
 use Rattle.auction_rows.specs.declared.requests.Request.{Request}
 use Rattle.shard_boxes.specs.Keys.{BoxId}
 use Rattle.shard_boxes.specs.States.{ShardState}
-use Rattle.phase_transactions.specs.declared.fault.PermitFault.{PermitFault}
-use Rattle.phase_transactions.specs.Permits.{PermitState}
-use Rattle.phase_transactions.specs.Single.{HaveOpening}
+use Rattle.phase_permits.specs.declared.fault.PermitFault.{PermitFault}
+use Rattle.phase_permits.specs.Workers.{WorkerState}
+use Rattle.phase_permits.specs.Performing.{HaveOpening}
 pub use Rattle.run_serving.specs.Serving.{lists}
 use Rattle.phase_workers.specs.declared.fault.ServingFault.{ServingFault}
 use Rattle.phase_workers.specs.declared.fault.ServingFault.TheVariants.{Worker, Spawn, Memory}
@@ -16,48 +16,48 @@ use Rattle.phase_workers.specs.Working.{calls_from, committed, stashed, taken, k
 
 -- a worker's permit as the phase begins, its script, and the index from which on it is given requests
 pub record Task : Type 0 where
-  pub permit : PermitState
+  pub permit : WorkerState
   pub script : List Request
   pub first : ℕ
 
-abbrev pub task : PermitState → List Request → ℕ → Task
+abbrev pub task : WorkerState → List Request → ℕ → Task
 task permit script first = record { permit = permit; script = script; first = first }
 
 -- each worker's task, in order
-abbrev pub tasks : List PermitState → List (List Request) → ℕ → List Task
+abbrev pub tasks : List WorkerState → List (List Request) → ℕ → List Task
 tasks [] scripts first = []
 tasks (permit ∷ permits) [] first = []
 tasks (permit ∷ permits) (script ∷ scripts) first = task permit script first ∷ tasks permits scripts first
 
 -- the calls that the worker is given
 abbrev pub calls_for : Task → List (ℕ × Request)
-calls_for t = calls_from t.first t.permit.split.context.left t.script
+calls_for t = calls_from t.first t.permit.left t.script
 
 -- a task can be done in a phase that began with these shards, with these boxes
 pub record CanBeDone (opening : List ShardState) (boxes : List BoxId) (t : Task) : Type 0 where
   -- its permit is to these boxes
   pub boxes_are : t.permit.key.boxes ≡ boxes
   -- and of the same auction
-  pub opening_is : HaveOpening opening t.permit.split.context.opening
+  pub opening_is : HaveOpening opening t.permit.opening
   -- its script is short
   pub short : length t.script ≤ MOST_OF_A_WORKER
   -- what it is given stands in the script
-  pub given : t.permit.split.context.left ≤ length t.script - t.first
+  pub given : t.permit.left ≤ length t.script - t.first
   -- its tries suffice
-  pub tries : t.permit.split.context.tries + length (stashed t.permit) + t.permit.split.context.left ≤ MOST_TRIES
+  pub tries : t.permit.tries + length (stashed t.permit) + t.permit.left ≤ MOST_TRIES
 
 -- what it has to do: the calls that are taken of its stash, and then those that it is given
 abbrev pub to_do : Bool → Task → List (ℕ × Request)
 to_do takes t = taken takes t.permit ++ calls_for t
 
 -- a task was done: of what it had to do, what is not put off is committed, in this order, and what is waits behind what was not taken
-pub record IsDone (takes : Bool) (t : Task) (receipt : PermitState) : Type 0 where
+pub record IsDone (takes : Bool) (t : Task) (receipt : WorkerState) : Type 0 where
   pub same : IsSamePermit t.permit receipt
   pub calls : committed receipt ≡ committed t.permit ++ not_put_off (hot_for t.permit) (to_do takes t)
   pub stash : stashed receipt ≡ kept takes t.permit ++ put_off (hot_for t.permit) (to_do takes t)
 
 -- a task was not done: it stopped at a call of these, by this fault
-abbrev pub HasMetFault : Bool → List ShardState → Task → PermitState → PermitFault → Type 0
+abbrev pub HasMetFault : Bool → List ShardState → Task → WorkerState → PermitFault → Type 0
 HasMetFault takes opening t = HasStopped takes opening (to_do takes t) t.permit
 
 -- what a worker gives that met no fault
@@ -77,8 +77,8 @@ first_fault (answer ∷ more) = fault_or answer.done (first_fault more)
 abbrev pub IsFirstFault : Bool → List ShardState → List Task → PermitFault → Type 0
 IsFirstFault takes opening [] fault = ⊥
 IsFirstFault takes opening (t ∷ more) fault =
-    ((receipt : PermitState) × HasMetFault takes opening t receipt fault)
-    ⊎ (((receipt : PermitState) × IsDone takes t receipt) × IsFirstFault takes opening more fault)
+    ((receipt : WorkerState) × HasMetFault takes opening t receipt fault)
+    ⊎ (((receipt : WorkerState) × IsDone takes t receipt) × IsFirstFault takes opening more fault)
 
 -- why so many workers' tasks are not done: a thread could not be started, or no memory was left, or a worker met this fault
 abbrev pub IsFaultBy : ℕ → (PermitFault → Type 0) → ServingFault → Type 0

@@ -5,10 +5,10 @@ use Rattle.auction_rows.specs.declared.ids.Object.{Object}
 use Rattle.auction_rows.specs.declared.requests.Request.{Request}
 use Rattle.auction_rows.specs.Phases.{is_put_off}
 use Rattle.shard_boxes.specs.States.{ShardState}
-use Rattle.phase_contexts.specs.Slicing.{objects_of, stocks_of}
-use Rattle.phase_transactions.specs.declared.fault.PermitFault.{PermitFault}
-use Rattle.phase_transactions.specs.Performing.{IsCause}
-use Rattle.phase_transactions.specs.Permits.{PermitState}
+use Rattle.phase_permits.specs.Slicing.{objects_of, stocks_of}
+use Rattle.phase_permits.specs.declared.fault.PermitFault.{PermitFault}
+use Rattle.phase_permits.specs.Performing.{IsCause}
+use Rattle.phase_permits.specs.Workers.{WorkerState}
 use Rattle.run_laws.specs.Turns.{numbered}
 use Rattle.run_serving.specs.Serving.{call_of}
 
@@ -17,24 +17,24 @@ abbrev pub calls_from : ℕ → ℕ → List Request → List (ℕ × Request)
 calls_from first count script = take count (drop first (numbered 0 script))
 
 -- the calls that a permit has committed
-abbrev pub committed : PermitState → List (ℕ × Request)
-committed permit = map call_of permit.split.context.journal.entries
+abbrev pub committed : WorkerState → List (ℕ × Request)
+committed permit = map call_of permit.journal.entries
 
 -- the calls that wait in its stash
-abbrev pub stashed : PermitState → List (ℕ × Request)
-stashed permit = permit.split.context.stash.requests
+abbrev pub stashed : WorkerState → List (ℕ × Request)
+stashed permit = permit.stash.requests
 
 -- what of its stash is performed in a phase: all, if the phase takes stashes
-abbrev pub taken : Bool → PermitState → List (ℕ × Request)
+abbrev pub taken : Bool → WorkerState → List (ℕ × Request)
 taken takes permit = cond takes (stashed permit) []
 
 -- what of its stash is not performed in a phase
-abbrev pub kept : Bool → PermitState → List (ℕ × Request)
+abbrev pub kept : Bool → WorkerState → List (ℕ × Request)
 kept takes permit = cond takes [] (stashed permit)
 
 -- the objects that are hot for it
-abbrev pub hot_for : PermitState → List Object
-hot_for permit = objects_of permit.split.slices
+abbrev pub hot_for : WorkerState → List Object
+hot_for permit = objects_of permit.slices
 
 -- of these calls the ones that are put off while these objects are hot
 abbrev pub put_off : List Object → List (ℕ × Request) → List (ℕ × Request)
@@ -45,52 +45,52 @@ abbrev pub not_put_off : List Object → List (ℕ × Request) → List (ℕ × 
 not_put_off hot calls = filter (λ call. not (is_put_off hot call.1)) calls
 
 -- the permit is of this phase and this worker
-pub record IsPermitOf (phase worker : ℕ) (permit : PermitState) : Type 0 where
-  pub phase_is : permit.split.context.journal.phase ≡ phase
+pub record IsPermitOf (phase worker : ℕ) (permit : WorkerState) : Type 0 where
+  pub phase_is : permit.journal.phase ≡ phase
   pub worker_is : permit.key.worker ≡ worker
 
 -- permits of this phase, of the workers from this one on
-abbrev pub ArePermitsOf : ℕ → ℕ → List PermitState → Type 0
+abbrev pub ArePermitsOf : ℕ → ℕ → List WorkerState → Type 0
 ArePermitsOf phase worker [] = ⊤
 ArePermitsOf phase worker (permit ∷ more) = IsPermitOf phase worker permit × ArePermitsOf phase (suc worker) more
 
 -- a permit's entries are of its journal's phase
-abbrev pub AreOfPhase : PermitState → Type 0
-AreOfPhase permit = AllByRecursion (λ e. e.phase ≡ permit.split.context.journal.phase) permit.split.context.journal.entries
+abbrev pub AreOfPhase : WorkerState → Type 0
+AreOfPhase permit = AllByRecursion (λ e. e.phase ≡ permit.journal.phase) permit.journal.entries
 
 -- What a permit is of (boxes, worker, phase, users and categories, hot objects) is unchanged, and entries that are added are of
 -- its phase.
-pub record IsSamePermit (old new : PermitState) : Type 0 where
+pub record IsSamePermit (old new : WorkerState) : Type 0 where
   pub boxes : new.key.boxes ≡ old.key.boxes
   pub worker : new.key.worker ≡ old.key.worker
-  pub opening : new.split.context.opening ≡ old.split.context.opening
-  pub begun : new.split.context.begun ≡ old.split.context.begun
-  pub phase : new.split.context.journal.phase ≡ old.split.context.journal.phase
-  pub writer : new.split.context.journal.worker ≡ old.split.context.journal.worker
+  pub opening : new.opening ≡ old.opening
+  pub begun : new.begun ≡ old.begun
+  pub phase : new.journal.phase ≡ old.journal.phase
+  pub writer : new.journal.worker ≡ old.journal.worker
   pub hot : hot_for new ≡ hot_for old
-  pub stocks : stocks_of new.split.slices ≡ stocks_of old.split.slices
+  pub stocks : stocks_of new.slices ≡ stocks_of old.slices
   pub own : AreOfPhase old → AreOfPhase new
 
 -- Of what is taken of the stash the call that waited longest, if any, is committed: it is not to be put off.
-pub record HasPerformedWaiting (takes : Bool) (old new : PermitState) : Type 0 where
+pub record HasPerformedWaiting (takes : Bool) (old new : WorkerState) : Type 0 where
   pub same : IsSamePermit old new
   pub goes : put_off (hot_for old) (take 1 (taken takes old)) ≡ []
   pub calls : committed new ≡ committed old ++ take 1 (taken takes old)
   pub stash : stashed new ≡ kept takes old ++ drop 1 (taken takes old)
-  pub left : new.split.context.left ≡ old.split.context.left
-  pub tries : new.split.context.tries ≤ old.split.context.tries + 1
+  pub left : new.left ≡ old.left
+  pub tries : new.tries ≤ old.tries + 1
 
 -- The next call of the quota is committed, or waits behind the others where it is put off.
-pub record HasDealtWithNext (call : ℕ × Request) (old new : PermitState) : Type 0 where
+pub record HasDealtWithNext (call : ℕ × Request) (old new : WorkerState) : Type 0 where
   pub same : IsSamePermit old new
   pub calls : committed new ≡ committed old ++ not_put_off (hot_for old) (call ∷ [])
   pub stash : stashed new ≡ stashed old ++ put_off (hot_for old) (call ∷ [])
-  pub left : new.split.context.left ≡ old.split.context.left - 1
-  pub tries : new.split.context.tries ≡ old.split.context.tries + 1
+  pub left : new.left ≡ old.left - 1
+  pub tries : new.tries ≡ old.tries + 1
 
 -- A permit has stopped at one of these calls, of which the first are those that are taken of its stash, by its fault: of those before
 -- it, the ones that are not put off are committed, and the others wait behind what it did not take of the stash or did not reach.
-pub record HasStopped (takes : Bool) (opening : List ShardState) (calls : List (ℕ × Request)) (old new : PermitState) (fault : PermitFault) : Type 0 where
+pub record HasStopped (takes : Bool) (opening : List ShardState) (calls : List (ℕ × Request)) (old new : WorkerState) (fault : PermitFault) : Type 0 where
   -- the calls that were dealt with
   pub before : List (ℕ × Request)
   -- the one at which it stopped
@@ -103,4 +103,4 @@ pub record HasStopped (takes : Bool) (opening : List ShardState) (calls : List (
   -- in the stash waits what was not taken of it or not reached, and then what is put off
   pub waits : stashed new ≡ kept takes old ++ drop (length before) (taken takes old) ++ put_off (hot_for old) before
   -- the fault has its cause at the call
-  pub cause : IsCause opening new.split new.key call.1 fault
+  pub cause : IsCause opening new new.key call.1 fault

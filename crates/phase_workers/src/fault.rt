@@ -1,7 +1,7 @@
 //! Why the workers of a phase are not done.
 ghost use Rattle.std.specs.Prelude.{◌≡◌};
 
-use phase_transactions::PermitFault;
+use phase_permits::PermitFault;
 use std::alloc::{AllocError, AllocFailed};
 use thiserror::Error;
 

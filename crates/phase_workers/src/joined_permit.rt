@@ -3,7 +3,7 @@ ghost use Rattle.std.specs.Prelude.{true};
 
 use crate::permit::Permit;
 use auction_rows::Request;
-use phase_transactions::{JoinedPermit, JoinedReceipt, PermitFault};
+use phase_permits::{JoinedPermit, JoinedReceipt, PermitFault};
 use shard_boxes::{Boxes, PhaseName};
 use std::sync::Wait;
 

@@ -10,7 +10,7 @@ use crate::permit::Permit;
 use crate::threads::{Job, work};
 use crate::worker::{Post, perform_task};
 use auction_rows::{MOST_WORKERS, Request};
-use phase_transactions::PermitFault;
+use phase_permits::PermitFault;
 use shard_boxes::{Boxes, PhaseName};
 use std::alloc::{AllocError, Global};
 use std::sync::Wait;

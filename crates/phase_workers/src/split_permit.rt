@@ -3,7 +3,7 @@ ghost use Rattle.std.specs.Prelude.{false};
 
 use crate::permit::Permit;
 use auction_rows::Request;
-use phase_transactions::{PermitFault, SplitPermit, SplitReceipt};
+use phase_permits::{PermitFault, SplitPermit, SplitReceipt};
 use shard_boxes::{Boxes, PhaseName};
 use std::sync::Wait;
 

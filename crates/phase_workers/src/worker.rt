@@ -1,15 +1,14 @@
 //! What a worker does in a phase of a run.
 ghost use Rattle.std.specs.Prelude.{◌≡◌, ◌+◌, ◌-◌, ◌≤◌, ◌<◌, ◌++◌, false, [], length, OnOk, IfErr};
-ghost use Rattle.phase_transactions.specs.Performing.{HasFailed, with_try};
-ghost use Rattle.phase_transactions.specs.Single.{HaveOpening};
-ghost use Rattle.phase_transactions.specs.Stashed.{HasFailedFirst};
+ghost use Rattle.phase_permits.specs.Performing.{HasFailed, HaveOpening, HasFailedFirst};
+ghost use Rattle.phase_permits.specs.Workers.{with_try};
 ghost use Rattle.phase_workers.specs.Tasks.{task, CanBeDone, IsDone, HasMetFault};
 ghost use Rattle.phase_workers.specs.Working.{calls_from, committed, stashed, taken, kept, hot_for, put_off, not_put_off, IsPermitOf, IsSamePermit, HasDealtWithNext, HasPerformedWaiting, HasStopped};
 
 use crate::gate::Gate;
 use crate::permit::Permit;
 use auction_rows::{MOST_OF_A_WORKER, MOST_TRIES, Request};
-use phase_transactions::PermitFault;
+use phase_permits::PermitFault;
 use shard_boxes::{Boxes, PhaseName};
 use std::sync::Wait;
 
@@ -58,15 +57,15 @@ fn perform_stash<N: PhaseName, P: Permit<N>, R: Wait, G: Gate>(
     permit: &mut P,
 ) -> Result<(), PermitFault>
     requires of { (P.shows permit.old).key.boxes ≡ boxes.now }
-    requires opening { HaveOpening N.opening (P.shows permit.old).split.context.opening }
-    requires tries { (P.shows permit.old).split.context.tries + length (taken P.takes_stash (P.shows permit.old)) ≤ MOST_TRIES }
+    requires opening { HaveOpening N.opening (P.shows permit.old).opening }
+    requires tries { (P.shows permit.old).tries + length (taken P.takes_stash (P.shows permit.old)) ≤ MOST_TRIES }
     ensures same { OnOk result (IsSamePermit (P.shows permit.old) (P.shows permit.new)) }
     ensures go { OnOk result (put_off (hot_for (P.shows permit.old)) (taken P.takes_stash (P.shows permit.old)) ≡ []) }
     ensures calls { OnOk result (committed (P.shows permit.new) ≡ committed (P.shows permit.old) ++ taken P.takes_stash (P.shows permit.old)) }
     ensures stash { OnOk result (stashed (P.shows permit.new) ≡ kept P.takes_stash (P.shows permit.old)) }
-    ensures left { OnOk result ((P.shows permit.new).split.context.left ≡ (P.shows permit.old).split.context.left) }
-    ensures tries { OnOk result ((P.shows permit.new).split.context.tries
-        ≤ (P.shows permit.old).split.context.tries + length (taken P.takes_stash (P.shows permit.old))) }
+    ensures left { OnOk result ((P.shows permit.new).left ≡ (P.shows permit.old).left) }
+    ensures tries { OnOk result ((P.shows permit.new).tries
+        ≤ (P.shows permit.old).tries + length (taken P.takes_stash (P.shows permit.old))) }
     ensures stopped { IfErr result (HasStopped P.takes_stash N.opening (taken P.takes_stash (P.shows permit.old)) (P.shows permit.old) (P.shows permit.new)) }
 {
     for _call in 0..permit.waiting() {
@@ -83,8 +82,8 @@ fn perform_first<N: PhaseName, P: Permit<N>, R: Wait, G: Gate>(
     permit: &mut P,
 ) -> Result<(), PermitFault>
     requires of { (P.shows permit.old).key.boxes ≡ boxes.now }
-    requires opening { HaveOpening N.opening (P.shows permit.old).split.context.opening }
-    requires tries { (P.shows permit.old).split.context.tries < MOST_TRIES }
+    requires opening { HaveOpening N.opening (P.shows permit.old).opening }
+    requires tries { (P.shows permit.old).tries < MOST_TRIES }
     ensures performed { OnOk result (HasPerformedWaiting P.takes_stash (P.shows permit.old) (P.shows permit.new)) }
     ensures failed { IfErr result (HasFailedFirst N.opening (with_try (P.shows permit.old)) (P.shows permit.new)) }
 {
@@ -107,16 +106,16 @@ fn perform_quota<N: PhaseName, P: Permit<N>, R: Wait, G: Gate>(
     first: usize,
 ) -> Result<(), PermitFault>
     requires of { (P.shows permit.old).key.boxes ≡ boxes.now }
-    requires opening { HaveOpening N.opening (P.shows permit.old).split.context.opening }
+    requires opening { HaveOpening N.opening (P.shows permit.old).opening }
     requires short { length script.now ≤ MOST_OF_A_WORKER }
-    requires given { (P.shows permit.old).split.context.left ≤ length script.now - first }
-    requires tries { (P.shows permit.old).split.context.tries + (P.shows permit.old).split.context.left ≤ MOST_TRIES }
+    requires given { (P.shows permit.old).left ≤ length script.now - first }
+    requires tries { (P.shows permit.old).tries + (P.shows permit.old).left ≤ MOST_TRIES }
     ensures same { OnOk result (IsSamePermit (P.shows permit.old) (P.shows permit.new)) }
     ensures calls { OnOk result (committed (P.shows permit.new) ≡ committed (P.shows permit.old)
-        ++ not_put_off (hot_for (P.shows permit.old)) (calls_from first (P.shows permit.old).split.context.left script.now)) }
+        ++ not_put_off (hot_for (P.shows permit.old)) (calls_from first (P.shows permit.old).left script.now)) }
     ensures stash { OnOk result (stashed (P.shows permit.new) ≡ stashed (P.shows permit.old)
-        ++ put_off (hot_for (P.shows permit.old)) (calls_from first (P.shows permit.old).split.context.left script.now)) }
-    ensures stopped { IfErr result (HasStopped false N.opening (calls_from first (P.shows permit.old).split.context.left script.now)
+        ++ put_off (hot_for (P.shows permit.old)) (calls_from first (P.shows permit.old).left script.now)) }
+    ensures stopped { IfErr result (HasStopped false N.opening (calls_from first (P.shows permit.old).left script.now)
         (P.shows permit.old) (P.shows permit.new)) }
 {
     for place in 0..permit.quota_left() {
@@ -136,9 +135,9 @@ fn perform_next<N: PhaseName, P: Permit<N>, R: Wait, G: Gate>(
     index: u32,
 ) -> Result<(), PermitFault>
     requires of { (P.shows permit.old).key.boxes ≡ boxes.now }
-    requires opening { HaveOpening N.opening (P.shows permit.old).split.context.opening }
-    requires left { 0 < (P.shows permit.old).split.context.left }
-    requires tries { (P.shows permit.old).split.context.tries < MOST_TRIES }
+    requires opening { HaveOpening N.opening (P.shows permit.old).opening }
+    requires left { 0 < (P.shows permit.old).left }
+    requires tries { (P.shows permit.old).tries < MOST_TRIES }
     ensures dealt { OnOk result (HasDealtWithNext (index, request.now) (P.shows permit.old) (P.shows permit.new)) }
     ensures failed { IfErr result (HasFailed N.opening (with_try (P.shows permit.old)) (P.shows permit.new) request.now) }
 {

@@ -28,6 +28,7 @@ impl Model for Acts {
 
 impl Acts {
     /// These acts, in order.
+    #[inline(always)]
     pub fn of(acts: &[Act; 2]) -> Acts
         ensures { result ≡ acts.now }
     {
@@ -40,6 +41,7 @@ impl Acts {
     }
 
     // What the type keeps.
+    #[inline(always)]
     pub(crate) fn are_well_formed(&self)
         ensures two { length self.now ≡ 2 }
         ensures stars { AllByRecursion ActGivesStars self.now }
@@ -48,6 +50,7 @@ impl Acts {
     }
 }
 
+#[inline(always)]
 fn gives_stars(act: &Act)
     ensures { ActGivesStars act.now }
 {

@@ -38,6 +38,7 @@ impl<N: PhaseName> Model for Boxes<N> {
 
 impl<N: PhaseName> Boxes<N> {
     /// How many shards there are, 1 to 64.
+    #[inline(always)]
     pub fn shards(&self) -> u32
         ensures count { result ≡ length N.opening }
         ensures some { 0 < length N.opening }
@@ -47,6 +48,7 @@ impl<N: PhaseName> Boxes<N> {
 
     /// Takes a shard: it tries until the shard is in its box. A key that holds shards takes greater ones alone, so that
     /// workers don't wait for one another in a ring. It takes no memory.
+    #[inline(always)]
     pub fn take<R: Wait>(&self, rt: &R, key: &mut Key<N>, s: u32) -> Held<N>
         requires of { key.old.boxes ≡ self.now }
         requires known { s < length N.opening }
@@ -78,6 +80,7 @@ impl<N: PhaseName> Boxes<N> {
     }
 
     /// Puts a shard back: as it was taken, or after the line of what was done on it. It takes no memory.
+    #[inline(always)]
     pub fn put<R: Wait>(&self, rt: &R, key: &mut Key<N>, held: Held<N>, line: Option<Line>)
         requires of { key.old.boxes ≡ self.now }
         requires holder { holds_at key.old held.number ≡ true }

@@ -29,6 +29,7 @@ impl<N: PhaseName> Model for Held<N> {
 }
 
 impl<N: PhaseName> Held<N> {
+    #[inline(always)]
     pub(crate) fn new(number: u32, shard: Shard) -> Held<N>
         requires { number < length N.opening }
         ensures number { result.number ≡ number }
@@ -42,6 +43,7 @@ impl<N: PhaseName> Held<N> {
     }
 
     // The shard with its number.
+    #[inline(always)]
     pub(crate) fn open(self) -> (u32, Shard)
         ensures known { self.number < length N.opening }
         ensures number { result.0 ≡ self.number }
@@ -56,6 +58,7 @@ impl<N: PhaseName> Held<N> {
     }
 
     /// The number of the shard.
+    #[inline(always)]
     pub fn number(&self) -> u32
         ensures { result ≡ self.now.number }
     {
@@ -63,6 +66,7 @@ impl<N: PhaseName> Held<N> {
     }
 
     /// The shard.
+    #[inline(always)]
     pub fn shard(&self) -> &Shard
         ensures { result.now ≡ self.now.shard }
     {
@@ -70,6 +74,7 @@ impl<N: PhaseName> Held<N> {
     }
 
     /// The shard, to act on it.
+    #[inline(always)]
     pub fn shard_mut(&mut self) -> &mut Shard
         ensures* lends { sem 𝓛 (Lends (the_row N.row N.PhaseName) shard_row self.entry result
             (λ w. record self.old { shard = w })) }

@@ -40,6 +40,7 @@ impl<N: PhaseName> Model for Key<N> {
 
 impl<N: PhaseName> Key<N> {
     /// The worker whose key it is.
+    #[inline(always)]
     pub fn worker(&self) -> u32
         ensures value { result ≡ self.now.worker }
         ensures known { self.now.worker < N.workers }
@@ -49,6 +50,7 @@ impl<N: PhaseName> Key<N> {
     }
 
     // Tries until the shard is in the box.
+    #[inline(always)]
     pub(crate) fn take<R: Wait>(&mut self, rt: &R, place: &Place<N>, s: usize) -> Shard
         requires known { s < length N.opening }
         requires place { IsPlaceAt self.old.boxes s place.now }
@@ -63,6 +65,7 @@ impl<N: PhaseName> Key<N> {
     }
 
     // Puts the shard back, after the line, where there is one.
+    #[inline(always)]
     pub(crate) fn put<R: Wait>(
         &mut self,
         rt: &R,

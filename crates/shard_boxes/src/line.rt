@@ -33,6 +33,7 @@ impl LineName for Brand {
 }
 
 // A line has two acts, and their stars are from -5 to 5. The types keep this, and say it here.
+#[inline(always)]
 pub(crate) fn is_well_formed(line: &Option<Line>)
     ensures { IsWellFormedIfAny line.now }
 {

@@ -77,6 +77,7 @@ impl<N: PhaseName> Place<N> {
     }
 
     /// Tries until the shard is in the box.
+    #[inline(always)]
     pub fn take<R: Wait>(&self, rt: &R, leave: &mut Leave) -> Shard
         requires place { leave.old.place ≡ self.now }
         requires speaks { Speaks leave.old.knows }
@@ -88,6 +89,7 @@ impl<N: PhaseName> Place<N> {
 
     /// The holder puts the shard back, after the line that is named, where there is one. The line is lent for who
     /// names it.
+    #[inline(always)]
     pub fn put<L: LineName, R: Wait>(
         &self,
         rt: &R,
@@ -147,6 +149,7 @@ impl<N: PhaseName> Place<N> {
 }
 
 // Tries until the shard is in the box.
+#[inline]
 fn take_from<N: PhaseName, R: Wait>(
     rt: &R,
     queue: &RuledArrayQueue<Shard, View, OneShard<N>>,

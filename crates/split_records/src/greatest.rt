@@ -55,6 +55,7 @@ impl Splittable for MaxRec {
         MaxRec { greatest: None }
     }
 
+    #[inline(always)]
     fn apply(&mut self, operation: u64) {
         self.greatest = self.greatest.max(Some(operation));
     }

@@ -1,6 +1,8 @@
 //! The greatest entry.
 ghost use Rattle.std.specs.Prelude.{◌≡◌, Option, Some, None};
 ghost use Rattle.std.specs.FinMap.{IsAntisymmetric};
+ghost use Rattle.std.specs.Option.{option_cmp};
+ghost use Rattle.std.specs.Ordering.{is_lt};
 ghost use Rattle.phase_laws.specs.Ranking.{greatest, greater};
 ghost use Rattle.split_records.specs.Records.{greatest_laws, greatest_values};
 
@@ -56,11 +58,27 @@ impl<E: Ord + Copy> Splittable for OPutRec<E> {
         OPutRec { greatest: None }
     }
 
+    #[inline(always)]
     fn apply(&mut self, operation: E) {
-        self.greatest = self.greatest.max(Some(operation));
+        // What stays is not moved.
+        if is_below(&operation, &self.greatest) {
+            return;
+        }
+        self.greatest = Some(operation);
     }
 
     fn merge(&mut self, other: Self) {
         self.greatest = self.greatest.max(other.greatest);
+    }
+}
+
+/// Whether an entry is below the greatest so far.
+#[inline(always)]
+fn is_below<E: Ord>(entry: &E, greatest: &Option<E>) -> bool
+    ensures { result ≡ is_lt (option_cmp E.cmp (Some entry.now) greatest.now) }
+{
+    match greatest {
+        Some(greatest) => entry.cmp(greatest).is_lt(),
+        None => false,
     }
 }

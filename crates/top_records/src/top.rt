@@ -44,6 +44,7 @@ impl<E: Ord + Copy + Default, const K: usize> TopRec<E, K> {
     }
 
     /// Takes an entry in. The least goes where there would be more than K.
+    #[inline(always)]
     pub fn insert(&mut self, entry: E)
         ensures value { self.new ≡ top E.cmp K (entry ∷ self.old) }
         ensures present { Contains self.old entry → self.new ≡ self.old }
@@ -51,6 +52,15 @@ impl<E: Ord + Copy + Default, const K: usize> TopRec<E, K> {
         if is_past(&self.least, &entry) {
             return;
         }
+        self.insert_at_its_place(entry);
+    }
+
+    // Takes an entry in, wherever it goes.
+    #[inline(never)]
+    fn insert_at_its_place(&mut self, entry: E)
+        ensures value { self.new ≡ top E.cmp K (entry ∷ self.old) }
+        ensures present { Contains self.old entry → self.new ≡ self.old }
+    {
         if let Some(index) = place(self.entries.as_slice(), &entry) {
             put_at(&mut self.entries, index, entry);
             self.least = least(&self.entries);
@@ -99,6 +109,7 @@ impl<E: Ord + Copy + Default, const K: usize> Splittable for TopRec<E, K> {
         }
     }
 
+    #[inline(always)]
     fn apply(&mut self, operation: E) {
         self.insert(operation);
     }
@@ -109,6 +120,7 @@ impl<E: Ord + Copy + Default, const K: usize> Splittable for TopRec<E, K> {
 }
 
 /// Whether the least of K entries is greater than the entry.
+#[inline(always)]
 fn is_past<E: Ord>(least: &Option<E>, entry: &E) -> bool
     ensures { OnTrue result (IsPast E.cmp least.now entry.now) }
 {

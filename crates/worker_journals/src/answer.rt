@@ -32,6 +32,7 @@ impl<'a> Model for Answer<'a> {
 
 impl<'a> Answer<'a> {
     /// A reply where it lies.
+    #[inline(always)]
     pub fn of(reply: &'a Reply) -> Answer<'a>
         ensures { result ≡ reply.now }
     {
@@ -41,6 +42,7 @@ impl<'a> Answer<'a> {
     }
 
     /// The whole reply.
+    #[inline(always)]
     pub fn to_reply(&self) -> Reply
         ensures { result ≡ self.now }
     {
@@ -51,6 +53,7 @@ impl<'a> Answer<'a> {
     }
 }
 
+#[inline(always)]
 fn whole(reply: StoreReply) -> Reply
     ensures { result ≡ reply_of reply }
 {

@@ -103,6 +103,7 @@ impl ShortReply {
     ghost use Rattle.worker_journals.specs.Sides.{SaysReply};
 
     /// A reply that shows nothing.
+    #[inline(always)]
     pub(crate) fn of_store(reply: StoreReply) -> ShortReply
         ensures { (items : List SeenItem) (users : List SeenUser) (bids : List BidShown) (latest : List ItemShown) →
             SaysReply items users bids latest result (reply_of reply) }

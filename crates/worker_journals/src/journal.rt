@@ -69,6 +69,7 @@ impl Journal {
 
     /// Adds a commit as `push` does, of which the request is lent and the reply told as an answer: no reply with room for ten
     /// bids is made of a store's.
+    #[inline(always)]
     pub fn push_answer(&mut self, number: u64, index: u32, request: &Request, reply: &Answer<'_>)
         requires room { length self.old.entries < self.old.room }
         requires after { ComesAfter self.old.entries number }
@@ -206,6 +207,7 @@ impl Journal {
     }
 
     /// The phase of these commits.
+    #[inline(always)]
     pub fn phase(&self) -> u64
         ensures { result ≡ self.now.phase }
     {
@@ -213,6 +215,7 @@ impl Journal {
     }
 
     /// The worker whose commits these are.
+    #[inline(always)]
     pub fn worker(&self) -> u32
         ensures { result ≡ self.now.worker }
     {

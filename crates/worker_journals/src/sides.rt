@@ -77,6 +77,7 @@ impl Sides {
     }
 
     /// Keeps what is large of a commit, and gives what is small with the places of the rest. It takes no memory.
+    #[inline(always)]
     pub(crate) fn keep(
         &mut self,
         request: &Request,
@@ -240,6 +241,7 @@ fn part_of<T: Copy>(list: &[T], place: Place, count: u8) -> Ten<T>
 }
 
 // A request, with the facts that it stores at the end of the facts.
+#[inline(always)]
 fn keep_request(all: &mut Vec<Facts>, request: &Request) -> ShortRequest
     requires { HasRoom 1 (vec_len all.old) (vec_capacity all.old) }
     ensures kept { all.new.items ≡ all.old.items ++ facts_in request.now }

@@ -9,7 +9,7 @@ use crate::calls::printing::look_for_memory;
 use crate::testing::bid;
 use auction_rows::{MOST_TRIES, Request};
 use phase_floor::{Joined, JoinedFloor};
-use phase_transactions::{JoinedPermit, Stash};
+use phase_permits::{JoinedPermit, Stash};
 use shard_boxes::PhaseName;
 use std::alloc::Global;
 use std::sync::Wait;

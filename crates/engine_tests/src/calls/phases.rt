@@ -8,7 +8,7 @@ use crate::testing::{FIRST, OPENING, put_up, vases};
 use auction_rows::{Object, Request};
 use indexmap::IndexSet;
 use phase_floor::Joined;
-use phase_transactions::Stash;
+use phase_permits::Stash;
 use std::alloc::{AllocError, Global};
 use std::marker::Brand;
 use std::sync::Wait;

@@ -11,7 +11,7 @@ use crate::testing::bid;
 use auction_rows::{MOST_TRIES, Object, Request};
 use indexmap::IndexSet;
 use phase_floor::{Joined, SplitFloor};
-use phase_transactions::SplitPermit;
+use phase_permits::SplitPermit;
 use shard_boxes::PhaseName;
 use std::alloc::Global;
 use std::sync::Wait;

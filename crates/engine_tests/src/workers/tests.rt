@@ -1,8 +1,8 @@
 //! What the workers of a phase answer where one meets the end of commit numbers: no run is so long.
 ghost use Rattle.std.specs.Prelude.{◌≡◌, ◌∷◌, [], length, map};
 ghost use Rattle.shard_boxes.specs.States.{state_of, AreOpened};
-ghost use Rattle.phase_transactions.specs.Permits.{IsUnused};
-ghost use Rattle.phase_transactions.specs.Single.{HaveOpening};
+ghost use Rattle.phase_permits.specs.Workers.{IsUnused};
+ghost use Rattle.phase_permits.specs.Performing.{HaveOpening};
 ghost use Rattle.phase_workers.specs.Tasks.{lists};
 
 use crate::comparing::assert_same;
@@ -10,7 +10,7 @@ use crate::testing::OPENING;
 use crate::workers::testing::{boxes_of_one, four};
 use auction_rows::Request;
 use item_shards::Shard;
-use phase_transactions::{Counters, JoinedPermit, PermitFault, Stash};
+use phase_permits::{Counters, JoinedPermit, PermitFault, Stash};
 use phase_workers::{FreeGate, Round, ServingFault, serve_all};
 use shard_boxes::{Boxes, Key, PhaseName};
 use std::alloc::Global;

@@ -5,30 +5,29 @@ use Rattle.phase_closing.specs.Phases.{receipt_at}
 use Rattle.phase_floor.specs.Closings.{IsReceipt, AreReceiptsOf}
 use Rattle.phase_floor.specs.Floors.{FloorState}
 use Rattle.phase_floor.proofs.Receipts.{committed, dealt}
-use Rattle.phase_contexts.specs.Slicing.{stocks_of}
-use Rattle.phase_contexts.specs.Splits.{SplitState}
-use Rattle.phase_transactions.specs.declared.fault.Done.{Done}
-use Rattle.phase_transactions.specs.declared.fault.PermitFault.{PermitFault}
-use Rattle.phase_transactions.specs.Performing.{HasDealtWith, HasFailed, with_try}
-use Rattle.phase_transactions.specs.Permits.{PermitState, HasCommitted}
+use Rattle.phase_permits.specs.Slicing.{stocks_of}
+use Rattle.phase_permits.specs.Workers.{WorkerState, with_try}
+use Rattle.phase_permits.specs.declared.fault.Done.{Done}
+use Rattle.phase_permits.specs.declared.fault.PermitFault.{PermitFault}
+use Rattle.phase_permits.specs.Performing.{HasDealtWith, HasFailed, HasCommitted}
 use Rattle.auction_rows.specs.declared.replies.Reply.{Reply}
 use Rattle.auction_rows.specs.declared.requests.Request.{Request}
 use Rattle.shard_boxes.specs.States.{ShardState}
 
 -- those of the workers from one on
-abbrev pub AreFrom : FloorState → ℕ → List PermitState → Type 0
+abbrev pub AreFrom : FloorState → ℕ → List WorkerState → Type 0
 AreFrom floor w [] = ⊤
 AreFrom floor w (receipt ∷ receipts) = IsReceipt floor w receipt × AreFrom floor (suc w) receipts
 
 -- with the next worker's
-pub one_more : (floor : FloorState) (w : ℕ) (receipts : List PermitState) (receipt : PermitState) → AreFrom floor w receipts
+pub one_more : (floor : FloorState) (w : ℕ) (receipts : List WorkerState) (receipt : WorkerState) → AreFrom floor w receipts
     → IsReceipt floor (w + length receipts) receipt → AreFrom floor w (receipts ++ receipt ∷ [])
 one_more floor w [] receipt are its = (subst (λ n. IsReceipt floor n receipt) (let e : w + 0 ≡ w = omega arith in e) its, tt)
 one_more floor w (first ∷ receipts) receipt are its =
     let e : w + suc (length receipts) ≡ suc w + length receipts = omega arith in
     (are.0, one_more floor (suc w) receipts receipt are.1 (subst (λ n. IsReceipt floor n receipt) e its))
 
-from_each : (floor : FloorState) (w : ℕ) (receipts : List PermitState) → ((v : ℕ) → v < length receipts → IsReceipt floor (w + v) (receipt_at receipts v))
+from_each : (floor : FloorState) (w : ℕ) (receipts : List WorkerState) → ((v : ℕ) → v < length receipts → IsReceipt floor (w + v) (receipt_at receipts v))
     → AreFrom floor w receipts
 from_each floor w [] each = tt
 from_each floor w (receipt ∷ receipts) each =
@@ -38,7 +37,7 @@ from_each floor w (receipt ∷ receipts) each =
           subst (λ n. IsReceipt floor n (receipt_at receipts v)) e (each (suc v) (omega (arith, less)))),
     )
 
-each_from : (floor : FloorState) (w : ℕ) (receipts : List PermitState) → AreFrom floor w receipts
+each_from : (floor : FloorState) (w : ℕ) (receipts : List WorkerState) → AreFrom floor w receipts
     → (v : ℕ) → v < length receipts → IsReceipt floor (w + v) (receipt_at receipts v)
 each_from floor w [] are v less = absurd (omega (arith, less))
 each_from floor w (receipt ∷ receipts) are zero less = let here : w ≡ w + 0 = omega arith in subst (λ n. IsReceipt floor n receipt) here are.0
@@ -47,11 +46,11 @@ each_from floor w (receipt ∷ receipts) are (suc v) less =
     subst (λ n. IsReceipt floor n (receipt_at receipts v)) e (each_from floor (suc w) receipts are.1 v (omega (arith, less)))
 
 -- those of all workers
-pub all_of : (floor : FloorState) (receipts : List PermitState) → AreReceiptsOf floor receipts → AreFrom floor 0 receipts
+pub all_of : (floor : FloorState) (receipts : List WorkerState) → AreReceiptsOf floor receipts → AreFrom floor 0 receipts
 all_of floor receipts are = from_each floor 0 receipts (λ v less. let e : v ≡ 0 + v = omega arith in
     subst (λ n. IsReceipt floor n (receipt_at receipts v)) e (are.1 v (omega (arith, less, are.0))))
 
-pub of_all : (floor : FloorState) (receipts : List PermitState) → length receipts ≡ length floor.counters → AreFrom floor 0 receipts → AreReceiptsOf floor receipts
+pub of_all : (floor : FloorState) (receipts : List WorkerState) → length receipts ≡ length floor.counters → AreFrom floor 0 receipts → AreReceiptsOf floor receipts
 of_all floor receipts many are = (
   many,
   λ v less. let e : 0 + v ≡ v = omega arith in
@@ -59,15 +58,15 @@ of_all floor receipts many are = (
 )
 
 -- a permit is its worker's whatever it answers
-module _ (opening : List ShardState) (floor : FloorState) (w : ℕ) (old new : PermitState) (was : IsReceipt floor w old) (request : Request) (index : ℕ) where
+module _ (opening : List ShardState) (floor : FloorState) (w : ℕ) (old new : WorkerState) (was : IsReceipt floor w old) (request : Request) (index : ℕ) where
   failed_still : (fault : PermitFault) → HasFailed opening (with_try old) new request fault → IsReceipt floor w new
   failed_still fault failed = record {
     boxes_are = failed.lines.boxes ∙ was.boxes_are;
     worker_is = failed.lines.worker ∙ was.worker_is;
-    opening_is = ap (λ (s : SplitState). s.context.opening) failed.split ∙ was.opening_is;
-    phase_is = ap (λ (s : SplitState). s.context.journal.phase) failed.split ∙ was.phase_is;
-    stocks_are = ap (λ (s : SplitState). stocks_of s.slices) failed.split ∙ was.stocks_are;
-    begun = ap (λ (s : SplitState). s.context.begun) failed.split ∙ was.begun;
+    opening_is = ap (λ (s : WorkerState). s.opening) failed.worker ∙ was.opening_is;
+    phase_is = ap (λ (s : WorkerState). s.journal.phase) failed.worker ∙ was.phase_is;
+    stocks_are = ap (λ (s : WorkerState). stocks_of s.slices) failed.worker ∙ was.stocks_are;
+    begun = ap (λ (s : WorkerState). s.begun) failed.worker ∙ was.begun;
   }
 
   pub performed : (answer : Result Reply PermitFault) → IfOk answer (λ reply. HasCommitted opening (with_try old) new request index reply)

@@ -3,30 +3,27 @@ use Rattle.std.proofs.Common.{◌≡◌, ℕ, List, Option, Some, None, Result, 
 use Rattle.std.specs.Prelude.{IfOk, IfErr, IfSome, IfNone}
 use Rattle.auction_rows.specs.declared.replies.Reply.{Reply}
 use Rattle.auction_rows.specs.declared.requests.Request.{Request}
-use Rattle.phase_contexts.specs.Contexts.{ContextState}
-use Rattle.phase_contexts.specs.Splits.{SplitState}
-use Rattle.phase_transactions.specs.declared.fault.PermitFault.{PermitFault}
-use Rattle.phase_transactions.specs.Performing.{HasFailed, with_try}
-use Rattle.phase_transactions.specs.Permits.{PermitState, HasCommitted}
-use Rattle.phase_transactions.specs.Stashed.{HasPerformedFirst, HasFailedFirst}
+use Rattle.phase_permits.specs.Workers.{WorkerState, with_try}
+use Rattle.phase_permits.specs.declared.fault.PermitFault.{PermitFault}
+use Rattle.phase_permits.specs.Performing.{HasFailed, HasCommitted, HasPerformedFirst, HasFailedFirst}
 use Rattle.shard_boxes.specs.States.{ShardState}
 
 -- for the same boxes, users and categories
-abbrev pub IsStill : PermitState → PermitState → Type 0
-IsStill old new = (new.key.boxes ≡ old.key.boxes) × (new.split.context.opening ≡ old.split.context.opening)
+abbrev pub IsStill : WorkerState → WorkerState → Type 0
+IsStill old new = (new.key.boxes ≡ old.key.boxes) × (new.opening ≡ old.opening)
 
-module _ (opening : List ShardState) (old new : PermitState) where
+module _ (opening : List ShardState) (old new : WorkerState) where
   pub performed : (request : Request) (index : ℕ) (answer : Result Reply PermitFault) → IfOk answer (λ reply. HasCommitted opening (with_try old) new request index reply)
       → IfErr answer (HasFailed opening (with_try old) new request) → IsStill old new
-  performed request index (Ok reply) done failed = (done.boxes, ap (λ (d : ContextState). d.opening) done.context)
-  performed request index (Err fault) done failed = (failed.lines.boxes, ap (λ (s : SplitState). s.context.opening) failed.split)
+  performed request index (Ok reply) done failed = (done.boxes, ap (λ (d : WorkerState). d.opening) done.worker)
+  performed request index (Err fault) done failed = (failed.lines.boxes, ap (λ (s : WorkerState). s.opening) failed.worker)
 
   pub performed_first : (answer : Result (Option Reply) PermitFault) → IfOk answer (λ some. IfNone some (new ≡ with_try old))
       → IfOk answer (λ some. IfSome some (HasPerformedFirst opening (with_try old) new)) → IfErr answer (HasFailedFirst opening (with_try old) new) → IsStill old new
-  performed_first (Ok None) none done failed = (ap (λ (p : PermitState). p.key.boxes) none, ap (λ (p : PermitState). p.split.context.opening) none)
-  performed_first (Ok (Some reply)) none done failed = (done.committed.boxes, ap (λ (d : ContextState). d.opening) done.committed.context)
-  performed_first (Err fault) none done failed = (failed.failed.lines.boxes, ap (λ (s : SplitState). s.context.opening) failed.failed.split)
+  performed_first (Ok None) none done failed = (ap (λ (p : WorkerState). p.key.boxes) none, ap (λ (p : WorkerState). p.opening) none)
+  performed_first (Ok (Some reply)) none done failed = (done.committed.boxes, ap (λ (d : WorkerState). d.opening) done.committed.worker)
+  performed_first (Err fault) none done failed = (failed.failed.lines.boxes, ap (λ (s : WorkerState). s.opening) failed.failed.worker)
 
   pub stored : (request : Request) (index : ℕ) (answer : Option Reply) → IfNone answer (new ≡ old) → IfSome answer (HasCommitted opening old new request index) → IsStill old new
-  stored request index None none done = (ap (λ (p : PermitState). p.key.boxes) none, ap (λ (p : PermitState). p.split.context.opening) none)
-  stored request index (Some reply) none done = (done.boxes, ap (λ (d : ContextState). d.opening) done.context)
+  stored request index None none done = (ap (λ (p : WorkerState). p.key.boxes) none, ap (λ (p : WorkerState). p.opening) none)
+  stored request index (Some reply) none done = (done.boxes, ap (λ (d : WorkerState). d.opening) done.worker)

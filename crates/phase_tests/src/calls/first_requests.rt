@@ -1,14 +1,14 @@
 //! A store, asked once more where it is refused memory, and a view that needs none.
 ghost use Rattle.std.specs.Prelude.{◌≡◌, length, map};
 ghost use Rattle.shard_boxes.specs.States.{state_of, AreOpened};
-ghost use Rattle.phase_transactions.specs.Single.{HaveOpening};
+ghost use Rattle.phase_permits.specs.Performing.{HaveOpening};
 
 use crate::calls::printing::{look_for_memory, print_journal};
 use crate::permits::joined::{joined_permit, perform};
 use crate::permits::testing::boxes_of_one;
 use auction_rows::{Reply, Request};
 use item_shards::Shard;
-use phase_transactions::Stash;
+use phase_permits::Stash;
 use shard_boxes::PhaseName;
 use std::alloc::Global;
 use std::process::Abort;

@@ -6,7 +6,7 @@ use crate::floors::one_permit::only;
 use auction_rows::Object;
 use indexmap::IndexSet;
 use phase_floor::{BeginFault, Joined};
-use phase_transactions::Stash;
+use phase_permits::Stash;
 use shard_boxes::PhaseName;
 use std::alloc::Global;
 use std::sync::Wait;

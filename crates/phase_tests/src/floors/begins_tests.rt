@@ -9,7 +9,7 @@ use auction_rows::{ItemId, Object, Row};
 use indexmap::IndexSet;
 use item_shards::{Opened, OpeningBook};
 use phase_floor::{BeginFault, Joined};
-use phase_transactions::Stash;
+use phase_permits::Stash;
 use std::alloc::{AllocError, Global};
 use std::marker::Brand;
 use std::process::Abort;

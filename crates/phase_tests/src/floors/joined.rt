@@ -4,7 +4,7 @@ ghost use Rattle.phase_floor.specs.Closings.{IsReceipt, AreReceiptsOf};
 
 use auction_rows::{MOST_TRIES, Request};
 use phase_floor::JoinedFloor;
-use phase_transactions::{JoinedPermit, JoinedReceipt};
+use phase_permits::{JoinedPermit, JoinedReceipt};
 use shard_boxes::PhaseName;
 use std::process::Abort;
 use std::sync::Wait;

@@ -9,7 +9,7 @@ use crate::testing::{FIRST, VIEW, put_up, vase};
 use auction_rows::{BidId, BidShown, MOST_SHOWN, Object, Opening, Reply, Request, Ten};
 use indexmap::IndexSet;
 use phase_floor::Joined;
-use phase_transactions::Stash;
+use phase_permits::Stash;
 use shard_boxes::PhaseName;
 use std::alloc::{AllocError, Global};
 use std::marker::Brand;

@@ -5,7 +5,7 @@ ghost use Rattle.phase_floor.specs.Closings.{IsReceipt, AreReceiptsOf};
 use crate::testing::FIRST;
 use auction_rows::{MOST_TRIES, Request};
 use phase_floor::SplitFloor;
-use phase_transactions::{SplitPermit, SplitReceipt};
+use phase_permits::{SplitPermit, SplitReceipt};
 use shard_boxes::PhaseName;
 use std::process::Abort;
 use std::sync::Wait;

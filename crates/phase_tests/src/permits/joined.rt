@@ -1,11 +1,11 @@
 //! A joined permit of worker 0, and how it performs.
 ghost use Rattle.std.specs.Prelude.{◌≡◌, ◌≤◌, length, IfOk};
-ghost use Rattle.phase_transactions.specs.Permits.{IsUnused};
-ghost use Rattle.phase_transactions.specs.Single.{HaveOpening};
+ghost use Rattle.phase_permits.specs.Workers.{IsUnused};
+ghost use Rattle.phase_permits.specs.Performing.{HaveOpening};
 
 use crate::testing::OPENING;
 use auction_rows::{MOST_TRIES, Reply, Request};
-use phase_transactions::{Counters, JoinedPermit, PermitFault, Stash};
+use phase_permits::{Counters, JoinedPermit, PermitFault, Stash};
 use shard_boxes::{Boxes, Key, PhaseName};
 use std::alloc::{AllocError, Global};
 use std::process::Abort;
@@ -24,7 +24,7 @@ pub(crate) fn joined_permit<N: PhaseName>(
     requires few { length stash.requests ≤ 1 }
     ensures key { IfOk result (λ permit. permit.key ≡ key) }
     ensures users { IfOk result (λ permit.
-        permit.split.context.opening ≡ record { users = 10; categories = 2 }) }
+        permit.opening ≡ record { users = 10; categories = 2 }) }
 {
     let journal = Journal::with_room(alloc, 0, 0, 3)?;
     let counters = Counters::default();
@@ -40,9 +40,9 @@ pub(crate) fn perform<N: PhaseName, R: Wait + Abort>(
     index: u32,
 ) -> Result<Reply, PermitFault>
     requires of { permit.old.key.boxes ≡ boxes.now }
-    requires users { HaveOpening N.opening permit.old.split.context.opening }
+    requires users { HaveOpening N.opening permit.old.opening }
     ensures of { permit.new.key.boxes ≡ boxes.now }
-    ensures users { HaveOpening N.opening permit.new.split.context.opening }
+    ensures users { HaveOpening N.opening permit.new.opening }
 {
     assert!(rt; permit.left() > 0 && permit.tries() < MOST_TRIES);
     permit.perform(rt, boxes, request, index)
@@ -55,9 +55,9 @@ pub(crate) fn perform_stashed<N: PhaseName, R: Wait + Abort>(
     permit: &mut JoinedPermit<N>,
 ) -> Result<Option<Reply>, PermitFault>
     requires of { permit.old.key.boxes ≡ boxes.now }
-    requires users { HaveOpening N.opening permit.old.split.context.opening }
+    requires users { HaveOpening N.opening permit.old.opening }
     ensures of { permit.new.key.boxes ≡ boxes.now }
-    ensures users { HaveOpening N.opening permit.new.split.context.opening }
+    ensures users { HaveOpening N.opening permit.new.opening }
 {
     assert!(rt; permit.tries() < MOST_TRIES);
     permit.perform_stashed(rt, boxes)

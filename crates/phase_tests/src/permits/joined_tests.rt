@@ -1,14 +1,14 @@
 //! Requests at the end of numbers, and what waits.
 ghost use Rattle.std.specs.Prelude.{◌≡◌, length, map};
 ghost use Rattle.shard_boxes.specs.States.{state_of, AreOpened};
-ghost use Rattle.phase_transactions.specs.Single.{HaveOpening};
+ghost use Rattle.phase_permits.specs.Performing.{HaveOpening};
 
 use crate::comparing::assert_same;
 use crate::permits::joined::{joined_permit, perform, perform_stashed};
 use crate::permits::testing::{boxes_of_one, four};
 use auction_rows::{Reply, Request};
 use item_shards::Shard;
-use phase_transactions::{PermitFault, Stash};
+use phase_permits::{PermitFault, Stash};
 use shard_boxes::PhaseName;
 use std::alloc::Global;
 use std::marker::Brand;

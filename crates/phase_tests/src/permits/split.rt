@@ -5,13 +5,13 @@ ghost use Rattle.auction_rows.specs.declared.ids.ItemId.{ItemId as Id};
 ghost use Rattle.auction_rows.specs.declared.ids.Object.TheVariants.{Item};
 ghost use Rattle.auction_rows.specs.Footprint.{is_hot};
 ghost use Rattle.auction_rows.specs.Requests.{same_object};
-ghost use Rattle.phase_contexts.specs.Slicing.{objects_of, IsStocked};
-ghost use Rattle.phase_transactions.specs.Permits.{IsUnused};
-ghost use Rattle.phase_transactions.specs.Single.{HaveOpening};
+ghost use Rattle.phase_permits.specs.Slicing.{objects_of, IsStocked};
+ghost use Rattle.phase_permits.specs.Workers.{IsUnused};
+ghost use Rattle.phase_permits.specs.Performing.{HaveOpening};
 
 use crate::testing::{FIRST, OPENING};
 use auction_rows::{Facts, MOST_TRIES, Object, Reply, Request, Stars};
-use phase_transactions::{Counters, Done, PermitFault, Slices, SplitPermit, Stash};
+use phase_permits::{Counters, Done, PermitFault, Slices, SplitPermit, Stash};
 use shard_boxes::{Boxes, Key, PhaseName};
 use std::alloc::{AllocError, Global};
 use std::process::Abort;
@@ -32,7 +32,7 @@ pub(crate) fn split_permit<N: PhaseName>(
     requires stored { (item : Id) → is_hot (objects_of hot.now) (Item item) ≡ true → item.serial ≡ 0 }
     ensures key { IfOk result (λ permit. permit.key ≡ key) }
     ensures users { IfOk result (λ permit.
-        permit.split.context.opening ≡ record { users = 10; categories = 2 }) }
+        permit.opening ≡ record { users = 10; categories = 2 }) }
 {
     let slices = Slices::new(alloc, hot)?;
     let journal = Journal::with_room(alloc, 1, 0, 4)?;
@@ -56,7 +56,7 @@ pub(crate) fn bid<N: PhaseName, R: Abort>(
     index: u32,
 ) -> Option<Reply>
     ensures key { permit.new.key ≡ permit.old.key }
-    ensures users { permit.new.split.context.opening ≡ permit.old.split.context.opening }
+    ensures users { permit.new.opening ≡ permit.old.opening }
 {
     assert!(rt; permit.left() > 0 && permit.is_hot(Object::Item(FIRST)));
     permit.bid_hot(1, FIRST, amount, time, index)
@@ -83,7 +83,7 @@ pub(crate) fn perform<N: PhaseName, R: Wait + Abort>(
     index: u32,
 ) -> Result<Done, PermitFault>
     requires of { permit.old.key.boxes ≡ boxes.now }
-    requires users { HaveOpening N.opening permit.old.split.context.opening }
+    requires users { HaveOpening N.opening permit.old.opening }
 {
     assert!(rt; permit.left() > 0 && permit.tries() < MOST_TRIES);
     permit.perform(rt, boxes, request, index)

@@ -1,7 +1,7 @@
 //! Stores on hot objects alone.
 ghost use Rattle.std.specs.Prelude.{◌≡◌, length, map};
 ghost use Rattle.shard_boxes.specs.States.{state_of, AreOpened};
-ghost use Rattle.phase_transactions.specs.Single.{HaveOpening};
+ghost use Rattle.phase_permits.specs.Performing.{HaveOpening};
 
 use crate::comparing::assert_same;
 use crate::permits::split::{bid, comment, perform, split_permit};
@@ -9,7 +9,7 @@ use crate::permits::testing::{boxes_of_one, four};
 use crate::testing::{FIRST, VIEW, vase};
 use auction_rows::{BidId, CommentId, Object, Refusal, Reply, Stars};
 use item_shards::Shard;
-use phase_transactions::Done;
+use phase_permits::Done;
 use shard_boxes::PhaseName;
 use std::alloc::Global;
 use std::marker::Brand;

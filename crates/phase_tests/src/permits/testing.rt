@@ -1,8 +1,8 @@
 //! Four new shards, and their boxes with the key of one worker.
 ghost use Rattle.std.specs.Prelude.{◌≡◌, length, map, IfOk};
 ghost use Rattle.shard_boxes.specs.States.{state_of, AreOpened};
-ghost use Rattle.phase_transactions.specs.Permits.{IsUnused};
-ghost use Rattle.phase_transactions.specs.Single.{HaveOpening};
+ghost use Rattle.phase_permits.specs.Workers.{IsUnused};
+ghost use Rattle.phase_permits.specs.Performing.{HaveOpening};
 
 use crate::testing::OPENING;
 use item_shards::Shard;

@@ -3,8 +3,8 @@ use Rattle.std.proofs.lemmas.List.{length-take}
 use Rattle.auction_rows.specs.declared.ids.Object.{Object}
 use Rattle.auction_rows.specs.declared.requests.Request.{Request}
 use Rattle.auction_rows.specs.Phases.{is_put_off}
-use Rattle.phase_transactions.specs.Permits.{PermitState}
-use Rattle.phase_transactions.specs.Single.{HaveOpening}
+use Rattle.phase_permits.specs.Workers.{WorkerState}
+use Rattle.phase_permits.specs.Performing.{HaveOpening}
 use Rattle.run_laws.specs.Turns.{numbered}
 use Rattle.run_laws.proofs.QuotaLemmas.{next_call}
 use Rattle.phase_workers.specs.Working.{calls_from, committed, stashed, hot_for, put_off, not_put_off, HasStopped}
@@ -15,16 +15,16 @@ pub loop-place-preserved : goal.loop-place-preserved
 loop-place-preserved g c =
     let was = c.loop-place.invariant in
     let step = c.in_ok-perform_next.ensures.dealt in
-    let old : PermitState = g.P.Permit.shows c.args.permit.now in
-    let mid : PermitState = g.P.Permit.shows c.loop-place.permit in
-    let new : PermitState = g.P.Permit.shows c.perform_next.new.permit in
+    let old : WorkerState = g.P.Permit.shows c.args.permit.now in
+    let mid : WorkerState = g.P.Permit.shows c.loop-place.permit in
+    let new : WorkerState = g.P.Permit.shows c.perform_next.new.permit in
     let first : ℕ = c.args.first in
     let k : ℕ = c.loop-place.place in
     let request : Request = c.index-script-index.result in
-    let calls : List (ℕ × Request) = calls_from c.args.first old.split.context.left c.args.script.now in
-    let less : c.loop-place.place < old.split.context.left = subst (λ n. c.loop-place.place < n) c.quota_left-place-end.ensures c.loop-place-test.true in
+    let calls : List (ℕ × Request) = calls_from c.args.first old.left c.args.script.now in
+    let less : c.loop-place.place < old.left = subst (λ n. c.loop-place.place < n) c.quota_left-place-end.ensures c.loop-place-test.true in
     let next : take (k + 1) calls ≡ take k calls ++ (first + k, request) ∷ [] =
-    next_call first old.split.context.left k c.args.script.now request less c.requires.given c.index-script-index.is in (
+    next_call first old.left k c.args.script.now request less c.requires.given c.index-script-index.is in (
       same_after old mid new was.0 step.same,
       kept_more (λ call. not (is_put_off (hot_for old) call.1)) (committed mid) (take k calls) (committed new) (committed old) (take (k + 1) calls) (first + k, request)
           (subst (λ (hot : List Object). committed new ≡ committed mid ++ not_put_off hot ((first + k, request) ∷ [])) was.0.hot step.calls) was.1 next,
@@ -37,27 +37,27 @@ loop-place-preserved g c =
 pub returns-in_err-perform_next-clause-stopped : goal.returns-in_err-perform_next-clause-stopped
 returns-in_err-perform_next-clause-stopped g c =
     let was = c.loop-place.invariant in
-    let old : PermitState = g.P.Permit.shows c.args.permit.now in
+    let old : WorkerState = g.P.Permit.shows c.args.permit.now in
     let first : ℕ = c.args.first in
     let k : ℕ = c.loop-place.place in
     let request : Request = c.index-script-index.result in
-    let calls : List (ℕ × Request) = calls_from c.args.first old.split.context.left c.args.script.now in
-    let less : c.loop-place.place < old.split.context.left = subst (λ n. c.loop-place.place < n) c.quota_left-place-end.ensures c.loop-place-test.true in
+    let calls : List (ℕ × Request) = calls_from c.args.first old.left c.args.script.now in
+    let less : c.loop-place.place < old.left = subst (λ n. c.loop-place.place < n) c.quota_left-place-end.ensures c.loop-place-test.true in
     let next : take (k + 1) calls ≡ take k calls ++ (first + k, request) ∷ [] =
-    next_call first old.split.context.left k c.args.script.now request less c.requires.given c.index-script-index.is in
-    let new : PermitState = g.P.Permit.shows c.perform_next.new.permit in
+    next_call first old.left k c.args.script.now request less c.requires.given c.index-script-index.is in
+    let new : WorkerState = g.P.Permit.shows c.perform_next.new.permit in
     err_as c.from_residual.result c.in_err-perform_next.field-0.0 (HasStopped false g.N.PhaseName.opening calls old new) c.from_residual.ensures.1
     (stopped_next g.N.PhaseName.opening old (g.P.Permit.shows c.loop-place.permit) new c.in_err-perform_next.field-0.0 k calls (first + k, request) next
     was.1 was.2 c.in_err-perform_next.ensures.failed)
 
 pub loop-place-init : goal.loop-place-init
 loop-place-init g c =
-    let old : PermitState = g.P.Permit.shows c.args.permit.now in
+    let old : WorkerState = g.P.Permit.shows c.args.permit.now in
     (same old, sym (append-nil (committed old)), sym (append-nil (stashed old)), add-zero _, sym (add-zero _))
 
 pub bounds-script-index : goal.bounds-script-index
 bounds-script-index g c =
-    let old : PermitState = g.P.Permit.shows c.args.permit.now in
+    let old : WorkerState = g.P.Permit.shows c.args.permit.now in
     within_script _ _ _ _ (subst (λ n. c.loop-place.place < n) c.quota_left-place-end.ensures c.loop-place-test.true) c.requires.given
 
 pub perform_next-requires-clause-of : goal.perform_next-requires-clause-of
@@ -80,12 +80,12 @@ returns-clause-same g c = c.loop-place.invariant.0
 
 pub returns-clause-calls : goal.returns-clause-calls
 returns-clause-calls g c =
-    let old : PermitState = g.P.Permit.shows c.args.permit.now in
+    let old : WorkerState = g.P.Permit.shows c.args.permit.now in
     c.loop-place.invariant.1 ∙ ap (λ calls. committed old ++ not_put_off (hot_for old) calls)
-    (whole c.loop-place.place old.split.context.left (drop c.args.first (numbered 0 c.args.script.now)) (subst (λ n. n ≤ c.loop-place.place) c.quota_left-place-end.ensures c.loop-place-test.false))
+    (whole c.loop-place.place old.left (drop c.args.first (numbered 0 c.args.script.now)) (subst (λ n. n ≤ c.loop-place.place) c.quota_left-place-end.ensures c.loop-place-test.false))
 
 pub returns-clause-stash : goal.returns-clause-stash
 returns-clause-stash g c =
-    let old : PermitState = g.P.Permit.shows c.args.permit.now in
+    let old : WorkerState = g.P.Permit.shows c.args.permit.now in
     c.loop-place.invariant.2 ∙ ap (λ calls. stashed old ++ put_off (hot_for old) calls)
-    (whole c.loop-place.place old.split.context.left (drop c.args.first (numbered 0 c.args.script.now)) (subst (λ n. n ≤ c.loop-place.place) c.quota_left-place-end.ensures c.loop-place-test.false))
+    (whole c.loop-place.place old.left (drop c.args.first (numbered 0 c.args.script.now)) (subst (λ n. n ≤ c.loop-place.place) c.quota_left-place-end.ensures c.loop-place-test.false))

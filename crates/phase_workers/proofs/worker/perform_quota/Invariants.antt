@@ -7,9 +7,9 @@ abbrev pub invariant-loop-place : goal.invariant-loop-place
 invariant-loop-place g l =
     let old = g.P.Permit.shows l.fn.permit in
     let mid = g.P.Permit.shows l.permit in
-    let calls = take l.place (calls_from l.first old.split.context.left l.script) in
+    let calls = take l.place (calls_from l.first old.left l.script) in
     IsSamePermit old mid
     × (committed mid ≡ committed old ++ not_put_off (hot_for old) calls)
     × (stashed mid ≡ stashed old ++ put_off (hot_for old) calls)
-    × (mid.split.context.left + l.place ≡ old.split.context.left)
-    × (mid.split.context.tries ≡ old.split.context.tries + l.place)
+    × (mid.left + l.place ≡ old.left)
+    × (mid.tries ≡ old.tries + l.place)

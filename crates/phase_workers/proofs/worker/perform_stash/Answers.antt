@@ -1,8 +1,8 @@
 use Rattle.std.proofs.Common.{◌≡◌, ℕ, ◌+◌, ◌<◌, ◌≤◌, Bool, true, false, cond, List, [], ◌++◌, ◌∙◌, refl, sym, ap, subst, take, drop, add-zero, le_of_eq, arith}
 use Rattle.std.proofs.lemmas.List.{append-nil, take_all, drop_all}
 use Rattle.auction_rows.specs.declared.requests.Request.{Request}
-use Rattle.phase_transactions.specs.Permits.{PermitState}
-use Rattle.phase_transactions.specs.Single.{HaveOpening}
+use Rattle.phase_permits.specs.Workers.{WorkerState}
+use Rattle.phase_permits.specs.Performing.{HaveOpening}
 use Rattle.phase_workers.specs.Working.{committed, stashed, taken, kept, hot_for, put_off, HasPerformedWaiting, HasStopped}
 use Rattle.phase_workers.proofs.WorkLemmas.{same, same_after, takes_some, stash_goes, stash_more, stash_less, err_as, stopped_first, try_left, tries_by}
 use Rattle.phase_workers.proofs.worker.perform_stash.Goals as goal
@@ -11,9 +11,9 @@ pub loop-call-preserved : goal.loop-call-preserved
 loop-call-preserved g c =
     let was = c.loop-call.invariant in
     let takes : Bool = g.P.Permit.takes_stash in
-    let old : PermitState = g.P.Permit.shows c.args.permit.now in
-    let mid : PermitState = g.P.Permit.shows c.loop-call.permit in
-    let new : PermitState = g.P.Permit.shows c.perform_first.new.permit in
+    let old : WorkerState = g.P.Permit.shows c.args.permit.now in
+    let mid : WorkerState = g.P.Permit.shows c.loop-call.permit in
+    let new : WorkerState = g.P.Permit.shows c.perform_first.new.permit in
     let k : ℕ = c.loop-call._call in
     let own : List (ℕ × Request) = taken takes old in
     let yes : takes ≡ true = takes_some takes old k (subst (λ n. c.loop-call._call < n) c.waiting-call-end.ensures c.loop-call-test.true) in
@@ -29,19 +29,19 @@ loop-call-preserved g c =
 
 pub returns-clause-go : goal.returns-clause-go
 returns-clause-go g c =
-    let old : PermitState = g.P.Permit.shows c.args.permit.now in
+    let old : WorkerState = g.P.Permit.shows c.args.permit.now in
     let own : List (ℕ × Request) = taken g.P.Permit.takes_stash old in
     ap (put_off (hot_for old)) (sym (take_all c.loop-call._call own (subst (λ n. n ≤ c.loop-call._call) c.waiting-call-end.ensures c.loop-call-test.false))) ∙ c.loop-call.invariant.5
 
 pub returns-clause-calls : goal.returns-clause-calls
 returns-clause-calls g c =
-    let old : PermitState = g.P.Permit.shows c.args.permit.now in
+    let old : WorkerState = g.P.Permit.shows c.args.permit.now in
     let own : List (ℕ × Request) = taken g.P.Permit.takes_stash old in
     c.loop-call.invariant.1 ∙ ap (λ ss. committed old ++ ss) (take_all c.loop-call._call own (subst (λ n. n ≤ c.loop-call._call) c.waiting-call-end.ensures c.loop-call-test.false))
 
 pub returns-clause-stash : goal.returns-clause-stash
 returns-clause-stash g c =
-    let old : PermitState = g.P.Permit.shows c.args.permit.now in
+    let old : WorkerState = g.P.Permit.shows c.args.permit.now in
     let own : List (ℕ × Request) = taken g.P.Permit.takes_stash old in
     let rest : List (ℕ × Request) = kept g.P.Permit.takes_stash old in
     c.loop-call.invariant.2 ∙ ap (λ ss. rest ++ ss) (drop_all c.loop-call._call own (subst (λ n. n ≤ c.loop-call._call) c.waiting-call-end.ensures c.loop-call-test.false)) ∙ append-nil rest
@@ -50,8 +50,8 @@ pub returns-in_err-perform_first-clause-stopped : goal.returns-in_err-perform_fi
 returns-in_err-perform_first-clause-stopped g c =
     let was = c.loop-call.invariant in
     let takes : Bool = g.P.Permit.takes_stash in
-    let old : PermitState = g.P.Permit.shows c.args.permit.now in
-    let new : PermitState = g.P.Permit.shows c.perform_first.new.permit in
+    let old : WorkerState = g.P.Permit.shows c.args.permit.now in
+    let new : WorkerState = g.P.Permit.shows c.perform_first.new.permit in
     err_as c.from_residual.result c.in_err-perform_first.field-0.0 (HasStopped takes g.N.PhaseName.opening (taken takes old) old new) c.from_residual.ensures.1
     (stopped_first g.N.PhaseName.opening old (g.P.Permit.shows c.loop-call.permit) new c.in_err-perform_first.field-0.0 takes c.loop-call._call
     (takes_some takes old c.loop-call._call (subst (λ n. c.loop-call._call < n) c.waiting-call-end.ensures c.loop-call-test.true))
@@ -72,7 +72,7 @@ both_parts false calls = sym (append-nil calls)
 
 pub loop-call-init : goal.loop-call-init
 loop-call-init g c =
-    let old : PermitState = g.P.Permit.shows c.args.permit.now in
+    let old : WorkerState = g.P.Permit.shows c.args.permit.now in
     (same old, sym (append-nil (committed old)), both_parts g.P.Permit.takes_stash (stashed old), refl, le_of_eq (sym (add-zero _)), refl)
 
 pub returns-clause-tries : goal.returns-clause-tries

@@ -10,6 +10,6 @@ invariant-loop-call g l =
     IsSamePermit old mid
     × (committed mid ≡ committed old ++ take l._call (taken g.P.Permit.takes_stash old))
     × (stashed mid ≡ kept g.P.Permit.takes_stash old ++ drop l._call (taken g.P.Permit.takes_stash old))
-    × (mid.split.context.left ≡ old.split.context.left)
-    × (mid.split.context.tries ≤ old.split.context.tries + l._call)
+    × (mid.left ≡ old.left)
+    × (mid.tries ≤ old.tries + l._call)
     × (put_off (hot_for old) (take l._call (taken g.P.Permit.takes_stash old)) ≡ [])

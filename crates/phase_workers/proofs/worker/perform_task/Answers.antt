@@ -2,7 +2,7 @@ use Rattle.std.proofs.Common.{ℕ, ◌+◌, ◌≤◌, Bool, true, false, cond, 
 use Rattle.std.proofs.lemmas.Result.{IfErr-weaker}
 use Rattle.auction_rows.specs.declared.limits.TheConstants.{MOST_TRIES}
 use Rattle.auction_rows.specs.declared.requests.Request.{Request}
-use Rattle.phase_transactions.specs.Permits.{PermitState}
+use Rattle.phase_permits.specs.Workers.{WorkerState}
 use Rattle.phase_workers.specs.Tasks.{task, HasMetFault}
 use Rattle.phase_workers.specs.Working.{calls_from, stashed, taken, HasStopped}
 use Rattle.phase_workers.proofs.WorkLemmas.{on_ok3, task_done, err_as, stopped_early, stopped_late}
@@ -14,22 +14,22 @@ room_for_taken false calls tries left is = omega arith
 
 pub perform_stash-requires-clause-tries : goal.perform_stash-requires-clause-tries
 perform_stash-requires-clause-tries g c =
-    let old : PermitState = g.P.Permit.shows c.args.permit.now in
-    room_for_taken g.P.Permit.takes_stash (stashed old) old.split.context.tries old.split.context.left c.requires.can.tries
+    let old : WorkerState = g.P.Permit.shows c.args.permit.now in
+    room_for_taken g.P.Permit.takes_stash (stashed old) old.tries old.left c.requires.can.tries
 
 pub returns-in_err-perform_stash-clause-stopped : goal.returns-in_err-perform_stash-clause-stopped
 returns-in_err-perform_stash-clause-stopped g c =
-    let old : PermitState = g.P.Permit.shows c.args.permit.now in
+    let old : WorkerState = g.P.Permit.shows c.args.permit.now in
     let takes : Bool = g.P.Permit.takes_stash in
-    let new : PermitState = g.P.Permit.shows c.perform_stash.new.permit in
+    let new : WorkerState = g.P.Permit.shows c.perform_stash.new.permit in
     err_as c.from_residual.result c.in_err-perform_stash.field-0.0 (HasMetFault takes g.N.PhaseName.opening (task old c.args.script.now c.args.first) new) c.from_residual.ensures.1
     (stopped_early g.N.PhaseName.opening old old new c.in_err-perform_stash.field-0.0 takes (taken takes old)
-    (calls_from c.args.first old.split.context.left c.args.script.now) c.in_err-perform_stash.ensures.stopped)
+    (calls_from c.args.first old.left c.args.script.now) c.in_err-perform_stash.ensures.stopped)
 
 pub returns-clause-done : goal.returns-clause-done
 returns-clause-done g c =
-    let old : PermitState = g.P.Permit.shows c.args.permit.now in
-    let mid : PermitState = g.P.Permit.shows c.perform_stash.new.permit in
+    let old : WorkerState = g.P.Permit.shows c.args.permit.now in
+    let mid : WorkerState = g.P.Permit.shows c.perform_stash.new.permit in
     let stash = c.in_ok-perform_stash.ensures in
     let quota = c.perform_quota.ensures in
     on_ok3 c.perform_quota.result quota.same quota.calls quota.stash
@@ -37,13 +37,13 @@ returns-clause-done g c =
 
 pub returns-clause-stopped : goal.returns-clause-stopped
 returns-clause-stopped g c =
-    let old : PermitState = g.P.Permit.shows c.args.permit.now in
-    let mid : PermitState = g.P.Permit.shows c.perform_stash.new.permit in
-    let new : PermitState = g.P.Permit.shows c.perform_quota.new.permit in
+    let old : WorkerState = g.P.Permit.shows c.args.permit.now in
+    let mid : WorkerState = g.P.Permit.shows c.perform_stash.new.permit in
+    let new : WorkerState = g.P.Permit.shows c.perform_quota.new.permit in
     let takes : Bool = g.P.Permit.takes_stash in
     let stash = c.in_ok-perform_stash.ensures in
-    let calls : List (ℕ × Request) = calls_from c.args.first mid.split.context.left c.args.script.now in
+    let calls : List (ℕ × Request) = calls_from c.args.first mid.left c.args.script.now in
     IfErr-weaker c.perform_quota.result (HasStopped false g.N.PhaseName.opening calls mid new) (HasMetFault takes g.N.PhaseName.opening (task old c.args.script.now c.args.first) new)
-    (λ fault. stopped_late g.N.PhaseName.opening old mid new fault takes calls (calls_from c.args.first old.split.context.left c.args.script.now)
+    (λ fault. stopped_late g.N.PhaseName.opening old mid new fault takes calls (calls_from c.args.first old.left c.args.script.now)
     stash.go stash.calls stash.stash stash.same.hot (ap (λ n. calls_from c.args.first n c.args.script.now) stash.left))
     c.perform_quota.ensures.stopped

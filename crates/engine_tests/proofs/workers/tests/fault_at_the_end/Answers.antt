@@ -5,22 +5,22 @@ use Rattle.auction_rows.specs.declared.requests.Request.{Request}
 use Rattle.shard_boxes.specs.Keys.{BoxId}
 use Rattle.shard_boxes.specs.States.{ShardState}
 use Rattle.worker_journals.specs.Journals.{JournalView}
-use Rattle.phase_transactions.specs.Permits.{PermitState}
-use Rattle.phase_transactions.specs.Single.{HaveOpening}
+use Rattle.phase_permits.specs.Workers.{WorkerState}
+use Rattle.phase_permits.specs.Performing.{HaveOpening}
 use Rattle.phase_workers.specs.Tasks.{task, tasks, CanBeDone}
 use Rattle.phase_workers.specs.Working.{stashed, ArePermitsOf, IsPermitOf}
 use Rattle.engine_tests.proofs.workers.tests.fault_at_the_end.Goals as goal
 
 -- the task of one worker, who has no script
-alone : (opening : List ShardState) (boxes : List BoxId) (permit : PermitState) (permits : List PermitState) (scripts : List (List Request))
+alone : (opening : List ShardState) (boxes : List BoxId) (permit : WorkerState) (permits : List WorkerState) (scripts : List (List Request))
     → permits ≡ permit ∷ [] → scripts ≡ [] ∷ [] → CanBeDone opening boxes (task permit [] 0)
     → AllByRecursion (CanBeDone opening boxes) (tasks permits scripts 0)
 alone opening boxes permit permits scripts is are can =
-    subst (λ (ps : List PermitState). AllByRecursion (CanBeDone opening boxes) (tasks ps scripts 0)) (sym is)
+    subst (λ (ps : List WorkerState). AllByRecursion (CanBeDone opening boxes) (tasks ps scripts 0)) (sym is)
     (subst (λ (ss : List (List Request)). AllByRecursion (CanBeDone opening boxes) (tasks (permit ∷ []) ss 0)) (sym are) (can, tt))
 
-of_one : (permit : PermitState) (permits : List PermitState) → permits ≡ permit ∷ [] → IsPermitOf 0 0 permit → ArePermitsOf 0 0 permits
-of_one permit permits is of = subst (λ (ps : List PermitState). ArePermitsOf 0 0 ps) (sym is) (of, tt)
+of_one : (permit : WorkerState) (permits : List WorkerState) → permits ≡ permit ∷ [] → IsPermitOf 0 0 permit → ArePermitsOf 0 0 permits
+of_one permit permits is of = subst (λ (ps : List WorkerState). ArePermitsOf 0 0 ps) (sym is) (of, tt)
 
 none_is_short : 0 ≤ 1000000
 none_is_short = omega arith
@@ -38,18 +38,18 @@ pub serve_all-requires-clause-can : goal.serve_all-requires-clause-can
 serve_all-requires-clause-can g c = λ lifetimes within.
     let permit = c.new-permit.result in
     let made = c.new-permit.ensures in
-    let left = ap (λ (p : PermitState). p.split.context.left) made in
+    let left = ap (λ (p : WorkerState). p.left) made in
     alone g.N.PhaseName.opening c.args.boxes.now permit _ _
     (ap (map (λ p. p)) c.push_reserved.ensures.items ∙ ap (λ l. map (λ p. p) (l ++ permit ∷ [])) c.in_ok-permits.ensures.items)
     c.requires.scripts
     (record {
-      boxes_are = ap (λ (p : PermitState). p.key.boxes) made ∙ c.requires.of;
-      opening_is = subst (HaveOpening g.N.PhaseName.opening) (sym (ap (λ (p : PermitState). p.split.context.opening) made)) c.requires.users;
+      boxes_are = ap (λ (p : WorkerState). p.key.boxes) made ∙ c.requires.of;
+      opening_is = subst (HaveOpening g.N.PhaseName.opening) (sym (ap (λ (p : WorkerState). p.opening) made)) c.requires.users;
       short = none_is_short;
-      given = given_none permit.split.context.left left;
-      tries = few_tries permit.split.context.tries (length (stashed permit)) permit.split.context.left
-          (ap (λ (p : PermitState). p.split.context.tries) made)
-          (ap (λ (p : PermitState). length (stashed p)) made ∙ one_waits _ _ _ c.in_ok-stash.ensures.empty c.push.ensures.added) left;
+      given = given_none permit.left left;
+      tries = few_tries permit.tries (length (stashed permit)) permit.left
+          (ap (λ (p : WorkerState). p.tries) made)
+          (ap (λ (p : WorkerState). length (stashed p)) made ∙ one_waits _ _ _ c.in_ok-stash.ensures.empty c.push.ensures.added) left;
     })
 
 pub serve_all-requires-clause-of : goal.serve_all-requires-clause-of
@@ -59,8 +59,8 @@ serve_all-requires-clause-of g c = λ lifetimes within.
     of_one permit _
     (ap (map (λ p. p)) c.push_reserved.ensures.items ∙ ap (λ l. map (λ p. p) (l ++ permit ∷ [])) c.in_ok-permits.ensures.items)
     (record {
-      phase_is = ap (λ (p : PermitState). p.split.context.journal.phase) made ∙ ap (λ (j : JournalView). j.phase) c.in_ok-journal.ensures;
-      worker_is = ap (λ (p : PermitState). p.key.worker) made ∙ c.requires.worker;
+      phase_is = ap (λ (p : WorkerState). p.journal.phase) made ∙ ap (λ (j : JournalView). j.phase) c.in_ok-journal.ensures;
+      worker_is = ap (λ (p : WorkerState). p.key.worker) made ∙ c.requires.worker;
     })
 
 pub new-permit-requires : goal.new-permit-requires

@@ -1,6 +1,6 @@
 use Rattle.std.proofs.Common.{◌≡◌, ◌+◌, ◌<◌, ◌≤◌, ◌^◌, List, get_or, map, length, sym, ap, ◌∙◌, subst}
 use Rattle.shard_boxes.specs.States.{ShardState, AreOpened, state_of}
-use Rattle.phase_contexts.specs.Stashes.{StashState}
+use Rattle.phase_permits.specs.Stashes.{StashState}
 use Rattle.phase_floor.specs.Begins.{AreKits, asked_in_all}
 use Rattle.phase_floor.specs.Floors.{AreStocksOf, stash_at}
 use Rattle.phase_floor.specs.States.{JoinedState, IsKept, joined_of, states_of}

@@ -1,7 +1,7 @@
 use Rattle.std.proofs.Common.{[], List, refl, sym, ap, ◌∙◌, subst}
 use Rattle.std.specs.List.{IsDistinct}
 use Rattle.auction_rows.specs.Requests.{same_object}
-use Rattle.phase_transactions.specs.Permits.{PermitState}
+use Rattle.phase_permits.specs.Workers.{WorkerState}
 use Rattle.phase_floor.specs.Floors.{AreBegun, AreStocksOf}
 use Rattle.phase_floor.specs.States.{JoinedState, states_of}
 use Rattle.phase_floor.proofs.Begins.{fits, long_not_unknown, memory_not_long, memory_not_unknown, no_slices, no_stashes, too_long}
@@ -32,7 +32,7 @@ returns-in-Ok-begin-clause-cold g c = c.in-Ok-begin.ensures.stocks ∙ c.new.ens
 
 pub returns-in-Ok-begin-clause-permits : goal.returns-in-Ok-begin-clause-permits
 returns-in-Ok-begin-clause-permits g c =
-    subst (λ (permits : List PermitState). AreBegun c.in-Ok-begin.floor c.args.quotas.now c.args.stashes.items permits) (sym c.joined_permits-permits.ensures) c.in-Ok-begin.ensures.starts
+    subst (λ (permits : List WorkerState). AreBegun c.in-Ok-begin.floor c.args.quotas.now c.args.stashes.items permits) (sym c.joined_permits-permits.ensures) c.in-Ok-begin.ensures.starts
 
 pub returns-in-Ok-begin-clause-fits : goal.returns-in-Ok-begin-clause-fits
 returns-in-Ok-begin-clause-fits g c =

@@ -2,10 +2,10 @@ use Rattle.std.proofs.Common.{[], List, map, refl, sym, ap, ◌∙◌, subst}
 use Rattle.std.proofs.lemmas.Bool.{false≢true}
 use Rattle.std.specs.List.{IsDistinct}
 use Rattle.auction_rows.specs.Requests.{same_object}
-use Rattle.phase_contexts.specs.Slicing.{objects_of}
-use Rattle.phase_contexts.specs.Stashes.{StashState}
-use Rattle.phase_contexts.proofs.Places.{distinct_objects}
-use Rattle.phase_transactions.specs.Permits.{PermitState}
+use Rattle.phase_permits.specs.Slicing.{objects_of}
+use Rattle.phase_permits.specs.Stashes.{StashState}
+use Rattle.phase_permits.proofs.Places.{distinct_objects}
+use Rattle.phase_permits.specs.Workers.{WorkerState}
 use Rattle.phase_floor.specs.Begins.{HaveStashRoom, IsTooLong, empty_stash}
 use Rattle.phase_floor.specs.Floors.{AreBegun}
 use Rattle.phase_floor.specs.States.{JoinedState, DoAllExist, states_of}
@@ -35,7 +35,7 @@ returns-in-Ok-begin-clause-hot g c = ap objects_of c.in-Ok-begin.ensures.stocks 
 
 pub returns-in-Ok-begin-clause-permits : goal.returns-in-Ok-begin-clause-permits
 returns-in-Ok-begin-clause-permits g c =
-    subst (λ (permits : List PermitState). AreBegun c.in-Ok-begin.floor c.args.quotas.now (map empty_stash c.args.quotas.now) permits) (sym c.split_permits-permits.ensures)
+    subst (λ (permits : List WorkerState). AreBegun c.in-Ok-begin.floor c.args.quotas.now (map empty_stash c.args.quotas.now) permits) (sym c.split_permits-permits.ensures)
     (subst (λ (stashes : List StashState). AreBegun c.in-Ok-begin.floor c.args.quotas.now stashes c.in-Ok-begin.starts.items) c.in-Ok-new_stashes.ensures c.in-Ok-begin.ensures.starts)
 
 pub returns-in-Ok-begin-clause-known : goal.returns-in-Ok-begin-clause-known

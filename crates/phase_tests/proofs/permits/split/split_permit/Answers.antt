@@ -1,8 +1,8 @@
 use Rattle.std.proofs.Common.{◌≡◌, [], length, sym, ap, ◌∙◌, arith}
 use Rattle.auction_rows.specs.declared.ids.Object.TheVariants.{Item}
 use Rattle.auction_rows.specs.Footprint.{is_hot}
-use Rattle.phase_contexts.specs.Slicing.{objects_of, slices_of, stocks_of}
-use Rattle.phase_contexts.proofs.Places.{stocks_of_rows}
+use Rattle.phase_permits.specs.Slicing.{objects_of, slices_of, stocks_of}
+use Rattle.phase_permits.proofs.Places.{stocks_of_rows}
 use Rattle.phase_floor.proofs.HotItems.{objects_of_slices}
 use Rattle.phase_tests.proofs.permits.HotLemmas.{stash_room}
 use Rattle.worker_journals.specs.Journals.{JournalView}

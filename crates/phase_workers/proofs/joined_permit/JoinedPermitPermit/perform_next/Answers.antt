@@ -1,7 +1,7 @@
-use Rattle.phase_transactions.specs.declared.fault.Done.TheVariants.{Committed}
+use Rattle.std.proofs.Common.{true}
 use Rattle.phase_workers.proofs.WorkLemmas.{dealt_next}
 use Rattle.phase_workers.proofs.joined_permit.JoinedPermitPermit.perform_next.Goals as goal
 
 pub returns-clause-dealt : goal.returns-clause-dealt
 returns-clause-dealt g c =
-    dealt_next g.N.PhaseName.opening c.args.self.now c.commit.new.self c.args.request.now c.args.index (Committed c.in_ok-commit.field-0) c.in_ok-commit.ensures.committed
+    dealt_next g.N.PhaseName.opening c.args.self.now c.commit.new.self c.args.request.now c.args.index true c.in_ok-commit.ensures

@@ -1,0 +1,227 @@
+-- The reply to a store: it is the answer by what was seen and by the counters.
+use Rattle.std.proofs.Common.{◌≡◌, ℕ, suc, max, Bool, true, false, cond, List, Option, Some, None, MatchOption, option_map, option_and_then, unwrap_or, refl, sym, ap, subst, ◌∙◌, arith}
+use Rattle.std.specs.Prelude.{nat_lt, if◌then◌else◌}
+use Rattle.std.specs.Option.{option_or}
+use Rattle.std.proofs.lemmas.Bool.{true≢false}
+use Rattle.std.proofs.lemmas.Option.{same_Some}
+use Rattle.auction_rows.specs.declared.ids.ItemId.{ItemId}
+use Rattle.auction_rows.specs.declared.ids.Object.{Object}
+use Rattle.auction_rows.specs.declared.ids.Object.TheVariants.{Item}
+use Rattle.auction_rows.specs.declared.numbers.Opening.{Opening}
+use Rattle.auction_rows.specs.declared.replies.Refusal.{Refusal}
+use Rattle.auction_rows.specs.declared.replies.Reply.{Reply}
+use Rattle.auction_rows.specs.declared.replies.Reply.TheVariants.{Refused}
+use Rattle.auction_rows.specs.declared.requests.Facts.{Facts}
+use Rattle.auction_rows.specs.declared.requests.Request.{Request}
+use Rattle.auction_rows.specs.declared.requests.Request.TheVariants.{StoreItem, StoreBid, StoreComment, BuyNow, ViewItem, ViewBids, ViewCategory, ViewUser}
+use Rattle.auction_rows.specs.Footprint.{is_hot}
+use Rattle.auction_rows.specs.Refusals.{number_refusal, item_refusal}
+use Rattle.auction_rows.specs.Replies.{row_of}
+use Rattle.auction_rows.specs.Requests.{item_of, is_view}
+use Rattle.item_shards.specs.CommitNumbers.{last_number, next_number}
+use Rattle.item_shards.specs.Writing.{writes_if}
+use Rattle.phase_permits.specs.declared.counters.Counters.{Counters}
+use Rattle.phase_permits.specs.declared.homes.Home.{Home}
+use Rattle.phase_permits.specs.declared.homes.Home.TheVariants as home
+use Rattle.phase_permits.specs.declared.homes.Homes.{Homes}
+use Rattle.phase_permits.specs.declared.read_set.ReadSet.{ReadSet}
+use Rattle.phase_permits.specs.declared.slices.Hot.{Hot}
+use Rattle.phase_permits.specs.Deeds.{IsReplyBy}
+use Rattle.phase_permits.specs.Homes.{IsHomeOf, AreHomesOf, HasHomes, IsWrittenAt, IsHotStore}
+use Rattle.phase_permits.specs.Performing.{HasStoredSome}
+use Rattle.phase_permits.specs.Slicing.{objects_of, stocks_of, stock_of, after_acts}
+use Rattle.phase_permits.specs.Takens.{shard_at}
+use Rattle.phase_permits.specs.Txns.{refusal_by, refusal_seen, reason_seen, stock_seen, is_put_off, Answers, IsAnswered, IsOwn}
+use Rattle.phase_permits.specs.Workers.{WorkerState, setting_of, txn_of, hot_txn, nothing, with_entry, after_commit}
+use Rattle.phase_permits.proofs.HomeLemmas.{same_objects_of}
+
+-- the number after a clock, where no shard is taken
+chosen : (b : Bool) (m n : ℕ) → Some n ≡ (if b then Some (suc m) else None) → n ≡ suc m
+chosen true m n is = same_Some n (suc m) is
+chosen false m n is = absurd (cc)
+
+pub next_is : (a found n : ℕ) → Some n ≡ next_number a found → n ≡ suc (max a found)
+next_is a found n is = chosen (nat_lt (max a found) last_number) (max a found) n is
+
+pub next_of_own : (a n : ℕ) → Some n ≡ next_number a 0 → n ≡ suc a
+next_of_own a n is = let number = next_is a 0 n is in omega arith
+
+-- an id in a reply to a store is one of the worker
+own_answer : (counters : Counters) (worker : ℕ) (request : Request) (reply : Reply) → Answers counters worker request reply → is_view request ≡ false → IsOwn worker reply
+own_answer counters worker (StoreItem facts time) reply is store = subst (IsOwn worker) (sym is) refl
+own_answer counters worker (StoreBid bidder item amount time) reply is store = subst (IsOwn worker) (sym is) refl
+own_answer counters worker (StoreComment author about item stars) reply is store = subst (IsOwn worker) (sym is) refl
+own_answer counters worker (BuyNow buyer item quantity time) reply is store = subst (IsOwn worker) (sym is) refl
+own_answer counters worker (ViewItem item) reply is store = absurd (true≢false store)
+own_answer counters worker (ViewBids item) reply is store = absurd (true≢false store)
+own_answer counters worker (ViewCategory category) reply is store = absurd (true≢false store)
+own_answer counters worker (ViewUser user) reply is store = absurd (true≢false store)
+
+own_by : (counters : Counters) (worker : ℕ) (request : Request) (reply : Reply) (refused : Option Refusal) → MatchOption refused (Answers counters worker request reply) (λ reason. reply ≡ Refused reason)
+    → is_view request ≡ false → IsOwn worker reply
+own_by counters worker request reply None is store = own_answer counters worker request reply is store
+own_by counters worker request reply (Some reason) is store = subst (IsOwn worker) (sym is) tt
+
+pub own_reply : (w : WorkerState) (seen : Option (Facts × ℕ)) (request : Request) (reply : Reply) → IsReplyBy w seen request reply → is_view request ≡ false → IsOwn w.journal.worker reply
+own_reply w seen request reply is store = own_by w.counters w.journal.worker request reply (refusal_by w.opening seen request) is store
+
+-- what is seen counts only where an item is needed
+item_unseen : (opening : Opening) (facts : Facts) (time : ℕ) (seen : Option (Facts × ℕ)) → refusal_by opening seen (StoreItem facts time) ≡ refusal_by opening None (StoreItem facts time)
+item_unseen opening facts time None = refl
+item_unseen opening facts time (Some stock) = refl
+
+pub refusal_as : (opening : Opening) (request : Request) (seen : Option (Facts × ℕ)) (other : ItemId → Option (Facts × ℕ)) → is_view request ≡ false → ((item : ItemId) → item_of request ≡ Some item → seen ≡ other item)
+    → refusal_by opening seen request ≡ refusal_by opening (option_and_then other (item_of request)) request
+refusal_as opening (StoreItem facts time) seen other store same = item_unseen opening facts time seen
+refusal_as opening (StoreBid bidder item amount time) seen other store same = ap (λ s. refusal_by opening s (StoreBid bidder item amount time)) (same item refl)
+refusal_as opening (StoreComment author about item stars) seen other store same = ap (λ s. refusal_by opening s (StoreComment author about item stars)) (same item refl)
+refusal_as opening (BuyNow buyer item quantity time) seen other store same = ap (λ s. refusal_by opening s (BuyNow buyer item quantity time)) (same item refl)
+refusal_as opening (ViewItem item) seen other store same = absurd (true≢false store)
+refusal_as opening (ViewBids item) seen other store same = absurd (true≢false store)
+refusal_as opening (ViewCategory category) seen other store same = absurd (true≢false store)
+refusal_as opening (ViewUser user) seen other store same = absurd (true≢false store)
+
+-- the home of a request's item
+pub item_home : (w : WorkerState) (shards : ℕ) (request : Request) (homes : Homes) (item : ItemId) → AreHomesOf w shards request homes → item_of request ≡ Some item → IsHomeOf w.slices shards (Item item) homes.item
+item_home w shards (StoreItem facts time) homes item are is = absurd (cc)
+item_home w shards (StoreBid bidder own amount time) homes item are is = subst (λ i. IsHomeOf w.slices shards (Item i) homes.item) (same_Some own item is) are.0
+item_home w shards (StoreComment author about own stars) homes item are is = subst (λ i. IsHomeOf w.slices shards (Item i) homes.item) (same_Some own item is) are.0
+item_home w shards (BuyNow buyer own quantity time) homes item are is = subst (λ i. IsHomeOf w.slices shards (Item i) homes.item) (same_Some own item is) are.0
+item_home w shards (ViewItem own) homes item are is = subst (λ i. IsHomeOf w.slices shards (Item i) homes.item) (same_Some own item is) are.0
+item_home w shards (ViewBids own) homes item are is = subst (λ i. IsHomeOf w.slices shards (Item i) homes.item) (same_Some own item is) are.0
+item_home w shards (ViewCategory category) homes item are is = absurd (cc)
+item_home w shards (ViewUser user) homes item are is = absurd (cc)
+
+-- what a store writes has its home among them
+pub written_at : (w : WorkerState) (request : Request) (homes : Homes) → HasHomes w request homes → IsWrittenAt w.slices request homes
+written_at w (StoreItem facts time) homes has = (has.0, has.1.1)
+written_at w (StoreBid bidder item amount time) homes has = (has.0, has.1.0)
+written_at w (StoreComment author about item stars) homes has = (has.0, has.1.1)
+written_at w (BuyNow buyer item quantity time) homes has = (has.0, tt)
+written_at w (ViewItem item) homes has = (has.0, tt)
+written_at w (ViewBids item) homes has = (has.0, tt)
+written_at w (ViewCategory category) homes has = (has.0, tt)
+written_at w (ViewUser user) homes has = (has.0, tt)
+
+-- an object whose home is no shard is hot
+hot_home : (hots : List (Object × Hot)) (shards : ℕ) (object : Object) (h : Home) → IsHomeOf hots shards object h → shard_at h ≡ None → is_hot (objects_of hots) object ≡ true
+hot_home hots shards object home.Nowhere is none = absurd is
+hot_home hots shards object (home.Slice place) is none = is.1
+hot_home hots shards object (home.Shard shard) is none = absurd (cc)
+
+pub unfixed : {A : Type 0} (hots : List (Object × Hot)) (shards : ℕ) (object : Object) (h : Home) → ((place : ℕ) → h ≡ home.Slice place → ⊥) → IsHomeOf hots shards object h → shard_at h ≡ None → A
+unfixed hots shards object home.Nowhere other is none = absurd is
+unfixed hots shards object (home.Slice place) other is none = absurd (other place refl)
+unfixed hots shards object (home.Shard shard) other is none = absurd (cc)
+
+pub in_setting : {hot : Bool} (hots : List (Object × Hot)) (object : Object) → is_hot (objects_of hots) object ≡ hot → is_hot (objects_of (stocks_of hots)) object ≡ hot
+in_setting hots object is = ap (λ objects. is_hot objects object) (same_objects_of hots) ∙ is
+
+-- the reply to a store by what was seen is the answer
+pub store_answered : (w : WorkerState) (shards number index : ℕ) (request : Request) (reply : Reply) (found : ReadSet) (seen : Option (Facts × ℕ))
+    → is_view request ≡ false → is_put_off (objects_of w.slices) request ≡ false → IsReplyBy w seen request reply
+    → ((item : ItemId) → item_of request ≡ Some item → seen ≡ stock_seen (setting_of w shards) (txn_of w number request index reply found) item)
+    → IsAnswered (setting_of w shards) w.counters (txn_of w number request index reply found)
+store_answered w shards number index request reply found seen store goes is same =
+    let z = setting_of w shards in
+    let txn = txn_of w number request index reply found in
+    let reasons : refusal_by w.opening seen request ≡ reason_seen z txn =
+    refusal_as w.opening request seen (stock_seen z txn) store same ∙ sym (ap (λ b. cond b (number_refusal w.opening request) (refusal_seen z txn)) store) in
+    record {
+      answered = subst (λ refused. MatchOption refused (Answers w.counters w.journal.worker request reply) (λ reason. reply ≡ Refused reason)) reasons is;
+      not_put_off = ap (λ objects. is_put_off objects request) (same_objects_of w.slices) ∙ goes;
+    }
+
+-- so is that to a store on a hot item
+pub hot_answered : (w : WorkerState) (shards known index : ℕ) (request : Request) (homes : Homes) (reply : Reply) (seen : Option (Facts × ℕ))
+    → is_view request ≡ false → is_put_off (objects_of w.slices) request ≡ false → AreHomesOf w known request homes → shard_at homes.item ≡ None
+    → ((object : Object) (some : ℕ) → IsHomeOf w.slices some object homes.item → shard_at homes.item ≡ None → seen ≡ stock_of (stocks_of w.slices) object)
+    → IsReplyBy w seen request reply → IsAnswered (setting_of w shards) w.counters (hot_txn w request index reply)
+hot_answered w shards known index request homes reply seen store goes are none fixed is =
+    store_answered w shards (suc w.clock) index request reply nothing seen store goes is
+    (λ item needs.
+    let at = item_home w known request homes item are needs in
+    fixed (Item item) known at none ∙ sym (ap (λ b. cond b (stock_of (stocks_of w.slices) (Item item)) None) (in_setting w.slices (Item item) (hot_home w.slices known (Item item) homes.item at none))))
+
+-- a request that the opening refuses
+no_row : (worker : ℕ) (request : Request) (reason : Refusal) → row_of worker request (Refused reason) ≡ None
+no_row worker (StoreItem facts time) reason = refl
+no_row worker (StoreBid bidder item amount time) reason = refl
+no_row worker (StoreComment author about item stars) reason = refl
+no_row worker (BuyNow buyer item quantity time) reason = refl
+no_row worker (ViewItem item) reason = refl
+no_row worker (ViewBids item) reason = refl
+no_row worker (ViewCategory category) reason = refl
+no_row worker (ViewUser user) reason = refl
+
+either_reason : (b : Bool) (first by_item : Option Refusal) (reason : Refusal) → first ≡ Some reason → cond b first (option_or first by_item) ≡ Some reason
+either_reason true first by_item reason is = is
+either_reason false first by_item reason is = ap (λ one. option_or one by_item) is
+
+pub refusal_stored : (w new : WorkerState) (number index : ℕ) (request : Request) (reason : Refusal) (found : ReadSet) → number_refusal w.opening request ≡ Some reason → is_put_off (objects_of w.slices) request ≡ false
+    → Some number ≡ next_number w.clock 0 → found ≡ nothing → new ≡ with_entry w number index request (Refused reason) found → HasStoredSome w new request index
+refusal_stored w new number index request reason found refused goes next none is = (
+  Refused reason,
+  record {
+    worker =
+        is
+        ∙ (λ i. with_entry w (next_of_own w.clock number next i) index request (Refused reason) (none i))
+        ∙ (λ i. record (with_entry w (suc w.clock) index request (Refused reason) nothing) { slices = after_acts w.slices (writes_if (sym (no_row w.journal.worker request reason) i)) });
+    answered = λ shards.
+        let z = setting_of w shards in
+        let txn = hot_txn w request index (Refused reason) in
+        let seen = option_and_then (stock_seen z txn) (item_of request) in
+        let by_item = item_refusal request (option_map (λ s. s.0) seen) (unwrap_or (option_map (λ s. s.1) seen) 0) in
+        record {
+          answered = subst (λ reasons. MatchOption reasons (Answers w.counters w.journal.worker request (Refused reason)) (λ why. Refused reason ≡ Refused why))
+              (sym (either_reason (is_view request) (number_refusal w.opening request) by_item reason refused)) refl;
+          not_put_off = ap (λ objects. is_put_off objects request) (same_objects_of w.slices) ∙ goes;
+        };
+  },
+)
+
+pub hot_stored : (w new : WorkerState) (number index : ℕ) (request : Request) (reply : Reply) (found : ReadSet) → ((shards : ℕ) → IsAnswered (setting_of w shards) w.counters (hot_txn w request index reply))
+    → Some number ≡ next_number w.clock 0 → found ≡ nothing → new ≡ after_commit w number index request reply found → HasStoredSome w new request index
+hot_stored w new number index request reply found answered next none is = (
+  reply,
+  record {
+    worker = is ∙ (λ i. after_commit w (next_of_own w.clock number next i) index request reply (none i));
+    answered = answered;
+  },
+)
+
+-- a hot store goes, and is no view, and no home of it is a shard
+pub hot_goes : (hots : List (Object × Hot)) (request : Request) → IsHotStore hots request → is_put_off (objects_of hots) request ≡ false
+hot_goes hots (StoreItem facts time) is = refl
+hot_goes hots (StoreBid bidder item amount time) is = refl
+hot_goes hots (StoreComment author about item stars) is = refl
+hot_goes hots (BuyNow buyer item quantity time) is = absurd is
+hot_goes hots (ViewItem item) is = absurd is
+hot_goes hots (ViewBids item) is = absurd is
+hot_goes hots (ViewCategory category) is = absurd is
+hot_goes hots (ViewUser user) is = absurd is
+
+pub hot_no_view : (hots : List (Object × Hot)) (request : Request) → IsHotStore hots request → is_view request ≡ false
+hot_no_view hots (StoreItem facts time) is = refl
+hot_no_view hots (StoreBid bidder item amount time) is = refl
+hot_no_view hots (StoreComment author about item stars) is = refl
+hot_no_view hots (BuyNow buyer item quantity time) is = absurd is
+hot_no_view hots (ViewItem item) is = absurd is
+hot_no_view hots (ViewBids item) is = absurd is
+hot_no_view hots (ViewCategory category) is = absurd is
+hot_no_view hots (ViewUser user) is = absurd is
+
+no_shard : (hots : List (Object × Hot)) (shards : ℕ) (object : Object) (h : Home) → IsHomeOf hots shards object h → is_hot (objects_of hots) object ≡ true → shard_at h ≡ None
+no_shard hots shards object home.Nowhere is hot = refl
+no_shard hots shards object (home.Slice place) is hot = refl
+no_shard hots shards object (home.Shard shard) is hot = absurd (true≢false (sym hot ∙ is.1))
+
+pub hot_no_shard : (w : WorkerState) (shards : ℕ) (request : Request) (homes : Homes) → IsHotStore w.slices request → AreHomesOf w shards request homes → shard_at homes.item ≡ None
+hot_no_shard w shards (StoreItem facts time) homes is are = absurd is
+hot_no_shard w shards (StoreBid bidder item amount time) homes is are = no_shard w.slices shards (Item item) homes.item are.0 is
+hot_no_shard w shards (StoreComment author about item stars) homes is are = no_shard w.slices shards (Item item) homes.item are.0 is.0
+hot_no_shard w shards (BuyNow buyer item quantity time) homes is are = absurd is
+hot_no_shard w shards (ViewItem item) homes is are = absurd is
+hot_no_shard w shards (ViewBids item) homes is are = absurd is
+hot_no_shard w shards (ViewCategory category) homes is are = absurd is
+hot_no_shard w shards (ViewUser user) homes is are = absurd is

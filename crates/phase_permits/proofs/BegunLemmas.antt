@@ -1,0 +1,174 @@
+-- A transaction that has begun: what it does on its shards can be done there, and when it is done that is a commit.
+use Rattle.std.proofs.Common.{◌≡◌, ℕ, ◌<◌, Bool, true, false, cond, List, [], ◌∷◌, length, Option, Some, None, MatchOption, refl, sym, ap, subst, ◌∙◌, arith}
+use Rattle.std.specs.Option.{option_or}
+use Rattle.std.specs.List.{AllByRecursion}
+use Rattle.std.proofs.lemmas.Bool.{true≢false}
+use Rattle.auction_rows.specs.declared.ids.ItemId.{ItemId}
+use Rattle.auction_rows.specs.declared.ids.Object.{Object}
+use Rattle.auction_rows.specs.declared.ids.Object.TheVariants.{Item}
+use Rattle.auction_rows.specs.declared.replies.Refusal.{Refusal}
+use Rattle.auction_rows.specs.declared.replies.Reply.{Reply}
+use Rattle.auction_rows.specs.declared.replies.Reply.TheVariants.{ItemStored, Refused}
+use Rattle.auction_rows.specs.declared.requests.Facts.{Facts}
+use Rattle.auction_rows.specs.declared.requests.Request.{Request}
+use Rattle.auction_rows.specs.declared.requests.Request.TheVariants.{StoreItem, StoreBid, StoreComment, BuyNow, ViewItem, ViewBids, ViewCategory, ViewUser}
+use Rattle.auction_rows.specs.Footprint.{is_hot, objects_of as objects_named}
+use Rattle.auction_rows.specs.Refusals.{number_refusal}
+use Rattle.auction_rows.specs.Requests.{item_of, is_view}
+use Rattle.item_shards.specs.ShardContents.{HasRoom, clock, contents}
+use Rattle.item_shards.specs.Values.{stock}
+use Rattle.shard_boxes.specs.Helds.{HeldState}
+use Rattle.shard_boxes.specs.Keys.{BoxId, KeyState}
+use Rattle.shard_boxes.specs.States.{ShardState}
+use Rattle.phase_permits.specs.declared.deeds.Deeds.{Deeds}
+use Rattle.phase_permits.specs.declared.fault.PermitFault.TheVariants.{Memory}
+use Rattle.phase_permits.specs.declared.homes.Home.{Home}
+use Rattle.phase_permits.specs.declared.homes.Home.TheVariants as home
+use Rattle.phase_permits.specs.declared.homes.Homes.{Homes}
+use Rattle.phase_permits.specs.declared.read_set.ReadSet.{ReadSet}
+use Rattle.phase_permits.specs.declared.slices.Hot.{Hot}
+use Rattle.phase_permits.specs.declared.taken.Taken.{Taken}
+use Rattle.phase_permits.specs.Begun.{HasBegun, HasFirst, HasRoomFor, IsAnsweredOn, IsSeen}
+use Rattle.phase_permits.specs.Deeds.{IsReplyBy, IsNextIf, AreDeedsOf, AreGoodOn, acts_for, clocks_of, first_dealt, second_dealt, footprint_on}
+use Rattle.phase_permits.specs.Homes.{IsHomeOf}
+use Rattle.phase_permits.specs.Pairs.{IsAsTaken}
+use Rattle.phase_permits.specs.Performing.{HasCommitted, HasFailed, HaveOpening, StoresItem}
+use Rattle.phase_permits.specs.Slicing.{objects_of, stocks_of, stock_of}
+use Rattle.phase_permits.specs.Takens.{shard_at, footprint_of, held_in, numbers_of, is_one_of, dealt, line_among, CanBeDoneOnAll, AreBack, HasPutAll}
+use Rattle.phase_permits.specs.Txns.{Answers, IsAnswered, refusal_by}
+use Rattle.phase_permits.specs.Workers.{WorkerState, IsLawful, setting_of, next_item, txn_of, after_commit}
+use Rattle.phase_permits.proofs.AnswerLemmas.{in_setting, item_home, store_answered}
+use Rattle.phase_permits.proofs.CanLemmas.{can_deal}
+use Rattle.phase_permits.proofs.ChainLemmas.{store_commits, store_fails}
+use Rattle.phase_permits.proofs.FirstLemmas.{first_has, found_there, room_there, clocks_below}
+
+-- an item that is stored is the worker's next
+item_next : (w : WorkerState) (request : Request) (reply : Reply) → Answers w.counters w.journal.worker request reply → is_view request ≡ false → IsNextIf w reply
+item_next w (StoreItem facts time) reply is store = subst (IsNextIf w) (sym is) refl
+item_next w (StoreBid bidder item amount time) reply is store = subst (IsNextIf w) (sym is) tt
+item_next w (StoreComment author about item stars) reply is store = subst (IsNextIf w) (sym is) tt
+item_next w (BuyNow buyer item quantity time) reply is store = subst (IsNextIf w) (sym is) tt
+item_next w (ViewItem item) reply is store = absurd (true≢false store)
+item_next w (ViewBids item) reply is store = absurd (true≢false store)
+item_next w (ViewCategory category) reply is store = absurd (true≢false store)
+item_next w (ViewUser user) reply is store = absurd (true≢false store)
+
+next_by : (w : WorkerState) (request : Request) (reply : Reply) (refused : Option Refusal) → MatchOption refused (Answers w.counters w.journal.worker request reply) (λ reason. reply ≡ Refused reason) → is_view request ≡ false → IsNextIf w reply
+next_by w request reply None is store = item_next w request reply is store
+next_by w request reply (Some reason) is store = subst (IsNextIf w) (sym is) tt
+
+pub next_reply : (w : WorkerState) (seen : Option (Facts × ℕ)) (request : Request) (reply : Reply) → IsReplyBy w seen request reply → is_view request ≡ false → IsNextIf w reply
+next_reply w seen request reply is store = next_by w request reply (refusal_by w.opening seen request) is store
+
+-- so the objects that the reply names are those that were asked for
+pub same_named : (w : WorkerState) (shards number index : ℕ) (request : Request) (reply : Reply) (found : ReadSet) → number_refusal w.opening request ≡ None
+    → IsAnswered (setting_of w shards) w.counters (txn_of w number request index reply found) → objects_named request reply ≡ objects_named request (ItemStored (next_item w))
+same_named w shards number index (StoreItem facts time) reply found allowed answered =
+    let is : reply ≡ ItemStored (next_item w) = subst (λ first. MatchOption (option_or first None) (reply ≡ ItemStored (next_item w)) (λ reason. reply ≡ Refused reason)) allowed answered.answered in
+    ap (λ r. objects_named (StoreItem facts time) r) is
+same_named w shards number index (StoreBid bidder item amount time) reply found allowed answered = refl
+same_named w shards number index (StoreComment author about item stars) reply found allowed answered = refl
+same_named w shards number index (BuyNow buyer item quantity time) reply found allowed answered = refl
+same_named w shards number index (ViewItem item) reply found allowed answered = refl
+same_named w shards number index (ViewBids item) reply found allowed answered = refl
+same_named w shards number index (ViewCategory category) reply found allowed answered = refl
+same_named w shards number index (ViewUser user) reply found allowed answered = refl
+
+-- the item that a worker stores next is not hot
+next_cold : (w : WorkerState) (b : Bool) → is_hot (objects_of w.slices) (Item (next_item w)) ≡ b → IsLawful w → b ≡ false
+next_cold w true hot lawful = let less = lawful.stored (next_item w) hot refl in absurd (omega (arith, less))
+next_cold w false cold lawful = refl
+
+cold_shard : (hots : List (Object × Hot)) (shards : ℕ) (item : ItemId) (h : Home) → IsHomeOf hots shards (Item item) h → is_hot (objects_of hots) (Item item) ≡ false → (t : ℕ) × (shard_at h ≡ Some t)
+cold_shard hots shards item home.Nowhere at cold = absurd at
+cold_shard hots shards item (home.Slice place) at cold = absurd (true≢false (sym at.1 ∙ cold))
+cold_shard hots shards item (home.Shard shard) at cold = (shard, refl)
+
+-- so it lies in the first shard that was taken
+pub item_first : {N : Type 0} {workers : ℕ} {boxes : List BoxId} (opening : List ShardState) (w : WorkerState) (key : KeyState) (request : Request) (homes : Homes) (took : Taken N) (number : ℕ)
+    → HasBegun opening workers boxes key w request homes took number → IsLawful w → HasFirst w request took
+item_first {N} {workers} {boxes} opening w key (StoreItem facts time) homes took number begun lawful stores =
+    let at = begun.homes_are.0 in
+    let shard = cold_shard w.slices (length opening) (next_item w) homes.item at (next_cold w (is_hot (objects_of w.slices) (Item (next_item w))) refl lawful) in
+    first_has opening workers w.key w.slices took homes.item homes.other (next_item w) shard.0 at shard.1 begun.taken.numbers begun.taken.taken
+item_first opening w key (StoreBid bidder item amount time) homes took number begun lawful stores = absurd stores
+item_first opening w key (StoreComment author about item stars) homes took number begun lawful stores = absurd stores
+item_first opening w key (BuyNow buyer item quantity time) homes took number begun lawful stores = absurd stores
+item_first opening w key (ViewItem item) homes took number begun lawful stores = absurd stores
+item_first opening w key (ViewBids item) homes took number begun lawful stores = absurd stores
+item_first opening w key (ViewCategory category) homes took number begun lawful stores = absurd stores
+item_first opening w key (ViewUser user) homes took number begun lawful stores = absurd stores
+
+-- what was seen of an item, hot or not
+seen_by_home : (hots : List (Object × Hot)) (shards : ℕ) (item : ItemId) (h : Home) (seen found : Option (Facts × ℕ)) → IsHomeOf hots shards (Item item) h → (shard_at h ≡ None → seen ≡ stock_of (stocks_of hots) (Item item)) → found ≡ seen
+    → seen ≡ cond (is_hot (objects_of (stocks_of hots)) (Item item)) (stock_of (stocks_of hots) (Item item)) found
+seen_by_home hots shards item home.Nowhere seen found at fixed same = absurd at
+seen_by_home hots shards item (home.Slice place) seen found at fixed same = fixed refl ∙ sym (ap (λ b. cond b (stock_of (stocks_of hots) (Item item)) found) (in_setting hots (Item item) at.1))
+seen_by_home hots shards item (home.Shard shard) seen found at fixed same = sym same ∙ sym (ap (λ b. cond b (stock_of (stocks_of hots) (Item item)) found) (in_setting hots (Item item) at.1))
+
+module _ {N : Type 0} {workers : ℕ} {boxes : List BoxId} (opening : List ShardState) (w : WorkerState) (key : KeyState) (request : Request) (homes : Homes) (took : Taken N) (number : ℕ)
+    (begun : HasBegun opening workers boxes key w request homes took number) where
+  -- what was done on its shards, and put back, is a commit
+  pub begun_commits : (new : WorkerState) (index : ℕ) (reply : Reply) (seen : Option (Facts × ℕ)) (deeds : Deeds) (found : ReadSet) → footprint_on deeds ≡ footprint_of homes
+      → AreDeedsOf w.slices (length opening) (acts_for w.journal.worker seen request reply) deeds → found ≡ record { stock = seen; clocks = clocks_of took }
+      → IsAnswered (setting_of w (length opening)) w.counters (txn_of w number request index reply found)
+      → HasPutAll opening w.key new.key (is_one_of (numbers_of (held_in took)))
+      (line_among number index (held_in took) (dealt took (first_dealt deeds.first deeds.second (shard_at deeds.home) (shard_at deeds.other)) (second_dealt deeds.first deeds.second (shard_at deeds.home) (shard_at deeds.other))))
+      → new ≡ record (after_commit w number index request reply found) { key = new.key } → HasCommitted opening (record w { key = key }) new request index reply
+  begun_commits new index reply seen deeds found foot owed found_is answered put committed =
+      store_commits opening (record w { key = key }) new w.key request homes took begun.taken begun.asked index number reply seen deeds found foot owed begun.allowed
+      (same_named w (length opening) number index request reply found begun.allowed answered) found_is put committed answered begun.numbered begun.within
+
+  -- and where memory was refused, and they went back as they were, it failed
+  pub begun_fails : (new : WorkerState) → AreBack w.key new.key → StoresItem request → new ≡ record w { key = new.key } → HasFailed opening (record w { key = key }) new request Memory
+  begun_fails new put stores same =
+      let numbered = begun.numbered in
+      let within = begun.within in
+      store_fails opening (record w { key = key }) new w.key request homes took begun.taken begun.asked put Memory same begun.goes (omega (arith, numbered, within), stores, begun.allowed)
+
+  -- a store
+  module _ (seen : Option (Facts × ℕ)) (store : is_view request ≡ false) (is_seen : IsSeen w request homes took seen) where
+    pub seen_answered : (index : ℕ) (reply : Reply) (found : ReadSet) → IsReplyBy w seen request reply → found ≡ record { stock = seen; clocks = clocks_of took } → IsAnswered (setting_of w (length opening)) w.counters (txn_of w number request index reply found)
+    seen_answered index reply found by found_is =
+        store_answered w (length opening) number index request reply found seen store begun.goes by
+        (λ item needs. seen_by_home w.slices (length opening) item homes.item seen found.stock (item_home w (length opening) request homes item begun.homes_are needs) (is_seen.fixed item needs) (ap (λ (f : ReadSet). f.stock) found_is))
+
+    abbrev Grounds : Reply → HeldState → Type 0
+    Grounds reply held = IsAnsweredOn opening workers w request homes seen reply held
+
+    -- what is known of it on each shard that it took
+    on_each : (reply : Reply) → IsReplyBy w seen request reply → HaveOpening opening w.opening → (held : List HeldState) → AllByRecursion (IsAsTaken opening workers w.key) held
+        → AllByRecursion (λ (h : HeldState). clock h.shard < number) held
+        → ((item : ItemId) → item_of request ≡ Some item → AllByRecursion (λ (h : HeldState). shard_at homes.item ≡ Some h.number → seen ≡ stock (contents h.shard (Item item))) held)
+        → (StoresItem request → AllByRecursion (λ (h : HeldState). shard_at homes.item ≡ Some h.number → HasRoom h.shard (next_item w)) held) → AllByRecursion (Grounds reply) held
+    on_each reply by opened [] all later found room = tt
+    on_each reply by opened (h ∷ held) all later found room = (
+      record {
+        taken = all.0;
+        opened = opened;
+        below = let within = begun.within in let less = later.0 in omega (arith, within, less);
+        homes_are = begun.homes_are;
+        allowed = begun.allowed;
+        answered = by;
+        next = next_reply w seen request reply by store;
+        found = λ item needs. (found item needs).0;
+        room = λ stores. (room stores).0;
+      },
+      on_each reply by opened held all.1 later.1 (λ item needs. (found item needs).1) (λ stores. (room stores).1),
+    )
+
+    good_all : (a b : Option ℕ) (deeds : Deeds) (reply : Reply) → ((held : HeldState) → Grounds reply held → AreGoodOn a b deeds.first deeds.second held) → (held : List HeldState) → AllByRecursion (Grounds reply) held
+        → AllByRecursion (AreGoodOn a b deeds.first deeds.second) held
+    good_all a b deeds reply good [] all = tt
+    good_all a b deeds reply good (h ∷ held) all = (good h all.0, good_all a b deeds reply good held all.1)
+
+    pub begun_can : (reply : Reply) (deeds : Deeds) → footprint_on deeds ≡ footprint_of homes → HasRoomFor w request took → IsReplyBy w seen request reply → HaveOpening opening w.opening
+        → ((held : HeldState) → Grounds reply held → AreGoodOn (shard_at deeds.home) (shard_at deeds.other) deeds.first deeds.second held)
+        → CanBeDoneOnAll number (held_in took) (dealt took (first_dealt deeds.first deeds.second (shard_at deeds.home) (shard_at deeds.other)) (second_dealt deeds.first deeds.second (shard_at deeds.home) (shard_at deeds.other)))
+    begun_can reply deeds foot room by opened good =
+        let later = clocks_below took w.clock number begun.numbered in
+        can_deal number took deeds.first deeds.second (shard_at deeds.home) (shard_at deeds.other) (begun.taken.numbers ∙ sym foot) later
+        (good_all (shard_at deeds.home) (shard_at deeds.other) deeds reply good (held_in took)
+        (on_each reply by opened (held_in took) begun.taken.taken later
+        (λ item needs. found_there took (shard_at homes.item) (shard_at homes.other) item seen begun.taken.numbers (λ t at. is_seen.found item t needs at))
+        (λ stores. room_there took (shard_at homes.item) (shard_at homes.other) (next_item w) begun.taken.numbers (room stores))))

@@ -1,0 +1,128 @@
+-- A store over the shards of its footprint, however many these are: taken, and put back with its deeds, it is a commit; taken, and put back as they were, it failed.
+use Rattle.std.proofs.Common.{◌≡◌, ℕ, suc, max, ◌<◌, ◌≤◌, ◌==◌, not, true, false, cond, if◌then◌else◌, List, [], ◌∷◌, length, map, filter, Option, None, is_some, refl, sym, ap, subst, ◌∙◌}
+use Rattle.std.specs.List.{AllByRecursion, list_any}
+use Rattle.phase_laws.specs.Numbers.{greatest_by}
+use Rattle.auction_rows.specs.declared.replies.Reply.{Reply}
+use Rattle.auction_rows.specs.declared.replies.Reply.TheVariants.{ItemStored}
+use Rattle.auction_rows.specs.declared.requests.Facts.{Facts}
+use Rattle.auction_rows.specs.declared.requests.Request.{Request}
+use Rattle.auction_rows.specs.Footprint.{is_hot, objects_of as objects_named}
+use Rattle.auction_rows.specs.Refusals.{number_refusal}
+use Rattle.auction_rows.specs.Requests.{shard_of}
+use Rattle.item_shards.specs.declared.acts.Act.{Act}
+use Rattle.item_shards.specs.CommitNumbers.{last_number}
+use Rattle.item_shards.specs.ShardContents.{clock}
+use Rattle.item_shards.specs.Writing.{padded, done_on, acts_owed}
+use Rattle.shard_boxes.specs.declared.line.Line.{Line}
+use Rattle.shard_boxes.specs.Helds.{HeldState}
+use Rattle.shard_boxes.specs.Keys.{KeyState}
+use Rattle.shard_boxes.specs.States.{ShardState}
+use Rattle.phase_permits.specs.declared.deeds.Deeds.{Deeds}
+use Rattle.phase_permits.specs.declared.fault.PermitFault.{PermitFault}
+use Rattle.phase_permits.specs.declared.fault.PermitFault.TheVariants.{Memory, NumberFull}
+use Rattle.phase_permits.specs.declared.homes.Homes.{Homes}
+use Rattle.phase_permits.specs.declared.read_set.ReadSet.{ReadSet}
+use Rattle.phase_permits.specs.declared.taken.Taken.{Taken}
+use Rattle.phase_permits.specs.Deeds.{first_dealt, second_dealt, acts_among, clocks_of, acts_for, AreDeedsOf, footprint_on}
+use Rattle.phase_permits.specs.Pairs.{IsAsTaken}
+use Rattle.phase_permits.specs.Performing.{HasCommitted, HasFailed, IsCause, StoresItem, asks, shards_asked, greatest_seen}
+use Rattle.phase_permits.specs.Putting.{clock_seen}
+use Rattle.phase_permits.specs.Slicing.{objects_of}
+use Rattle.phase_permits.specs.Takens.{shard_at, footprint_of, held_in, numbers_of, is_one_of, dealt, line_among, HasTakenAll, AreBack, HasPutAll}
+use Rattle.phase_permits.specs.Txns.{Setting, Txn, hot_in, takes, line_on, greatest_clock, clock_found, clock_in, is_put_off, IsAnswered}
+use Rattle.phase_permits.specs.Workers.{WorkerState, setting_of, next_item, txn_of, after_commit}
+use Rattle.phase_permits.proofs.DealLemmas.{dealt_on, line_is, greatest_same, greatest_taken}
+use Rattle.phase_permits.proofs.HomeLemmas.{same_objects_of}
+use Rattle.phase_permits.proofs.WholeLemmas.{taken_and_put, lines_stay, others_stay, clock_was, whole_commits}
+
+module _ {N : Type 0} {workers : ℕ} (opening : List ShardState) (old new : WorkerState) (key : KeyState) (request : Request) (homes : Homes) (took : Taken N)
+    (its : HasTakenAll opening workers old.key key (footprint_of homes) (held_in took))
+    (asked : (t : ℕ) → asks (length opening) old request t ≡ is_one_of (footprint_of homes) t) where
+  abbrev greatest : ℕ
+  greatest = greatest_by (λ (h : HeldState). clock h.shard) (held_in took)
+
+  is_held : (t : ℕ) → is_one_of (footprint_of homes) t ≡ is_one_of (numbers_of (held_in took)) t
+  is_held t = ap (λ ns. is_one_of ns t) (sym its.numbers)
+
+  -- with its deeds
+  module _ (index number : ℕ) (reply : Reply) (seen : Option (Facts × ℕ)) (deeds : Deeds) (found : ReadSet)
+      (foot : footprint_on deeds ≡ footprint_of homes)
+      (owed : AreDeedsOf old.slices (length opening) (acts_for old.journal.worker seen request reply) deeds)
+      (allowed : number_refusal old.opening request ≡ None)
+      (needs : objects_named request reply ≡ objects_named request (ItemStored (next_item old)))
+      (found_is : found ≡ record { stock = seen; clocks = clocks_of took }) where
+    abbrev z : Setting
+    z = setting_of old (length opening)
+
+    abbrev txn : Txn
+    txn = txn_of old number request index reply found
+
+    abbrev first : Act
+    first = first_dealt deeds.first deeds.second (shard_at deeds.home) (shard_at deeds.other)
+
+    abbrev second : Act
+    second = second_dealt deeds.first deeds.second (shard_at deeds.home) (shard_at deeds.other)
+
+    abbrev lines : ℕ → Line
+    lines = line_among number index (held_in took) (dealt took first second)
+
+    takes_is : (t : ℕ) → takes z t txn ≡ is_one_of (footprint_of homes) t
+    takes_is t =
+        ap (λ objects. list_any (λ taken. taken == t) (map (λ object. shard_of object (length opening))
+        (if is_some (number_refusal old.opening request) then [] else filter (λ object. not (is_hot (hot_in z) object)) objects))) needs
+        ∙ asked t
+
+    acts_are : (t : ℕ) → is_one_of (footprint_of homes) t ≡ true → acts_among (held_in took) (dealt took first second) t ≡ acts_owed old.opening t (length opening) (hot_in z) found.stock txn.0
+    acts_are t here =
+        dealt_on took deeds.first deeds.second deeds.home deeds.other (its.numbers ∙ sym foot) t (sym (is_held t) ∙ here)
+        ∙ sym (owed t)
+        ∙ (λ i. padded (done_on t (length opening) (sym (same_objects_of old.slices) i) (acts_for old.journal.worker (sym (ap (λ (f : ReadSet). f.stock) found_is) i) request reply)))
+        ∙ ap (λ refused. padded (done_on t (length opening) (hot_in z) (cond (is_some refused) [] (acts_for old.journal.worker found.stock request reply)))) (sym allowed)
+
+    owes : (t : ℕ) → is_one_of (footprint_of homes) t ≡ true → lines t ≡ line_on z t txn
+    owes t here =
+        line_is took number index first second t (sym (is_held t) ∙ here)
+        ∙ (λ i. record { number = number; before = clock_in (sym (ap (λ (f : ReadSet). f.clocks) found_is) i) t; index = index; acts = acts_are t here i })
+
+    greatest_is : greatest_clock z txn ≡ greatest
+    greatest_is =
+        greatest_same (λ s. clock_found s txn) _ (numbers_of (held_in took)) (λ t. takes_is t ∙ is_held t)
+        ∙ ap (λ clocks. greatest_by (λ s. clock_in clocks s) (numbers_of (held_in took))) (ap (λ (f : ReadSet). f.clocks) found_is)
+        ∙ greatest_taken took (shard_at homes.item) (shard_at homes.other) its.numbers
+
+    pub store_commits : HasPutAll opening key new.key (is_one_of (numbers_of (held_in took))) lines
+        → new ≡ record (after_commit old number index request reply found) { key = new.key }
+        → IsAnswered z old.counters txn → number ≡ suc (max old.clock greatest) → number ≤ last_number → HasCommitted opening old new request index reply
+    store_commits put committed answered numbered within =
+        whole_commits opening old new request index reply number found committed answered (footprint_of homes) lines
+        (taken_and_put old.key key new.key (footprint_of homes) (held_in took) lines its put) takes_is owes
+        (numbered ∙ ap (λ g. suc (max old.clock g)) (sym greatest_is)) within
+
+  -- the cause of a fault, by the greatest of the clocks
+  abbrev pub IsCauseAtMost : ℕ → PermitFault → Type 0
+  IsCauseAtMost n Memory = (n < last_number) × StoresItem request × (number_refusal old.opening request ≡ None)
+  IsCauseAtMost n NumberFull = last_number ≤ n
+
+  -- as they were
+  module _ (put : AreBack key new.key) where
+    seen_is : (held : List HeldState) → AllByRecursion (IsAsTaken opening workers key) held → greatest_by (clock_seen opening new.key) (numbers_of held) ≡ greatest_by (λ (h : HeldState). clock h.shard) held
+    seen_is [] all = refl
+    seen_is (h ∷ held) all = λ i. max (clock_was old.key key new.key (footprint_of homes) (held_in took) its put h all.0 i) (seen_is held all.1 i)
+
+    greatest_is_seen : greatest_seen opening old new.key request ≡ max old.clock greatest
+    greatest_is_seen =
+        ap (max old.clock) (greatest_same (clock_seen opening new.key) (shards_asked (length opening) old request) (numbers_of (held_in took)) (λ t. asked t ∙ is_held t) ∙ seen_is (held_in took) its.taken)
+
+    pub store_fails : (fault : PermitFault) → new ≡ record old { key = new.key } → is_put_off (objects_of old.slices) request ≡ false
+        → IsCauseAtMost (max old.clock greatest) fault → HasFailed opening old new request fault
+    store_fails fault worker goes cause = record {
+      worker = worker;
+      lines = lines_stay old.key key new.key (footprint_of homes) (held_in took) its put;
+      others = λ t left. others_stay old.key key new.key (footprint_of homes) (held_in took) its put t (sym (asked t) ∙ left);
+      idle = put.idle;
+      not_put_off = goes;
+      cause = by_fault fault cause;
+    } where
+      by_fault : (f : PermitFault) → IsCauseAtMost (max old.clock greatest) f → IsCause opening old new.key request f
+      by_fault Memory c = (subst (λ n. n < last_number) (sym greatest_is_seen) c.0, c.1, c.2)
+      by_fault NumberFull c = subst (λ n. last_number ≤ n) (sym greatest_is_seen) c

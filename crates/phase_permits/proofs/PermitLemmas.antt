@@ -1,0 +1,133 @@
+-- What a permit does with a request leaves it explained by its transactions.
+use Rattle.std.proofs.Common.{◌≡◌, ℕ, Bool, true, false, cond, List, [], ◌∷◌, length, Result, Ok, Err, refl, sym, ap, subst, ◌∙◌}
+use Rattle.auction_rows.specs.declared.ids.Object.{Object}
+use Rattle.auction_rows.specs.declared.ids.Object.TheVariants.{Item, User, Category}
+use Rattle.auction_rows.specs.declared.replies.Reply.{Reply}
+use Rattle.auction_rows.specs.declared.requests.Request.{Request}
+use Rattle.auction_rows.specs.declared.requests.Request.TheVariants.{StoreItem, StoreBid, StoreComment, BuyNow, ViewItem, ViewBids, ViewCategory, ViewUser}
+use Rattle.auction_rows.specs.History.{rows_of}
+use Rattle.auction_rows.specs.Replies.{row_of}
+use Rattle.auction_rows.specs.Requests.{same_object}
+use Rattle.item_shards.specs.declared.acts.Act.{Act}
+use Rattle.item_shards.specs.declared.acts.Act.TheVariants.{AddItem, ListItem, Bid, Comment, Buy, Look}
+use Rattle.item_shards.specs.declared.slices.Slice.{Slice}
+use Rattle.item_shards.specs.Writing.{writes_if}
+use Rattle.shard_boxes.specs.States.{ShardState}
+use Rattle.phase_permits.specs.declared.fault.PermitFault.{PermitFault}
+use Rattle.phase_permits.specs.declared.slices.Hot.{Hot}
+use Rattle.phase_permits.specs.Performing.{HasCommitted, HasFailed, HasPerformed}
+use Rattle.phase_permits.specs.Slicing.{stocks_of, slices_of, bid_on, comment_about, item_listed, changed, after_act, after_acts}
+use Rattle.phase_permits.specs.Txns.{Setting, is_put_off}
+use Rattle.phase_permits.specs.Workers.{WorkerState, CanStart, IsExplained, setting_of, txn_of, work_of, after_putting_off, with_try}
+use Rattle.phase_permits.specs.Works.{Work, IsWorkOf, with_txn}
+use Rattle.phase_permits.proofs.Keeping.{commit_keeps}
+
+-- what is fixed stays
+fixed_if : (b : Bool) (change : Slice → Slice) (hot : Hot) → (cond b (record hot { slice = change hot.slice }) hot).stock ≡ hot.stock
+fixed_if true change hot = refl
+fixed_if false change hot = refl
+
+stocks-changed : (object : Object) (change : Slice → Slice) (hots : List (Object × Hot)) → stocks_of (changed object change hots) ≡ stocks_of hots
+stocks-changed object change [] = refl
+stocks-changed object change (hot ∷ hots) = λ i. (hot.0, fixed_if (same_object object hot.0) change hot.1 i) ∷ stocks-changed object change hots i
+
+stocks-act : (hots : List (Object × Hot)) (act : Act) → stocks_of (after_act hots act) ≡ stocks_of hots
+stocks-act hots (AddItem id facts) = refl
+stocks-act hots (ListItem category item) = stocks-changed (Category category) (item_listed item) hots
+stocks-act hots (Bid id bid) = stocks-changed (Item id) (bid_on bid) hots
+stocks-act hots (Comment user stars) = stocks-changed (User user) (comment_about stars) hots
+stocks-act hots (Buy id quantity) = refl
+stocks-act hots (Look shown) = refl
+
+pub stocks-acts : (hots : List (Object × Hot)) (acts : List Act) → stocks_of (after_acts hots acts) ≡ stocks_of hots
+stocks-acts hots [] = refl
+stocks-acts hots (act ∷ acts) = stocks-acts (after_act hots act) acts ∙ stocks-act hots act
+
+-- a worker that starts has done nothing
+pub start_explained : (shards : ℕ) (w : WorkerState) → CanStart w → w.begun ≡ (w.counters, w.clock) → w.txns ≡ [] → IsExplained shards w
+start_explained shards w can begun none = record {
+  worker = can.worker;
+  idle = λ t. (can.key t).0;
+  work = subst (λ (v : WorkerState). IsWorkOf (setting_of w shards) w.key.worker (work_of v)) (λ i. record w { begun = sym begun i; txns = sym none i }) (record {
+    own = tt;
+    entries = can.empty;
+    lines = λ t. (can.key t).1;
+    clocked = refl;
+    counts = refl;
+    numbered = tt;
+    answered = tt;
+    sliced = can.identities ∙ ap (λ entries. slices_of (stocks_of w.slices) (rows_of entries)) (sym can.empty);
+  });
+}
+
+-- a commit leaves it explained
+pub commit_explained : (opening : List ShardState) (old new : WorkerState) (request : Request) (index : ℕ) (answer : Reply) → HasCommitted opening old new request index answer
+    → IsExplained (length opening) old → IsExplained (length opening) new
+commit_explained opening old new request index answer done is =
+    let shards = length opening in
+    let z = setting_of old shards in
+    let txn = txn_of old done.number request index answer done.found in
+    let work = work_of old in
+    let kept = commit_keeps z old.key.worker work txn is.work (record { own = is.worker; numbered = done.numbered; answered = done.answered }) in
+    let d = sym done.worker in
+    let same : with_txn z work txn ≡ work_of new = λ i. record (work_of (d i)) { lines = λ t. sym (done.lines t) i } in
+    let stays : z ≡ setting_of new shards = λ i. record {
+      opening = (d i).opening;
+      shards = shards;
+      stocks = sym (ap (λ (w : WorkerState). stocks_of w.slices) done.worker ∙ stocks-acts old.slices (writes_if (row_of old.journal.worker request answer))) i;
+    } in
+    record {
+      worker = ap (λ (w : WorkerState). w.journal.worker) done.worker ∙ is.worker ∙ sym done.owner;
+      idle = done.idle;
+      work = subst (λ (n : ℕ). IsWorkOf (setting_of new shards) n (work_of new)) (sym done.owner)
+          (subst (λ (setting : Setting). IsWorkOf setting old.key.worker (work_of new)) stays (subst (λ (did : Work). IsWorkOf z old.key.worker did) same kept));
+    }
+
+-- so does a fault
+pub fail_explained : (opening : List ShardState) (shards : ℕ) (old new : WorkerState) (request : Request) (fault : PermitFault) → HasFailed opening old new request fault → IsExplained shards old → IsExplained shards new
+fail_explained opening shards old new request fault failed is =
+    let owner : old.key.worker ≡ new.key.worker = sym failed.lines.worker in
+    let back : WorkerState = record old { key = new.key } in
+    let same : work_of old ≡ work_of back = λ i. record (work_of old) { lines = λ t. sym (failed.lines.lines t) i } in
+    subst (IsExplained shards) (sym failed.worker) (record {
+      worker = is.worker ∙ owner;
+      idle = failed.idle;
+      work = subst (λ (n : ℕ). IsWorkOf (setting_of old shards) n (work_of back)) owner (subst (λ (did : Work). IsWorkOf (setting_of old shards) old.key.worker did) same is.work);
+    })
+
+pub performed_explained : (opening : List ShardState) (old new : WorkerState) (request : Request) (index : ℕ) (result : Result Unit PermitFault) → HasPerformed opening old new request index result → IsExplained (length opening) old → IsExplained (length opening) new
+performed_explained opening old new request index (Ok done) performed is = commit_explained opening old new request index performed.0 performed.1 is
+performed_explained opening old new request index (Err fault) failed is = fail_explained opening (length opening) old new request fault failed is
+
+-- and a try, a request that is put off, and one that is called into the quota
+pub tried_explained : (shards : ℕ) (w : WorkerState) → IsExplained shards w → IsExplained shards (with_try w)
+tried_explained shards w is = record { worker = is.worker; idle = is.idle; work = is.work }
+
+pub off_explained : (shards : ℕ) (w : WorkerState) (index : ℕ) (request : Request) → IsExplained shards w → IsExplained shards (after_putting_off w index request)
+off_explained shards w index request is = record { worker = is.worker; idle = is.idle; work = is.work }
+
+-- where nothing is hot, no request is put off, and no slice is written
+pub none_put_off : (request : Request) → is_put_off [] request ≡ false
+none_put_off (StoreItem facts time) = refl
+none_put_off (StoreBid bidder item amount time) = refl
+none_put_off (StoreComment author about item stars) = refl
+none_put_off (BuyNow buyer item quantity time) = refl
+none_put_off (ViewItem item) = refl
+none_put_off (ViewBids item) = refl
+none_put_off (ViewCategory category) = refl
+none_put_off (ViewUser user) = refl
+
+no_slices : (acts : List Act) → after_acts [] acts ≡ []
+no_slices [] = refl
+no_slices (AddItem id facts ∷ acts) = no_slices acts
+no_slices (ListItem category entry ∷ acts) = no_slices acts
+no_slices (Bid id entry ∷ acts) = no_slices acts
+no_slices (Comment user stars ∷ acts) = no_slices acts
+no_slices (Buy id quantity ∷ acts) = no_slices acts
+no_slices (Look shown ∷ acts) = no_slices acts
+
+pub stays_joined : (opening : List ShardState) (old new : WorkerState) (request : Request) (index : ℕ) (result : Result Unit PermitFault) → HasPerformed opening old new request index result → old.slices ≡ [] → new.slices ≡ []
+stays_joined opening old new request index (Ok done) performed none =
+    let acts = writes_if (row_of old.journal.worker request performed.0) in
+    ap (λ (w : WorkerState). w.slices) performed.1.worker ∙ ap (λ hots. after_acts hots acts) none ∙ no_slices acts
+stays_joined opening old new request index (Err fault) failed none = ap (λ (w : WorkerState). w.slices) failed.worker ∙ none

@@ -1,0 +1,342 @@
+-- A commit's reply is the model's, whichever request it is of.
+use Rattle.std.proofs.Common.{◌≡◌, ℕ, ◌-◌, ◌==◌, Bool, true, false, not, cond, List, [], ◌∷◌, ◌++◌, length, map, filter, Option, Some, None, is_some, MatchOption, Result, Ok, Err, option_map, option_and_then, unwrap_or, refl, sym, ap, subst, ◌∙◌, arith, take, length-append}
+use Rattle.std.specs.Prelude.{ℤ}
+use Rattle.std.specs.List.{list_any}
+use Rattle.std.specs.Option.{option_or}
+use Rattle.std.proofs.Math.Seq.{take-append_seam}
+use Rattle.std.proofs.lemmas.List.{ext_get_or}
+use Rattle.auction_rows.specs.declared.ids.ItemId.{ItemId}
+use Rattle.auction_rows.specs.declared.ids.Object.{Object}
+use Rattle.auction_rows.specs.declared.ids.Object.TheVariants.{Item, User, Category}
+use Rattle.auction_rows.specs.declared.numbers.Opening.{Opening}
+use Rattle.auction_rows.specs.declared.replies.Refusal.{Refusal}
+use Rattle.auction_rows.specs.declared.replies.Reply.{Reply}
+use Rattle.auction_rows.specs.declared.replies.Reply.TheVariants.{ItemStored, BidStored, CommentStored, Bought, ItemSeen, BidsSeen, CategorySeen, UserSeen, Refused}
+use Rattle.auction_rows.specs.declared.requests.Facts.{Facts}
+use Rattle.auction_rows.specs.declared.requests.Request.{Request}
+use Rattle.auction_rows.specs.declared.requests.Request.TheVariants.{StoreItem, StoreBid, StoreComment, BuyNow, ViewItem, ViewBids, ViewCategory, ViewUser}
+use Rattle.auction_rows.specs.Book.{Book, facts_of, left}
+use Rattle.auction_rows.specs.Footprint.{is_hot, objects_of, footprint}
+use Rattle.auction_rows.specs.History.{IsRight, row_of_entry}
+use Rattle.auction_rows.specs.Refusals.{number_refusal, item_refusal, refusal}
+use Rattle.auction_rows.specs.Replies.{answer_unless, answer, reply}
+use Rattle.auction_rows.specs.Requests.{item_of, shard_of}
+use Rattle.auction_rows.proofs.RefusalLemmas.{refusal-split}
+use Rattle.item_shards.specs.declared.acts.Act.{Act}
+use Rattle.item_shards.specs.declared.acts.Act.TheVariants.{Look}
+use Rattle.item_shards.specs.declared.acts.Shown.TheVariants as shown
+use Rattle.item_shards.specs.Looking.{view_like}
+use Rattle.item_shards.specs.Contents.{Contents}
+use Rattle.item_shards.specs.Standing.{ContentsStandsFor}
+use Rattle.item_shards.specs.Values.{Value, value, stock, stock_in, stock_for}
+use Rattle.item_shards.specs.Views.{item_view, bids_view, category_view, user_view}
+use Rattle.item_shards.specs.Writing.{looks_of, writes_if}
+use Rattle.item_shards.proofs.AnswerLemmas.{item_reply, bids_reply, category_reply_is, user_reply_is, stock_is}
+use Rattle.shard_boxes.specs.declared.line.Line.{Line}
+use Rattle.shard_boxes.specs.Keys.{KeyState, no_seat, seat_at, seen_at}
+use Rattle.shard_boxes.specs.Lines.{after, AreTrueOf}
+use Rattle.shard_boxes.specs.States.{ShardState, state_at}
+use Rattle.phase_permits.specs.declared.counters.Counters.{Counters}
+use Rattle.phase_permits.specs.declared.read_set.ReadSet.{ReadSet}
+use Rattle.phase_permits.specs.Txns.{Setting, Txn, hot_in, takes, line_on, stock_seen, refusal_by, SuitsItem, SuitsBids, IsAnswered}
+use Rattle.phase_permits.specs.Slicing.{stock_of}
+use Rattle.phase_permits.specs.declared.fault.PermitFault.{PermitFault}
+use Rattle.phase_permits.specs.Performing.{HasCommitted, HasFailed, HasPerformed, IsUntouched, shards_asked}
+use Rattle.phase_permits.specs.Workers.{WorkerState, setting_of, txn_of}
+use Rattle.phase_permits.proofs.HomeLemmas.{no_other}
+use Rattle.phase_permits.specs.Replying.{CountsOf, HasStocks, SawTrue, StoodFor, HasFixed, StoodAsTaken}
+use Rattle.phase_permits.proofs.LookLemmas.{look_true, value_there}
+
+-- a reply that is the answer, or the refusal
+answered_by : (refused : Option Refusal) (given mine theirs : Reply) → MatchOption refused (given ≡ mine) (λ reason. given ≡ Refused reason) → mine ≡ theirs → given ≡ answer_unless refused theirs
+answered_by None given mine theirs is same = is ∙ same
+answered_by (Some reason) given mine theirs is same = is
+
+-- What a book refuses, it refuses by what it has of the item.
+
+by_stock : (request : Request) (book : Book) (item : ItemId) (facts : Option Facts)
+    → item_refusal request facts (left book item)
+    ≡ (let seen : Option (Facts × ℕ) = option_map (λ f. (f, left book item)) facts in
+    item_refusal request (option_map (λ s. s.0) seen) (unwrap_or (option_map (λ s. s.1) seen) 0))
+by_stock request book item None = refl
+by_stock request book item (Some facts) = refl
+
+by_item : (request : Request) (book : Book) (item : Option ItemId)
+    → item_refusal request (option_and_then (facts_of book) item) (unwrap_or (option_map (left book) item) 0)
+    ≡ (let seen = option_and_then (stock_in book) item in item_refusal request (option_map (λ s. s.0) seen) (unwrap_or (option_map (λ s. s.1) seen) 0))
+by_item request book None = refl
+by_item request book (Some item) = by_stock request book item (facts_of book item)
+
+refused_by : (opening : Opening) (book : Book) (request : Request) → refusal opening book request ≡ refusal_by opening (stock_for book request) request
+refused_by opening book request = refusal-split opening book request ∙ ap (option_or (number_refusal opening request)) (by_item request book (item_of request))
+
+-- where the opening refuses a request, what was seen does not matter
+or_same : (refused : Option Refusal) (first second : Option Refusal) → (refused ≡ None → first ≡ second) → option_or refused first ≡ option_or refused second
+or_same None first second same = same refl
+or_same (Some reason) first second same = refl
+
+viewed_by : (A : Type 0) (refused : Option Refusal) (given theirs : Reply) → MatchOption refused A (λ reason. given ≡ Refused reason) → (refused ≡ None → given ≡ theirs) → given ≡ answer_unless refused theirs
+viewed_by A None given theirs is same = same refl
+viewed_by A (Some reason) given theirs is same = is
+
+-- what is refused of a comment does not depend on what is left
+comment_by_facts : (author about : ℕ) (item : ItemId) (stars : ℤ) (facts : Option Facts) (m n : ℕ)
+    → item_refusal (StoreComment author about item stars) facts m ≡ item_refusal (StoreComment author about item stars) facts n
+comment_by_facts author about item stars None m n = refl
+comment_by_facts author about item stars (Some facts) m n = refl
+
+facts_in : (facts : Option Facts) (n : ℕ) → option_map (λ (s : Facts × ℕ). s.0) (option_map {U = Facts × ℕ} (λ f. (f, n)) facts) ≡ facts
+facts_in None n = refl
+facts_in (Some facts) n = refl
+
+-- a reply that is a view of its object is the view that the request asks for
+item_like : (given : Reply) (item : ItemId) (v : Value) → SuitsItem given → given ≡ view_like given (Item item) v → given ≡ item_view v
+item_like (BidsSeen bids) item v suits is = absurd suits
+item_like (ItemStored id) item v suits is = is
+item_like (BidStored id) item v suits is = is
+item_like (CommentStored id) item v suits is = is
+item_like (Bought id) item v suits is = is
+item_like (ItemSeen seller category name start closes highest bidder bids left) item v suits is = is
+item_like (CategorySeen items) item v suits is = is
+item_like (UserSeen rating comments) item v suits is = is
+item_like (Refused reason) item v suits is = is
+
+not_stored : (reason : Refusal) (v : Value) → Refused reason ≡ item_view v → Refused reason ≡ bids_view v
+not_stored reason v is = at v.facts is where
+  at : (facts : Option Facts) → Refused reason ≡ item_view (record v { facts = facts }) → Refused reason ≡ bids_view (record v { facts = facts })
+  at None e = e
+  at (Some facts) e = absurd (cc)
+
+bids_like : (given : Reply) (item : ItemId) (v : Value) → SuitsBids given → given ≡ view_like given (Item item) v → given ≡ bids_view v
+bids_like (BidsSeen bids) item v suits is = is
+bids_like (ItemStored id) item v suits is = absurd suits
+bids_like (BidStored id) item v suits is = absurd suits
+bids_like (CommentStored id) item v suits is = absurd suits
+bids_like (Bought id) item v suits is = absurd suits
+bids_like (ItemSeen seller category name start closes highest bidder bids left) item v suits is = absurd suits
+bids_like (CategorySeen items) item v suits is = absurd suits
+bids_like (UserSeen rating comments) item v suits is = absurd suits
+bids_like (Refused reason) item v suits is = not_stored reason v is
+
+category_like : (given : Reply) (category : ℕ) (v : Value) → view_like given (Category category) v ≡ category_view v
+category_like (BidsSeen bids) category v = refl
+category_like (ItemStored id) category v = refl
+category_like (BidStored id) category v = refl
+category_like (CommentStored id) category v = refl
+category_like (Bought id) category v = refl
+category_like (ItemSeen seller category' name start closes highest bidder bids left) category v = refl
+category_like (CategorySeen items) category v = refl
+category_like (UserSeen rating comments) category v = refl
+category_like (Refused reason) category v = refl
+
+user_like : (given : Reply) (user : ℕ) (v : Value) → view_like given (User user) v ≡ user_view v
+user_like (BidsSeen bids) user v = refl
+user_like (ItemStored id) user v = refl
+user_like (BidStored id) user v = refl
+user_like (CommentStored id) user v = refl
+user_like (Bought id) user v = refl
+user_like (ItemSeen seller category name start closes highest bidder bids left) user v = refl
+user_like (CategorySeen items) user v = refl
+user_like (UserSeen rating comments) user v = refl
+user_like (Refused reason) user v = refl
+
+module _ (z : Setting) (taken : ℕ → Contents) (book : Book) (fixed : HasFixed z book) (counters : Counters) where
+  -- what a bid and a purchase saw of their item is what the book has
+  stock_right : (txn : Txn) (item : ItemId) (objects : List Object) (acts : List Act) → number_refusal z.opening txn.0.request ≡ None
+      → objects_of txn.0.request txn.0.reply ≡ Item item ∷ objects
+      → looks_of txn.1.stock txn.0.reply txn.0.request ++ writes_if (row_of_entry txn.0) ≡ Look (shown.Left item txn.1.stock) ∷ acts
+      → SawTrue z taken txn → StoodFor z taken book txn → stock_seen z txn item ≡ stock_in book item
+  stock_right txn item objects acts accepted needed acted saw stood = go (is_hot (hot_in z) (Item item)) refl where
+    go : (b : Bool) → is_hot (hot_in z) (Item item) ≡ b → cond b (stock_of z.stocks (Item item)) txn.1.stock ≡ stock_in book item
+    go true hot = sym (fixed item hot)
+    go false cold =
+        look_true z txn accepted taken saw (Item item) objects (shown.Left item txn.1.stock) acts needed acted refl cold
+        ∙ ap stock (value_there z txn accepted taken book stood (Item item) objects needed cold)
+        ∙ stock_is book item
+
+  -- what a comment saw of its item are the facts that the book has
+  facts_right : (txn : Txn) (item : ItemId) (objects : List Object) (acts : List Act) → number_refusal z.opening txn.0.request ≡ None
+      → objects_of txn.0.request txn.0.reply ≡ Item item ∷ objects
+      → looks_of txn.1.stock txn.0.reply txn.0.request ++ writes_if (row_of_entry txn.0) ≡ Look (shown.Facts item (option_map (λ s. s.0) txn.1.stock)) ∷ acts
+      → SawTrue z taken txn → StoodFor z taken book txn → option_map (λ s. s.0) (stock_seen z txn item) ≡ option_map (λ (s : Facts × ℕ). s.0) (stock_in book item)
+  facts_right txn item objects acts accepted needed acted saw stood = go (is_hot (hot_in z) (Item item)) refl where
+    go : (b : Bool) → is_hot (hot_in z) (Item item) ≡ b → option_map (λ s. s.0) (cond b (stock_of z.stocks (Item item)) txn.1.stock) ≡ option_map (λ (s : Facts × ℕ). s.0) (stock_in book item)
+    go true hot = ap (option_map (λ (s : Facts × ℕ). s.0)) (sym (fixed item hot))
+    go false cold =
+        look_true z txn accepted taken saw (Item item) objects (shown.Facts item (option_map (λ s. s.0) txn.1.stock)) acts needed acted refl cold
+        ∙ ap (λ (v : Value). v.facts) (value_there z txn accepted taken book stood (Item item) objects needed cold)
+        ∙ sym (facts_in (facts_of book item) (left book item))
+
+  -- a view showed what the book has
+  view_right : (txn : Txn) (object : Object) (acts : List Act) → number_refusal z.opening txn.0.request ≡ None
+      → objects_of txn.0.request txn.0.reply ≡ object ∷ []
+      → looks_of txn.1.stock txn.0.reply txn.0.request ++ writes_if (row_of_entry txn.0) ≡ Look (shown.Reply object txn.0.reply) ∷ acts
+      → is_hot (hot_in z) object ≡ false → SawTrue z taken txn → StoodFor z taken book txn → txn.0.reply ≡ view_like txn.0.reply object (value book object)
+  view_right txn object acts accepted needed acted cold saw stood =
+      look_true z txn accepted taken saw object [] (shown.Reply object txn.0.reply) acts needed acted refl cold
+      ∙ ap (view_like txn.0.reply object) (value_there z txn accepted taken book stood object [] needed cold)
+
+  module _ (phase number worker index : ℕ) (found : ReadSet) (counts : CountsOf book worker counters) where
+    abbrev txn_with : Request → Reply → Txn
+    txn_with request given = (record { phase = phase; number = number; worker = worker; index = index; request = request; reply = given }, found)
+
+    abbrev IsRightFor : Request → Type 0
+    IsRightFor request = (given : Reply) → SawTrue z taken (txn_with request given) → StoodFor z taken book (txn_with request given)
+        → IsAnswered z counters (txn_with request given) → given ≡ reply z.opening book worker request
+
+    -- a store by what was seen of its item
+    store_right : (request : Request) (given mine : Reply) (seen : Option (Facts × ℕ)) → MatchOption (refusal_by z.opening seen request) (given ≡ mine) (λ reason. given ≡ Refused reason)
+        → mine ≡ answer book worker request
+        → (number_refusal z.opening request ≡ None → item_refusal request (option_map (λ s. s.0) seen) (unwrap_or (option_map (λ s. s.1) seen) 0)
+        ≡ (let has = stock_for book request in item_refusal request (option_map (λ s. s.0) has) (unwrap_or (option_map (λ s. s.1) has) 0)))
+        → given ≡ reply z.opening book worker request
+    store_right request given mine seen is same refused =
+        answered_by (refusal_by z.opening seen request) given mine (answer book worker request) is same
+        ∙ ap (λ o. answer_unless o (answer book worker request)) (or_same (number_refusal z.opening request) _ _ refused ∙ sym (refused_by z.opening book request))
+
+    abbrev refused_with : Request → Option (Facts × ℕ) → Option Refusal
+    refused_with request seen = item_refusal request (option_map (λ s. s.0) seen) (unwrap_or (option_map (λ s. s.1) seen) 0)
+
+    bid_right : (bidder : ℕ) (item : ItemId) (amount time : ℕ) → IsRightFor (StoreBid bidder item amount time)
+    bid_right bidder item amount time given saw stood is =
+        let request = StoreBid bidder item amount time in
+        let txn = txn_with request given in
+        store_right request given (BidStored (record { worker = worker; serial = counters.bids })) (stock_seen z txn item) is.answered
+        (ap (λ n. BidStored (record { worker = worker; serial = n })) (sym counts.bids))
+        (λ accepted. ap (refused_with request) (stock_right txn item [] (writes_if (row_of_entry txn.0)) accepted refl refl saw stood))
+
+    buy_right : (buyer : ℕ) (item : ItemId) (quantity time : ℕ) → IsRightFor (BuyNow buyer item quantity time)
+    buy_right buyer item quantity time given saw stood is =
+        let request = BuyNow buyer item quantity time in
+        let txn = txn_with request given in
+        store_right request given (Bought (record { worker = worker; serial = counters.buys })) (stock_seen z txn item) is.answered
+        (ap (λ n. Bought (record { worker = worker; serial = n })) (sym counts.buys))
+        (λ accepted. ap (refused_with request) (stock_right txn item [] (writes_if (row_of_entry txn.0)) accepted refl refl saw stood))
+
+    comment_right : (author about : ℕ) (item : ItemId) (stars : ℤ) → IsRightFor (StoreComment author about item stars)
+    comment_right author about item stars given saw stood is =
+        let request = StoreComment author about item stars in
+        let txn = txn_with request given in
+        let seen = stock_seen z txn item in
+        let left_of = λ (s : Option (Facts × ℕ)). unwrap_or (option_map (λ t. t.1) s) 0 in
+        store_right request given (CommentStored (record { worker = worker; serial = counters.comments })) seen is.answered
+        (ap (λ n. CommentStored (record { worker = worker; serial = n })) (sym counts.comments))
+        (λ accepted. comment_by_facts author about item stars (option_map (λ s. s.0) seen) (left_of seen) (left_of (stock_in book item))
+        ∙ ap (λ (facts : Option Facts). item_refusal request facts (left_of (stock_in book item)))
+        (facts_right txn item (User about ∷ []) (writes_if (row_of_entry txn.0)) accepted refl refl saw stood))
+
+    item_right : (facts : Facts) (time : ℕ) → IsRightFor (StoreItem facts time)
+    item_right facts time given saw stood is =
+        store_right (StoreItem facts time) given (ItemStored (record { worker = worker; serial = counters.items })) None is.answered
+        (ap (λ n. ItemStored (record { worker = worker; serial = n })) (sym counts.items)) (λ accepted. refl)
+
+    view_item_right : (item : ItemId) → IsRightFor (ViewItem item)
+    view_item_right item given saw stood is =
+        item_like given item (value book (Item item)) is.answered
+        (view_right (txn_with (ViewItem item) given) (Item item) [] refl refl refl (no_other (is_hot (hot_in z) (Item item)) is.not_put_off) saw stood)
+        ∙ item_reply z.opening book worker item
+
+    view_bids_right : (item : ItemId) → IsRightFor (ViewBids item)
+    view_bids_right item given saw stood is =
+        bids_like given item (value book (Item item)) is.answered
+        (view_right (txn_with (ViewBids item) given) (Item item) [] refl refl refl (no_other (is_hot (hot_in z) (Item item)) is.not_put_off) saw stood)
+        ∙ bids_reply z.opening book worker item
+
+    view_category_right : (category : ℕ) → IsRightFor (ViewCategory category)
+    view_category_right category given saw stood is =
+        viewed_by Unit (number_refusal z.opening (ViewCategory category)) given (category_view (value book (Category category))) is.answered
+        (λ accepted. view_right (txn_with (ViewCategory category) given) (Category category) [] accepted refl refl (no_other (is_hot (hot_in z) (Category category)) is.not_put_off) saw stood
+        ∙ category_like given category (value book (Category category)))
+        ∙ category_reply_is z.opening book worker category
+
+    view_user_right : (user : ℕ) → IsRightFor (ViewUser user)
+    view_user_right user given saw stood is =
+        viewed_by Unit (number_refusal z.opening (ViewUser user)) given (user_view (value book (User user))) is.answered
+        (λ accepted. view_right (txn_with (ViewUser user) given) (User user) [] accepted refl refl (no_other (is_hot (hot_in z) (User user)) is.not_put_off) saw stood
+        ∙ user_like given user (value book (User user)))
+        ∙ user_reply_is z.opening book worker user
+
+    right_by : (request : Request) → IsRightFor request
+    right_by (StoreItem facts time) = item_right facts time
+    right_by (StoreBid bidder item amount time) = bid_right bidder item amount time
+    right_by (StoreComment author about item stars) = comment_right author about item stars
+    right_by (BuyNow buyer item quantity time) = buy_right buyer item quantity time
+    right_by (ViewItem item) = view_item_right item
+    right_by (ViewBids item) = view_bids_right item
+    right_by (ViewCategory category) = view_category_right category
+    right_by (ViewUser user) = view_user_right user
+
+-- A transaction's reply is the model's for every book for which the shards that it took stood.
+pub txn_right : (z : Setting) (taken : ℕ → Contents) (counters : Counters) (txn : Txn) → SawTrue z taken txn → IsAnswered z counters txn
+    → (book : Book) → StoodFor z taken book txn → HasFixed z book → CountsOf book txn.0.worker counters → IsRight z.opening book txn.0
+txn_right z taken counters txn saw is book stood fixed counts =
+    right_by z taken book fixed counters txn.0.phase txn.0.number txn.0.worker txn.0.index txn.1 counts txn.0.request txn.0.reply saw stood is
+
+-- a list without its last element
+abbrev without_last : List (ℕ × Line) → List (ℕ × Line)
+without_last list = take (length list - 1) list
+
+pushed_back : (found : List (ℕ × Line)) (last : ℕ × Line) → without_last (found ++ last ∷ []) ≡ found
+pushed_back found last =
+    let longer = length-append found (last ∷ []) in
+    let less : length (found ++ last ∷ []) - 1 ≡ length found = omega (arith, longer) in
+    ap (λ n. take n (found ++ last ∷ [])) less ∙ take-append_seam found (last ∷ [])
+
+-- so it is with what a permit commits
+pub commit_right : (opening : List ShardState) (old new : WorkerState) (request : Request) (index : ℕ) (given : Reply) (done : HasCommitted opening old new request index given) (book : Book)
+    → StoodAsTaken opening old new request index given done book
+    → HasStocks book old.slices → CountsOf book old.journal.worker old.counters
+    → given ≡ reply old.opening book old.journal.worker request
+commit_right opening old new request index given done book stood has counts =
+    let z = setting_of old (length opening) in
+    let txn = txn_of old done.number request index given done.found in
+    let found_is : (shard : ℕ) (took : takes z shard txn ≡ true) → without_last (seen_at new.key shard) ≡ (done.puts shard took).found =
+    λ shard took. ap without_last (done.puts shard took).seen ∙ pushed_back (done.puts shard took).found (new.key.worker, line_on z shard txn) in
+    txn_right z (λ shard. (after (state_at opening shard) (without_last (seen_at new.key shard))).contents) old.counters txn
+    (λ shard took. subst (λ (found : List (ℕ × Line)). AreTrueOf (after (state_at opening shard) found).contents (line_on z shard txn).acts) (sym (found_is shard took)) (done.puts shard took).follows.looks)
+    done.answered book
+    (λ shard took. subst (λ (found : List (ℕ × Line)). ContentsStandsFor shard (length opening) (after (state_at opening shard) found).contents book (hot_in z)) (sym (found_is shard took)) (stood shard took))
+    has counts
+
+-- a commit with an empty footprint leaves the key, and so does a failure
+same_key : (old new : KeyState) → new.boxes ≡ old.boxes → new.worker ≡ old.worker → length new.seats ≡ length old.seats → ((shard : ℕ) → seat_at new shard ≡ seat_at old shard) → new ≡ old
+same_key old new boxes worker many seats =
+    let same = ext_get_or no_seat new.seats old.seats many (λ shard known. seats shard) in
+    λ i. record { boxes = boxes i; worker = worker i; seats = same i }
+
+pub commit_leaves : (opening : List ShardState) (old new : WorkerState) (request : Request) (index : ℕ) (given : Reply) (done : HasCommitted opening old new request index given)
+    → (let z = setting_of old (length opening) in footprint z.opening z.shards (hot_in z) (txn_of old done.number request index given done.found).0 ≡ [])
+    → new.key ≡ old.key
+commit_leaves opening old new request index given done empty =
+    same_key old.key new.key done.boxes done.owner done.seats (λ shard. done.others shard (ap (list_any (λ taken. taken == shard)) empty))
+
+pub failure_leaves : (opening : List ShardState) (old new : WorkerState) (request : Request) (fault : PermitFault) → HasFailed opening old new request fault
+    → shards_asked (length opening) old request ≡ [] → new.key ≡ old.key
+failure_leaves opening old new request fault failed empty =
+    same_key old.key new.key failed.lines.boxes failed.lines.worker failed.lines.seats (λ shard. failed.others shard (ap (list_any (λ taken. taken == shard)) empty))
+
+-- what the reply to an item that is not refused tells is known before
+told_before : {A : Type 0} (refused : Option Refusal) (given stored : Reply) (told : Reply → List A) → MatchOption (option_or refused None) (given ≡ stored) (λ reason. given ≡ Refused reason)
+    → cond (is_some refused) [] (told given) ≡ cond (is_some refused) [] (told stored)
+told_before None given stored told is = ap told is
+told_before (Some reason) given stored told is = refl
+
+-- a commit took the shards that its request asked for
+took_asked : (w : WorkerState) (shards number index : ℕ) (request : Request) (given : Reply) (found : ReadSet) → IsAnswered (setting_of w shards) w.counters (txn_of w number request index given found)
+    → (let z = setting_of w shards in footprint z.opening z.shards (hot_in z) (txn_of w number request index given found).0) ≡ shards_asked shards w request
+took_asked w shards number index (StoreItem facts time) given found is =
+    ap (map (λ object. shard_of object shards))
+    (told_before (number_refusal w.opening (StoreItem facts time)) given _ (λ reply. filter (λ object. not (is_hot (hot_in (setting_of w shards)) object)) (objects_of (StoreItem facts time) reply)) is.answered)
+took_asked w shards number index (StoreBid bidder item amount time) given found is = refl
+took_asked w shards number index (StoreComment author about item stars) given found is = refl
+took_asked w shards number index (BuyNow buyer item quantity time) given found is = refl
+took_asked w shards number index (ViewItem item) given found is = refl
+took_asked w shards number index (ViewBids item) given found is = refl
+took_asked w shards number index (ViewCategory category) given found is = refl
+took_asked w shards number index (ViewUser user) given found is = refl
+
+pub leaves_untouched : (opening : List ShardState) (old new : WorkerState) (request : Request) (index : ℕ) (result : Result Unit PermitFault) → HasPerformed opening old new request index result
+    → IsUntouched (length opening) old new request
+leaves_untouched opening old new request index (Ok done) (given, committed) none =
+    commit_leaves opening old new request index given committed (took_asked old (length opening) committed.number index request given committed.found committed.answered ∙ none)
+leaves_untouched opening old new request index (Err fault) failed none = failure_leaves opening old new request fault failed none

@@ -1,0 +1,74 @@
+-- The first stashed request, called into the quota and back.
+use Rattle.std.proofs.Common.{◌≡◌, ℕ, ◌+◌, ◌<◌, List, [], ◌∷◌, ◌++◌, Some, None, length, take, drop, refl, sym, ap, subst, ◌∙◌, arith}
+use Rattle.std.specs.Prelude.{slice_get}
+use Rattle.auction_rows.specs.declared.requests.Request.{Request}
+use Rattle.shard_boxes.specs.Keys.{KeyState, seat_at}
+use Rattle.shard_boxes.specs.States.{ShardState}
+use Rattle.phase_permits.specs.declared.fault.PermitFault.{PermitFault}
+use Rattle.phase_permits.specs.declared.fault.PermitFault.TheVariants.{Memory, NumberFull}
+use Rattle.phase_permits.specs.Pairs.{HasSameLines}
+use Rattle.phase_permits.specs.Performing.{HasFailed, HasFailedFirst, IsCause}
+use Rattle.phase_permits.specs.Workers.{WorkerState, IsIdle, with_first_called}
+
+-- where there is no first, there is none
+pub no_first : {A : Type 0} (items : List A) → None ≡ slice_get items 0 → items ≡ []
+no_first [] is = refl
+no_first (item ∷ items) is = absurd (cc)
+
+-- what was taken out last is known by what is left
+no_end : {A : Type 0} (items : List A) (last : A) → [] ≡ items ++ last ∷ [] → ⊥
+no_end [] last e = cc
+no_end (item ∷ items) last e = cc
+
+same_end : {A : Type 0} (one other : List A) (last end : A) → one ++ last ∷ [] ≡ other ++ end ∷ [] → (one ≡ other) × (last ≡ end)
+same_end [] [] last end e = (refl, cc)
+same_end [] (item ∷ items) last end e = absurd (no_end items end (cc))
+same_end (item ∷ items) [] last end e = absurd (no_end items last (cc))
+same_end (item ∷ items) (other ∷ others) last end e =
+    let same : item ≡ other = cc in
+    let rest = same_end items others last end (cc) in
+    (λ i. same i ∷ rest.0 i, rest.1)
+
+same_stash : (one other : List (ℕ × Request)) (done done' : List (ℕ × Request)) → 0 < length one → 0 < length other → drop 1 one ≡ drop 1 other → done ++ take 1 one ≡ done' ++ take 1 other
+    → (one ≡ other) × (done ≡ done')
+same_stash [] other done done' some some' rest taken = absurd (omega (arith, some))
+same_stash (item ∷ items) [] done done' some some' rest taken = absurd (omega (arith, some'))
+same_stash (item ∷ items) (other ∷ others) done done' some some' rest taken =
+    let same = same_end done done' item other taken in
+    (λ i. same.1 i ∷ rest i, same.0)
+
+-- so a worker is known by what it is after its first request is called into the quota
+before_calling : (one other : WorkerState) → 0 < length one.stash.requests → 0 < length other.stash.requests → with_first_called one ≡ with_first_called other → one ≡ other
+before_calling one other some some' e =
+    let stash = same_stash one.stash.requests other.stash.requests one.stash.done other.stash.done some some'
+    (ap (λ (w : WorkerState). w.stash.requests) e) (ap (λ (w : WorkerState). w.stash.done) e) in
+    let plus : one.left + 1 ≡ other.left + 1 = ap (λ (w : WorkerState). w.left) e in
+    let left : one.left ≡ other.left = omega (arith, plus) in
+    λ i. record (e i) { stash = record { requests = stash.0 i; done = stash.1 i; room = (e i).stash.room }; left = left i }
+
+-- a request that was called into the quota, not performed and called off is the first as before
+same_cause : (opening : List ShardState) (old : WorkerState) (key : KeyState) (request : Request) (fault : PermitFault) → IsCause opening (with_first_called old) key request fault → IsCause opening old key request fault
+same_cause opening old key request Memory is = is
+same_cause opening old key request NumberFull is = is
+
+pub failed_first : (opening : List ShardState) (old new back : WorkerState) (index : ℕ) (request : Request) (fault : PermitFault)
+    → Some (index, request) ≡ slice_get old.stash.requests 0 → 0 < length old.stash.requests → HasFailed opening (with_first_called old) new request fault
+    → new ≡ with_first_called back → 0 < length back.stash.requests → HasFailedFirst opening old back fault
+failed_first opening old new back index request fault first some failed before some' =
+    let same : with_first_called back ≡ with_first_called (record old { key = back.key }) =
+    sym before ∙ failed.worker ∙ (λ i. record (with_first_called old) { key = (before i).key }) in
+    let is : back ≡ record old { key = back.key } = before_calling back (record old { key = back.key }) some' some same in
+    let key : new.key ≡ back.key = ap (λ (w : WorkerState). w.key) before in
+    record {
+      index = index;
+      request = request;
+      first = sym first;
+      failed = record {
+        worker = is;
+        lines = subst (HasSameLines old.key) key failed.lines;
+        others = λ t left. ap (λ (k : KeyState). seat_at k t) (sym key) ∙ failed.others t left;
+        idle = subst IsIdle key failed.idle;
+        not_put_off = failed.not_put_off;
+        cause = subst (λ (k : KeyState). IsCause opening old k request fault) key (same_cause opening old new.key request fault failed.cause);
+      };
+    }

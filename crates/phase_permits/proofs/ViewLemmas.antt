@@ -1,0 +1,187 @@
+-- A view: its one shard, and what it does there.
+use Rattle.std.proofs.Common.{◌≡◌, ℕ, ◌<◌, true, false, cond, List, [], ◌∷◌, length, Option, Some, None, MatchOption, refl, sym, ap, subst, ◌∙◌, arith}
+use Rattle.std.specs.List.{AllByRecursion}
+use Rattle.std.proofs.lemmas.Bool.{true≢false, false≢true}
+use Rattle.std.proofs.lemmas.Option.{same_Some}
+use Rattle.auction_rows.specs.declared.ids.Object.{Object}
+use Rattle.auction_rows.specs.declared.ids.Object.TheVariants.{Item, User, Category}
+use Rattle.auction_rows.specs.declared.numbers.Opening.{Opening}
+use Rattle.auction_rows.specs.declared.replies.Reply.{Reply}
+use Rattle.auction_rows.specs.declared.replies.Reply.TheVariants.{Refused}
+use Rattle.auction_rows.specs.declared.requests.Request.{Request}
+use Rattle.auction_rows.specs.declared.requests.Request.TheVariants.{StoreItem, StoreBid, StoreComment, BuyNow, ViewItem, ViewBids, ViewCategory, ViewUser}
+use Rattle.auction_rows.specs.Footprint.{is_hot}
+use Rattle.auction_rows.specs.Refusals.{number_refusal}
+use Rattle.auction_rows.specs.Requests.{is_view, shard_of}
+use Rattle.item_shards.specs.declared.acts.Act.TheVariants.{Look}
+use Rattle.item_shards.specs.declared.acts.Shown.TheVariants as shown
+use Rattle.item_shards.specs.Looking.{IsTrueOf}
+use Rattle.item_shards.specs.Writing.{padded, done_on}
+use Rattle.item_shards.specs.ShardContents.{LiesIn, clock, contents}
+use Rattle.shard_boxes.specs.Helds.{HeldState}
+use Rattle.shard_boxes.specs.Keys.{BoxId, KeyState}
+use Rattle.shard_boxes.specs.States.{ShardState}
+use Rattle.phase_permits.specs.declared.counters.Counters.{Counters}
+use Rattle.phase_permits.specs.declared.deeds.Deeds.{Deeds}
+use Rattle.phase_permits.specs.declared.homes.Home.{Home}
+use Rattle.phase_permits.specs.declared.homes.Home.TheVariants as home
+use Rattle.phase_permits.specs.declared.homes.Homes.{Homes}
+use Rattle.phase_permits.specs.declared.read_set.ReadSet.{ReadSet}
+use Rattle.phase_permits.specs.declared.slices.Hot.{Hot}
+use Rattle.phase_permits.specs.declared.taken.Taken.{Taken}
+use Rattle.phase_permits.specs.declared.taken.Taken.TheVariants as taken
+use Rattle.phase_permits.specs.Begun.{HasBegun, CanView, IsOnOne, viewed}
+use Rattle.phase_permits.specs.Deeds.{AreDeedsOf, acts_for, clocks_of, first_dealt, second_dealt}
+use Rattle.phase_permits.specs.Homes.{IsHomeOf, AreHomesOf}
+use Rattle.phase_permits.specs.Pairs.{IsAsTaken}
+use Rattle.phase_permits.specs.Performing.{HasCommittedSome, HaveOpening}
+use Rattle.phase_permits.specs.Slicing.{objects_of}
+use Rattle.phase_permits.specs.Takens.{shard_at, each_once, footprint_of, held_in, numbers_of, is_one_of, dealt, line_among, CanBeDoneOnAll, HasPutAll}
+use Rattle.phase_permits.specs.Txns.{Answers, IsAnswered, is_put_off, reason_seen, refusal_seen}
+use Rattle.phase_permits.specs.Workers.{WorkerState, setting_of, txn_of, with_entry, after_commit}
+use Rattle.phase_permits.proofs.BegunLemmas.{begun_commits}
+use Rattle.phase_permits.proofs.DealLemmas.{first_in, how_many}
+use Rattle.phase_permits.proofs.DeedLemmas.{done_is, one_owed}
+use Rattle.phase_permits.proofs.FirstLemmas.{clocks_below}
+use Rattle.phase_permits.proofs.GoodLemmas.{home_number}
+use Rattle.phase_permits.proofs.HomeLemmas.{same_objects_of, no_other}
+
+-- the home of the object that is viewed
+record IsOnlyHome (hots : List (Object × Hot)) (shards : ℕ) (homes : Homes) (object : Object) (h : Home) : Type 0 where
+  pub at : IsHomeOf hots shards object h
+  pub cold : is_hot (objects_of hots) object ≡ false
+  pub only : (n : ℕ) → shard_at h ≡ Some n → footprint_of homes ≡ n ∷ []
+
+item_only : (hots : List (Object × Hot)) (shards : ℕ) (homes : Homes) (object : Object) → IsHomeOf hots shards object homes.item → homes.other ≡ home.Nowhere → is_hot (objects_of hots) object ≡ false → IsOnlyHome hots shards homes object homes.item
+item_only hots shards homes object at none cold = record { at = at; cold = cold; only = λ n is. (λ i. each_once (is i) (shard_at (none i))) }
+
+other_only : (hots : List (Object × Hot)) (shards : ℕ) (homes : Homes) (object : Object) → homes.item ≡ home.Nowhere → IsHomeOf hots shards object homes.other → is_hot (objects_of hots) object ≡ false → IsOnlyHome hots shards homes object homes.other
+other_only hots shards homes object none at cold = record { at = at; cold = cold; only = λ n is. (λ i. each_once (shard_at (none i)) (is i)) }
+
+only_home : (w : WorkerState) (shards : ℕ) (request : Request) (homes : Homes) (object : Object) → viewed request ≡ Some object → is_put_off (objects_of w.slices) request ≡ false → AreHomesOf w shards request homes
+    → (h : Home) × IsOnlyHome w.slices shards homes object h
+only_home w shards (StoreItem facts time) homes object is goes are = absurd (cc)
+only_home w shards (StoreBid bidder item amount time) homes object is goes are = absurd (cc)
+only_home w shards (StoreComment author about item stars) homes object is goes are = absurd (cc)
+only_home w shards (BuyNow buyer item quantity time) homes object is goes are = absurd (cc)
+only_home w shards (ViewItem item) homes object is goes are = (homes.item, subst (λ o. IsOnlyHome w.slices shards homes o homes.item) (same_Some (Item item) object is) (item_only w.slices shards homes (Item item) are.0 are.1 (no_other _ goes)))
+only_home w shards (ViewBids item) homes object is goes are = (homes.item, subst (λ o. IsOnlyHome w.slices shards homes o homes.item) (same_Some (Item item) object is) (item_only w.slices shards homes (Item item) are.0 are.1 (no_other _ goes)))
+only_home w shards (ViewCategory category) homes object is goes are =
+    (homes.other, subst (λ o. IsOnlyHome w.slices shards homes o homes.other) (same_Some (Category category) object is) (other_only w.slices shards homes (Category category) are.0 are.1 (no_other _ goes)))
+only_home w shards (ViewUser user) homes object is goes are =
+    (homes.other, subst (λ o. IsOnlyHome w.slices shards homes o homes.other) (same_Some (User user) object is) (other_only w.slices shards homes (User user) are.0 are.1 (no_other _ goes)))
+
+shard_cold : (hots : List (Object × Hot)) (shards : ℕ) (object : Object) (h : Home) → IsHomeOf hots shards object h → is_hot (objects_of hots) object ≡ false → (n : ℕ) × (shard_at h ≡ Some n)
+shard_cold hots shards object home.Nowhere at cold = absurd at
+shard_cold hots shards object (home.Slice place) at cold = absurd (true≢false (sym at.1 ∙ cold))
+shard_cold hots shards object (home.Shard shard) at cold = (shard, refl)
+
+-- a view shows one object
+pub shows_one : (request : Request) → is_view request ≡ true → (object : Object) × (viewed request ≡ Some object)
+shows_one (StoreItem facts time) view = absurd (false≢true view)
+shows_one (StoreBid bidder item amount time) view = absurd (false≢true view)
+shows_one (StoreComment author about item stars) view = absurd (false≢true view)
+shows_one (BuyNow buyer item quantity time) view = absurd (false≢true view)
+shows_one (ViewItem item) view = (Item item, refl)
+shows_one (ViewBids item) view = (Item item, refl)
+shows_one (ViewCategory category) view = (Category category, refl)
+shows_one (ViewUser user) view = (User user, refl)
+
+-- the acts of a view are its look
+view_acts : (worker : ℕ) (request : Request) (reply : Reply) (object : Object) → viewed request ≡ Some object → acts_for worker None request reply ≡ Look (shown.Reply object reply) ∷ []
+view_acts worker (StoreItem facts time) reply object is = absurd (cc)
+view_acts worker (StoreBid bidder item amount time) reply object is = absurd (cc)
+view_acts worker (StoreComment author about item stars) reply object is = absurd (cc)
+view_acts worker (BuyNow buyer item quantity time) reply object is = absurd (cc)
+view_acts worker (ViewItem item) reply object is = ap (λ o. Look (shown.Reply o reply) ∷ []) (same_Some (Item item) object is)
+view_acts worker (ViewBids item) reply object is = ap (λ o. Look (shown.Reply o reply) ∷ []) (same_Some (Item item) object is)
+view_acts worker (ViewCategory category) reply object is = ap (λ o. Look (shown.Reply o reply) ∷ []) (same_Some (Category category) object is)
+view_acts worker (ViewUser user) reply object is = ap (λ o. Look (shown.Reply o reply) ∷ []) (same_Some (User user) object is)
+
+-- and no slice has its operation
+pub view_entered : (w : WorkerState) (number index : ℕ) (request : Request) (reply : Reply) (found : ReadSet) → is_view request ≡ true → with_entry w number index request reply found ≡ after_commit w number index request reply found
+view_entered w number index (StoreItem facts time) reply found view = absurd (false≢true view)
+view_entered w number index (StoreBid bidder item amount time) reply found view = absurd (false≢true view)
+view_entered w number index (StoreComment author about item stars) reply found view = absurd (false≢true view)
+view_entered w number index (BuyNow buyer item quantity time) reply found view = absurd (false≢true view)
+view_entered w number index (ViewItem item) reply found view = refl
+view_entered w number index (ViewBids item) reply found view = refl
+view_entered w number index (ViewCategory category) reply found view = refl
+view_entered w number index (ViewUser user) reply found view = refl
+
+one_can : {N : Type 0} (took : Taken N) (n number : ℕ) (object : Object) (reply : Reply) → numbers_of (held_in took) ≡ n ∷ [] → AllByRecursion (λ (h : HeldState). clock h.shard < number) (held_in took)
+    → AllByRecursion (λ (h : HeldState). IsTrueOf (contents h.shard) (shown.Reply object reply)) (held_in took) → CanBeDoneOnAll number (held_in took) (dealt took (Look (shown.Reply object reply)) (Look shown.Nothing))
+one_can taken.Nothing n number object reply numbers later shows = absurd (cc)
+one_can (taken.One one) n number object reply numbers later shows = (record { later = later.0; can = (tt, (tt, tt)); looks = (shows.0, (tt, tt)) }, tt)
+one_can (taken.Two one other) n number object reply numbers later shows = let long = ap how_many numbers in absurd (omega (arith, long))
+
+module _ {N : Type 0} {workers : ℕ} {boxes : List BoxId} (opening : List ShardState) (w : WorkerState) (key : KeyState) (request : Request) (homes : Homes) (took : Taken N) (number : ℕ)
+    (begun : HasBegun opening workers boxes key w request homes took number) (view : is_view request ≡ true) where
+  abbrev object : Object
+  object = (shows_one request view).0
+
+  abbrev its_home : (h : Home) × IsOnlyHome w.slices (length opening) homes object h
+  its_home = only_home w (length opening) request homes object (shows_one request view).1 begun.goes begun.homes_are
+
+  abbrev h : Home
+  h = its_home.0
+
+  abbrev its_shard : (n : ℕ) × (shard_at h ≡ Some n)
+  its_shard = shard_cold w.slices (length opening) object h its_home.1.at its_home.1.cold
+
+  abbrev n : ℕ
+  n = its_shard.0
+
+  numbers : numbers_of (held_in took) ≡ n ∷ []
+  numbers = begun.taken.numbers ∙ its_home.1.only n its_shard.1
+
+  can_view : (held : HeldState) → HaveOpening opening w.opening → IsAsTaken opening workers w.key held → held.number ≡ n → CanView held.shard request
+  can_view held opened is here = record {
+    here = λ o shows.
+        let same : object ≡ o = same_Some object o (sym (shows_one request view).1 ∙ shows) in
+        subst (LiesIn held.shard) same
+        (ap (shard_of object) is.shards_is ∙ sym (home_number w.slices (length opening) n object h its_home.1.at its_shard.1) ∙ sym here ∙ sym is.number_is);
+    allowed = subst (λ (o : Opening). number_refusal o request ≡ None) (sym (is.opening_is ∙ opened held.number is.known)) begun.allowed;
+  }
+
+  can_all : HaveOpening opening w.opening → (its : Taken N) → numbers_of (held_in its) ≡ n ∷ [] → AllByRecursion (IsAsTaken opening workers w.key) (held_in its) → IsOnOne request its
+  can_all opened taken.Nothing is all = absurd (cc)
+  can_all opened (taken.One one) is all = can_view one opened all.0 (ap first_in is)
+  can_all opened (taken.Two one other) is all = let long = ap how_many is in absurd (omega (arith, long))
+
+  pub on_one : HaveOpening opening w.opening → IsOnOne request took
+  on_one opened = can_all opened took numbers begun.taken.taken
+
+  pub view_can : (o : Object) (reply : Reply) → AllByRecursion (λ (held : HeldState). IsTrueOf (contents held.shard) (shown.Reply o reply)) (held_in took) → CanBeDoneOnAll number (held_in took) (dealt took (Look (shown.Reply o reply)) (Look shown.Nothing))
+  view_can o reply shows = one_can took n number o reply numbers (clocks_below took w.clock number begun.numbered) shows
+
+  -- what it did is a commit
+  view_answered : (index : ℕ) (reply : Reply) (found : ReadSet) → ((counters : Counters) (worker : ℕ) → Answers counters worker request reply) → IsAnswered (setting_of w (length opening)) w.counters (txn_of w number request index reply found)
+  view_answered index reply found answers =
+      let z = setting_of w (length opening) in
+      let txn = txn_of w number request index reply found in
+      let none : reason_seen z txn ≡ None = ap (λ b. cond b (number_refusal w.opening request) (refusal_seen z txn)) view ∙ begun.allowed in
+      record {
+        answered = subst (λ refused. MatchOption refused (Answers w.counters w.journal.worker request reply) (λ reason. reply ≡ Refused reason)) (sym none) (answers w.counters w.journal.worker);
+        not_put_off = ap (λ objects. is_put_off objects request) (same_objects_of w.slices) ∙ begun.goes;
+      }
+
+  view_owed : (reply : Reply) (o : Object) → viewed request ≡ Some o → AreDeedsOf w.slices (length opening) (acts_for w.journal.worker None request reply) (record { first = Look (shown.Reply o reply); second = Look shown.Nothing; home = h; other = home.Nowhere })
+  view_owed reply o shows t =
+      let look = Look (shown.Reply o reply) in
+      let same : object ≡ o = same_Some object o (sym (shows_one request view).1 ∙ shows) in
+      ap (λ acts. padded (done_on t (length opening) (objects_of w.slices) acts)) (view_acts w.journal.worker request reply o shows)
+      ∙ one_owed w.slices (length opening) t look h (done_is w.slices (length opening) t o h (subst (λ x. IsHomeOf w.slices (length opening) x h) same its_home.1.at) look refl)
+
+  pub view_commits : (new : WorkerState) (index : ℕ) (reply : Reply) (o : Object) (found : ReadSet) → viewed request ≡ Some o → ((counters : Counters) (worker : ℕ) → Answers counters worker request reply)
+      → found ≡ record { stock = None; clocks = clocks_of took }
+      → HasPutAll opening w.key new.key (is_one_of (numbers_of (held_in took))) (line_among number index (held_in took) (dealt took (Look (shown.Reply o reply)) (Look shown.Nothing)))
+      → new ≡ record (after_commit w number index request reply found) { key = new.key } → HasCommittedSome opening (record w { key = key }) new request index
+  view_commits new index reply o found shows answers found_is put committed =
+      let look = Look (shown.Reply o reply) in
+      let deeds : Deeds = record { first = look; second = Look shown.Nothing; home = h; other = home.Nowhere } in
+      let lines = λ (a : Option ℕ). line_among number index (held_in took) (dealt took (first_dealt look (Look shown.Nothing) a None) (second_dealt look (Look shown.Nothing) a None)) in (
+        reply,
+        begun_commits opening w key request homes took number begun new index reply None deeds found (ap (λ a. each_once a None) its_shard.1 ∙ sym (its_home.1.only n its_shard.1)) (view_owed reply o shows) found_is
+            (view_answered index reply found answers) (subst (λ a. HasPutAll opening w.key new.key (is_one_of (numbers_of (held_in took))) (lines a)) (sym its_shard.1) put) committed,
+      )

@@ -1,0 +1,39 @@
+use Rattle.std.proofs.Common.{◌≡◌, ◌<◌, List, false, length, sym, ap, subst, ◌∙◌}
+use Rattle.auction_rows.specs.declared.ids.Object.{Object}
+use Rattle.phase_permits.specs.declared.slices.Hot.{Hot}
+use Rattle.phase_permits.specs.Performing.{HasPerformed, HaveOpening}
+use Rattle.phase_permits.specs.Slicing.{objects_of}
+use Rattle.phase_permits.specs.Txns.{is_put_off}
+use Rattle.phase_permits.specs.Workers.{WorkerState, IsExplained, IsIdle, with_try}
+use Rattle.phase_permits.proofs.PermitLemmas.{none_put_off, performed_explained, stays_joined, tried_explained}
+use Rattle.phase_permits.proofs.joined_permit.JoinedPermit.commit.Goals as goal
+
+pub transact-requires-clause-of : goal.transact-requires-clause-of
+transact-requires-clause-of g c = ap (λ (w : WorkerState). w.key.boxes) (c.count_try.ensures ∙ ap with_try c.self.view_is) ∙ c.requires.of
+
+pub transact-requires-clause-idle : goal.transact-requires-clause-idle
+transact-requires-clause-idle g c = subst (λ (w : WorkerState). IsIdle w.key) (sym c.count_try.ensures) c.self.invariant.1.idle
+
+pub transact-requires-clause-opened : goal.transact-requires-clause-opened
+transact-requires-clause-opened g c = subst (λ (w : WorkerState). HaveOpening g.N.PhaseName.opening w.opening) (sym (c.count_try.ensures ∙ ap with_try c.self.view_is)) c.requires.opening
+
+pub transact-requires-clause-goes : goal.transact-requires-clause-goes
+transact-requires-clause-goes g c =
+    let slices = ap (λ (w : WorkerState). w.slices) c.count_try.ensures ∙ c.self.invariant.0 in
+    subst (λ (hots : List (Object × Hot)). is_put_off (objects_of hots) c.args.request.now ≡ false) (sym slices) (none_put_off c.args.request.now)
+
+pub transact-requires-clause-left : goal.transact-requires-clause-left
+transact-requires-clause-left g c = subst (λ (w : WorkerState). 0 < w.left) (sym (c.count_try.ensures ∙ ap with_try c.self.view_is)) c.requires.left
+
+pub invariant_of-self : goal.invariant_of-self
+invariant_of-self g c =
+    let opening = g.N.PhaseName.opening in
+    let tried = c.count_try.new.self in (
+      stays_joined opening tried c.transact.new.self c.args.request.now c.args.index c.transact.result c.transact.ensures (ap (λ (w : WorkerState). w.slices) c.count_try.ensures ∙ c.self.invariant.0),
+      performed_explained opening tried c.transact.new.self c.args.request.now c.args.index c.transact.result c.transact.ensures
+          (subst (IsExplained (length opening)) (sym c.count_try.ensures) (tried_explained (length opening) c.self.inside.worker c.self.invariant.1)),
+    )
+
+pub returns : goal.returns
+returns g c =
+    subst (λ (w : WorkerState). HasPerformed g.N.PhaseName.opening w c.transact.new.self c.args.request.now c.args.index c.transact.result) (c.count_try.ensures ∙ ap with_try c.self.view_is) c.transact.ensures

@@ -1,0 +1,9 @@
+use Rattle.std.proofs.Common.{subst, sym, ◌∙◌}
+use Rattle.phase_permits.specs.Slicing.{IsAt}
+use Rattle.phase_permits.proofs.Places.{at_where_read}
+use Rattle.phase_permits.proofs.slices.Slices.guessed.Goals as goal
+
+pub returns-then-eq : goal.returns-then-eq
+returns-then-eq c =
+    subst (λ hs. IsAt hs c.in_ok-guess.guess.now c.args.object) c.self.view_is
+    (at_where_read c.args.object c.self.inside.hot.entries _ _ _ c.in_ok-there.ensures.entry (sym c.eq.ensures ∙ c.if-eq.true))

@@ -1,0 +1,126 @@
+-- What a request does, once its homes are known.
+use Rattle.std.specs.Prelude.{◌≡◌, ◌==◌, ℕ, Bool, false, if◌then◌else◌, List, [], ◌∷◌, ◌++◌, Option, Some, None, MatchOption, option_and_then, ⊤}
+use Rattle.auction_rows.specs.declared.ids.ItemId.{ItemId}
+use Rattle.auction_rows.specs.declared.ids.Object.{Object}
+use Rattle.auction_rows.specs.Replies.{row_of}
+use Rattle.item_shards.specs.declared.acts.Act.TheVariants.{Look}
+use Rattle.item_shards.specs.declared.acts.Shown.TheVariants as shown
+use Rattle.shard_boxes.specs.Helds.{HeldState}
+use Rattle.phase_permits.specs.declared.deeds.Deeds.{Deeds}
+use Rattle.phase_permits.specs.declared.slices.Hot.{Hot}
+use Rattle.phase_permits.specs.Takens.{each_once, shard_at}
+use Rattle.auction_rows.specs.declared.ids.Object.TheVariants.{Item}
+use Rattle.auction_rows.specs.declared.replies.Reply.{Reply}
+use Rattle.auction_rows.specs.declared.replies.Reply.TheVariants.{ItemStored, BidStored, CommentStored, Bought, ItemSeen, BidsSeen, CategorySeen, UserSeen, Refused}
+use Rattle.auction_rows.specs.declared.requests.Facts.{Facts}
+use Rattle.auction_rows.specs.declared.requests.Request.{Request}
+use Rattle.item_shards.specs.declared.acts.Act.{Act}
+use Rattle.item_shards.specs.Writing.{padded, done_on, looks_of, writes_if}
+use Rattle.item_shards.specs.ShardContents.{contents, clock, opening as opening_of, rooms, shard_count, shard_number}
+use Rattle.item_shards.specs.declared.shard.Shard.{Shard}
+use Rattle.item_shards.specs.Acting.{CanActOn}
+use Rattle.item_shards.specs.Contents.{Contents, after_act}
+use Rattle.item_shards.specs.Looking.{IsTrueAct}
+use Rattle.item_shards.specs.Values.{stock}
+use Rattle.phase_permits.specs.declared.homes.Home.{Home}
+use Rattle.phase_permits.specs.declared.homes.Home.TheVariants as home
+use Rattle.phase_permits.specs.declared.taken.Deal.{Deal}
+use Rattle.phase_permits.specs.declared.taken.Taken.{Taken}
+use Rattle.phase_permits.specs.declared.taken.Taken.TheVariants as taken
+use Rattle.phase_permits.specs.Slicing.{stocks_of, stock_of, objects_of}
+use Rattle.phase_permits.specs.Txns.{Answers, refusal_by}
+use Rattle.phase_permits.specs.Workers.{WorkerState, next_item}
+
+-- whether the home of an object is the shard of this number
+abbrev pub is_at : Home → ℕ → Bool
+is_at home.Nowhere t = false
+is_at (home.Slice place) t = false
+is_at (home.Shard shard) t = shard == t
+
+-- of two acts, whose objects have these homes, those on a shard
+abbrev pub deeds_on : Act → Act → Home → Home → ℕ → List Act
+deeds_on x y h k t = padded (if is_at h t then (x ∷ (if is_at k t then y ∷ [] else [])) else (if is_at k t then y ∷ [] else []))
+
+-- what the shards that were taken have of an item: the first one has it
+abbrev pub stock_on : {N : Type 0} → Taken N → ItemId → Option (Facts × ℕ)
+stock_on taken.Nothing item = None
+stock_on (taken.One one) item = stock (contents one.shard (Item item))
+stock_on (taken.Two one other) item = stock (contents one.shard (Item item))
+
+-- what a store sees of its item: of a hot one what is fixed, of another one what its shard has
+abbrev pub stock_found : {N : Type 0} → WorkerState → Taken N → Home → Option ItemId → Option (Facts × ℕ)
+stock_found w taken home.Nowhere item = None
+stock_found w taken (home.Slice place) item = option_and_then (λ id. stock_of (stocks_of w.slices) (Item id)) item
+stock_found w taken (home.Shard shard) item = option_and_then (stock_on taken) item
+
+-- the reply to a store, by what was seen of its item: the first reason to refuse it, or the worker's next id of the kind
+abbrev pub IsReplyBy : WorkerState → Option (Facts × ℕ) → Request → Reply → Type 0
+IsReplyBy w seen request reply = MatchOption (refusal_by w.opening seen request) (Answers w.counters w.journal.worker request reply) (λ reason. reply ≡ Refused reason)
+
+-- of two acts, whose objects lie in these shards or in none, the one that is done first
+abbrev pub first_dealt : Act → Act → Option ℕ → Option ℕ → Act
+first_dealt x y (Some a) b = x
+first_dealt x y None (Some b) = y
+first_dealt x y None None = Look shown.Nothing
+
+-- and the one that is done second
+abbrev pub second_dealt : Act → Act → Option ℕ → Option ℕ → Act
+second_dealt x y (Some a) (Some b) = y
+second_dealt x y (Some a) None = Look shown.Nothing
+second_dealt x y None b = Look shown.Nothing
+
+-- so two acts are dealt, at the number of a commit, of the request of this index
+abbrev pub deal_of : Deeds → ℕ → ℕ → Deal
+deal_of deeds number index = record {
+  number = number;
+  index = index;
+  first = first_dealt deeds.first deeds.second (shard_at deeds.home) (shard_at deeds.other);
+  second = second_dealt deeds.first deeds.second (shard_at deeds.home) (shard_at deeds.other);
+}
+
+-- the acts that are dealt to the shard of this number
+abbrev pub acts_among : List HeldState → List (List Act) → ℕ → List Act
+acts_among [] acts t = []
+acts_among (h ∷ held) [] t = []
+acts_among (h ∷ held) (a ∷ acts) t = if h.number == t then a else acts_among held acts t
+
+-- the clocks that were found on the shards that were taken
+abbrev pub clocks_of : {N : Type 0} → Taken N → List (Option (ℕ × ℕ))
+clocks_of taken.Nothing = None ∷ None ∷ []
+clocks_of (taken.One one) = Some (one.number, clock one.shard) ∷ None ∷ []
+clocks_of (taken.Two one other) = Some (one.number, clock one.shard) ∷ Some (other.number, clock other.shard) ∷ []
+
+-- what a worker's request does, whatever the homes of its objects: its look, and what writes its row
+abbrev pub acts_for : ℕ → Option (Facts × ℕ) → Request → Reply → List Act
+acts_for worker seen request reply = looks_of seen reply request ++ writes_if (row_of worker request reply)
+
+-- the acts of a request on each shard are those of its deeds there
+abbrev pub AreDeedsOf : List (Object × Hot) → ℕ → List Act → Deeds → Type 0
+AreDeedsOf hots shards acts deeds = (t : ℕ) → padded (done_on t shards (objects_of hots) acts) ≡ deeds_on deeds.first deeds.second deeds.home deeds.other t
+
+-- two acts whose objects' homes are on shards among these
+abbrev pub footprint_on : Deeds → List ℕ
+footprint_on deeds = each_once (shard_at deeds.home) (shard_at deeds.other)
+
+-- an item that is stored is the worker's next
+abbrev pub IsNextIf : WorkerState → Reply → Type 0
+IsNextIf w (ItemStored id) = id ≡ next_item w
+IsNextIf w (BidStored id) = ⊤
+IsNextIf w (CommentStored id) = ⊤
+IsNextIf w (Bought id) = ⊤
+IsNextIf w (ItemSeen seller category name start closes highest bidder bids left) = ⊤
+IsNextIf w (BidsSeen bids) = ⊤
+IsNextIf w (CategorySeen items) = ⊤
+IsNextIf w (UserSeen rating comments) = ⊤
+IsNextIf w (Refused reason) = ⊤
+
+-- an act can be done on a shard that has come to these contents, and is no false look
+abbrev pub IsGood : Shard → Contents → Act → Type 0
+IsGood shard now act = CanActOn (opening_of shard) (shard_number shard) (shard_count shard) (rooms shard) now act × IsTrueAct now act
+
+-- two acts, whose objects lie in these shards or in none, are good on the shard that is held, where it is theirs
+pub record AreGoodOn (a b : Option ℕ) (x y : Act) (held : HeldState) : Type 0 where
+  pub first : a ≡ Some held.number → IsGood held.shard (contents held.shard) x
+  pub second : b ≡ Some held.number → IsGood held.shard (contents held.shard) y
+  -- the second one after the first one too
+  pub after : a ≡ Some held.number → b ≡ Some held.number → IsGood held.shard (after_act (contents held.shard) x) y

@@ -1,0 +1,14 @@
+pub mod Stashes
+pub mod Slicing
+pub mod Txns
+pub mod Works
+pub mod Workers
+pub mod Putting
+pub mod Pairs
+pub mod Taking
+pub mod Takens
+pub mod Performing
+pub mod Homes
+pub mod Deeds
+pub mod Begun
+pub mod Replying

@@ -1,0 +1,130 @@
+-- The shards that a transaction takes, each once.
+use Rattle.std.specs.Prelude.{◌≡◌, ℕ, ◌<◌, ◌==◌, if◌then◌else◌, Bool, true, false, List, [], ◌∷◌, ◌++◌, map, length, Option, Some, None, ⊤}
+use Rattle.std.specs.List.{AllByRecursion, list_any}
+use Rattle.item_shards.specs.declared.acts.Act.{Act}
+use Rattle.item_shards.specs.declared.acts.Act.TheVariants.{Look}
+use Rattle.item_shards.specs.declared.acts.Shown.TheVariants as shown
+use Rattle.item_shards.specs.ShardContents.{clock, contents}
+use Rattle.shard_boxes.specs.declared.line.Line.{Line}
+use Rattle.shard_boxes.specs.Helds.{HeldState}
+use Rattle.shard_boxes.specs.Keys.{BoxId, KeyState, seat_at, lines_at, seen_at, holds_at}
+use Rattle.shard_boxes.specs.Lines.{AreTrueOf}
+use Rattle.shard_boxes.specs.States.{ShardState}
+use Rattle.phase_permits.specs.declared.homes.Home.{Home}
+use Rattle.phase_permits.specs.declared.homes.Home.TheVariants as home
+use Rattle.phase_permits.specs.declared.homes.Homes.{Homes}
+use Rattle.phase_permits.specs.declared.taken.Taken.{Taken}
+use Rattle.phase_permits.specs.declared.taken.Taken.TheVariants as taken
+use Rattle.phase_permits.specs.Pairs.{IsAsTaken, HasSameLines}
+use Rattle.phase_permits.specs.Workers.{IsIdle}
+use Rattle.phase_permits.specs.Putting.{CanDo, KeepsSeen, HasPut, line_of}
+
+-- the shard of an object, where it lies in one
+abbrev pub shard_at : Home → Option ℕ
+shard_at home.Nowhere = None
+shard_at (home.Slice place) = None
+shard_at (home.Shard shard) = Some shard
+
+-- two shards, each once
+abbrev pub each_once : Option ℕ → Option ℕ → List ℕ
+each_once None None = []
+each_once None (Some other) = other ∷ []
+each_once (Some item) None = item ∷ []
+each_once (Some item) (Some other) = if item == other then item ∷ [] else item ∷ other ∷ []
+
+-- the footprint of a request whose objects are found so: each shard once, the item's first
+abbrev pub footprint_of : Homes → List ℕ
+footprint_of homes = each_once (shard_at homes.item) (shard_at homes.other)
+
+-- the shards that were taken, in that order
+abbrev pub held_in : {N : Type 0} → Taken N → List HeldState
+held_in taken.Nothing = []
+held_in (taken.One one) = one ∷ []
+held_in (taken.Two item other) = item ∷ other ∷ []
+
+-- whether a shard is one of these
+abbrev pub is_one_of : List ℕ → ℕ → Bool
+is_one_of shards t = list_any (λ s. s == t) shards
+
+-- The key has taken these shards, each once, and holds no other.
+pub record HasTakenAll (opening : List ShardState) (workers : ℕ) (old new : KeyState) (shards : List ℕ) (held : List HeldState) : Type 0 where
+  -- what is held are these shards
+  pub numbers : map (λ h. h.number) held ≡ shards
+  -- each is as the key took it
+  pub taken : AllByRecursion (IsAsTaken opening workers new) held
+  -- the key holds them and no other
+  pub holds : (t : ℕ) → holds_at new t ≡ is_one_of shards t
+  -- no other seat of the key has changed
+  pub others : (t : ℕ) → is_one_of shards t ≡ false → seat_at new t ≡ seat_at old t
+  -- no line was put, and what the key has seen goes on
+  pub lines : HasSameLines old new
+
+-- no number stands twice
+abbrev pub AreApart : List ℕ → Type 0
+AreApart [] = ⊤
+AreApart (shard ∷ shards) = (is_one_of shards shard ≡ false) × AreApart shards
+
+-- the numbers of these shards
+abbrev pub numbers_of : List HeldState → List ℕ
+numbers_of held = map (λ h. h.number) held
+
+-- Shards that the key holds, and no other, each as it was taken: they can go back to these boxes.
+pub record AreHeldAll (opening : List ShardState) (workers : ℕ) (boxes : List BoxId) (key : KeyState) (held : List HeldState) : Type 0 where
+  -- the key is for these boxes
+  pub boxes_are : key.boxes ≡ boxes
+  -- each stands once
+  pub apart : AreApart (numbers_of held)
+  -- there is a seat for each
+  pub known : AllByRecursion (λ h. h.number < length key.seats) held
+  -- the key holds them and no other
+  pub holds : (t : ℕ) → holds_at key t ≡ is_one_of (numbers_of held) t
+  -- each is as the key took it
+  pub taken : AllByRecursion (IsAsTaken opening workers key) held
+
+-- The shards that were held went back as they were: only the key's holding them has changed.
+pub record AreBack (old new : KeyState) : Type 0 where
+  pub lines : HasSameLines old new
+  pub seen : (t : ℕ) → seen_at new t ≡ seen_at old t
+  pub others : (t : ℕ) → holds_at old t ≡ false → seat_at new t ≡ seat_at old t
+  pub idle : IsIdle new
+
+-- The shards that were taken were put back, each with the line that it was owed, and no other one was taken.
+pub record HasPutAll (opening : List ShardState) (old new : KeyState) (took : ℕ → Bool) (owed : ℕ → Line) : Type 0 where
+  pub lines : (t : ℕ) → lines_at new t ≡ (if took t then lines_at old t ++ owed t ∷ [] else lines_at old t)
+  pub puts : (t : ℕ) → took t ≡ true → HasPut opening old new t (owed t)
+  pub others : (t : ℕ) → took t ≡ false → seat_at new t ≡ seat_at old t
+  pub seen : KeepsSeen old new
+  pub idle : IsIdle new
+  pub worker : new.worker ≡ old.worker
+  pub boxes : new.boxes ≡ old.boxes
+  pub seats : length new.seats ≡ length old.seats
+
+abbrev pub no_line : Line
+no_line = record { number = 0; before = 0; index = 0; acts = [] }
+
+-- the line of its acts on each of some shards
+abbrev pub line_among : ℕ → ℕ → List HeldState → List (List Act) → ℕ → Line
+line_among number index [] acts t = no_line
+line_among number index (h ∷ held) [] t = no_line
+line_among number index (h ∷ held) (a ∷ acts) t = if h.number == t then line_of number index a h.shard else line_among number index held acts t
+
+-- two acts on shards: both on the one, or one on each of two
+abbrev pub alone : Act → List Act
+alone act = act ∷ Look shown.Nothing ∷ []
+
+abbrev pub dealt : {N : Type 0} → Taken N → Act → Act → List (List Act)
+dealt taken.Nothing first second = []
+dealt (taken.One one) first second = (first ∷ second ∷ []) ∷ []
+dealt (taken.Two item other) first second = alone first ∷ alone second ∷ []
+
+-- these acts can be done on a shard at a number, and look at what is there
+pub record CanBeDoneOn (number : ℕ) (held : HeldState) (acts : List Act) : Type 0 where
+  pub later : clock held.shard < number
+  pub can : CanDo held.shard acts
+  pub looks : AreTrueOf (contents held.shard) acts
+
+-- so it is with each of some shards
+abbrev pub CanBeDoneOnAll : ℕ → List HeldState → List (List Act) → Type 0
+CanBeDoneOnAll number [] acts = ⊤
+CanBeDoneOnAll number (h ∷ held) [] = ⊥
+CanBeDoneOnAll number (h ∷ held) (a ∷ acts) = CanBeDoneOn number h a × CanBeDoneOnAll number held acts

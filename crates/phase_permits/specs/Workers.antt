@@ -1,0 +1,210 @@
+-- A worker in a phase.
+use Rattle.std.specs.Prelude.{◌≡◌, ℕ, suc, ◌+◌, ◌-◌, ◌<◌, ◌≤◌, true, false, List, [], ◌∷◌, ◌++◌, Option, None, length, option_map, slice_get, ⊤}
+use Rattle.phase_laws.specs.Numbers.{last_by}
+use Rattle.auction_rows.specs.declared.ids.ItemId.{ItemId}
+use Rattle.auction_rows.specs.declared.ids.Object.{Object}
+use Rattle.auction_rows.specs.declared.ids.Object.TheVariants.{Item}
+use Rattle.auction_rows.specs.declared.limits.TheConstants.{MOST_OF_A_WORKER}
+use Rattle.auction_rows.specs.declared.numbers.Opening.{Opening}
+use Rattle.auction_rows.specs.declared.replies.Reply.{Reply}
+use Rattle.auction_rows.specs.declared.requests.Request.{Request}
+use Rattle.auction_rows.specs.declared.rows.Entry.{Entry}
+use Rattle.auction_rows.specs.Footprint.{is_hot}
+use Rattle.auction_rows.specs.Replies.{row_of}
+use Rattle.item_shards.specs.Writing.{writes_if}
+use Rattle.shard_boxes.specs.Keys.{KeyState, lines_at, holds_at}
+use Rattle.worker_journals.specs.Journals.{JournalView, entry_number, commit_in, with_commit}
+use Rattle.phase_permits.specs.declared.counters.Counters.{Counters}
+use Rattle.phase_permits.specs.declared.read_set.ReadSet.{ReadSet}
+use Rattle.phase_permits.specs.declared.slices.Hot.{Hot}
+use Rattle.phase_permits.specs.Slicing.{objects_of, slices_of, stocks_of, after_acts, AreFew}
+use Rattle.phase_permits.specs.Stashes.{StashState, without_first}
+use Rattle.phase_permits.specs.Txns.{Setting, Txn, counted}
+use Rattle.phase_permits.specs.Works.{Work, IsWorkOf}
+
+-- its right to take shards, and what no other worker touches
+pub record WorkerState : Type 0 where
+  -- its right to take shards
+  pub key : KeyState
+  -- the users and categories
+  pub opening : Opening
+  -- the counters and the clock with which it began
+  pub begun : Counters × ℕ
+  -- what it has stored of each kind, and committed
+  pub counters : Counters
+  -- what it has committed in this phase
+  pub journal : JournalView
+  -- what waits
+  pub stash : StashState
+  -- of what is hot: none in a joined phase
+  pub slices : List (Object × Hot)
+  -- how many requests of its quota are left
+  pub left : ℕ
+  -- how often it tried
+  pub tries : ℕ
+  -- the number of its last commit, or the clock with which it began
+  pub clock : ℕ
+  -- the transactions behind its journal
+  pub txns : List Txn
+
+-- the phase with so many shards
+abbrev pub setting_of : WorkerState → ℕ → Setting
+setting_of w shards = record { opening = w.opening; shards = shards; stocks = stocks_of w.slices }
+
+-- the object is one of the slices'
+abbrev pub IsHot : WorkerState → Object → Type 0
+IsHot w object = is_hot (objects_of w.slices) object ≡ true
+
+-- the id of its next item
+abbrev pub next_item : WorkerState → ItemId
+next_item w = record { worker = w.journal.worker; serial = w.counters.items }
+
+-- its next entry
+abbrev pub next_entry : WorkerState → ℕ → ℕ → Request → Reply → Entry
+next_entry w number index request reply = commit_in w.journal number index request reply
+
+-- the transaction of a commit at this number that found this
+abbrev pub txn_of : WorkerState → ℕ → Request → ℕ → Reply → ReadSet → Txn
+txn_of w number request index reply found = (next_entry w number index request reply, found)
+
+-- what is found where no shard is taken
+abbrev pub nothing : ReadSet
+nothing = record { stock = None; clocks = None ∷ None ∷ [] }
+
+-- the transaction of a commit that takes no shard: its number follows its worker's last
+abbrev pub hot_txn : WorkerState → Request → ℕ → Reply → Txn
+hot_txn w request index reply = txn_of w (suc w.clock) request index reply nothing
+
+-- the reply of the last of some entries
+abbrev pub last_reply : List Entry → Option Reply
+last_reply entries = option_map (λ entry. entry.reply) (slice_get entries (length entries - 1))
+
+-- no more stores of a kind than commits
+pub record AreCounted (counters : Counters) : Type 0 where
+  pub items : counters.items ≤ counters.commits
+  pub bids : counters.bids ≤ counters.commits
+  pub comments : counters.comments ≤ counters.commits
+  pub buys : counters.buys ≤ counters.commits
+
+-- there is room for what is left and what waits, in the journal and in the counters, and the clock has not gone back
+pub record HasRoom (w : WorkerState) : Type 0 where
+  pub counted : AreCounted w.counters
+  pub limit : w.counters.commits + length w.stash.requests + w.left ≤ MOST_OF_A_WORKER
+  pub room : length w.journal.entries + length w.stash.requests + w.left ≤ w.journal.room
+  pub latest : last_by entry_number 0 w.journal.entries ≤ w.clock
+
+-- there is room in the stash for what is left of the quota, where something is hot: elsewhere nothing is put off
+abbrev pub HasStashRoom : List (Object × Hot) → ℕ → ℕ → Type 0
+HasStashRoom [] left room = ⊤
+HasStashRoom (hot ∷ more) left room = left ≤ room
+
+-- no hot item is one that the worker has still to store: of its own the serials are less than its count of items
+abbrev pub AreStored : ℕ → Counters → List (Object × Hot) → Type 0
+AreStored worker counters hots = (item : ItemId) → is_hot (objects_of hots) (Item item) ≡ true → item.worker ≡ worker → item.serial < counters.items
+
+-- What is true of every worker, also while it holds shards.
+pub record IsLawful (w : WorkerState) : Type 0 where
+  pub room : HasRoom w
+  -- no slice has more operations than the worker has commits
+  pub few : AreFew w.counters.commits w.slices
+  pub stash_room : HasStashRoom w.slices w.left w.stash.room
+  -- no hot item is one that it has still to store
+  pub stored : AreStored w.journal.worker w.counters w.slices
+
+-- the worker after a commit of the quota, but for its slices: its key is as the puts left it
+abbrev pub with_entry : WorkerState → ℕ → ℕ → Request → Reply → ReadSet → WorkerState
+with_entry w number index request reply found = record w {
+  counters = counted w.counters reply;
+  journal = with_commit w.journal number index request reply;
+  left = w.left - 1;
+  clock = number;
+  txns = w.txns ++ (next_entry w number index request reply, found) ∷ [];
+}
+
+-- and with the operation that its slices get
+abbrev pub after_commit : WorkerState → ℕ → ℕ → Request → Reply → ReadSet → WorkerState
+after_commit w number index request reply found = record (with_entry w number index request reply found) {
+  slices = after_acts w.slices (writes_if (row_of w.journal.worker request reply));
+}
+
+-- after a request of the quota was put off
+abbrev pub after_putting_off : WorkerState → ℕ → Request → WorkerState
+after_putting_off w index request = record w {
+  stash = record w.stash { requests = w.stash.requests ++ (index, request) ∷ []; room = w.stash.room - 1 };
+  left = w.left - 1;
+}
+
+-- after the first request of the stash was called into the quota
+abbrev pub with_first_called : WorkerState → WorkerState
+with_first_called w = record w { stash = without_first w.stash; left = w.left + 1 }
+
+-- with one try more
+abbrev pub with_try : WorkerState → WorkerState
+with_try w = record w { tries = w.tries + 1 }
+
+-- the key holds no shard
+abbrev pub IsIdle : KeyState → Type 0
+IsIdle key = (shard : ℕ) → holds_at key shard ≡ false
+
+-- what the worker has done
+abbrev pub work_of : WorkerState → Work
+work_of w = record {
+  opened = w.begun.0;
+  start = w.begun.1;
+  entries = w.journal.entries;
+  lines = λ shard. lines_at w.key shard;
+  clock = w.clock;
+  counters = w.counters;
+  slices = w.slices;
+  txns = w.txns;
+}
+
+-- A worker between two requests, in a phase with so many shards: its journal is its key's worker's, the key holds no shard, and all that it has done is
+-- explained by one list of transactions.
+pub record IsExplained (shards : ℕ) (w : WorkerState) : Type 0 where
+  pub worker : w.journal.worker ≡ w.key.worker
+  pub idle : IsIdle w.key
+  pub work : IsWorkOf (setting_of w shards) w.key.worker (work_of w)
+
+-- a worker as a phase begins
+abbrev pub new_worker : KeyState → Opening → Counters → JournalView → StashState → List (Object × Hot) → ℕ → ℕ → WorkerState
+new_worker key opening counters journal stash slices quota clock = record {
+  key = key;
+  opening = opening;
+  begun = (counters, clock);
+  counters = counters;
+  journal = journal;
+  stash = stash;
+  slices = slices;
+  left = quota;
+  tries = 0;
+  clock = clock;
+  txns = [];
+}
+
+-- the key holds no shard, and no line was put by it
+abbrev pub IsUnused : KeyState → Type 0
+IsUnused key = (shard : ℕ) → (holds_at key shard ≡ false) × (lines_at key shard ≡ [])
+
+-- counters that have counted nothing
+abbrev pub no_counters : Counters
+no_counters = record { items = 0; bids = 0; comments = 0; buys = 0; commits = 0 }
+
+-- With this a worker can start a phase.
+pub record CanStart (w : WorkerState) : Type 0 where
+  -- its key holds no shard, and put no line
+  pub key : IsUnused w.key
+  -- the journal is the key's worker's, and empty
+  pub worker : w.journal.worker ≡ w.key.worker
+  pub empty : w.journal.entries ≡ []
+  -- nothing is applied to the slices
+  pub identities : w.slices ≡ slices_of (stocks_of w.slices) []
+  -- the journal has room for what waits and for the quota
+  pub room : length w.stash.requests + w.left ≤ w.journal.room
+  -- so has the stash for the quota, where something is hot
+  pub stash_room : HasStashRoom w.slices w.left w.stash.room
+  -- and so have the counters, which count no more stores of a kind than commits
+  pub limit : w.counters.commits + length w.stash.requests + w.left ≤ MOST_OF_A_WORKER
+  pub counted : AreCounted w.counters
+  -- no hot item is one that it has still to store
+  pub stored : AreStored w.journal.worker w.counters w.slices

@@ -1,0 +1,96 @@
+//! What a store is answered, by what it sees of the item that it needs.
+ghost use Rattle.std.specs.Prelude.{◌≡◌, ℕ, None, Some, false};
+ghost use Rattle.auction_rows.specs.declared.ids.Object.{Object as ObjectValue};
+ghost use Rattle.auction_rows.specs.declared.ids.ItemId.{ItemId as ItemIdValue};
+ghost use Rattle.auction_rows.specs.Refusals.{number_refusal};
+ghost use Rattle.auction_rows.specs.Requests.{is_view, item_of};
+ghost use Rattle.auction_rows.specs.StoreReplies.{reply_of};
+
+use crate::homes::{Home, Homes};
+use crate::taken::{Taken, stock_in};
+use crate::worker::Worker;
+use auction_rows::{BidId, BuyId, CommentId, Facts, ItemId, Request, StoreReply, item_of};
+use item_shards::refusal_with;
+use shard_boxes::PhaseName;
+
+impl<N: PhaseName> Worker<N> {
+    ghost use Rattle.phase_permits.specs.Begun.{FirstHas};
+    ghost use Rattle.phase_permits.specs.Deeds.{IsReplyBy, stock_on};
+    ghost use Rattle.phase_permits.specs.Homes.{IsHomeOf};
+    ghost use Rattle.phase_permits.specs.Slicing.{stocks_of, stock_of};
+    ghost use Rattle.phase_permits.specs.Takens.{shard_at};
+    ghost use Rattle.phase_permits.specs.Txns.{Answers};
+
+    /// What a store sees of the item that it needs: of a hot one what is fixed, of another one what its shard has.
+    #[inline(always)]
+    pub(crate) fn seen(
+        &self,
+        taken: &Taken<N>,
+        request: &Request,
+        homes: &Homes,
+    ) -> Option<(Facts, u32)>
+        requires there { (item : ItemIdValue) → (t : ℕ) → item_of request.now ≡ Some item → shard_at homes.now.item ≡ Some t → FirstHas taken.now item }
+        ensures fixed { (object : ObjectValue) → (shards : ℕ) → IsHomeOf self.now.slices shards object homes.now.item → shard_at homes.now.item ≡ None
+            → result ≡ stock_of (stocks_of self.now.slices) object }
+        ensures found { (item : ItemIdValue) → (t : ℕ) → item_of request.now ≡ Some item → shard_at homes.now.item ≡ Some t → result ≡ stock_on taken.now item }
+    {
+        match (homes.item, item_of(*request)) {
+            (Home::Shard(_), Some(item)) => stock_in(taken, item),
+            (home, _) => self.fixed(home),
+        }
+    }
+
+    /// What is fixed of an item with this home, where that is hot.
+    #[inline(always)]
+    pub(crate) fn fixed(&self, home: Home) -> Option<(Facts, u32)>
+        ensures { (object : ObjectValue) → (shards : ℕ) → IsHomeOf self.now.slices shards object home → shard_at home ≡ None → result ≡ stock_of (stocks_of self.now.slices) object }
+    {
+        if let Home::Slice(place) = home {
+            self.slices.stock_at(place)
+        } else {
+            None
+        }
+    }
+
+    /// The reply to a store that the opening does not refuse: the first reason of its item to refuse it, by what was
+    /// seen of that, or else the worker's next id of the kind.
+    #[inline(always)]
+    pub(crate) fn reply(&self, seen: &Option<(Facts, u32)>, request: &Request) -> StoreReply
+        requires allowed { number_refusal self.now.opening request.now ≡ None }
+        requires store { is_view request.now ≡ false }
+        ensures { IsReplyBy self.now seen.now request.now (reply_of result) }
+    {
+        match refusal_with(seen, request) {
+            Some(reason) => StoreReply::Refused(reason),
+            None => self.accept(request),
+        }
+    }
+
+    // The worker's next id of the kind of a store.
+    #[inline(always)]
+    fn accept(&self, request: &Request) -> StoreReply
+        requires store { is_view request.now ≡ false }
+        ensures { Answers self.now.counters self.now.journal.worker request.now (reply_of result) }
+    {
+        let worker = self.journal.worker();
+        match *request {
+            Request::StoreItem { .. } => StoreReply::ItemStored(ItemId {
+                worker,
+                serial: self.counters.items,
+            }),
+            Request::StoreBid { .. } => StoreReply::BidStored(BidId {
+                worker,
+                serial: self.counters.bids,
+            }),
+            Request::StoreComment { .. } => StoreReply::CommentStored(CommentId {
+                worker,
+                serial: self.counters.comments,
+            }),
+            Request::BuyNow { .. } => StoreReply::Bought(BuyId {
+                worker,
+                serial: self.counters.buys,
+            }),
+            _ => unreachable!(),
+        }
+    }
+}

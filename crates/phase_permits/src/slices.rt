@@ -1,0 +1,295 @@
+//! A worker's slices of the objects that are split.
+ghost use Rattle.std.specs.Prelude.{◌≡◌, ◌-◌, ◌↔◌, ◌++◌, ◌∷◌, [], IfOk, IfSome, IsNone, ℕ, length, take, is_some};
+ghost use Rattle.std.specs.List.{IsDistinct, AllByRecursion};
+ghost use Rattle.item_shards.specs.declared.slices.Slice.{Slice as SliceValue};
+ghost use Rattle.phase_permits.specs.Slicing.{HasAtMost};
+
+use crate::homes::{Home, Homes};
+use auction_rows::{
+    BidEntry, Facts, ItemEntry, MOST_OF_A_WORKER, Object, Request, Stars, StoreReply, shard_of,
+};
+use indexmap::IndexMap;
+use item_shards::{CategorySlice, ItemSlice, Slice, UserSlice};
+use split_records::Splittable;
+use std::alloc::{AllocError, Global};
+use std::marker::Model;
+
+/// An operation on the slices of one kind of objects.
+pub(crate) trait Operation: Copy {
+    /// A slice after it, where that is of its kind.
+    ghost applied: { Self → SliceValue → SliceValue };
+
+    /// Applies it, where the slice is of its kind.
+    fn apply_to(self, slice: &mut Slice)
+        requires { HasAtMost MOST_OF_A_WORKER slice.old }
+        ensures { slice.new ≡ applied self slice.old };
+}
+
+impl Operation for BidEntry {
+    ghost use Rattle.phase_permits.specs.Slicing.{bid_on};
+
+    ghost applied = { bid_on };
+
+    #[inline(always)]
+    fn apply_to(self, slice: &mut Slice) {
+        if let Slice::Item(bids) = slice {
+            bids.apply(self);
+        }
+    }
+}
+
+impl Operation for Stars {
+    ghost use Rattle.phase_permits.specs.Slicing.{comment_about};
+
+    ghost applied = { comment_about };
+
+    fn apply_to(self, slice: &mut Slice) {
+        // From -5 to 5, so that the rating fits.
+        let _known = self.value();
+        if let Slice::User(comments) = slice {
+            comments.apply(self);
+        }
+    }
+}
+
+impl Operation for ItemEntry {
+    ghost use Rattle.phase_permits.specs.Slicing.{item_listed};
+
+    ghost applied = { item_listed };
+
+    fn apply_to(self, slice: &mut Slice) {
+        if let Slice::Category(items) = slice {
+            items.apply(self);
+        }
+    }
+}
+
+/// What a worker holds of a hot object: of an item its facts and how many are left, which are fixed while it is
+/// split, and the slice.
+#[derive(Drop)]
+pub struct Hot {
+    pub stock: Option<(Facts, u32)>,
+    pub slice: Slice,
+}
+
+impl Hot {
+    ghost use Rattle.item_shards.specs.Values.{blank};
+    ghost use Rattle.phase_permits.specs.Slicing.{slice_of};
+
+    // Of an object to which nothing is applied.
+    fn new(object: Object, stock: Option<(Facts, u32)>) -> Hot
+        ensures { result ≡ record { stock = stock; slice = slice_of object blank } }
+    {
+        let slice = match object {
+            Object::Item(_) => Slice::Item(ItemSlice::identity()),
+            Object::User(_) => Slice::User(UserSlice::identity()),
+            Object::Category(_) => Slice::Category(CategorySlice::identity()),
+        };
+        Hot { stock, slice }
+    }
+}
+
+// How many guesses of a place there are.
+const GUESSES: u32 = 64;
+
+/// A worker's slices of the hot objects of a split phase, in the order handed in. Contracts see the list of the
+/// objects with what is held of each.
+#[derive(Drop)]
+pub struct Slices {
+    hot: IndexMap<Object, Hot>,
+    // Where an object may be: whoever asks looks at the object that is there, so nothing relies on it.
+    guesses: [u8; 64],
+}
+
+impl Model for Slices {
+    ghost use Rattle.std.specs.Prelude.{List};
+    ghost use Rattle.auction_rows.specs.declared.ids.Object.{Object};
+    ghost use Rattle.std.specs.List.{AllByRecursion};
+    ghost use Rattle.phase_permits.specs.declared.slices.Hot.{Hot};
+    ghost use Rattle.phase_permits.specs.Slicing.{stocks_of, IsStocked};
+
+    ghost Value = { List (Object × Hot) };
+
+    ghost view = { λ s. s.hot.entries };
+
+    ghost invariant = { λ s. AllByRecursion IsStocked (stocks_of s.hot.entries) };
+}
+
+impl Slices {
+    ghost use Rattle.auction_rows.specs.declared.ids.Object.{Object};
+    ghost use Rattle.auction_rows.specs.Requests.{same_object};
+    ghost use Rattle.auction_rows.specs.Footprint.{is_hot};
+    ghost use Rattle.phase_permits.specs.Slicing.{objects_of, slices_of, stocks_of, stock_of, slices_in, changed, after_acts, IsAt, IsStocked, AreFew};
+    ghost use Rattle.std.specs.Prelude.{◌+◌};
+    ghost use Rattle.auction_rows.specs.Replies.{row_of};
+    ghost use Rattle.auction_rows.specs.StoreReplies.{reply_of};
+    ghost use Rattle.item_shards.specs.Writing.{writes_if};
+    ghost use Rattle.phase_permits.specs.Homes.{IsHomeOf, IsWrittenAt};
+    ghost use Rattle.phase_permits.specs.Txns.{IsOwn};
+
+    /// No slice: nothing is hot. It takes no memory.
+    pub(crate) fn none(alloc: Global) -> Slices
+        ensures { result ≡ [] }
+    {
+        Slices {
+            hot: IndexMap::new(alloc),
+            guesses: [0; 64],
+        }
+    }
+
+    /// An identity slice of each of these objects, none of which is named twice; an item comes with its facts and
+    /// how many are left.
+    pub fn new(alloc: Global, hot: &[(Object, Option<(Facts, u32)>)]) -> Result<Slices, AllocError>
+        requires distinct { IsDistinct same_object (objects_of hot.now) }
+        requires stocked { AllByRecursion IsStocked hot.now }
+        ensures { IfOk result (λ slices. slices ≡ slices_of hot.now []) }
+    {
+        let mut slices = IndexMap::with_capacity(alloc, hot.len())?;
+        for (object, stock) in hot {
+            match slices.insert(*object, Hot::new(*object, *stock)) {
+                Ok(_) => {}
+                Err(_) => return Err(AllocError),
+            }
+        }
+        let guesses = guesses_of(&slices);
+        Ok(Slices {
+            hot: slices,
+            guesses,
+        })
+    }
+
+    /// Takes out the last object with its slice: None exactly where none is left.
+    pub fn pop(&mut self) -> Option<(Object, Slice)>
+        ensures last { IfSome result (λ pair. slices_in self.old ≡ slices_in self.new ++ pair ∷ []) }
+        ensures rest { self.new ≡ take (length self.old - 1) self.old }
+        ensures none { IsNone result ↔ (self.old ≡ []) }
+    {
+        let (object, hot) = self.hot.pop()?;
+        Some((object, hot.slice))
+    }
+
+    /// The place of an object: None exactly where it is not hot.
+    #[inline(always)]
+    pub(crate) fn place_of(&self, object: Object) -> Option<usize>
+        ensures hot { is_some result ≡ is_hot (objects_of self.now) object }
+        ensures at { IfSome result (λ place. IsAt self.now place object) }
+        ensures stocked { AllByRecursion IsStocked (stocks_of self.now) }
+    {
+        if self.hot.is_empty() {
+            return None;
+        }
+        if let Some(place) = self.guessed(object) {
+            return Some(place);
+        }
+        self.hot.get_index_of(&object)
+    }
+
+    // The place that is guessed for an object, where that stands there.
+    #[inline(always)]
+    fn guessed(&self, object: Object) -> Option<usize>
+        ensures { IfSome result (λ place. IsAt self.now place object) }
+    {
+        let guess = self.guesses.get(guess_for(object))?;
+        let place = *guess as usize;
+        let (there, _) = self.hot.get_index(place)?;
+        if *there == object { Some(place) } else { None }
+    }
+
+    /// What is fixed of the object at a place: of an item its facts, and how many are left.
+    #[inline(always)]
+    pub(crate) fn stock_at(&self, place: usize) -> Option<(Facts, u32)>
+        ensures { (object : Object) → IsAt self.now place object → result ≡ stock_of (stocks_of self.now) object }
+    {
+        match self.hot.get_index(place) {
+            Some((_, hot)) => hot.stock,
+            None => None,
+        }
+    }
+
+    /// Applies an operation to the slice at a place, where that is of its kind.
+    #[inline(always)]
+    pub(crate) fn apply<O: Operation>(&mut self, place: usize, operation: O)
+        requires { AreFew MOST_OF_A_WORKER self.old }
+        ensures { (object : Object) → IsAt self.old place object → self.new ≡ changed object (O.applied operation) self.old }
+    {
+        if let Some(hot) = self.hot.get_index_mut(place) {
+            operation.apply_to(&mut hot.slice);
+        }
+    }
+
+    // Applies an operation to the slice of an object with this home, where the object is hot and the slice of the
+    // operation's kind.
+    #[inline(always)]
+    fn apply_at<O: Operation>(&mut self, home: Home, operation: O)
+        requires { AreFew MOST_OF_A_WORKER self.old }
+        ensures { (object : Object) → (shards : ℕ) → IsHomeOf self.old shards object home → self.new ≡ changed object (O.applied operation) self.old }
+    {
+        if let Home::Slice(place) = home {
+            self.apply(place, operation);
+        }
+    }
+
+    /// Applies what a store writes to the slice of its object, where it is accepted and that is hot.
+    #[inline(always)]
+    pub(crate) fn store(&mut self, request: &Request, reply: StoreReply, homes: &Homes)
+        requires few { AreFew MOST_OF_A_WORKER self.old }
+        requires home { IsWrittenAt self.old request.now homes.now }
+        ensures written { (worker : ℕ) → IsOwn worker (reply_of reply) → self.new ≡ after_acts self.old (writes_if (row_of worker request.now (reply_of reply))) }
+        ensures few { (n : ℕ) → AreFew n self.old → AreFew (n + 1) self.new }
+    {
+        match *request {
+            Request::StoreItem { time, .. } => {
+                if let StoreReply::ItemStored(id) = reply {
+                    self.apply_at(homes.other, ItemEntry { time, id });
+                }
+            }
+            Request::StoreBid {
+                bidder,
+                amount,
+                time,
+                ..
+            } => {
+                if let StoreReply::BidStored(id) = reply {
+                    self.apply_at(
+                        homes.item,
+                        BidEntry {
+                            amount,
+                            time,
+                            id,
+                            bidder,
+                        },
+                    );
+                }
+            }
+            Request::StoreComment { stars, .. } => {
+                if let StoreReply::CommentStored(_) = reply {
+                    // From -5 to 5.
+                    let _known = stars.value();
+                    self.apply_at(homes.other, stars);
+                }
+            }
+            _ => {}
+        }
+    }
+}
+
+// A guess for each object: of two with the same one the last has it.
+fn guesses_of(hot: &IndexMap<Object, Hot>) -> [u8; 64] {
+    let mut guesses = [0; 64];
+    for place in 0u8..64 {
+        let Some((object, _)) = hot.get_index(place as usize) else {
+            break;
+        };
+        let guess = guess_for(*object);
+        if guess < guesses.len() {
+            guesses[guess] = place;
+        }
+    }
+    guesses
+}
+
+// Which of the guesses is that of an object's place.
+#[inline(always)]
+fn guess_for(object: Object) -> usize {
+    shard_of(object, GUESSES) as usize
+}

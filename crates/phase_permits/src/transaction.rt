@@ -1,0 +1,316 @@
+//! What a worker does with a request that is not put off.
+ghost use Rattle.std.specs.Prelude.{◌≡◌, ◌<◌, ◌≤◌, ◌↔◌, ℕ, None, Some, IsNone, IfNone, IfSome, IfOk, IfErr, false, true, length};
+ghost use Rattle.std.specs.List.{AllByRecursion};
+ghost use Rattle.auction_rows.specs.Refusals.{number_refusal};
+ghost use Rattle.auction_rows.specs.Requests.{is_view};
+ghost use Rattle.auction_rows.specs.StoreReplies.{reply_of};
+ghost use Rattle.item_shards.specs.CommitNumbers.{last_number};
+ghost use Rattle.shard_boxes.specs.Keys.{KeyState};
+ghost use Rattle.phase_permits.specs.declared.fault.PermitFault.TheVariants.{NumberFull};
+
+use crate::deeds::Deeds;
+use crate::fault::PermitFault;
+use crate::homes::Homes;
+use crate::read_set::ReadSet;
+use crate::store::Store;
+use crate::taken::{Begun, Deal, clock_of, clocks_of, make_room, put_all, put_back, take_all};
+use crate::viewing::view_on;
+use crate::worker::Worker;
+use auction_rows::{Refusal, Request, StoreReply, is_view, number_refusal};
+use ghost_log::Ghost;
+use item_shards::{Act, Shown, next_number};
+use shard_boxes::{Boxes, PhaseName};
+use std::alloc::AllocError;
+use std::sync::Wait;
+use worker_journals::{Answer, Told};
+
+impl<N: PhaseName> Worker<N> {
+    ghost use Rattle.phase_permits.specs.declared.homes.Homes.{Homes as HomesValue};
+    ghost use Rattle.phase_permits.specs.Begun.{HasBegun, HasFirst, HasRoomFor, IsSeen, states_in};
+    ghost use Rattle.phase_permits.specs.Deeds.{IsReplyBy};
+    ghost use Rattle.phase_permits.specs.Homes.{AreHomesOf, HasHomes, IsHotStore};
+    ghost use Rattle.phase_permits.specs.Performing.{asks, HasCommitted, HasCommittedSome, HasFailed, HasPerformed, HasStoredSome, HaveOpening, StoresItem};
+    ghost use Rattle.phase_permits.specs.Slicing.{objects_of};
+    ghost use Rattle.phase_permits.specs.Taking.{IsReady};
+    ghost use Rattle.phase_permits.specs.Takens.{footprint_of, is_one_of, held_in, shard_at};
+    ghost use Rattle.phase_permits.specs.Txns.{is_put_off};
+    ghost use Rattle.phase_permits.specs.Workers.{IsIdle};
+
+    /// Performs a request of the quota that is not put off. After a fault nothing has changed but what the key has
+    /// seen of the shards of its footprint.
+    #[inline(always)]
+    pub(crate) fn transact<R: Wait>(
+        &mut self,
+        rt: &R,
+        boxes: &Boxes<N>,
+        request: &Request,
+        index: u32,
+    ) -> Result<(), PermitFault>
+        requires of { self.old.key.boxes ≡ boxes.now }
+        requires idle { IsIdle self.old.key }
+        requires opened { HaveOpening N.opening self.old.opening }
+        requires goes { is_put_off (objects_of self.old.slices) request.now ≡ false }
+        requires left { 0 < self.old.left }
+        ensures { HasPerformed N.opening self.old self.new request.now index result }
+    {
+        // A bid has code of its own, in which no step asks what kind of request it is.
+        match *request {
+            Request::StoreBid { .. } => {
+                let bid = *request;
+                self.transact_in_place(rt, boxes, &bid, index)
+            }
+            _ => self.transact_apart(rt, boxes, request, index),
+        }
+    }
+
+    // As `transact`, by code that all other kinds share.
+    #[inline(never)]
+    fn transact_apart<R: Wait>(
+        &mut self,
+        rt: &R,
+        boxes: &Boxes<N>,
+        request: &Request,
+        index: u32,
+    ) -> Result<(), PermitFault>
+        requires of { self.old.key.boxes ≡ boxes.now }
+        requires idle { IsIdle self.old.key }
+        requires opened { HaveOpening N.opening self.old.opening }
+        requires goes { is_put_off (objects_of self.old.slices) request.now ≡ false }
+        requires left { 0 < self.old.left }
+        ensures { HasPerformed N.opening self.old self.new request.now index result }
+    {
+        self.transact_in_place(rt, boxes, request, index)
+    }
+
+    // As `transact`, by code that stands where it is called.
+    #[inline(always)]
+    fn transact_in_place<R: Wait>(
+        &mut self,
+        rt: &R,
+        boxes: &Boxes<N>,
+        request: &Request,
+        index: u32,
+    ) -> Result<(), PermitFault>
+        requires of { self.old.key.boxes ≡ boxes.now }
+        requires idle { IsIdle self.old.key }
+        requires opened { HaveOpening N.opening self.old.opening }
+        requires goes { is_put_off (objects_of self.old.slices) request.now ≡ false }
+        requires left { 0 < self.old.left }
+        ensures { HasPerformed N.opening self.old self.new request.now index result }
+    {
+        // One of the phase's workers.
+        let _worker = self.key.worker();
+        // Asked here, so that the code of a bid has no view in it.
+        let shows = is_view(*request);
+
+        // A request that the opening refuses takes no shard, nor does a store on hot objects alone.
+        if let Some(reason) = number_refusal(self.opening, *request) {
+            return self
+                .refuse(request, reason, index)
+                .ok_or(PermitFault::NumberFull);
+        }
+        let homes = self.homes(request, boxes.shards());
+        if homes.are_in_no_shard() {
+            return self
+                .store_hot(request, &homes, index)
+                .ok_or(PermitFault::NumberFull);
+        }
+
+        // The shards of the footprint are taken, in ascending order, each once, before anything is read.
+        let Some(mut begun) = self.begin(rt, boxes, request, &homes) else {
+            return Err(PermitFault::NumberFull);
+        };
+        if shows {
+            self.show(rt, boxes, begun, request, index);
+            return Ok(());
+        }
+        if self.prepare(&mut begun, request).is_err() {
+            let Begun { taken, number: _ } = begun;
+            put_back(rt, boxes, &mut self.key, taken);
+            return Err(PermitFault::Memory);
+        }
+
+        // Its item may refuse it.
+        let seen = self.seen(&begun.taken, request, &homes);
+        let reply = self.reply(&seen, request);
+        let store = Store {
+            request,
+            index,
+            homes: &homes,
+            seen: &seen,
+            reply,
+        };
+        self.put_store(rt, boxes, begun, &store);
+        Ok(())
+    }
+
+    /// Performs a store on hot objects alone: None exactly where the clock is at the end of numbers, and then nothing
+    /// has changed. It takes no shard and no memory.
+    pub(crate) fn perform_hot(&mut self, request: &Request, index: u32) -> Option<()>
+        requires hot { IsHotStore self.old.slices request.now }
+        requires left { 0 < self.old.left }
+        ensures none { IsNone result ↔ (last_number ≤ self.old.clock) }
+        ensures unchanged { IfNone result (self.new ≡ self.old) }
+        ensures stored { IfSome result (λ done. HasStoredSome self.old self.new request.now index) }
+    {
+        match number_refusal(self.opening, *request) {
+            Some(reason) => self.refuse(request, reason, index),
+            None => {
+                let homes = self.homes(request, 1);
+                self.store_hot(request, &homes, index)
+            }
+        }
+    }
+
+    /// Commits a request that the opening refuses: None exactly where the clock is at the end of numbers, and then
+    /// nothing has changed. It takes no shard and no memory.
+    #[inline(always)]
+    pub(crate) fn refuse(&mut self, request: &Request, reason: Refusal, index: u32) -> Option<()>
+        requires refused { number_refusal self.old.opening request.now ≡ Some reason }
+        requires goes { is_put_off (objects_of self.old.slices) request.now ≡ false }
+        requires left { 0 < self.old.left }
+        ensures none { IsNone result ↔ (last_number ≤ self.old.clock) }
+        ensures unchanged { IfNone result (self.new ≡ self.old) }
+        ensures stored { IfSome result (λ done. HasStoredSome self.old self.new request.now index) }
+    {
+        let number = next_number(self.clock, 0)?;
+        let answer = Answer {
+            told: Told::Store(StoreReply::Refused(reason)),
+        };
+        self.commit(number, index, request, &answer, &ReadSet::nothing());
+        Some(())
+    }
+
+    /// Performs a store on objects with these homes, of which none is in a shard, that the opening does not refuse:
+    /// None exactly where the clock is at the end of numbers, and then nothing has changed. It takes no shard and no
+    /// memory.
+    #[inline(always)]
+    pub(crate) fn store_hot(&mut self, request: &Request, homes: &Homes, index: u32) -> Option<()>
+        requires allowed { number_refusal self.old.opening request.now ≡ None }
+        requires store { is_view request.now ≡ false }
+        requires goes { is_put_off (objects_of self.old.slices) request.now ≡ false }
+        requires homes { HasHomes self.old request.now homes.now }
+        requires hot { shard_at homes.now.item ≡ None }
+        requires left { 0 < self.old.left }
+        ensures none { IsNone result ↔ (last_number ≤ self.old.clock) }
+        ensures unchanged { IfNone result (self.new ≡ self.old) }
+        ensures stored { IfSome result (λ done. HasStoredSome self.old self.new request.now index) }
+    {
+        let number = next_number(self.clock, 0)?;
+        let seen = self.fixed(homes.item);
+        let reply = self.reply(&seen, request);
+        let store = Store {
+            request,
+            index,
+            homes,
+            seen: &seen,
+            reply,
+        };
+        self.commit_store(number, &store, &ReadSet::nothing());
+        Some(())
+    }
+
+    // Takes the shards of a footprint, with the number after the worker's clock and theirs: None exactly where that
+    // is past the end of numbers, and then they went back as they were.
+    #[inline(always)]
+    fn begin<R: Wait>(
+        &mut self,
+        rt: &R,
+        boxes: &Boxes<N>,
+        request: &Request,
+        homes: &Homes,
+    ) -> Option<Begun<N>>
+        requires ready { IsReady N.opening boxes.now self.old.key }
+        requires allowed { number_refusal self.old.opening request.now ≡ None }
+        requires goes { is_put_off (objects_of self.old.slices) request.now ≡ false }
+        requires homes { AreHomesOf self.old (length N.opening) request.now homes.now }
+        requires asked { (t : ℕ) → asks (length N.opening) self.old request.now t ≡ is_one_of (footprint_of homes.now) t }
+        requires known { AllByRecursion (λ s. s < length N.opening) (footprint_of homes.now) }
+        ensures worker { self.new ≡ record self.old { key = self.new.key } }
+        ensures begun { IfSome result (λ begun.
+            HasBegun N.opening N.workers boxes.now self.old.key self.new request.now homes.now begun.taken begun.number) }
+        ensures full { IfNone result (HasFailed N.opening self.old self.new request.now NumberFull) }
+    {
+        let taken = take_all(rt, boxes, &mut self.key, homes);
+        let before = clock_of(&taken);
+        match next_number(self.clock, before) {
+            Some(number) => Some(Begun { taken, number }),
+            None => {
+                put_back(rt, boxes, &mut self.key, taken);
+                None
+            }
+        }
+    }
+
+    // Makes room for the item that a request stores, on the shard in which it will lie.
+    #[inline(always)]
+    fn prepare(&self, begun: &mut Begun<N>, request: &Request) -> Result<(), AllocError>
+        requires begun { HasFirst self.now request.now begun.old.taken }
+        ensures number { begun.new.number ≡ begun.old.number }
+        ensures same { states_in begun.new.taken ≡ states_in begun.old.taken }
+        ensures room { IfOk result (λ _. HasRoomFor self.now request.now begun.new.taken) }
+        ensures refused { IfErr result (λ _. StoresItem request.now) }
+    {
+        match request {
+            Request::StoreItem { .. } => make_room(&mut begun.taken, self.next_item()),
+            _ => Ok(()),
+        }
+    }
+
+    // Performs a view over its one shard, which shows what is viewed: apart, as no other request has room for a whole reply.
+    #[inline(never)]
+    fn show<R: Wait>(
+        &mut self,
+        rt: &R,
+        boxes: &Boxes<N>,
+        begun: Begun<N>,
+        request: &Request,
+        index: u32,
+    )
+        requires view { is_view request.now ≡ true }
+        requires opened { HaveOpening N.opening self.old.opening }
+        requires begun { (homes : HomesValue) × (key : KeyState) × HasBegun N.opening N.workers boxes.now key self.old request.now homes begun.taken begun.number }
+        requires left { 0 < self.old.left }
+        ensures { (homes : HomesValue) → (key : KeyState) → HasBegun N.opening N.workers boxes.now key self.old request.now homes begun.taken begun.number
+            → HasCommittedSome N.opening (record self.old { key = key }) self.new request.now index }
+    {
+        let Begun { taken, number } = begun;
+        let found = ReadSet {
+            stock: Ghost::of(&None),
+            clocks: clocks_of(&taken),
+        };
+        let (object, reply) = view_on(&taken, request);
+        let deal = Deal {
+            number,
+            index,
+            first: Act::Look(Shown::Reply(object, Ghost::of(&reply))),
+            second: Act::Look(Shown::Nothing),
+        };
+        put_all(rt, boxes, &mut self.key, taken, deal);
+        self.commit(number, index, request, &Answer::of(&reply), &found);
+    }
+
+    // Does what a store does on the shards that were taken, puts them back with their lines, and commits it.
+    #[inline(always)]
+    fn put_store<R: Wait>(&mut self, rt: &R, boxes: &Boxes<N>, begun: Begun<N>, store: &Store<'_>)
+        requires store { is_view store.now.request.now ≡ false }
+        requires opened { HaveOpening N.opening self.old.opening }
+        requires begun { (key : KeyState) × HasBegun N.opening N.workers boxes.now key self.old store.now.request.now store.now.homes.now begun.taken begun.number }
+        requires seen { IsSeen self.old store.now.request.now store.now.homes.now begun.taken store.now.seen.now }
+        requires room { HasRoomFor self.old store.now.request.now begun.taken }
+        requires answered { IsReplyBy self.old store.now.seen.now store.now.request.now (reply_of store.now.reply) }
+        requires left { 0 < self.old.left }
+        ensures { (key : KeyState) → HasBegun N.opening N.workers boxes.now key self.old store.now.request.now store.now.homes.now begun.taken begun.number
+            → HasCommitted N.opening (record self.old { key = key }) self.new store.now.request.now store.now.index (reply_of store.now.reply) }
+    {
+        let Begun { taken, number } = begun;
+        let found = ReadSet {
+            stock: Ghost::of(store.seen),
+            clocks: clocks_of(&taken),
+        };
+        let deeds = Deeds::of(store.request, store.reply, store.seen, store.homes);
+        let deal = deeds.deal(number, store.index);
+        put_all(rt, boxes, &mut self.key, taken, deal);
+        self.commit_store(number, store, &found);
+    }
+}

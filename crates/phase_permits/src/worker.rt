@@ -1,0 +1,269 @@
+//! A worker in a phase.
+ghost use Rattle.std.specs.Prelude.{◌≡◌, ◌<◌, ◌≤◌, ◌+◌, false, true, [], length, slice_get, Some, IfNone, IfSome};
+ghost use Rattle.auction_rows.specs.Footprint.{is_hot};
+ghost use Rattle.phase_permits.specs.Slicing.{objects_of, AreFew};
+
+use crate::counters::Counters;
+use crate::read_set::ReadSet;
+use crate::slices::Slices;
+use crate::stash::Stash;
+use crate::store::Store;
+use auction_rows::{Entry, ItemId, MOST_TRIES, Object, Opening, Reply, Request};
+use ghost_log::{Ghost, Log};
+use shard_boxes::{Key, PhaseName};
+use std::marker::Model;
+use worker_journals::{Answer, Journal, Told};
+
+/// What a worker has in a phase: its right to take shards, and what no other worker touches: its counters, its
+/// journal, its stash, its slices of what is split, the requests of its quota that are left, and its clock.
+#[derive(Drop)]
+pub(crate) struct Worker<N: PhaseName> {
+    pub(crate) key: Key<N>,
+    pub(crate) opening: Opening,
+    pub(crate) counters: Counters,
+    pub(crate) journal: Journal,
+    pub(crate) stash: Stash,
+    pub(crate) slices: Slices,
+    pub(crate) left: u32,
+    pub(crate) tries: u32,
+    pub(crate) clock: u64,
+    // What it began with, and its transactions: for proofs alone.
+    pub(crate) begun: Ghost<(Counters, u64)>,
+    pub(crate) txns: Log<Entry, ReadSet>,
+}
+
+impl<N: PhaseName> Model for Worker<N> {
+    ghost use Rattle.phase_permits.specs.Workers.{WorkerState, IsLawful};
+
+    ghost Value = { WorkerState };
+
+    ghost view = { λ w. record {
+      key = w.key;
+      opening = w.opening;
+      begun = w.begun;
+      counters = w.counters;
+      journal = w.journal;
+      stash = w.stash;
+      slices = w.slices;
+      left = w.left;
+      tries = w.tries;
+      clock = w.clock;
+      txns = w.txns.items;
+    } };
+
+    ghost invariant = { λ w. IsLawful (record {
+      key = w.key;
+      opening = w.opening;
+      begun = w.begun;
+      counters = w.counters;
+      journal = w.journal;
+      stash = w.stash;
+      slices = w.slices;
+      left = w.left;
+      tries = w.tries;
+      clock = w.clock;
+      txns = w.txns.items;
+    }) };
+}
+
+impl<N: PhaseName> Worker<N> {
+    ghost use Rattle.auction_rows.specs.declared.ids.Object.TheVariants.{Item};
+    ghost use Rattle.auction_rows.specs.StoreReplies.{reply_of};
+    ghost use Rattle.phase_permits.specs.Homes.{IsWrittenAt};
+    ghost use Rattle.phase_permits.specs.Txns.{is_put_off, IsOwn};
+    ghost use Rattle.phase_permits.specs.Workers.{CanStart, IsLawful, new_worker, next_item, last_reply, with_try, after_putting_off, with_first_called, with_entry, after_commit};
+
+    /// A worker as a phase begins. It takes no memory.
+    pub(crate) fn new(
+        key: Key<N>,
+        opening: Opening,
+        counters: Counters,
+        journal: Journal,
+        stash: Stash,
+        slices: Slices,
+        quota: u32,
+        clock: u64,
+    ) -> Worker<N>
+        requires { CanStart (new_worker key opening counters journal stash slices quota clock) }
+        ensures { result ≡ new_worker key opening counters journal stash slices quota clock }
+    {
+        Worker {
+            key,
+            opening,
+            counters,
+            journal,
+            stash,
+            slices,
+            left: quota,
+            tries: 0,
+            clock,
+            begun: Ghost::of(&(counters, clock)),
+            txns: Log::new(),
+        }
+    }
+
+    /// Counts a try.
+    #[inline(always)]
+    pub(crate) fn count_try(&mut self)
+        requires few { self.old.tries < MOST_TRIES }
+        ensures { self.new ≡ with_try self.old }
+    {
+        self.tries += 1;
+    }
+
+    /// The id of its next item, which is never hot.
+    #[inline(always)]
+    pub(crate) fn next_item(&self) -> ItemId
+        ensures next { result ≡ next_item self.now }
+        ensures cold { is_hot (objects_of self.now.slices) (Item result) ≡ false }
+    {
+        ItemId {
+            worker: self.journal.worker(),
+            serial: self.counters.items,
+        }
+    }
+
+    /// Whether an object is one of those that the slices are of.
+    #[inline(always)]
+    pub(crate) fn is_hot(&self, object: Object) -> bool
+        ensures { result ≡ is_hot (objects_of self.now.slices) object }
+    {
+        self.slices.place_of(object).is_some()
+    }
+
+    /// Whether a request waits for the next joined phase: it can't be split, and touches a hot object.
+    #[inline(always)]
+    pub(crate) fn is_put_off(&self, request: &Request) -> bool
+        ensures { result ≡ is_put_off (objects_of self.now.slices) request.now }
+    {
+        match *request {
+            Request::StoreItem { .. } | Request::StoreBid { .. } | Request::StoreComment { .. } => {
+                false
+            }
+            Request::BuyNow { item, .. } => self.is_hot(Object::Item(item)),
+            Request::ViewItem { item } => self.is_hot(Object::Item(item)),
+            Request::ViewBids { item } => self.is_hot(Object::Item(item)),
+            Request::ViewCategory { category } => self.is_hot(Object::Category(category)),
+            Request::ViewUser { user } => self.is_hot(Object::User(user)),
+        }
+    }
+
+    /// Puts off a request of the quota: no number is used. It takes no memory.
+    pub(crate) fn put_off(&mut self, index: u32, request: &Request)
+        requires put_off { is_put_off (objects_of self.old.slices) request.now ≡ true }
+        requires left { 0 < self.old.left }
+        ensures { self.new ≡ after_putting_off self.old index request.now }
+    {
+        self.left -= 1;
+        self.stash.push(index, *request);
+    }
+
+    /// Calls the first stashed request into the quota, where nothing is hot: None exactly where there is none, and
+    /// then nothing has changed. It takes no memory.
+    pub(crate) fn call_first(&mut self) -> Option<(u32, Request)>
+        requires joined { self.old.slices ≡ [] }
+        ensures first { result ≡ slice_get self.old.stash.requests 0 }
+        ensures none { IfNone result (self.new ≡ self.old) }
+        ensures called { IfSome result (λ _. self.new ≡ with_first_called self.old) }
+        ensures some { IfSome result (λ _. 0 < length self.old.stash.requests) }
+    {
+        let first = self.stash.get(0)?;
+        self.stash.forget_first();
+        self.left += 1;
+        Some(first)
+    }
+
+    /// Puts the request that was last called into the quota back in front of the stash. It takes no memory.
+    pub(crate) fn call_off(&mut self)
+        requires joined { self.old.slices ≡ [] }
+        requires called { 0 < length self.old.stash.done }
+        requires left { 0 < self.old.left }
+        ensures some { 0 < length self.new.stash.requests }
+        ensures before { self.old ≡ with_first_called self.new }
+    {
+        self.left -= 1;
+        self.stash.recall();
+    }
+
+    /// Commits a request of the quota, but for its slices, at a number after the clock. It takes no memory.
+    #[inline(always)]
+    pub(crate) fn commit(
+        &mut self,
+        number: u64,
+        index: u32,
+        request: &Request,
+        reply: &Answer<'_>,
+        found: &ReadSet,
+    )
+        requires left { 0 < self.old.left }
+        requires after { self.old.clock < number }
+        ensures entry { self.new ≡ with_entry self.old number index request.now reply.now found.now }
+        ensures few { AreFew self.old.counters.commits self.new.slices }
+    {
+        self.left -= 1;
+        self.counters.count(reply);
+        // For proofs alone, as the transactions are.
+        let entry = Entry {
+            phase: self.journal.phase(),
+            number,
+            worker: self.journal.worker(),
+            index,
+            request: *request,
+            reply: reply.to_reply(),
+        };
+        self.txns = self.txns.and(&entry, found);
+        self.journal.push_answer(number, index, request, reply);
+        self.clock = number;
+    }
+
+    /// Commits a store of the quota, at a number after the clock: the slice of what it writes has its operation,
+    /// where that is hot. It takes no memory.
+    #[inline(always)]
+    pub(crate) fn commit_store(&mut self, number: u64, store: &Store<'_>, found: &ReadSet)
+        requires left { 0 < self.old.left }
+        requires after { self.old.clock < number }
+        requires home { IsWrittenAt self.old.slices store.now.request.now store.now.homes.now }
+        requires own { IsOwn self.old.journal.worker (reply_of store.now.reply) }
+        ensures { self.new ≡ after_commit self.old number store.now.index store.now.request.now (reply_of store.now.reply) found.now }
+    {
+        let answer = Answer {
+            told: Told::Store(store.reply),
+        };
+        self.commit(number, store.index, store.request, &answer, found);
+        self.slices.store(store.request, store.reply, store.homes);
+    }
+
+    /// The reply of its last commit in this phase.
+    pub(crate) fn last_reply(&self) -> Reply
+        requires { 0 < length self.now.journal.entries }
+        ensures { last_reply self.now.journal.entries ≡ Some result }
+    {
+        let last = self.journal.entry(self.journal.len() - 1);
+        last.reply()
+    }
+
+    /// What a receipt gives of it.
+    pub(crate) fn parts(self) -> (Journal, Slices, Stash, Key<N>, Counters)
+        ensures journal { result.0 ≡ self.journal }
+        ensures slices { result.1 ≡ self.slices }
+        ensures stash { result.2 ≡ self.stash }
+        ensures key { result.3 ≡ self.key }
+        ensures counters { result.4 ≡ self.counters }
+        ensures lawful { IsLawful self }
+    {
+        let Worker {
+            key,
+            opening: _,
+            counters,
+            journal,
+            stash,
+            slices,
+            left: _,
+            tries: _,
+            clock: _,
+            begun: _,
+            txns: _,
+        } = self;
+        (journal, slices, stash, key, counters)
+    }
+}
