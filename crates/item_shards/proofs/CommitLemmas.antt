@@ -1,26 +1,12 @@
--- Numbers of commits, and two acts in turn.
-use Rattle.std.proofs.Common.{◌≡◌, ℕ, suc, max, ◌<◌, ◌≤◌, Bool, List, [], ◌∷◌, Some, length, get_or, refl, sym, subst, arith}
-use Rattle.std.specs.Prelude.{nat_lt}
-use Rattle.std.proofs.lemmas.Bool.{ltb-true}
-use Rattle.std.proofs.lemmas.Option.{cond_some}
+-- Two acts in turn.
+use Rattle.std.proofs.Common.{◌≡◌, ℕ, Bool, List, [], ◌∷◌, length, get_or, refl, sym, subst, arith}
 use Rattle.auction_rows.specs.declared.ids.ItemId.{ItemId}
 use Rattle.auction_rows.specs.declared.numbers.Opening.{Opening}
 use Rattle.item_shards.specs.declared.acts.Act.{Act}
 use Rattle.item_shards.specs.declared.shard.Shard.{Shard}
 use Rattle.item_shards.specs.Acting.{CanActOn, CanAct}
-use Rattle.item_shards.specs.CommitNumbers.{next_number, last_number}
 use Rattle.item_shards.specs.Contents.{Contents, after_act}
 use Rattle.item_shards.specs.ShardContents.{shard_number, shard_count, contents, opening, rooms, IsSameShard}
-
--- a number that there is is 1 + the greater of two clocks, which are below the last one
-pub next_found : (a b number : ℕ) → Some number ≡ next_number a b → (max a b < last_number) × (number ≡ suc (max a b))
-next_found a b number is =
-    let chosen = cond_some (nat_lt (max a b) last_number) (suc (max a b)) number (sym is) in
-    (ltb-true (max a b) last_number chosen.0, omega (arith, chosen.1))
-
--- it comes after both, up to the last one
-pub comes_after : (a b number : ℕ) → (max a b < last_number) × (number ≡ suc (max a b)) → (b < number) × (number ≤ last_number)
-comes_after a b number found = (omega (arith, found.1), omega (arith, found.0, found.1))
 
 -- a list of two is its two elements
 pub two_of : (acts : List Act) (a b : Act) → length acts ≡ 2 → acts ≡ get_or acts 0 a ∷ get_or acts 1 b ∷ []

@@ -1,5 +1,5 @@
 -- A shard by its contents.
-use Rattle.std.specs.Prelude.{ℕ, ◌≡◌, ◌==◌, ◌/◌, if◌then◌else◌, Bool, false, ◌||◌, List, [], slice_get, is_some, IsTrue, Option, MatchOption}
+use Rattle.std.specs.Prelude.{ℕ, ◌≡◌, ◌==◌, ◌/◌, if◌then◌else◌, Bool, false, ◌||◌, List, [], slice_get, is_some, IsTrue, MatchOption}
 use Rattle.indexmap.specs.IndexMap.{IndexMap, get}
 use Rattle.auction_rows.specs.declared.ids.ItemId.{ItemId}
 use Rattle.auction_rows.specs.declared.ids.Object.{Object}
@@ -66,10 +66,6 @@ HasRoom shard id = IsTrue (rooms shard id)
 -- a place of a map, where it has the item
 abbrev pub IsPlaceOf : {S : Type 0} → IndexMap ItemId ItemRecord S → ItemId → ℕ → Type 0
 IsPlaceOf items id place = MatchOption (slice_get items.entries place) ⊥ (λ entry. entry.0 ≡ id)
-
--- the place of an item of the shard
-abbrev pub IsPlaceIn : Shard → ItemId → Option ℕ → Type 0
-IsPlaceIn shard id place = MatchOption place ⊥ (IsPlaceOf shard.parts.value.items id)
 
 -- rooms, and room for one item
 abbrev pub with_room : ItemId → (ItemId → Bool) → ItemId → Bool

@@ -1,7 +1,6 @@
 //! What the values of a book's objects are, and which books requests leave.
 ghost use Rattle.std.specs.Prelude.{◌≡◌, ◌≤◌, ◌<◌, ◌*◌, ℕ, List, [], ◌∷◌, ◌++◌, All, map, length, unwrap_or, unsigned_abs};
 ghost use Rattle.std.specs.List.{AllByRecursion};
-ghost use Rattle.std.specs.Ordering.{is_eq};
 ghost use Rattle.auction_rows.specs.declared.ids.ItemId.{ItemId};
 ghost use Rattle.auction_rows.specs.declared.ids.Object.{Object};
 ghost use Rattle.auction_rows.specs.declared.ids.Object.TheVariants.{Item, User, Category};
@@ -12,7 +11,6 @@ ghost use Rattle.auction_rows.specs.declared.ids.Object.{Object};
 ghost use Rattle.auction_rows.specs.declared.rows.Row.{Row};
 ghost use Rattle.auction_rows.specs.Book.{Book, left as left_of};
 ghost use Rattle.auction_rows.specs.History.{IsBook};
-ghost use Rattle.auction_rows.specs.Orders.{object_cmp};
 ghost use Rattle.auction_rows.specs.Replies.{reply, next};
 ghost use Rattle.item_shards.specs.declared.opened.Opened.{Opened};
 ghost use Rattle.item_shards.specs.Counting.{worker_of};

@@ -23,7 +23,7 @@ mod views;
 mod writing;
 
 pub use acts::{Act, Shown};
-pub use answering::{Answered, refusal_with};
+pub use answering::refusal_with;
 pub use book_laws::{
     counts_of_books, limits_of_books, opening_books, values_of_books, views_are_replies,
 };

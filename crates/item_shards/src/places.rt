@@ -1,5 +1,5 @@
 //! Where the records of a shard's items lie.
-ghost use Rattle.std.specs.Prelude.{◌≡◌, ◌<◌, option_map, slice_get, Some, IfSome};
+ghost use Rattle.std.specs.Prelude.{◌≡◌, ◌<◌, option_map, Some, IfSome};
 ghost use Rattle.std.specs.HashMap.{get};
 
 use crate::items::ItemRecord;

@@ -1,5 +1,5 @@
 //! The auction of one thread: every object in one shard.
-ghost use Rattle.std.specs.Prelude.{◌≡◌, ◌+◌, ◌<◌, ◌++◌, ◌∷◌, [], ℕ, length, IfOk, OnOk, OnErr, All};
+ghost use Rattle.std.specs.Prelude.{◌≡◌, ◌+◌, ◌<◌, ◌++◌, ◌∷◌, [], IfOk, OnOk, OnErr, All};
 ghost use Rattle.auction_rows.specs.declared.ids.Object.{Object as Thing};
 ghost use Rattle.item_shards.specs.ShardContents.{LiesIn};
 

@@ -1,5 +1,5 @@
 -- Permits whose receipts a close takes.
-use Rattle.std.proofs.Common.{◌≡◌, ℕ, zero, suc, List, [], ◌∷◌, ◌++◌, length, take, Option, Some, None, refl, sym, ap, ◌∙◌, subst, arith}
+use Rattle.std.proofs.Common.{◌≡◌, ℕ, List, [], Option, Some, None, refl, sym, ap, ◌∙◌, subst}
 use Rattle.std.specs.Prelude.{IfSome, IfNone}
 use Rattle.auction_rows.specs.declared.replies.Reply.{Reply}
 use Rattle.auction_rows.specs.declared.requests.Request.{Request}
@@ -63,10 +63,3 @@ pub performed_first : (opening : List ShardState) (floor : FloorState) (w : ℕ)
 performed_first opening floor w old new was None unchanged done = subst (IsReceipt floor w) (sym unchanged) (still_receipt floor w old (with_try old) was refl refl refl refl refl refl)
 performed_first opening floor w old new was (Some answer) unchanged done =
     committed opening floor w (with_first_called old) new (still_receipt floor w old (with_first_called old) was refl refl refl refl refl refl) done.request done.index answer done.committed
-
--- what was written through a slice of all of a list
-pub written : {X : Type 0} (n : ℕ) (xs ys : List X) → length xs ≡ n → take n (xs ++ ys) ≡ xs
-written zero [] ys len = refl
-written zero (x ∷ xs) ys len = absurd (omega (arith, len))
-written (suc n) [] ys len = absurd (omega (arith, len))
-written (suc n) (x ∷ xs) ys len = ap (λ l. x ∷ l) (written n xs ys (omega (arith, len)))

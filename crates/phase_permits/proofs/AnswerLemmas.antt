@@ -27,7 +27,7 @@ use Rattle.phase_permits.specs.declared.homes.Homes.{Homes}
 use Rattle.phase_permits.specs.declared.read_set.ReadSet.{ReadSet}
 use Rattle.phase_permits.specs.declared.slices.Hot.{Hot}
 use Rattle.phase_permits.specs.Deeds.{IsReplyBy}
-use Rattle.phase_permits.specs.Homes.{IsHomeOf, AreHomesOf, HasHomes, IsWrittenAt, IsHotStore}
+use Rattle.phase_permits.specs.Homes.{IsHomeOf, AreHomesOf, HasHomes, IsWrittenAt}
 use Rattle.phase_permits.specs.Performing.{HasStoredSome}
 use Rattle.phase_permits.specs.Slicing.{objects_of, stocks_of, stock_of, after_acts}
 use Rattle.phase_permits.specs.Takens.{shard_at}
@@ -109,11 +109,6 @@ hot_home hots shards object home.Nowhere is none = absurd is
 hot_home hots shards object (home.Slice place) is none = is.1
 hot_home hots shards object (home.Shard shard) is none = absurd (cc)
 
-pub unfixed : {A : Type 0} (hots : List (Object × Hot)) (shards : ℕ) (object : Object) (h : Home) → ((place : ℕ) → h ≡ home.Slice place → ⊥) → IsHomeOf hots shards object h → shard_at h ≡ None → A
-unfixed hots shards object home.Nowhere other is none = absurd is
-unfixed hots shards object (home.Slice place) other is none = absurd (other place refl)
-unfixed hots shards object (home.Shard shard) other is none = absurd (cc)
-
 pub in_setting : {hot : Bool} (hots : List (Object × Hot)) (object : Object) → is_hot (objects_of hots) object ≡ hot → is_hot (objects_of (stocks_of hots)) object ≡ hot
 in_setting hots object is = ap (λ objects. is_hot objects object) (same_objects_of hots) ∙ is
 
@@ -189,39 +184,3 @@ hot_stored w new number index request reply found answered next none is = (
     answered = answered;
   },
 )
-
--- a hot store goes, and is no view, and no home of it is a shard
-pub hot_goes : (hots : List (Object × Hot)) (request : Request) → IsHotStore hots request → is_put_off (objects_of hots) request ≡ false
-hot_goes hots (StoreItem facts time) is = refl
-hot_goes hots (StoreBid bidder item amount time) is = refl
-hot_goes hots (StoreComment author about item stars) is = refl
-hot_goes hots (BuyNow buyer item quantity time) is = absurd is
-hot_goes hots (ViewItem item) is = absurd is
-hot_goes hots (ViewBids item) is = absurd is
-hot_goes hots (ViewCategory category) is = absurd is
-hot_goes hots (ViewUser user) is = absurd is
-
-pub hot_no_view : (hots : List (Object × Hot)) (request : Request) → IsHotStore hots request → is_view request ≡ false
-hot_no_view hots (StoreItem facts time) is = refl
-hot_no_view hots (StoreBid bidder item amount time) is = refl
-hot_no_view hots (StoreComment author about item stars) is = refl
-hot_no_view hots (BuyNow buyer item quantity time) is = absurd is
-hot_no_view hots (ViewItem item) is = absurd is
-hot_no_view hots (ViewBids item) is = absurd is
-hot_no_view hots (ViewCategory category) is = absurd is
-hot_no_view hots (ViewUser user) is = absurd is
-
-no_shard : (hots : List (Object × Hot)) (shards : ℕ) (object : Object) (h : Home) → IsHomeOf hots shards object h → is_hot (objects_of hots) object ≡ true → shard_at h ≡ None
-no_shard hots shards object home.Nowhere is hot = refl
-no_shard hots shards object (home.Slice place) is hot = refl
-no_shard hots shards object (home.Shard shard) is hot = absurd (true≢false (sym hot ∙ is.1))
-
-pub hot_no_shard : (w : WorkerState) (shards : ℕ) (request : Request) (homes : Homes) → IsHotStore w.slices request → AreHomesOf w shards request homes → shard_at homes.item ≡ None
-hot_no_shard w shards (StoreItem facts time) homes is are = absurd is
-hot_no_shard w shards (StoreBid bidder item amount time) homes is are = no_shard w.slices shards (Item item) homes.item are.0 is
-hot_no_shard w shards (StoreComment author about item stars) homes is are = no_shard w.slices shards (Item item) homes.item are.0 is.0
-hot_no_shard w shards (BuyNow buyer item quantity time) homes is are = absurd is
-hot_no_shard w shards (ViewItem item) homes is are = absurd is
-hot_no_shard w shards (ViewBids item) homes is are = absurd is
-hot_no_shard w shards (ViewCategory category) homes is are = absurd is
-hot_no_shard w shards (ViewUser user) homes is are = absurd is

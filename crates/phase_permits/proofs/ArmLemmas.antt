@@ -1,31 +1,27 @@
 -- What each kind of store does is good on a shard that it took, by what it was answered.
-use Rattle.std.proofs.Common.{◌≡◌, ℕ, List, length, Option, Some, None, MatchOption, option_map, refl, sym, subst}
+use Rattle.std.proofs.Common.{◌≡◌, ℕ, List, Option, Some, None, MatchOption, option_map, refl, subst}
 use Rattle.std.specs.Prelude.{ℤ}
 use Rattle.auction_rows.specs.declared.ids.BidEntry.{BidEntry}
 use Rattle.auction_rows.specs.declared.ids.BidId.{BidId}
 use Rattle.auction_rows.specs.declared.ids.BuyId.{BuyId}
-use Rattle.auction_rows.specs.declared.ids.ItemEntry.{ItemEntry}
 use Rattle.auction_rows.specs.declared.ids.ItemId.{ItemId}
-use Rattle.auction_rows.specs.declared.ids.Object.TheVariants.{Item}
 use Rattle.auction_rows.specs.declared.replies.Refusal.{Refusal}
 use Rattle.auction_rows.specs.declared.replies.Reply.{Reply}
-use Rattle.auction_rows.specs.declared.replies.Reply.TheVariants.{ItemStored, BidStored, Bought, Refused}
+use Rattle.auction_rows.specs.declared.replies.Reply.TheVariants.{BidStored, Bought, Refused}
 use Rattle.auction_rows.specs.declared.requests.Facts.{Facts}
 use Rattle.auction_rows.specs.declared.requests.Request.{Request}
-use Rattle.auction_rows.specs.declared.requests.Request.TheVariants.{StoreItem, StoreBid, StoreComment, BuyNow}
-use Rattle.item_shards.specs.declared.acts.Act.TheVariants.{AddItem, ListItem, Bid, Comment, Buy, Look}
+use Rattle.auction_rows.specs.declared.requests.Request.TheVariants.{StoreBid, StoreComment, BuyNow}
+use Rattle.item_shards.specs.declared.acts.Act.TheVariants.{Bid, Comment, Buy, Look}
 use Rattle.item_shards.specs.declared.acts.Shown.TheVariants as shown
 use Rattle.item_shards.specs.Limits.{AreStars}
-use Rattle.item_shards.specs.ShardContents.{HasRoom}
 use Rattle.shard_boxes.specs.Helds.{HeldState}
 use Rattle.shard_boxes.specs.States.{ShardState}
 use Rattle.phase_permits.specs.declared.homes.Homes.{Homes}
 use Rattle.phase_permits.specs.Begun.{IsAnsweredOn}
 use Rattle.phase_permits.specs.Deeds.{AreGoodOn}
-use Rattle.phase_permits.specs.Homes.{IsHomeOf}
 use Rattle.phase_permits.specs.Takens.{shard_at}
 use Rattle.phase_permits.specs.Workers.{WorkerState}
-use Rattle.phase_permits.proofs.GoodLemmas.{bid_good, buy_good, look_good, comment_good, refused_comment_good, item_good}
+use Rattle.phase_permits.proofs.GoodLemmas.{bid_good, buy_good, look_good, comment_good, refused_comment_good}
 
 -- what is accepted is not refused
 free : (A : Type 0) (refused : Option Refusal) (reply : Reply) → ((reason : Refusal) → reply ≡ Refused reason → ⊥) → MatchOption refused A (λ reason. reply ≡ Refused reason) → refused ≡ None
@@ -41,12 +37,6 @@ no_buy id reason is = absurd (cc)
 module _ {opening : List ShardState} {workers : ℕ} {w : WorkerState} {homes : Homes} {seen : Option (Facts × ℕ)} {held : HeldState} (request : Request) (reply : Reply) (its : IsAnsweredOn opening workers w request homes seen reply held) where
   at : (r : Request) (p : Reply) → request ≡ r → reply ≡ p → IsAnsweredOn opening workers w r homes seen p held
   at r p is told = subst (λ q. IsAnsweredOn opening workers w r homes seen q held) told (subst (λ q. IsAnsweredOn opening workers w q homes seen reply held) is its)
-
-  pub item_arm : (facts : Facts) (time : ℕ) (id : ItemId) (entry : ItemEntry) → request ≡ StoreItem facts time → reply ≡ ItemStored id → AreGoodOn (shard_at homes.item) (shard_at homes.other) (AddItem id facts) (ListItem facts.category entry) held
-  item_arm facts time id entry is told =
-      let on = at (StoreItem facts time) (ItemStored id) is told in
-      item_good opening workers w.key held w.slices w.opening on.taken on.opened on.below facts time id entry homes.item homes.other
-      (subst (λ i. IsHomeOf w.slices (length opening) (Item i) homes.item) (sym on.next) on.homes_are.0) on.homes_are.1 (λ here. subst (HasRoom held.shard) (sym on.next) (on.room tt here)) on.allowed
 
   pub bid_arm : (bidder : ℕ) (item : ItemId) (amount time : ℕ) (id : BidId) (entry : BidEntry) → request ≡ StoreBid bidder item amount time → reply ≡ BidStored id
       → AreGoodOn (shard_at homes.item) (shard_at homes.item) (Look (shown.Left item seen)) (Bid item entry) held

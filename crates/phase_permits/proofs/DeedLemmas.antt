@@ -30,7 +30,3 @@ module _ (hots : List (Object × Hot)) (shards t : ℕ) where
   -- one act
   pub one_owed : (x : Act) (h : Home) → Done x ≡ is_at h t → padded (filter Done (x ∷ [])) ≡ deeds_on x (Look shown.Nothing) h home.Nowhere t
   one_owed x h is = ap (λ b. padded (cond b (x ∷ []) [])) is
-
-  -- two
-  pub two_owed : (x y : Act) (h k : Home) → Done x ≡ is_at h t → Done y ≡ is_at k t → padded (filter Done (x ∷ y ∷ [])) ≡ deeds_on x y h k t
-  two_owed x y h k is is' = λ i. padded (cond (is i) (x ∷ cond (is' i) (y ∷ []) []) (cond (is' i) (y ∷ []) []))

@@ -5,23 +5,22 @@ use Rattle.std.specs.Option.{option_or}
 use Rattle.std.proofs.lemmas.Bool.{or_parts, leb-false, ltb-false}
 use Rattle.std.proofs.lemmas.Option.{same_Some}
 use Rattle.auction_rows.specs.declared.ids.BidEntry.{BidEntry}
-use Rattle.auction_rows.specs.declared.ids.ItemEntry.{ItemEntry}
 use Rattle.auction_rows.specs.declared.ids.ItemId.{ItemId}
 use Rattle.auction_rows.specs.declared.ids.Object.{Object}
-use Rattle.auction_rows.specs.declared.ids.Object.TheVariants.{Item, User, Category}
+use Rattle.auction_rows.specs.declared.ids.Object.TheVariants.{Item, User}
 use Rattle.auction_rows.specs.declared.numbers.Opening.{Opening}
 use Rattle.auction_rows.specs.declared.replies.Refusal.{Refusal}
 use Rattle.auction_rows.specs.declared.replies.Refusal.TheVariants.{NoSuchItem, Closed, NotEnough}
 use Rattle.auction_rows.specs.declared.requests.Facts.{Facts}
-use Rattle.auction_rows.specs.declared.requests.Request.TheVariants.{StoreItem, StoreBid, StoreComment, BuyNow}
+use Rattle.auction_rows.specs.declared.requests.Request.TheVariants.{StoreBid, StoreComment, BuyNow}
 use Rattle.auction_rows.specs.Refusals.{number_refusal}
 use Rattle.auction_rows.specs.Requests.{shard_of}
 use Rattle.auction_rows.proofs.RefusalLemmas.{in_range}
-use Rattle.item_shards.specs.declared.acts.Act.TheVariants.{AddItem, ListItem, Bid, Comment, Buy, Look}
+use Rattle.item_shards.specs.declared.acts.Act.TheVariants.{Bid, Comment, Buy, Look}
 use Rattle.item_shards.specs.declared.acts.Shown.TheVariants as shown
 use Rattle.item_shards.specs.CommitNumbers.{last_number}
 use Rattle.item_shards.specs.Limits.{AreStars}
-use Rattle.item_shards.specs.ShardContents.{LiesIn, HasRoom, clock, contents, opening as opening_of}
+use Rattle.item_shards.specs.ShardContents.{LiesIn, clock, contents, opening as opening_of}
 use Rattle.item_shards.specs.Values.{Value, HasLeft, stock}
 use Rattle.shard_boxes.specs.Helds.{HeldState}
 use Rattle.shard_boxes.specs.Keys.{KeyState}
@@ -68,11 +67,6 @@ about_known : (start : Opening) (author about : ℕ) (item : ItemId) (stars : �
 about_known start author about item stars allowed =
     let none = in_range start (StoreComment author about item stars) allowed in
     leb-false start.users about (or_parts (nat_le start.users about) false (or_parts (nat_le start.users author) _ none.0).1).0
-
-listed_known : (start : Opening) (facts : Facts) (time : ℕ) → number_refusal start (StoreItem facts time) ≡ None → facts.category < start.categories
-listed_known start facts time allowed =
-    let none = in_range start (StoreItem facts time) allowed in
-    leb-false start.categories facts.category (or_parts (nat_le start.categories facts.category) false none.1).0
 
 -- the shard of an object is that of its home
 pub home_number : (hots : List (Object × Hot)) (shards n : ℕ) (object : Object) (h : Home) → IsHomeOf hots shards object h → shard_at h ≡ Some n → n ≡ shard_of object shards
@@ -151,17 +145,3 @@ module _ (opening : List ShardState) (workers : ℕ) (key : KeyState) (held : He
   refused_comment_good item seen a b seen_is =
       let value = contents held.shard (Item item) in
       record { first = λ is. (tt, ap (option_map (λ s. s.0)) (seen_is is) ∙ facts_of_stock value value.facts); second = λ is. (tt, tt); after = λ is also. (tt, tt) }
-
-  -- a new item, for which there is room
-  pub item_good : (facts : Facts) (time : ℕ) (id : ItemId) (entry : ItemEntry) (h k : Home) → IsHomeOf hots (length opening) (Item id) h → IsHomeOf hots (length opening) (Category facts.category) k
-      → (shard_at h ≡ Some held.number → HasRoom held.shard id) → number_refusal start (StoreItem facts time) ≡ None
-      → AreGoodOn (shard_at h) (shard_at k) (AddItem id facts) (ListItem facts.category entry) held
-  item_good facts time id entry h k at listed room allowed =
-      let lists : shard_at k ≡ Some held.number → IsGood held.shard (contents held.shard) (ListItem facts.category entry) = λ is. (
-        (
-          lies (Category facts.category) k listed is,
-          subst (λ (o : Opening). facts.category < o.categories) (sym opened) (listed_known start facts time allowed),
-        ),
-        tt,
-      ) in
-      record { first = λ is. ((lies (Item id) h at is, room is), tt); second = lists; after = λ is also. lists also }

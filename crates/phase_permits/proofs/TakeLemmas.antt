@@ -1,8 +1,7 @@
 -- Shards that a key takes.
-use Rattle.std.proofs.Common.{◌≡◌, ◌≢◌, ℕ, ◌<◌, ◌≤◌, true, List, length, sym, ap, subst, ◌∙◌, arith}
-use Rattle.shard_boxes.specs.declared.line.Line.{Line}
+use Rattle.std.proofs.Common.{◌≡◌, ◌≢◌, ℕ, ◌<◌, true, List, length, sym, ap, subst, ◌∙◌}
 use Rattle.shard_boxes.specs.Helds.{HeldState}
-use Rattle.shard_boxes.specs.Keys.{KeyState, SeatState, seat_at, seen_at, holds_at, taking, HoldsNoneFrom}
+use Rattle.shard_boxes.specs.Keys.{KeyState, SeatState, seat_at, seen_at, holds_at, taking}
 use Rattle.shard_boxes.specs.Lines.{IsHistory, StartsWith}
 use Rattle.shard_boxes.specs.States.{ShardState, state_of}
 use Rattle.shard_boxes.proofs.SeatLemmas.{taking-same, taking-other, length-with_seat}
@@ -22,13 +21,6 @@ has_taken opening workers key taken_key shard held seats known is later number h
   holds = subst (λ n. holds_at taken_key n ≡ true) (sym number) holds;
   history = subst (λ n. IsHistory opening workers n (seen_at taken_key n) (state_of held.shard)) (sym number) history;
 }
-
-pub less_apart : (a b : ℕ) → a ≤ b → a ≢ b → a < b
-less_apart a b at_most apart = omega (arith, at_most, apart)
-
-pub none_from : (key taken : KeyState) (a b : ℕ) (seen : List (ℕ × Line)) → taken ≡ taking key a seen → IsIdle key → a < b → HoldsNoneFrom taken b
-none_from key taken a b seen first idle less t from =
-    ap (λ j. holds_at j t) first ∙ ap (λ (seat : SeatState). seat.holds) (taking-other key a t seen (λ is. absurd (omega (arith, is, less, from)))) ∙ idle t
 
 pub both_taken : (opening : List ShardState) (workers : ℕ) (key first second : KeyState) (a b : ℕ) (one other : HeldState) → length key.seats ≡ length opening → a < length opening → b < length opening → a ≢ b → IsIdle key
     → first ≡ taking key a (seen_at first a) → StartsWith (seen_at first a) (seen_at key a) → one.number ≡ a → IsHistory opening workers a (seen_at first a) (state_of one.shard)

@@ -1,5 +1,5 @@
 -- The shards of a footprint, taken all before anything is read.
-use Rattle.std.proofs.Common.{◌≡◌, ◌≢◌, ℕ, ◌<◌, ◌≤◌, ◌==◌, ◌||◌, true, false, cond, List, ◌∷◌, length, Some, refl, sym, ap, subst, ◌∙◌, ◌⊎◌, inl, inr, [], None, arith}
+use Rattle.std.proofs.Common.{◌≡◌, ◌≢◌, ℕ, ◌<◌, ◌≤◌, ◌==◌, ◌||◌, true, false, cond, List, ◌∷◌, length, Some, sym, ap, subst, ◌∙◌, ◌⊎◌, inl, inr, [], None, arith}
 use Rattle.std.specs.List.{AllByRecursion}
 use Rattle.std.proofs.Math.Bool.{or-false}
 use Rattle.std.proofs.lemmas.Bool.{eq-eqb, ne_eqb, true≢false}
@@ -14,22 +14,12 @@ use Rattle.phase_permits.specs.Pairs.{HasTakenBoth}
 use Rattle.phase_permits.specs.Workers.{IsIdle}
 use Rattle.phase_permits.specs.Taking.{HasTaken}
 use Rattle.phase_permits.specs.Takens.{shard_at, each_once, footprint_of, is_one_of, HasTakenAll}
-use Rattle.phase_permits.proofs.KeyLemmas.{seen_still, seen_taken, lines_taken}
+use Rattle.phase_permits.proofs.KeyLemmas.{seen_taken, lines_taken}
 use Rattle.phase_permits.proofs.TakeLemmas.{has_taken, both_taken, both_turned}
 
 -- whether a number is this one
 abbrev Tells : ℕ → ℕ → Type 0
 Tells s t = (((s == t) ≡ true) × (s ≡ t)) ⊎ (((s == t) ≡ false) × (s ≢ t))
-
--- none
-pub taken_none : (opening : List ShardState) (workers : ℕ) (key : KeyState) → IsIdle key → HasTakenAll opening workers key key [] []
-taken_none opening workers key idle = record {
-  numbers = refl;
-  taken = tt;
-  holds = idle;
-  others = λ t left. refl;
-  lines = record { boxes = refl; worker = refl; seats = refl; lines = λ t. refl; seen = seen_still key };
-}
 
 -- one
 module _ (opening : List ShardState) (workers : ℕ) (key new : KeyState) (shard : ℕ) (held : HeldState) (idle : IsIdle key) (its : HasTaken opening workers key new shard held) where

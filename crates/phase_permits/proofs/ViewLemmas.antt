@@ -1,24 +1,19 @@
 -- A view: its one shard, and what it does there.
-use Rattle.std.proofs.Common.{◌≡◌, ℕ, ◌<◌, true, false, cond, List, [], ◌∷◌, length, Option, Some, None, MatchOption, refl, sym, ap, subst, ◌∙◌, arith}
-use Rattle.std.specs.List.{AllByRecursion}
+use Rattle.std.proofs.Common.{◌≡◌, ℕ, true, false, cond, List, [], ◌∷◌, length, Option, Some, None, MatchOption, refl, sym, ap, subst, ◌∙◌}
 use Rattle.std.proofs.lemmas.Bool.{true≢false, false≢true}
 use Rattle.std.proofs.lemmas.Option.{same_Some}
 use Rattle.auction_rows.specs.declared.ids.Object.{Object}
 use Rattle.auction_rows.specs.declared.ids.Object.TheVariants.{Item, User, Category}
-use Rattle.auction_rows.specs.declared.numbers.Opening.{Opening}
 use Rattle.auction_rows.specs.declared.replies.Reply.{Reply}
 use Rattle.auction_rows.specs.declared.replies.Reply.TheVariants.{Refused}
 use Rattle.auction_rows.specs.declared.requests.Request.{Request}
 use Rattle.auction_rows.specs.declared.requests.Request.TheVariants.{StoreItem, StoreBid, StoreComment, BuyNow, ViewItem, ViewBids, ViewCategory, ViewUser}
 use Rattle.auction_rows.specs.Footprint.{is_hot}
 use Rattle.auction_rows.specs.Refusals.{number_refusal}
-use Rattle.auction_rows.specs.Requests.{is_view, shard_of}
+use Rattle.auction_rows.specs.Requests.{is_view}
 use Rattle.item_shards.specs.declared.acts.Act.TheVariants.{Look}
 use Rattle.item_shards.specs.declared.acts.Shown.TheVariants as shown
-use Rattle.item_shards.specs.Looking.{IsTrueOf}
 use Rattle.item_shards.specs.Writing.{padded, done_on}
-use Rattle.item_shards.specs.ShardContents.{LiesIn, clock, contents}
-use Rattle.shard_boxes.specs.Helds.{HeldState}
 use Rattle.shard_boxes.specs.Keys.{BoxId, KeyState}
 use Rattle.shard_boxes.specs.States.{ShardState}
 use Rattle.phase_permits.specs.declared.counters.Counters.{Counters}
@@ -29,21 +24,16 @@ use Rattle.phase_permits.specs.declared.homes.Homes.{Homes}
 use Rattle.phase_permits.specs.declared.read_set.ReadSet.{ReadSet}
 use Rattle.phase_permits.specs.declared.slices.Hot.{Hot}
 use Rattle.phase_permits.specs.declared.taken.Taken.{Taken}
-use Rattle.phase_permits.specs.declared.taken.Taken.TheVariants as taken
-use Rattle.phase_permits.specs.Begun.{HasBegun, CanView, IsOnOne, viewed}
+use Rattle.phase_permits.specs.Begun.{HasBegun, viewed}
 use Rattle.phase_permits.specs.Deeds.{AreDeedsOf, acts_for, clocks_of, first_dealt, second_dealt}
 use Rattle.phase_permits.specs.Homes.{IsHomeOf, AreHomesOf}
-use Rattle.phase_permits.specs.Pairs.{IsAsTaken}
-use Rattle.phase_permits.specs.Performing.{HasCommittedSome, HaveOpening}
+use Rattle.phase_permits.specs.Performing.{HasCommittedSome}
 use Rattle.phase_permits.specs.Slicing.{objects_of}
-use Rattle.phase_permits.specs.Takens.{shard_at, each_once, footprint_of, held_in, numbers_of, is_one_of, dealt, line_among, CanBeDoneOnAll, HasPutAll}
+use Rattle.phase_permits.specs.Takens.{shard_at, each_once, footprint_of, held_in, numbers_of, is_one_of, dealt, line_among, HasPutAll}
 use Rattle.phase_permits.specs.Txns.{Answers, IsAnswered, is_put_off, reason_seen, refusal_seen}
 use Rattle.phase_permits.specs.Workers.{WorkerState, setting_of, txn_of, with_entry, after_commit}
 use Rattle.phase_permits.proofs.BegunLemmas.{begun_commits}
-use Rattle.phase_permits.proofs.DealLemmas.{first_in, how_many}
 use Rattle.phase_permits.proofs.DeedLemmas.{done_is, one_owed}
-use Rattle.phase_permits.proofs.FirstLemmas.{clocks_below}
-use Rattle.phase_permits.proofs.GoodLemmas.{home_number}
 use Rattle.phase_permits.proofs.HomeLemmas.{same_objects_of, no_other}
 
 -- the home of the object that is viewed
@@ -109,12 +99,6 @@ view_entered w number index (ViewBids item) reply found view = refl
 view_entered w number index (ViewCategory category) reply found view = refl
 view_entered w number index (ViewUser user) reply found view = refl
 
-one_can : {N : Type 0} (took : Taken N) (n number : ℕ) (object : Object) (reply : Reply) → numbers_of (held_in took) ≡ n ∷ [] → AllByRecursion (λ (h : HeldState). clock h.shard < number) (held_in took)
-    → AllByRecursion (λ (h : HeldState). IsTrueOf (contents h.shard) (shown.Reply object reply)) (held_in took) → CanBeDoneOnAll number (held_in took) (dealt took (Look (shown.Reply object reply)) (Look shown.Nothing))
-one_can taken.Nothing n number object reply numbers later shows = absurd (cc)
-one_can (taken.One one) n number object reply numbers later shows = (record { later = later.0; can = (tt, (tt, tt)); looks = (shows.0, (tt, tt)) }, tt)
-one_can (taken.Two one other) n number object reply numbers later shows = let long = ap how_many numbers in absurd (omega (arith, long))
-
 module _ {N : Type 0} {workers : ℕ} {boxes : List BoxId} (opening : List ShardState) (w : WorkerState) (key : KeyState) (request : Request) (homes : Homes) (took : Taken N) (number : ℕ)
     (begun : HasBegun opening workers boxes key w request homes took number) (view : is_view request ≡ true) where
   abbrev object : Object
@@ -131,29 +115,6 @@ module _ {N : Type 0} {workers : ℕ} {boxes : List BoxId} (opening : List Shard
 
   abbrev n : ℕ
   n = its_shard.0
-
-  numbers : numbers_of (held_in took) ≡ n ∷ []
-  numbers = begun.taken.numbers ∙ its_home.1.only n its_shard.1
-
-  can_view : (held : HeldState) → HaveOpening opening w.opening → IsAsTaken opening workers w.key held → held.number ≡ n → CanView held.shard request
-  can_view held opened is here = record {
-    here = λ o shows.
-        let same : object ≡ o = same_Some object o (sym (shows_one request view).1 ∙ shows) in
-        subst (LiesIn held.shard) same
-        (ap (shard_of object) is.shards_is ∙ sym (home_number w.slices (length opening) n object h its_home.1.at its_shard.1) ∙ sym here ∙ sym is.number_is);
-    allowed = subst (λ (o : Opening). number_refusal o request ≡ None) (sym (is.opening_is ∙ opened held.number is.known)) begun.allowed;
-  }
-
-  can_all : HaveOpening opening w.opening → (its : Taken N) → numbers_of (held_in its) ≡ n ∷ [] → AllByRecursion (IsAsTaken opening workers w.key) (held_in its) → IsOnOne request its
-  can_all opened taken.Nothing is all = absurd (cc)
-  can_all opened (taken.One one) is all = can_view one opened all.0 (ap first_in is)
-  can_all opened (taken.Two one other) is all = let long = ap how_many is in absurd (omega (arith, long))
-
-  pub on_one : HaveOpening opening w.opening → IsOnOne request took
-  on_one opened = can_all opened took numbers begun.taken.taken
-
-  pub view_can : (o : Object) (reply : Reply) → AllByRecursion (λ (held : HeldState). IsTrueOf (contents held.shard) (shown.Reply o reply)) (held_in took) → CanBeDoneOnAll number (held_in took) (dealt took (Look (shown.Reply o reply)) (Look shown.Nothing))
-  view_can o reply shows = one_can took n number o reply numbers (clocks_below took w.clock number begun.numbered) shows
 
   -- what it did is a commit
   view_answered : (index : ℕ) (reply : Reply) (found : ReadSet) → ((counters : Counters) (worker : ℕ) → Answers counters worker request reply) → IsAnswered (setting_of w (length opening)) w.counters (txn_of w number request index reply found)

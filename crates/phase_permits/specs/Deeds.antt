@@ -1,5 +1,5 @@
 -- What a request does, once its homes are known.
-use Rattle.std.specs.Prelude.{◌≡◌, ◌==◌, ℕ, Bool, false, if◌then◌else◌, List, [], ◌∷◌, ◌++◌, Option, Some, None, MatchOption, option_and_then, ⊤}
+use Rattle.std.specs.Prelude.{◌≡◌, ◌==◌, ℕ, Bool, false, if◌then◌else◌, List, [], ◌∷◌, ◌++◌, Option, Some, None, MatchOption, ⊤}
 use Rattle.auction_rows.specs.declared.ids.ItemId.{ItemId}
 use Rattle.auction_rows.specs.declared.ids.Object.{Object}
 use Rattle.auction_rows.specs.Replies.{row_of}
@@ -27,7 +27,7 @@ use Rattle.phase_permits.specs.declared.homes.Home.TheVariants as home
 use Rattle.phase_permits.specs.declared.taken.Deal.{Deal}
 use Rattle.phase_permits.specs.declared.taken.Taken.{Taken}
 use Rattle.phase_permits.specs.declared.taken.Taken.TheVariants as taken
-use Rattle.phase_permits.specs.Slicing.{stocks_of, stock_of, objects_of}
+use Rattle.phase_permits.specs.Slicing.{objects_of}
 use Rattle.phase_permits.specs.Txns.{Answers, refusal_by}
 use Rattle.phase_permits.specs.Workers.{WorkerState, next_item}
 
@@ -46,12 +46,6 @@ abbrev pub stock_on : {N : Type 0} → Taken N → ItemId → Option (Facts × �
 stock_on taken.Nothing item = None
 stock_on (taken.One one) item = stock (contents one.shard (Item item))
 stock_on (taken.Two one other) item = stock (contents one.shard (Item item))
-
--- what a store sees of its item: of a hot one what is fixed, of another one what its shard has
-abbrev pub stock_found : {N : Type 0} → WorkerState → Taken N → Home → Option ItemId → Option (Facts × ℕ)
-stock_found w taken home.Nowhere item = None
-stock_found w taken (home.Slice place) item = option_and_then (λ id. stock_of (stocks_of w.slices) (Item id)) item
-stock_found w taken (home.Shard shard) item = option_and_then (stock_on taken) item
 
 -- the reply to a store, by what was seen of its item: the first reason to refuse it, or the worker's next id of the kind
 abbrev pub IsReplyBy : WorkerState → Option (Facts × ℕ) → Request → Reply → Type 0

@@ -1,5 +1,5 @@
 //! A worker's right to perform in a joined phase, and what it leaves.
-ghost use Rattle.std.specs.Prelude.{◌≡◌, ◌+◌, ◌≤◌, ◌<◌, [], length, true, false, slice_get, Some, IfSome, IfNone, IfOk, IfErr};
+ghost use Rattle.std.specs.Prelude.{◌≡◌, ◌≤◌, ◌<◌, [], length, true, false, slice_get, Some, IfSome, IfNone, IfOk, IfErr};
 
 use crate::counters::Counters;
 use crate::fault::PermitFault;

@@ -1,5 +1,5 @@
 //! A worker's right to perform in a split phase, and what it leaves.
-ghost use Rattle.std.specs.Prelude.{◌≡◌, ◌+◌, ◌≤◌, ◌<◌, ◌↔◌, [], length, true, false, Ok, IsNone, IfNone, IfSome, IfOk, IfErr};
+ghost use Rattle.std.specs.Prelude.{◌≡◌, ◌≤◌, ◌<◌, ◌↔◌, length, true, false, Ok, IsNone, IfNone, IfSome, IfOk, IfErr};
 ghost use Rattle.item_shards.specs.CommitNumbers.{last_number};
 
 use crate::counters::Counters;

@@ -32,7 +32,7 @@ impl<N: PhaseName> Worker<N> {
     ghost use Rattle.phase_permits.specs.Performing.{asks, HasCommitted, HasCommittedSome, HasFailed, HasPerformed, HasStoredSome, HaveOpening, StoresItem};
     ghost use Rattle.phase_permits.specs.Slicing.{objects_of};
     ghost use Rattle.phase_permits.specs.Taking.{IsReady};
-    ghost use Rattle.phase_permits.specs.Takens.{footprint_of, is_one_of, held_in, shard_at};
+    ghost use Rattle.phase_permits.specs.Takens.{footprint_of, is_one_of, shard_at};
     ghost use Rattle.phase_permits.specs.Txns.{is_put_off};
     ghost use Rattle.phase_permits.specs.Workers.{IsIdle};
 

@@ -1,5 +1,5 @@
 //! A worker in a phase.
-ghost use Rattle.std.specs.Prelude.{◌≡◌, ◌<◌, ◌≤◌, ◌+◌, false, true, [], length, slice_get, Some, IfNone, IfSome};
+ghost use Rattle.std.specs.Prelude.{◌≡◌, ◌<◌, ◌+◌, false, true, [], length, slice_get, Some, IfNone, IfSome};
 ghost use Rattle.auction_rows.specs.Footprint.{is_hot};
 ghost use Rattle.phase_permits.specs.Slicing.{objects_of, AreFew};
 

@@ -1,16 +1,12 @@
--- What a shard shows after calls.
-use Rattle.std.proofs.Common.{◌≡◌, ℕ, ◌+◌, ◌*◌, ◌≤◌, sym, subst, arith, unsigned_abs}
+-- What a new shard shows.
+use Rattle.std.proofs.Common.{ℕ, ◌+◌, ◌*◌, ◌≤◌, sym, subst, arith, unsigned_abs}
 use Rattle.std.proofs.lemmas.Int.{ints}
 use Rattle.auction_rows.specs.declared.ids.Object.TheVariants.{Item, User}
 use Rattle.auction_rows.specs.declared.numbers.Opening.{Opening}
 use Rattle.item_shards.specs.declared.shard.Shard.{Shard}
-use Rattle.item_shards.specs.ShardContents.{clock, contents, IsSameShard, IsNewShard}
+use Rattle.item_shards.specs.ShardContents.{clock, IsNewShard}
 use Rattle.item_shards.specs.Values.{Value}
 use Rattle.shard_boxes.specs.States.{state_of, IsOpened}
-
--- a shard that shows the same but for what no call shows, as after `prepare_item`
-pub same_state : (old new : Shard) → contents new ≡ contents old → clock new ≡ clock old → IsSameShard old new → state_of new ≡ state_of old
-same_state old new contents clocks same = (λ i. record { number = same.number i; shards = same.shards i; opening = same.opening i; clock = clocks i; contents = contents i })
 
 -- a new shard may open a phase
 pub new_is_opened : (n count : ℕ) (start : Opening) (shard : Shard) → IsNewShard n count start shard → IsOpened count n (state_of shard)

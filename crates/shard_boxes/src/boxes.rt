@@ -1,6 +1,5 @@
 //! The boxes of one phase, and how a worker takes a shard and puts it back.
 ghost use Rattle.std.specs.Prelude.{◌≡◌, ◌<◌, length, true};
-ghost use Rattle.auction_rows.specs.Requests.{shard_of};
 ghost use Rattle.shard_boxes.specs.States.{state_of};
 ghost use Rattle.shard_boxes.specs.Lines.{lines_of, StartsWith, IsHistory};
 ghost use Rattle.shard_boxes.specs.Keys.{taking, putting, lines_at, seen_at, holds_at, HoldsNoneFrom};
@@ -11,7 +10,6 @@ use crate::key::Key;
 use crate::line::{Line, is_well_formed};
 use crate::phase::PhaseName;
 use crate::place::Place;
-use auction_rows::{Object, shard_of};
 use item_shards::Shard;
 use std::marker::Model;
 use std::sync::Wait;
@@ -62,21 +60,6 @@ impl<N: PhaseName> Boxes<N> {
     {
         let shard = key.take(rt, &self.places[s as usize], s as usize);
         Held::new(s, shard)
-    }
-
-    /// Takes the shard that an object lies in, as `take` does.
-    pub fn take_shard_of<R: Wait>(&self, rt: &R, key: &mut Key<N>, object: Object) -> Held<N>
-        requires of { key.old.boxes ≡ self.now }
-        requires rising { HoldsNoneFrom key.old (shard_of object (length N.opening)) }
-        ensures key { key.new ≡ taking key.old result.number (seen_at key.new result.number) }
-        ensures holds { holds_at key.new result.number ≡ true }
-        ensures number { result.number ≡ shard_of object (length N.opening) }
-        ensures history { IsHistory N.opening N.workers result.number (seen_at key.new result.number) (state_of result.shard) }
-        ensures later { StartsWith (seen_at key.new result.number) (seen_at key.old result.number) }
-        ensures own { lines_of key.old.worker (seen_at key.new result.number) ≡ lines_at key.old result.number }
-        ensures known { result.number < length N.opening }
-    {
-        self.take(rt, key, shard_of(object, self.shards()))
     }
 
     /// Puts a shard back: as it was taken, or after the line of what was done on it. It takes no memory.

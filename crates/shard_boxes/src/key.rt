@@ -1,7 +1,7 @@
 //! A worker's right to take the shards of a phase.
 ghost use Rattle.std.specs.Prelude.{◌≡◌, ◌<◌, ◌∷◌, [], ℕ, true, false, length};
-ghost use Rattle.shard_boxes.specs.States.{state_of, state_at};
-ghost use Rattle.shard_boxes.specs.Lines.{after, lines_of, StartsWith, IsHistory};
+ghost use Rattle.shard_boxes.specs.States.{state_of};
+ghost use Rattle.shard_boxes.specs.Lines.{lines_of, StartsWith, IsHistory};
 ghost use Rattle.shard_boxes.specs.Limits.{IsWellFormedIfAny};
 ghost use Rattle.shard_boxes.specs.Keys.{taking, putting, lines_at, seen_at, holds_at};
 ghost use Rattle.shard_boxes.specs.Helds.{taken_at, MayPut};

@@ -1,12 +1,11 @@
 pub mod JournalLemmas
-pub mod OneProof
 pub mod KeptLemmas
 pub mod GrowthLemmas
 pub mod ReadLemmas
 pub mod OrderedLemmas
 pub mod MergedLemmas
 pub mod TakingLemmas
-pub mod LeastLemmas
+pub mod Least
 pub mod SaidLemmas
 pub mod StepLemmas
 pub mod HistoryLemmas

@@ -1,4 +1,4 @@
-use Rattle.worker_journals.proofs.LeastLemmas.{LeastSoFar}
+use Rattle.worker_journals.proofs.Least.{LeastSoFar}
 use Rattle.worker_journals.proofs.merging.least_of.Given as goal
 
 abbrev pub invariant-loop-i : goal.invariant-loop-i
