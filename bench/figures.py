@@ -267,7 +267,7 @@ def work_beside_plain(systems, asked):
 
 
 def windows(systems, asked):
-    """What `watch_auction bench` tells: views of windows alone, and beside a run."""
+    """What `example_watch bench` tells: views of windows alone, and beside a run."""
     if "watch" not in systems.built:
         return
     say("windows")

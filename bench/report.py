@@ -384,7 +384,7 @@ def heading(asked, systems, rows, when, seconds):
     if "referee" in systems.built:
         lines.append(f"    rubis_check {' '.join(measures.auction_words(figures.MOST_WORKERS))} --order --history=HISTORY < LOAD")
     if "watch" in systems.built:
-        lines.append("    watch_auction bench")
+        lines.append("    example_watch bench")
     lines.append("")
     if systems.server:
         lines.append(f"PostgreSQL {systems.server_version} executes as many of the first {systems.few():,} requests of each load as it can in "

@@ -27,7 +27,7 @@ THE_READERS = ""
 # What a page shows whole.
 SHOWN = {
     ROOT / "README.md": ("examples/first_example.csv", "examples/first_example.replies"),
-    DOCUMENTS / "WINDOWS.md": ("crates/watch_auction/stdout",),
+    DOCUMENTS / "WINDOWS.md": ("crates/example_watch/stdout",),
 }
 # Where each crate has its place, and each law in one of these.
 MAP, PROVED = DOCUMENTS / "ARCHITECTURE.md", DOCUMENTS / "PROVED.md"

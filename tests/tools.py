@@ -1,6 +1,6 @@
 #!/usr/bin/env python3
 """Tests what helps to use the auction: bench/tune, whose command has to run, examples/timeline.py, whose picture has to have each line of a history, and the help
-of watch_auction.
+of example_watch.
 
     tests/tools.py [PROGRAM]
 """
@@ -93,11 +93,11 @@ def drawn(tally: Tally, history: bytes, words: list) -> tuple[dict[str, float], 
 
 
 def help_of_watch_auction(tally: Tally, program: Path) -> None:
-    """help and version of watch_auction, and what it makes of other words"""
-    watcher = built("watch_auction")
-    said = helps.help_and_version(tally, watcher, "watch_auction", None)
+    """help and version of example_watch, and what it makes of other words"""
+    watcher = built("example_watch")
+    said = helps.help_and_version(tally, watcher, "example_watch", None)
     for words in (["x"], ["bench", "x"], [""]):
-        tally.same(f"watch_auction {words}", run([watcher, *words]), Outcome(1, b"", said.encode()))
+        tally.same(f"example_watch {words}", run([watcher, *words]), Outcome(1, b"", said.encode()))
 
 
 def main() -> None:

@@ -13,15 +13,15 @@ from phases import GROUND, INK, text
 
 # From the lowest to the highest, each crate with its place across.
 LAYERS = {
-    "theory": {"phase_laws": 420, "run_laws": 210, "ghost_log": 860},
-    "model and records": {"auction_rows": 420, "split_records": 670, "top_records": 670, "item_shards": 690, "worker_journals": 420, "run_serving": 210,
-                          "auction_window": 350, "mean_price": 880},
-    "engine": {"shard_boxes": 690, "phase_permits": 600, "phase_closing": 640, "phase_floor": 630,
+    "theory": {"phase_laws": 420, "ghost_log": 860},
+    "model and records": {"auction_rows": 420, "split_records": 670, "top_records": 670, "item_shards": 690, "worker_journals": 420, "run_laws": 210,
+                          "auction_window": 350, "example_mean": 880},
+    "engine": {"shard_boxes": 690, "phase_permits": 600, "closing_laws": 640, "phase_floor": 630,
                "phase_workers": 420, "auction_run": 560},
     "texts": {"program_options": 420, "auction_text": 940, "part_log": 860, "history_check": 230},
-    "programs, examples and tests": {"auction_program": 645, "load_program": 983, "rubis_auction": 575, "rubis_check": 300, "rubis_load": 983,
-                                     "watch_auction": 869, "engine_tests": 524, "program_tests": 715, "phase_tests": 762, "hot_vase": 195,
-                                     "drive_phases": 415},
+    "programs, examples and tests": {"auction_program": 645, "load_program": 983, "rubis_auction": 575, "check_program": 300, "rubis_check": 300, "rubis_load": 983,
+                                     "example_watch": 869, "engine_tests": 524, "program_tests": 715, "phase_tests": 762, "example_vase": 195,
+                                     "example_phases": 415},
 }
 MODEL = "auction_rows"
 KNOWS, KNOWS_NOT = "#b3261e", "#3d6e91"

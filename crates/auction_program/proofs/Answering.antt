@@ -11,8 +11,8 @@ use Rattle.item_shards.specs.OpeningRows.{AreRows, IsFirstBad, IsTooLong, openin
 use Rattle.item_shards.specs.declared.opened.Opened.{Opened}
 use Rattle.item_shards.specs.declared.opening_book.ResumeFault.{ResumeFault}
 use Rattle.item_shards.specs.declared.opening_book.ResumeFault.TheVariants as resume
-use Rattle.run_serving.specs.Answers.{IsAnswer}
-use Rattle.run_serving.specs.declared.policy.Policy.{Policy}
+use Rattle.run_laws.specs.Answers.{IsAnswer}
+use Rattle.auction_rows.specs.declared.policy.Policy.{Policy}
 use Rattle.auction_text.specs.declared.faults.WriteFault.{WriteFault}
 use Rattle.auction_program.specs.Execution.{added_text, commits_text, Answers, IsAllowed, IsCausedBy, IsNotPerformed, IsNotRun, IsRefused, OfInput, Performs}
 use Rattle.auction_program.specs.Options.{opening_of, policy_of}

@@ -14,7 +14,7 @@ use Rattle.auction_text.specs.declared.parts.Part.{Part}
 use Rattle.item_shards.specs.OpeningRows.{AreRows, IsTooLong, opening_rows}
 use Rattle.item_shards.specs.declared.opened.Opened.{Opened}
 use Rattle.part_log.specs.declared.telling.Teller.{Teller}
-use Rattle.run_serving.specs.Serving.{lists}
+use Rattle.run_laws.specs.Serving.{lists}
 use Rattle.auction_program.specs.Options.{opening_of}
 use Rattle.auction_program.specs.PartRuns.{HasServed, IsPastReading, IsSession, Opens, RunsPart, ServesPart, StartsAt}
 use Rattle.auction_program.specs.Serving.{ArePartTold, AreTold, IsLoggedBefore, IsNothingTold, nothing_gone, opening_text, unlogged_rows}

@@ -13,9 +13,9 @@ use Rattle.auction_text.specs.declared.faults.ReadFault.{ReadFault}
 use Rattle.auction_text.specs.declared.record.Record.{Record}
 use Rattle.item_shards.specs.OpeningRows.{opening_rows}
 use Rattle.item_shards.specs.declared.opened.Opened.{Opened}
-use Rattle.run_serving.specs.Answers.{IsAnswer}
-use Rattle.run_serving.specs.declared.policy.Policy.{Policy}
-use Rattle.run_serving.proofs.OneWorkerLemmas.{same_history, same_hots}
+use Rattle.run_laws.specs.Answers.{IsAnswer}
+use Rattle.auction_rows.specs.declared.policy.Policy.{Policy}
+use Rattle.run_laws.proofs.OneWorkerLemmas.{same_history, same_hots}
 use Rattle.auction_program.specs.Execution.{added_text, commits_text, IsAnsweredBy}
 use Rattle.auction_program.specs.Options.{opening_of, policy_of}
 use Rattle.auction_program.specs.declared.options.Options.{Options}

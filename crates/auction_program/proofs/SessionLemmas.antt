@@ -14,7 +14,7 @@ use Rattle.auction_text.specs.declared.parts.PartEnd.TheVariants.{More, All, Fau
 use Rattle.auction_text.specs.declared.record.Record.{Record}
 use Rattle.item_shards.specs.declared.opened.Opened.{Opened}
 use Rattle.part_log.specs.declared.telling.Teller.{Teller}
-use Rattle.run_serving.specs.Serving.{lists}
+use Rattle.run_laws.specs.Serving.{lists}
 use Rattle.auction_program.specs.PartRuns.{HasServed, IsSession, RunsPart, ServesPart, StartsAt}
 use Rattle.auction_program.specs.Serving.{ArePartTold, AreTold, IsNothingTold, Serves, ServesFirst, scripts_in}
 use Rattle.auction_program.specs.declared.options.Options.{Options}

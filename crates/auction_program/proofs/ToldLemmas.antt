@@ -19,7 +19,7 @@ use Rattle.part_log.specs.Telling.{IsLoggedFirst}
 use Rattle.part_log.specs.declared.log.LogFault.{LogFault}
 use Rattle.part_log.specs.declared.telling.TellFault.{TellFault}
 use Rattle.part_log.specs.declared.telling.Teller.{Teller}
-use Rattle.run_serving.specs.Answers.{IsAnswer}
+use Rattle.run_laws.specs.Answers.{IsAnswer}
 use Rattle.part_log.specs.declared.telling.TellFault.TheVariants as telling
 use Rattle.auction_program.specs.Execution.{commits_text}
 use Rattle.auction_program.specs.Faults.{of_telling}

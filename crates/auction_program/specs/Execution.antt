@@ -17,8 +17,8 @@ use Rattle.item_shards.specs.OpeningRows.{AreRows, IsFirstBad, IsTooLong, openin
 use Rattle.item_shards.specs.declared.opened.Opened.{Opened}
 use Rattle.item_shards.specs.declared.opening_book.ResumeFault.{ResumeFault}
 use Rattle.item_shards.specs.declared.opening_book.ResumeFault.TheVariants as resume
-use Rattle.run_serving.specs.Answers.{IsAnswer}
-use Rattle.run_serving.specs.declared.policy.Policy.{Policy}
+use Rattle.run_laws.specs.Answers.{IsAnswer}
+use Rattle.auction_rows.specs.declared.policy.Policy.{Policy}
 use Rattle.auction_program.specs.Options.{opening_of, policy_of}
 use Rattle.auction_program.specs.Report.{report_of, AreViews}
 use Rattle.auction_run.specs.Beginning.{HaveWorkers, HasShards, HasQuotas, AreShort}

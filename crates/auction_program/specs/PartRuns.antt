@@ -17,7 +17,7 @@ use Rattle.item_shards.specs.OpeningBooks as opened
 use Rattle.item_shards.specs.OpeningRows.{AreRows, IsTooLong, opening_rows}
 use Rattle.item_shards.specs.declared.opened.Opened.{Opened}
 use Rattle.phase_floor.specs.States.{IsBookOf}
-use Rattle.run_serving.specs.Answers.{IsAnswer}
+use Rattle.run_laws.specs.Answers.{IsAnswer}
 use Rattle.auction_program.specs.Execution.{commits_text}
 use Rattle.auction_program.specs.Options.{opening_of, policy_of}
 use Rattle.auction_program.specs.Serving.{ArePartRuns, PartRun, book_in, gone_past, nothing_gone, opening_text, served_rows, served_text, unlogged_rows}

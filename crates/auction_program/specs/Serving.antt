@@ -16,7 +16,7 @@ use Rattle.auction_text.specs.declared.record.Record.{Record}
 use Rattle.item_shards.specs.OpeningRows.{AreRows, IsTooLong, opening_rows}
 use Rattle.item_shards.specs.declared.opened.Opened.{Opened}
 use Rattle.part_log.specs.declared.telling.Teller.{Teller}
-use Rattle.run_serving.specs.Answers.{IsAnswer}
+use Rattle.run_laws.specs.Answers.{IsAnswer}
 use Rattle.auction_program.specs.Execution.{commits_text}
 use Rattle.auction_program.specs.Options.{opening_of, policy_of}
 use Rattle.auction_program.specs.declared.options.Options.{Options}

@@ -28,12 +28,12 @@ use Rattle.phase_laws.proofs.ListLemmas.{all-append, all-both, all-kept, all-rig
 use Rattle.run_laws.proofs.PartLemmas.{all_of_parts}
 use Rattle.run_laws.proofs.TurnLemmas.{length-numbered}
 use Rattle.worker_journals.specs.Merged.{merged}
-use Rattle.run_serving.specs.declared.policy.Policy.{Policy}
-use Rattle.run_serving.specs.Run.{calls_of}
-use Rattle.run_serving.specs.Serving.{script_of, segment_of, call_of, commit_phase}
-use Rattle.run_serving.proofs.ClosedLemmas.{none_chosen, none_numbered}
-use Rattle.run_serving.proofs.ScriptLemmas.{past_end}
-use Rattle.run_serving.proofs.StepLemmas.{run_begins}
+use Rattle.auction_rows.specs.declared.policy.Policy.{Policy}
+use Rattle.run_laws.specs.Run.{calls_of}
+use Rattle.run_laws.specs.Serving.{script_of, segment_of, call_of, commit_phase}
+use Rattle.run_laws.proofs.ClosedLemmas.{none_chosen, none_numbered}
+use Rattle.run_laws.proofs.ScriptLemmas.{past_end}
+use Rattle.run_laws.proofs.StepLemmas.{run_begins}
 use Rattle.auction_run.specs.declared.fault.RunFault.{RunFault}
 use Rattle.auction_run.specs.declared.fault.RunFault.TheVariants.{Memory}
 use Rattle.auction_run.specs.declared.running.Running.{Running}

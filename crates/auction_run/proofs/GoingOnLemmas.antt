@@ -14,15 +14,15 @@ use Rattle.auction_rows.specs.Book.{Book, items_stored, bids_stored, comments_st
 use Rattle.auction_rows.specs.History.{IsBook, book_after, rows_of}
 use Rattle.auction_rows.proofs.HistoryLemmas.{book_after-replays, longer_book, rows_go_on}
 use Rattle.item_shards.specs.OpeningRows.{rows_by}
-use Rattle.phase_closing.specs.Standing.{counters_at, stores}
+use Rattle.closing_laws.specs.Standing.{counters_at, stores}
 use Rattle.phase_floor.specs.NextRun.{for_next_run}
 use Rattle.phase_floor.specs.Resuming.{counters_in}
 use Rattle.phase_floor.specs.States.{JoinedState, StandsFor, IsBookOf}
 use Rattle.phase_floor.proofs.NextRunLemmas.{at_next, many}
 use Rattle.phase_floor.proofs.BookSize.{one_more}
-use Rattle.run_serving.specs.declared.policy.Policy.{Policy}
-use Rattle.run_serving.specs.Serving.{script_of}
-use Rattle.run_serving.proofs.ScriptLemmas.{past_end}
+use Rattle.auction_rows.specs.declared.policy.Policy.{Policy}
+use Rattle.run_laws.specs.Serving.{script_of}
+use Rattle.run_laws.proofs.ScriptLemmas.{past_end}
 use Rattle.auction_run.specs.declared.running.Outcome.{Outcome}
 use Rattle.auction_run.specs.declared.running.Running.{Running}
 use Rattle.auction_run.specs.Beginning.{AreShort, HaveWorkers}

@@ -29,7 +29,7 @@ use Rattle.auction_rows.proofs.OrderLemmas.{heat_total, heat_same}
 use Rattle.auction_rows.proofs.RefusalLemmas.{enough, in_range, not_by_number, is_stored}
 use Rattle.auction_rows.proofs.RequestLemmas.{row_made}
 use Rattle.item_shards.specs.Values.{value, stock}
-use Rattle.phase_closing.specs.Phases.{value_on}
+use Rattle.closing_laws.specs.Phases.{value_on}
 use Rattle.phase_floor.specs.States.{JoinedState, states_of, StandsFor, DoesExist, DoAllExist}
 use Rattle.auction_run.proofs.ChosenLemmas.{from_members}
 

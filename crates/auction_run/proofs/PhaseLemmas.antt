@@ -17,10 +17,10 @@ use Rattle.phase_laws.specs.Order.{part}
 use Rattle.run_laws.specs.Phases.{is_split, quota}
 use Rattle.run_laws.specs.Turns.{numbered}
 use Rattle.run_laws.proofs.PartLemmas.{all_of_parts}
-use Rattle.run_serving.specs.declared.policy.Policy.{Policy}
-use Rattle.run_serving.specs.Run.{first_index, calls_of, calls_given, HasPerformed}
-use Rattle.run_serving.specs.Serving.{call_of, script_of}
-use Rattle.run_serving.proofs.ScriptLemmas.{lists_length, past_end}
+use Rattle.auction_rows.specs.declared.policy.Policy.{Policy}
+use Rattle.run_laws.specs.Run.{first_index, calls_of, calls_given, HasPerformed}
+use Rattle.run_laws.specs.Serving.{call_of, script_of}
+use Rattle.run_laws.proofs.ScriptLemmas.{lists_length, past_end}
 use Rattle.shard_boxes.specs.Keys.{BoxId}
 use Rattle.shard_boxes.specs.States.{ShardState, state_of}
 use Rattle.phase_permits.specs.Slicing.{objects_of, stocks_of, slices_of}
@@ -29,8 +29,8 @@ use Rattle.phase_permits.specs.declared.fault.PermitFault.{PermitFault}
 use Rattle.phase_permits.specs.declared.fault.PermitFault.TheVariants as permit
 use Rattle.phase_permits.specs.Workers.{WorkerState}
 use Rattle.phase_permits.specs.Performing.{HaveOpening}
-use Rattle.phase_closing.specs.Phases.{no_receipt, receipt_at, journal_of, counters_of}
-use Rattle.phase_closing.specs.Standing.{StandFor, counters_at}
+use Rattle.closing_laws.specs.Phases.{no_receipt, receipt_at, journal_of, counters_of}
+use Rattle.closing_laws.specs.Standing.{StandFor, counters_at}
 use Rattle.worker_journals.specs.Histories.{HistoryView}
 use Rattle.worker_journals.specs.Journals.{entry_worker}
 use Rattle.phase_floor.specs.declared.fault.BeginFault.{BeginFault}

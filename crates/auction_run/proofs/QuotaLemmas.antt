@@ -4,7 +4,7 @@ use Rattle.std.proofs.Common.{Vec, ◌≡◌, ℕ, zero, suc, ◌+◌, ◌<◌, 
 use Rattle.std.specs.Prelude.{slice_index}
 use Rattle.std.proofs.lemmas.List.{map-append}
 use Rattle.auction_rows.specs.declared.requests.Request.{Request}
-use Rattle.run_serving.specs.Serving.{script_of}
+use Rattle.run_laws.specs.Serving.{script_of}
 use Rattle.auction_run.specs.Phases.{lists}
 
 take_next : (scripts : List (Vec Request Global)) (n : ℕ) (script : Vec Request Global) → n < length scripts → script ≡ get_or scripts n script →

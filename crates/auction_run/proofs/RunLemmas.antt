@@ -15,22 +15,22 @@ use Rattle.auction_rows.specs.Choosing.{choose}
 use Rattle.auction_rows.specs.History.{IsBook, ReplaysFrom, book_after}
 use Rattle.auction_rows.specs.Phases.{is_put_off, IsNumbered}
 use Rattle.item_shards.specs.OpeningRows.{rows_by}
-use Rattle.phase_closing.specs.Standing.{counters_at}
+use Rattle.closing_laws.specs.Standing.{counters_at}
 use Rattle.phase_floor.specs.States.{states_of, StandsFor, DoAllExist}
 use Rattle.run_laws.specs.Phases.{is_split, quota}
 use Rattle.run_laws.proofs.QuotaLemmas.{given_length}
 use Rattle.run_laws.proofs.ReachLemmas.{first_next, split_then_joined}
 use Rattle.run_laws.proofs.TurnLemmas.{waiting_none}
 use Rattle.worker_journals.specs.Merged.{added, merged}
-use Rattle.run_serving.specs.declared.policy.Policy.{Policy}
-use Rattle.run_serving.specs.Books.{HasReplayed, ReplaysOn}
-use Rattle.run_serving.specs.Run.{first_index, calls_of, calls_given, HasRun, HasPerformed, HasLeft, AreChosen}
-use Rattle.run_serving.specs.Serving.{script_of, segment_of, hot_in, phase_reached, AreNumbered}
-use Rattle.run_serving.proofs.BookLemmas.{phase_replayed}
-use Rattle.run_serving.proofs.ClosedLemmas.{none_chosen, none_numbered, phase_chosen, phase_numbered, segment_now}
-use Rattle.run_serving.proofs.EndLemmas.{run_serves, few_phases}
-use Rattle.run_serving.proofs.StepLemmas.{run_begins, phase_runs}
-use Rattle.run_serving.proofs.ScriptLemmas.{past_end}
+use Rattle.auction_rows.specs.declared.policy.Policy.{Policy}
+use Rattle.run_laws.specs.Books.{HasReplayed, ReplaysOn}
+use Rattle.run_laws.specs.Run.{first_index, calls_of, calls_given, HasRun, HasPerformed, HasLeft, AreChosen}
+use Rattle.run_laws.specs.Serving.{script_of, segment_of, hot_in, phase_reached, AreNumbered}
+use Rattle.run_laws.proofs.BookLemmas.{phase_replayed}
+use Rattle.run_laws.proofs.ClosedLemmas.{none_chosen, none_numbered, phase_chosen, phase_numbered, segment_now}
+use Rattle.run_laws.proofs.EndLemmas.{run_serves, few_phases}
+use Rattle.run_laws.proofs.StepLemmas.{run_begins, phase_runs}
+use Rattle.run_laws.proofs.ScriptLemmas.{past_end}
 use Rattle.auction_run.specs.declared.running.Running.{Running}
 use Rattle.auction_run.specs.Beginning.{HasQuotas, AreShort}
 use Rattle.auction_run.specs.Closed.{HasClosedPhase, HasPerformedPhase}

@@ -8,8 +8,8 @@ use Rattle.auction_rows.specs.Book.{Book}
 use Rattle.item_shards.specs.OpeningRows.{rows_by}
 use Rattle.phase_permits.specs.Stashes.{StashState}
 use Rattle.phase_floor.specs.Floors.{no_stash}
-use Rattle.run_serving.specs.Serving.{script_of}
-use Rattle.run_serving.proofs.ScriptLemmas.{script_at, past_end, lists_length}
+use Rattle.run_laws.specs.Serving.{script_of}
+use Rattle.run_laws.proofs.ScriptLemmas.{script_at, past_end, lists_length}
 use Rattle.auction_run.specs.Beginning.{AreShort}
 use Rattle.auction_run.specs.Phases.{lists, waiting_in}
 

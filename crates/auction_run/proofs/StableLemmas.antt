@@ -7,13 +7,13 @@ use Rattle.auction_rows.specs.declared.ids.Object.TheVariants.{Item, User, Categ
 use Rattle.auction_rows.specs.declared.numbers.Opening.{Opening}
 use Rattle.auction_rows.specs.declared.requests.Request.{Request}
 use Rattle.item_shards.specs.Values.{stock}
-use Rattle.phase_closing.specs.Phases.{value_on}
-use Rattle.phase_closing.specs.Standing.{counters_at}
+use Rattle.closing_laws.specs.Phases.{value_on}
+use Rattle.closing_laws.specs.Standing.{counters_at}
 use Rattle.phase_permits.specs.Stashes.{StashState}
 use Rattle.phase_floor.specs.States.{JoinedState, states_of, DoesExist, DoAllExist}
 use Rattle.run_laws.specs.Phases.{is_split}
-use Rattle.run_serving.specs.declared.policy.Policy.{Policy}
-use Rattle.run_serving.specs.Serving.{script_of}
+use Rattle.auction_rows.specs.declared.policy.Policy.{Policy}
+use Rattle.run_laws.specs.Serving.{script_of}
 use Rattle.shard_boxes.specs.States.{ShardState}
 use Rattle.auction_run.specs.Phases.{waiting_in, quota_of, MayPerform}
 

@@ -4,8 +4,8 @@ use Rattle.auction_rows.specs.declared.limits.TheConstants.{MOST_HOT, MOST_OF_A_
 use Rattle.auction_rows.specs.declared.requests.Request.{Request}
 use Rattle.auction_rows.specs.Book.{Book, worker_of}
 use Rattle.item_shards.specs.OpeningRows.{rows_by}
-use Rattle.run_serving.specs.declared.policy.Policy.{Policy}
-use Rattle.run_serving.specs.Serving.{script_of}
+use Rattle.auction_rows.specs.declared.policy.Policy.{Policy}
+use Rattle.run_laws.specs.Serving.{script_of}
 use Rattle.auction_run.specs.declared.fault.RunFault.{RunFault}
 use Rattle.auction_run.specs.declared.fault.RunFault.TheVariants.{Workers, Shards, Quota, TooLong, Spawn, Memory, NumberFull}
 

@@ -8,7 +8,7 @@ use Rattle.auction_rows.specs.History.{rows_of}
 use Rattle.auction_window.specs.Published.{Published, book_of}
 use Rattle.item_shards.specs.Serial.{CanFollow}
 use Rattle.phase_floor.specs.States.{JoinedState, IsBookOf}
-use Rattle.run_serving.specs.Serving.{segment_of}
+use Rattle.run_laws.specs.Serving.{segment_of}
 
 -- A board can take these rows as its next phase: they follow the book of the phases that it has.
 pub record CanShow {B : Type 0} (has : B → Opening → Book → List (List Row) → Type 0) (board : B) (last : List Row) : Type 0 where

@@ -5,13 +5,13 @@ use Rattle.auction_rows.specs.declared.requests.Request.{Request}
 use Rattle.auction_rows.specs.declared.rows.Entry.{Entry}
 use Rattle.auction_rows.specs.Phases.{IsNumbered}
 use Rattle.phase_permits.specs.Stashes.{StashState}
-use Rattle.phase_closing.specs.Standing.{counters_at}
+use Rattle.closing_laws.specs.Standing.{counters_at}
 use Rattle.phase_floor.specs.States.{JoinedState, StandsFor}
 use Rattle.worker_journals.specs.Histories.{HistoryView}
 use Rattle.worker_journals.specs.Merged.{added, merged}
-use Rattle.run_serving.specs.declared.policy.Policy.{Policy}
-use Rattle.run_serving.specs.Books.{ReplaysOn}
-use Rattle.run_serving.specs.Run.{HasPerformed, calls_of}
+use Rattle.auction_rows.specs.declared.policy.Policy.{Policy}
+use Rattle.run_laws.specs.Books.{ReplaysOn}
+use Rattle.run_laws.specs.Run.{HasPerformed, calls_of}
 use Rattle.auction_run.specs.declared.fault.RunFault.{RunFault}
 use Rattle.auction_run.specs.declared.phase.Closed.{Closed}
 use Rattle.auction_run.specs.Phases.{waiting_in, IsMet}

@@ -8,10 +8,10 @@ use Rattle.auction_rows.specs.Book.{Book, worker_of}
 use Rattle.auction_rows.specs.History.{IsBook}
 use Rattle.auction_window.specs.Published.{book_of}
 use Rattle.item_shards.specs.OpeningRows.{rows_by}
-use Rattle.phase_closing.specs.Standing.{counters_at, stores}
+use Rattle.closing_laws.specs.Standing.{counters_at, stores}
 use Rattle.phase_floor.specs.States.{JoinedState, StandsFor}
-use Rattle.run_serving.specs.declared.policy.Policy.{Policy}
-use Rattle.run_serving.specs.Serving.{script_of}
+use Rattle.auction_rows.specs.declared.policy.Policy.{Policy}
+use Rattle.run_laws.specs.Serving.{script_of}
 use Rattle.auction_run.specs.Beginning.{AreShort, HasQuotas, IsFirstToFail}
 use Rattle.auction_run.specs.Phases.{IsMet}
 use Rattle.auction_run.specs.declared.fault.RunFault.{RunFault}

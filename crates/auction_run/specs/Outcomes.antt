@@ -8,9 +8,9 @@ use Rattle.auction_rows.specs.declared.rows.Entry.{Entry}
 use Rattle.auction_rows.specs.Book.{Book}
 use Rattle.auction_rows.specs.History.{ReplaysFrom, book_after}
 use Rattle.phase_floor.specs.States.{StandsFor}
-use Rattle.run_serving.specs.declared.policy.Policy.{Policy}
-use Rattle.run_serving.specs.Run.{AreChosen, HasRun}
-use Rattle.run_serving.specs.Serving.{AreNumbered, Serves}
+use Rattle.auction_rows.specs.declared.policy.Policy.{Policy}
+use Rattle.run_laws.specs.Run.{AreChosen, HasRun}
+use Rattle.run_laws.specs.Serving.{AreNumbered, Serves}
 use Rattle.auction_window.specs.Published.{book_of}
 use Rattle.auction_run.specs.Boards.{HasShown, HasShownAfter}
 use Rattle.auction_run.specs.Phases.{hot_sets}

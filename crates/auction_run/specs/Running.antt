@@ -5,13 +5,13 @@ use Rattle.auction_rows.specs.declared.requests.Request.{Request}
 use Rattle.auction_rows.specs.Book.{Book}
 use Rattle.auction_rows.specs.History.{IsBook}
 use Rattle.item_shards.specs.OpeningRows.{rows_by}
-use Rattle.phase_closing.specs.Standing.{counters_at}
+use Rattle.closing_laws.specs.Standing.{counters_at}
 use Rattle.phase_floor.specs.States.{StandsFor}
 use Rattle.worker_journals.specs.Merged.{merged}
-use Rattle.run_serving.specs.declared.policy.Policy.{Policy}
-use Rattle.run_serving.specs.Books.{HasReplayed}
-use Rattle.run_serving.specs.Run.{HasRun, AreChosen, first_index}
-use Rattle.run_serving.specs.Serving.{script_of, segment_of, AreNumbered}
+use Rattle.auction_rows.specs.declared.policy.Policy.{Policy}
+use Rattle.run_laws.specs.Books.{HasReplayed}
+use Rattle.run_laws.specs.Run.{HasRun, AreChosen, first_index}
+use Rattle.run_laws.specs.Serving.{script_of, segment_of, AreNumbered}
 use Rattle.auction_run.specs.Beginning.{AreShort}
 use Rattle.auction_run.specs.Phases.{hot_sets, waiting_in}
 use Rattle.auction_run.specs.declared.running.Running.{Running}

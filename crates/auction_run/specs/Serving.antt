@@ -7,8 +7,8 @@ use Rattle.phase_permits.specs.Stashes.{StashState}
 use Rattle.phase_floor.specs.Floors.{FloorState, AreBegun, stash_at}
 use Rattle.phase_floor.specs.States.{JoinedState}
 use Rattle.phase_permits.specs.Workers.{WorkerState}
-use Rattle.run_serving.specs.declared.policy.Policy.{Policy}
-use Rattle.run_serving.specs.Serving.{script_of}
+use Rattle.auction_rows.specs.declared.policy.Policy.{Policy}
+use Rattle.run_laws.specs.Serving.{script_of}
 use Rattle.auction_run.specs.Phases.{waiting_in, quota_of}
 
 -- The next phase of a state has begun, with these hot objects: each worker's permit is a new one, for its quota, with what waits in

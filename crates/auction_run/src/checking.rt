@@ -7,10 +7,9 @@ ghost use Rattle.auction_run.specs.GoingOn.{AreShortOn, HasScripts, IsCheckedOn}
 ghost use Rattle.auction_run.specs.Phases.{lists};
 
 use crate::fault::RunFault;
-use auction_rows::{MOST_HOT, MOST_OF_A_WORKER, MOST_SHARDS, MOST_WORKERS, Request, Row};
+use auction_rows::{MOST_HOT, MOST_OF_A_WORKER, MOST_SHARDS, MOST_WORKERS, Policy, Request, Row};
 use item_shards::OpeningBook;
 use phase_floor::Joined;
-use run_serving::Policy;
 
 /// Checks what a run is handed: the fault is that of the first that doesn't hold.
 pub(crate) fn check(

@@ -2,7 +2,7 @@
 ghost use Rattle.std.specs.Prelude.{◌≡◌, [], false, length, IfOk, IfErr};
 ghost use Rattle.phase_floor.specs.States.{states_of};
 ghost use Rattle.run_laws.specs.Phases.{is_split};
-ghost use Rattle.run_serving.specs.Run.{first_index};
+ghost use Rattle.run_laws.specs.Run.{first_index};
 ghost use Rattle.auction_run.specs.declared.fault.RunFault.TheVariants.{Memory};
 ghost use Rattle.auction_run.specs.Closed.{HasPerformedPhase};
 ghost use Rattle.auction_run.specs.Phases.{lists, IsPlanOf, MayPerform};

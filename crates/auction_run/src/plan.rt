@@ -1,10 +1,9 @@
 //! How a run goes on with its scripts in a phase.
 ghost use Rattle.std.specs.Prelude.{◌≡◌, ◌<◌, ◌^◌};
-ghost use Rattle.run_serving.specs.Run.{first_index};
+ghost use Rattle.run_laws.specs.Run.{first_index};
 
-use auction_rows::Request;
+use auction_rows::{Policy, Request};
 use phase_workers::Round;
-use run_serving::Policy;
 
 /// A phase of a run: how the scripts are divided, and the round that goes on with each.
 #[derive(Drop)]

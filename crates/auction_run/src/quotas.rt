@@ -1,6 +1,6 @@
 //! What a phase gives each worker.
 ghost use Rattle.std.specs.Prelude.{◌≡◌, ◌-◌, ◌<◌, ℕ, length, min, slice_index, IfOk};
-ghost use Rattle.run_serving.specs.Serving.{script_of};
+ghost use Rattle.run_laws.specs.Serving.{script_of};
 ghost use Rattle.auction_run.specs.Phases.{lists};
 
 use auction_rows::Request;

@@ -6,8 +6,8 @@ use Rattle.std.proofs.lemmas.Bool.{cases_lt, eqb-true, eq-eqb, false≢true, and
 use Rattle.std.proofs.lemmas.List.{get_or_default, get_or-set_same, get_or-set_other}
 use Rattle.std.proofs.lemmas.Option.{slice_get_within}
 use Rattle.auction_rows.specs.declared.requests.Request.{Request}
-use Rattle.run_serving.specs.Serving.{script_of}
-use Rattle.run_serving.proofs.ScriptLemmas.{script_at, past_end, lists_length}
+use Rattle.run_laws.specs.Serving.{script_of}
+use Rattle.run_laws.proofs.ScriptLemmas.{script_at, past_end, lists_length}
 use Rattle.history_check.specs.Scripts.{lists, request_at}
 use Rattle.history_check.specs.Marks.{is_marked, AreWide, HasPlaces}
 

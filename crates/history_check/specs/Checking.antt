@@ -10,7 +10,7 @@ use Rattle.auction_rows.specs.Book.{Book}
 use Rattle.auction_rows.specs.History.{ReplaysFrom, book_after}
 use Rattle.auction_rows.specs.Replies.{reply}
 use Rattle.auction_text.specs.Replies.{reply_text}
-use Rattle.run_serving.specs.Serving.{script_of}
+use Rattle.run_laws.specs.Serving.{script_of}
 use Rattle.history_check.specs.declared.lines.Order.{Order}
 use Rattle.history_check.specs.declared.lines.Verdict.{Verdict}
 use Rattle.history_check.specs.declared.lines.Verdict.TheVariants.{Replays, WrongAt, Lacks}

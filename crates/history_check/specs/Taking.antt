@@ -7,7 +7,7 @@ use Rattle.auction_rows.specs.declared.rows.Entry.{Entry}
 use Rattle.auction_rows.specs.Book.{Book}
 use Rattle.auction_rows.specs.History.{book_after}
 use Rattle.item_shards.specs.Serial.{HoldsBook, opening_of}
-use Rattle.run_serving.specs.Serving.{script_of}
+use Rattle.run_laws.specs.Serving.{script_of}
 use Rattle.history_check.specs.declared.lines.Order.{Order}
 use Rattle.history_check.specs.declared.replay.Replay.{Replay}
 use Rattle.history_check.specs.Scripts.{is_of}

@@ -1,6 +1,6 @@
 //! Which requests of the scripts have stood in a line.
 ghost use Rattle.std.specs.Prelude.{◌≡◌, ◌<◌, ◌≤◌, ℕ, true, false, length, IfOk, IfNone, IfSome, ◌==◌, ◌&&◌, if◌then◌else◌, Some};
-ghost use Rattle.run_serving.specs.Serving.{script_of};
+ghost use Rattle.run_laws.specs.Serving.{script_of};
 ghost use Rattle.history_check.specs.Scripts.{lists, request_at};
 ghost use Rattle.history_check.specs.Marks.{is_marked, HasPlaces, AreWide};
 

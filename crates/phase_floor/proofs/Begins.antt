@@ -17,8 +17,8 @@ use Rattle.phase_permits.specs.Slicing.{slices_of}
 use Rattle.phase_permits.specs.Workers.{HasStashRoom, WorkerState, CanStart}
 use Rattle.phase_permits.specs.Stashes.{StashState}
 use Rattle.phase_permits.proofs.Places.{stocks_of_rows}
-use Rattle.phase_closing.specs.Phases.{no_receipt}
-use Rattle.phase_closing.specs.Standing.{counters_at}
+use Rattle.closing_laws.specs.Phases.{no_receipt}
+use Rattle.closing_laws.specs.Standing.{counters_at}
 use Rattle.phase_floor.specs.declared.fault.BeginFault.TheVariants.{UnknownHot, TooLong, Memory}
 use Rattle.phase_floor.specs.declared.kits.Kit.{Kit}
 use Rattle.phase_floor.specs.Begins.{IsTooLong, asked_in_all, empty_stash, IsKit, AreKits, start_of, HasNoSlices, HaveStashRoom}

@@ -13,7 +13,7 @@ use Rattle.phase_permits.specs.declared.counters.Counters.{Counters}
 use Rattle.phase_permits.specs.Replying.{CountsOf}
 use Rattle.phase_permits.specs.Workers.{no_counters}
 use Rattle.phase_floor.specs.Making.{IsBlank, AreBlank}
-use Rattle.phase_closing.specs.Standing.{counters_at}
+use Rattle.closing_laws.specs.Standing.{counters_at}
 use Rattle.phase_floor.specs.States.{joined_of, StandsFor, IsWithinLimit, IsKept}
 
 pub blank_of_new : (opening : Opening) (count n : ℕ) (shard : Shard) → IsNewShard n count opening shard → IsBlank opening count n (state_of shard)

@@ -10,8 +10,8 @@ use Rattle.shard_boxes.specs.States.{ShardState}
 use Rattle.phase_permits.specs.declared.slices.Hot.{Hot}
 use Rattle.phase_permits.specs.Slicing.{stocks_of, slices_in}
 use Rattle.phase_permits.specs.Workers.{WorkerState}
-use Rattle.phase_closing.specs.Merging.{after_merge, slices_left}
-use Rattle.phase_closing.specs.Phases.{no_receipt}
+use Rattle.closing_laws.specs.Merging.{after_merge, slices_left}
+use Rattle.closing_laws.specs.Phases.{no_receipt}
 use Rattle.phase_floor.specs.Closings.{AreReceiptsOf, HasSettled, HasReconciled, at_start}
 use Rattle.phase_floor.specs.Floors.{FloorState}
 use Rattle.phase_laws.proofs.ListLemmas.{every_from}

@@ -15,7 +15,7 @@ use Rattle.auction_rows.proofs.RequestLemmas.{same_object-true}
 use Rattle.item_shards.specs.Values.{stock}
 use Rattle.shard_boxes.specs.States.{ShardState}
 use Rattle.phase_permits.specs.Slicing.{objects_of, slices_of, IsStocked}
-use Rattle.phase_closing.specs.Phases.{value_on, IsReadFrom}
+use Rattle.closing_laws.specs.Phases.{value_on, IsReadFrom}
 use Rattle.phase_floor.specs.States.{DoesExist}
 
 -- the test whether an item is stored

@@ -20,9 +20,9 @@ use Rattle.item_shards.proofs.CountLemmas.{bids_at_most, comments_at_most, ratin
 use Rattle.shard_boxes.specs.States.{ShardState, state_of, state_at, IsWithin, AreOpened}
 use Rattle.phase_permits.specs.declared.counters.Counters.{Counters}
 use Rattle.phase_permits.specs.Workers.{WorkerState}
-use Rattle.phase_closing.specs.Phases.{HasClosed, receipt_at, counters_of}
-use Rattle.phase_closing.specs.Standing.{StandFor, AreOfWorkers, counters_at}
-use Rattle.phase_closing.proofs.CommitLemmas.{book_left, stores_few, stars_go_on, workers_go_on}
+use Rattle.closing_laws.specs.Phases.{HasClosed, receipt_at, counters_of}
+use Rattle.closing_laws.specs.Standing.{StandFor, AreOfWorkers, counters_at}
+use Rattle.closing_laws.proofs.CommitLemmas.{book_left, stores_few, stars_go_on, workers_go_on}
 use Rattle.phase_floor.specs.Closings.{AreReceiptsOf, phase_of}
 use Rattle.phase_floor.specs.Floors.{FloorState, IsOpen}
 use Rattle.phase_floor.specs.Resuming.{AreReady}

@@ -20,11 +20,11 @@ use Rattle.phase_permits.specs.declared.counters.Counters.{Counters}
 use Rattle.phase_permits.specs.declared.slices.Hot.{Hot}
 use Rattle.phase_permits.specs.Stashes.{StashState}
 use Rattle.phase_permits.specs.Workers.{WorkerState}
-use Rattle.phase_closing.specs.Merging.{CanMerge, after_merge}
-use Rattle.phase_closing.specs.Phases.{HasClosed, counters_of}
-use Rattle.phase_closing.specs.Standing.{StandFor, counters_at}
-use Rattle.phase_closing.proofs.CommitLemmas.{commits_grow}
-use Rattle.phase_closing.proofs.ReplayLemmas.{entries_replay}
+use Rattle.closing_laws.specs.Merging.{CanMerge, after_merge}
+use Rattle.closing_laws.specs.Phases.{HasClosed, counters_of}
+use Rattle.closing_laws.specs.Standing.{StandFor, counters_at}
+use Rattle.closing_laws.proofs.CommitLemmas.{commits_grow}
+use Rattle.closing_laws.proofs.ReplayLemmas.{entries_replay}
 use Rattle.phase_floor.specs.Closings.{AreReceiptsOf, AreKnown, AreOfOne, ArePartsOf, HasReconciled, IsFinished, Leaves, at_start, from_the_last, phase_of, stash_of}
 use Rattle.phase_floor.specs.Floors.{FloorState, IsOpen}
 use Rattle.phase_floor.specs.States.{IsKept, joined_of}

@@ -16,8 +16,8 @@ use Rattle.item_shards.specs.Records.{item_value}
 use Rattle.item_shards.specs.ShardContents.{IsSameShard, LiesIn, HasRoom, clock, contents, opening, shard_count, shard_number}
 use Rattle.item_shards.specs.Values.{blank}
 use Rattle.shard_boxes.specs.States.{ShardState, state_of, state_at}
-use Rattle.phase_closing.specs.Merging.{merged_with, with_slice, after_merge}
-use Rattle.phase_closing.specs.Phases.{value_on}
+use Rattle.closing_laws.specs.Merging.{merged_with, with_slice, after_merge}
+use Rattle.closing_laws.specs.Phases.{value_on}
 use Rattle.phase_floor.specs.Closings.{AreOfOne, opening_in}
 use Rattle.phase_floor.specs.Resuming.{AreNumbered}
 use Rattle.phase_floor.proofs.Placed.{seen, lies_there, opening_there, value_there}

@@ -12,7 +12,7 @@ use Rattle.phase_permits.specs.declared.counters.Counters.{Counters}
 use Rattle.phase_permits.specs.declared.slices.Hot.{Hot}
 use Rattle.phase_permits.specs.Stashes.{StashState}
 use Rattle.phase_permits.specs.Workers.{WorkerState}
-use Rattle.phase_closing.specs.Phases.{key_of, journal_of, counters_of}
+use Rattle.closing_laws.specs.Phases.{key_of, journal_of, counters_of}
 use Rattle.phase_floor.specs.Closings.{ArePartsOf, stash_of, sliced_of, from_the_last}
 
 -- what was there, with one more at the end

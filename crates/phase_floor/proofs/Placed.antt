@@ -8,7 +8,7 @@ use Rattle.item_shards.specs.declared.shard.Shard.{Shard}
 use Rattle.item_shards.specs.ShardContents.{LiesIn, contents, opening, shard_count, shard_number}
 use Rattle.shard_boxes.specs.States.{ShardState, state_of, state_at, no_shard}
 use Rattle.phase_permits.specs.Performing.{HaveOpening}
-use Rattle.phase_closing.specs.Phases.{value_on}
+use Rattle.closing_laws.specs.Phases.{value_on}
 use Rattle.phase_floor.specs.Resuming.{AreNumbered}
 
 -- what a shard shows that is read from a list of them

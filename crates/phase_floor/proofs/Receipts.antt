@@ -14,7 +14,7 @@ use Rattle.phase_permits.specs.Performing.{HasPerformedFirst, HasDealtWith, HasC
 use Rattle.phase_permits.proofs.PermitLemmas.{stocks-acts}
 use Rattle.phase_permits.specs.declared.fault.Done.{Done}
 use Rattle.phase_permits.specs.declared.fault.Done.TheVariants.{Committed, Stashed}
-use Rattle.phase_closing.specs.Phases.{no_receipt}
+use Rattle.closing_laws.specs.Phases.{no_receipt}
 use Rattle.phase_floor.specs.Closings.{IsReceipt, AreReceiptsOf}
 use Rattle.phase_floor.specs.Floors.{FloorState, IsBegun, AreBegun}
 

@@ -18,12 +18,12 @@ use Rattle.shard_boxes.specs.States.{ShardState, state_at}
 use Rattle.phase_permits.specs.declared.slices.Hot.{Hot}
 use Rattle.phase_permits.specs.Slicing.{objects_of, stocks_of, slices_in, AreFew}
 use Rattle.phase_permits.specs.Workers.{WorkerState}
-use Rattle.phase_closing.specs.Phases.{HasClosed, receipt_at, no_receipt, counters_of}
-use Rattle.phase_closing.specs.Standing.{StandFor}
-use Rattle.phase_closing.specs.Merging.{after_merge, slices_left, CanMerge}
-use Rattle.phase_closing.proofs.MergeLemmas.{as_many as as_many_merged}
-use Rattle.phase_closing.proofs.ReconcileLemmas.{reconciled_stand}
-use Rattle.phase_closing.proofs.RoomLemmas.{merges_can_be_done}
+use Rattle.closing_laws.specs.Phases.{HasClosed, receipt_at, no_receipt, counters_of}
+use Rattle.closing_laws.specs.Standing.{StandFor}
+use Rattle.closing_laws.specs.Merging.{after_merge, slices_left, CanMerge}
+use Rattle.closing_laws.proofs.MergeLemmas.{as_many as as_many_merged}
+use Rattle.closing_laws.proofs.ReconcileLemmas.{reconciled_stand}
+use Rattle.closing_laws.proofs.RoomLemmas.{merges_can_be_done}
 use Rattle.phase_floor.specs.Closings.{AreReceiptsOf, AreOfOne, AreKnown, IsKnown, phase_of, at_start, sliced_of, opening_in, from_the_last}
 use Rattle.phase_floor.specs.Floors.{FloorState, IsOpen}
 use Rattle.phase_floor.specs.Resuming.{AreReady}

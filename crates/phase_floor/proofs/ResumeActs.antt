@@ -28,7 +28,7 @@ use Rattle.item_shards.proofs.CanActLemmas.{row_can}
 use Rattle.item_shards.proofs.SerialLemmas.{after_own}
 use Rattle.item_shards.proofs.StandingLemmas.{cold_here, row_stands}
 use Rattle.shard_boxes.specs.States.{ShardState, state_of, state_at, no_shard}
-use Rattle.phase_closing.specs.Standing.{ShardsStandFor}
+use Rattle.closing_laws.specs.Standing.{ShardsStandFor}
 use Rattle.phase_floor.specs.Resuming.{AreNumbered, AreReady, CanActIn, CanWriteOn, HasRoomIn, HaveDone, IsShardOf, with_acts}
 use Rattle.phase_floor.proofs.Placed.{seen, lies_there}
 

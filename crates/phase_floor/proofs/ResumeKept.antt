@@ -11,7 +11,7 @@ use Rattle.item_shards.specs.OpeningRows.{rows_by}
 use Rattle.shard_boxes.specs.States.{state_of}
 use Rattle.phase_permits.specs.declared.counters.Counters.{Counters}
 use Rattle.phase_permits.specs.Replying.{CountsOf}
-use Rattle.phase_closing.specs.Standing.{ShardsStandFor, StandFor, AreOfWorkers, counters_at, stores}
+use Rattle.closing_laws.specs.Standing.{ShardsStandFor, StandFor, AreOfWorkers, counters_at, stores}
 use Rattle.phase_floor.specs.Resuming.{counters_in, AreReady}
 use Rattle.phase_floor.specs.States.{AreOfABook, IsKept, IsWithinLimit, AreWithinLimit}
 use Rattle.phase_floor.proofs.BookSize.{one_more}

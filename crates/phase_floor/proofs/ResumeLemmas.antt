@@ -14,7 +14,7 @@ use Rattle.item_shards.specs.OpeningRows.{rows_by}
 use Rattle.item_shards.proofs.SerialLemmas.{stored_next, stored_few}
 use Rattle.phase_permits.specs.declared.counters.Counters.{Counters}
 use Rattle.phase_permits.specs.Workers.{no_counters}
-use Rattle.phase_closing.specs.Standing.{counters_at}
+use Rattle.closing_laws.specs.Standing.{counters_at}
 use Rattle.phase_floor.specs.Resuming.{counters_in, with_row, HaveRoom}
 
 -- One more row is counted among its worker's.

@@ -5,7 +5,7 @@ use Rattle.auction_rows.specs.Book.{Book}
 use Rattle.auction_rows.specs.Requests.{shard_of}
 use Rattle.shard_boxes.specs.States.{ShardState, state_at, no_shard}
 use Rattle.phase_permits.specs.declared.counters.Counters.{Counters}
-use Rattle.phase_closing.specs.Standing.{StandFor}
+use Rattle.closing_laws.specs.Standing.{StandFor}
 use Rattle.phase_floor.specs.Closings.{at_start}
 
 module _ (given states : List ShardState) (states_are : states ≡ map at_start given) where

@@ -15,8 +15,8 @@ use Rattle.auction_rows.proofs.FreshIdLemmas.{ids_of_book}
 use Rattle.item_shards.specs.Values.{value, stock}
 use Rattle.shard_boxes.specs.States.{ShardState}
 use Rattle.phase_permits.specs.declared.counters.Counters.{Counters}
-use Rattle.phase_closing.specs.Phases.{value_on}
-use Rattle.phase_closing.specs.Standing.{StandFor, counters_at}
+use Rattle.closing_laws.specs.Phases.{value_on}
+use Rattle.closing_laws.specs.Standing.{StandFor, counters_at}
 use Rattle.phase_floor.specs.States.{IsKept}
 
 -- what is not stored has no stock

@@ -10,7 +10,7 @@ use Rattle.item_shards.specs.declared.slices.Slice.{Slice}
 use Rattle.shard_boxes.specs.States.{ShardState}
 use Rattle.phase_permits.specs.declared.slices.Hot.{Hot}
 use Rattle.phase_permits.specs.Slicing.{slices_in}
-use Rattle.phase_closing.specs.Merging.{after_merge, CanMerge}
+use Rattle.closing_laws.specs.Merging.{after_merge, CanMerge}
 use Rattle.phase_floor.specs.Closings.{AreOfOne, AreKnown, IsKnown, opening_in, from_the_last}
 use Rattle.phase_floor.proofs.Merges.{still_of_one, one_opening}
 

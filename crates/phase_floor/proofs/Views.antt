@@ -12,7 +12,7 @@ use Rattle.auction_rows.specs.Requests.{number_of, shard_of}
 use Rattle.item_shards.specs.declared.shard.Shard.{Shard}
 use Rattle.item_shards.specs.ShardContents.{LiesIn, opening, contents, ForEachBook, StandsFor as ShardStandsFor}
 use Rattle.shard_boxes.specs.States.{ShardState, state_of}
-use Rattle.phase_closing.specs.Phases.{value_on}
+use Rattle.closing_laws.specs.Phases.{value_on}
 use Rattle.phase_floor.specs.Resuming.{AreNumbered}
 use Rattle.phase_floor.specs.States.{JoinedState, states_of, StandsFor, IsKept}
 use Rattle.phase_floor.proofs.Placed.{seen, number_there, count_there, lies_there, opening_there, value_there}

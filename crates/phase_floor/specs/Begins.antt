@@ -11,7 +11,7 @@ use Rattle.phase_permits.specs.declared.slices.Hot.{Hot}
 use Rattle.phase_permits.specs.Slicing.{slices_of}
 use Rattle.phase_permits.specs.Workers.{HasStashRoom, new_worker, WorkerState}
 use Rattle.phase_permits.specs.Stashes.{StashState}
-use Rattle.phase_closing.specs.Standing.{counters_at}
+use Rattle.closing_laws.specs.Standing.{counters_at}
 use Rattle.phase_floor.specs.declared.kits.Kit.{Kit}
 use Rattle.phase_floor.specs.Floors.{stash_at}
 

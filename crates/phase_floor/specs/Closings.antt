@@ -19,10 +19,10 @@ use Rattle.phase_permits.specs.Slicing.{stocks_of, slices_in, AreFew}
 use Rattle.phase_permits.specs.Stashes.{StashState}
 use Rattle.phase_permits.specs.Workers.{WorkerState, IsExplained}
 use Rattle.phase_permits.specs.Performing.{HaveOpening}
-use Rattle.phase_closing.specs.Phases.{Phase, HasClosed, receipt_at, key_of, journal_of, counters_of}
-use Rattle.phase_closing.specs.Lawful.{ClosesLawfully}
-use Rattle.phase_closing.specs.Merging.{after_merge, slices_left}
-use Rattle.phase_closing.specs.Standing.{StandFor, counters_at}
+use Rattle.closing_laws.specs.Phases.{Phase, HasClosed, receipt_at, key_of, journal_of, counters_of}
+use Rattle.closing_laws.specs.Lawful.{ClosesLawfully}
+use Rattle.closing_laws.specs.Merging.{after_merge, slices_left}
+use Rattle.closing_laws.specs.Standing.{StandFor, counters_at}
 use Rattle.phase_floor.specs.Floors.{FloorState}
 use Rattle.phase_floor.specs.States.{JoinedState, states_of, StandsFor}
 

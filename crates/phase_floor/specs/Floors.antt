@@ -12,8 +12,8 @@ use Rattle.phase_permits.specs.declared.counters.Counters.{Counters}
 use Rattle.phase_permits.specs.Slicing.{objects_of, slices_of, IsStocked}
 use Rattle.phase_permits.specs.Workers.{new_worker, WorkerState}
 use Rattle.phase_permits.specs.Stashes.{StashState}
-use Rattle.phase_closing.specs.Phases.{IsReadFrom}
-use Rattle.phase_closing.specs.Standing.{counters_at}
+use Rattle.closing_laws.specs.Phases.{IsReadFrom}
+use Rattle.closing_laws.specs.Standing.{counters_at}
 use Rattle.phase_floor.specs.States.{DoAllExist, IsKept}
 
 -- the users and categories, the phase's number, the counters with which each worker begins, what is fixed of each hot object

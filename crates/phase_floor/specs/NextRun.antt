@@ -1,7 +1,7 @@
 -- A state with which another run can begin.
 use Rattle.std.specs.Prelude.{map}
 use Rattle.phase_permits.specs.declared.counters.Counters.{Counters}
-use Rattle.phase_closing.specs.Standing.{stores}
+use Rattle.closing_laws.specs.Standing.{stores}
 use Rattle.phase_floor.specs.States.{JoinedState}
 
 -- counters whose commits are the accepted stores

@@ -13,8 +13,8 @@ use Rattle.item_shards.specs.Values.{stock}
 use Rattle.shard_boxes.specs.States.{ShardState, state_of, AreOpened}
 use Rattle.phase_permits.specs.declared.counters.Counters.{Counters}
 use Rattle.phase_permits.specs.Performing.{HaveOpening}
-use Rattle.phase_closing.specs.Phases.{value_on}
-use Rattle.phase_closing.specs.Standing.{StandFor, AreOfWorkers, counters_at, stores}
+use Rattle.closing_laws.specs.Phases.{value_on}
+use Rattle.closing_laws.specs.Standing.{StandFor, AreOfWorkers, counters_at, stores}
 
 -- the users and categories, the number of the next phase, the shards, and the counters of each worker
 pub record JoinedState : Type 0 where

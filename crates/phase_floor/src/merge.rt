@@ -4,7 +4,7 @@ ghost use Rattle.std.specs.List.{flat_map};
 ghost use Rattle.phase_laws.specs.Replay.{SawInTurn};
 ghost use Rattle.shard_boxes.specs.States.{state_of};
 ghost use Rattle.item_shards.specs.ShardContents.{LiesIn, contents, opening};
-ghost use Rattle.phase_closing.specs.Merging.{CanMerge, CanTake, after_merge, with_slice};
+ghost use Rattle.closing_laws.specs.Merging.{CanMerge, CanTake, after_merge, with_slice};
 ghost use Rattle.phase_floor.specs.Closings.{AreOfOne, AreKnown, IsKnown, opening_in, from_the_last};
 
 use auction_rows::{Object, shard_of};

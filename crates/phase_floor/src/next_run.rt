@@ -1,7 +1,7 @@
 //! How a state between two phases is made ready for another run.
 ghost use Rattle.std.specs.Prelude.{◌≡◌, ◌<◌, ◌≤◌, length, map};
 ghost use Rattle.std.specs.List.{AllByRecursion};
-ghost use Rattle.phase_closing.specs.Standing.{counters_at, stores};
+ghost use Rattle.closing_laws.specs.Standing.{counters_at, stores};
 ghost use Rattle.phase_floor.specs.NextRun.{stores_as_commits};
 
 use crate::joined::Joined;

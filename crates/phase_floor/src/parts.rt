@@ -1,7 +1,7 @@
 //! The parts of receipts, each kind by itself.
 ghost use Rattle.std.specs.Prelude.{◌≡◌, ◌+◌, ◌<◌, ◌≤◌, ◌++◌, ◌∷◌, [], length, map, IfOk, OnOk, IfSome, IfNone, vec_len, vec_capacity};
 ghost use Rattle.std.specs.List.{AllByRecursion, flat_map};
-ghost use Rattle.phase_closing.specs.Phases.{key_of, journal_of, counters_of};
+ghost use Rattle.closing_laws.specs.Phases.{key_of, journal_of, counters_of};
 ghost use Rattle.phase_floor.specs.Closings.{ArePartsOf, IsFinished, stash_of, sliced_of, from_the_last};
 
 use crate::receipt::Receipt;

@@ -8,7 +8,7 @@ ghost use Rattle.item_shards.specs.Limits.{IsWithinLimits};
 ghost use Rattle.item_shards.specs.OpeningBooks.{opening_of, rows_of};
 ghost use Rattle.item_shards.specs.Writing.{writes_of};
 ghost use Rattle.shard_boxes.specs.States.{state_of};
-ghost use Rattle.phase_closing.specs.Standing.{ShardsStandFor, counters_at};
+ghost use Rattle.closing_laws.specs.Standing.{ShardsStandFor, counters_at};
 ghost use Rattle.phase_floor.specs.Resuming.{counters_in, with_row, HaveRoom, AreNumbered, AreReady, CanWriteOn, CanActIn, HasRoomIn, HaveDone};
 ghost use Rattle.phase_floor.specs.States.{StandsFor, IsBookOf};
 

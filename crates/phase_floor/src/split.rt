@@ -19,7 +19,7 @@ use std::sync::Wait;
 
 impl Joined {
     ghost use Rattle.std.specs.List.{AllByRecursion};
-    ghost use Rattle.phase_closing.specs.Phases.{IsReadFrom};
+    ghost use Rattle.closing_laws.specs.Phases.{IsReadFrom};
     ghost use Rattle.phase_permits.specs.Slicing.{objects_of, IsStocked};
     ghost use Rattle.phase_floor.specs.States.{DoesExist, DoAllExist, states_of};
 

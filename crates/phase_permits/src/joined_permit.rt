@@ -68,8 +68,8 @@ impl<N: PhaseName> JoinedPermit<N> {
         }
     }
 
-    /// Performs a request of the quota: it is committed with its reply, or after a fault all but `tries` is as before.
-    /// It takes memory for a new item alone.
+    /// Performs a request of the quota and commits it with its reply. After a fault nothing has changed but `tries` and
+    /// what the key has seen of the request's shards. It takes memory only for a new item.
     pub fn perform<R: Wait>(
         &mut self,
         rt: &R,
@@ -108,7 +108,8 @@ impl<N: PhaseName> JoinedPermit<N> {
     }
 
     /// Performs the first stashed request, which uses none of the quota: None exactly where there is none. After a fault
-    /// it is the first as before, and so is all but `tries`. It takes memory for a new item alone.
+    /// it is still the first, and nothing has changed but `tries` and what the key has seen of the request's shards. It
+    /// takes memory only for a new item.
     pub fn perform_stashed<R: Wait>(
         &mut self,
         rt: &R,

@@ -21,7 +21,7 @@ use Rattle.phase_permits.proofs.PermitLemmas.{stocks-acts, none_put_off}
 use Rattle.phase_permits.specs.declared.fault.PermitFault.{PermitFault}
 use Rattle.phase_permits.specs.Performing.{HasFailed, IsCause, HasCommitted, HasFailedFirst, HasDealt, HasPerformedFirstSome}
 use Rattle.phase_laws.proofs.ListLemmas.{all-append}
-use Rattle.run_serving.specs.Serving.{call_of}
+use Rattle.run_laws.specs.Serving.{call_of}
 use Rattle.shard_boxes.specs.States.{ShardState}
 use Rattle.worker_journals.specs.Journals.{JournalView, commit_in}
 use Rattle.phase_workers.specs.Tasks.{task, IsDone}

@@ -8,7 +8,7 @@ use Rattle.shard_boxes.specs.States.{ShardState}
 use Rattle.phase_permits.specs.declared.fault.PermitFault.{PermitFault}
 use Rattle.phase_permits.specs.Workers.{WorkerState}
 use Rattle.phase_permits.specs.Performing.{HaveOpening}
-pub use Rattle.run_serving.specs.Serving.{lists}
+pub use Rattle.run_laws.specs.Serving.{lists}
 use Rattle.phase_workers.specs.declared.fault.ServingFault.{ServingFault}
 use Rattle.phase_workers.specs.declared.fault.ServingFault.TheVariants.{Worker, Spawn, Memory}
 use Rattle.phase_workers.specs.declared.serving.WorkerAnswer.{WorkerAnswer}

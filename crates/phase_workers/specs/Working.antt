@@ -10,7 +10,7 @@ use Rattle.phase_permits.specs.declared.fault.PermitFault.{PermitFault}
 use Rattle.phase_permits.specs.Performing.{IsCause}
 use Rattle.phase_permits.specs.Workers.{WorkerState}
 use Rattle.run_laws.specs.Turns.{numbered}
-use Rattle.run_serving.specs.Serving.{call_of}
+use Rattle.run_laws.specs.Serving.{call_of}
 
 -- so many calls of a script, from an index on
 abbrev pub calls_from : ℕ → ℕ → List Request → List (ℕ × Request)

@@ -1,17 +1,8 @@
 //! A history of any engine is replayed on an auction of one thread, and what is found of it written as a line.
 #![tactic(auto)]
 
-mod executing;
-mod faults;
-mod finding;
-mod help;
-mod options;
-
-use executing::execute;
-use faults::{Fault, status, write_fault};
-use finding::verdict_status;
+use check_program::{Fault, execute, read_options, status, verdict_status, write_fault};
 use history_check::{CheckFault, Verdict};
-use options::read_options;
 use program_options::program_words;
 use std::alloc::Global;
 use std::fs::File;

@@ -4,3 +4,12 @@ pub mod ReachLemmas
 pub mod TurnLemmas
 pub mod CallLemmas
 pub mod QuotaLemmas
+pub mod ScriptLemmas
+pub mod CommitLemmas
+pub mod StepLemmas
+pub mod EndLemmas
+pub mod ClosedLemmas
+pub mod BookLemmas
+pub mod CutLemmas
+pub mod AloneLemmas
+pub mod OneWorkerLemmas

@@ -1,7 +1,7 @@
 -- Receipts of workers, in order.
 use Rattle.std.proofs.Common.{◌≡◌, ℕ, zero, suc, ◌+◌, ◌<◌, List, [], ◌∷◌, ◌++◌, length, Result, Ok, Err, ap, subst, ◌∙◌, arith}
 use Rattle.std.specs.Prelude.{⊤, IfOk, IfErr}
-use Rattle.phase_closing.specs.Phases.{receipt_at}
+use Rattle.closing_laws.specs.Phases.{receipt_at}
 use Rattle.phase_floor.specs.Closings.{IsReceipt, AreReceiptsOf}
 use Rattle.phase_floor.specs.Floors.{FloorState}
 use Rattle.phase_floor.proofs.Receipts.{committed, dealt}

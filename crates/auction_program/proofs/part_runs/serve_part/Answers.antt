@@ -2,7 +2,7 @@ use Rattle.std.proofs.Common.{◌≡◌, ◌∙◌, ◌+◌, ℕ, List, [], ap, 
 use Rattle.std.proofs.lemmas.List.{length-map}
 use Rattle.auction_run.specs.Phases.{hot_sets}
 use Rattle.auction_text.specs.Moved.{gone_by}
-use Rattle.run_serving.specs.Serving.{lists}
+use Rattle.run_laws.specs.Serving.{lists}
 use Rattle.auction_program.specs.PartRuns.{gone_with}
 use Rattle.auction_program.proofs.ToldLemmas.{run_told, same_gone}
 use Rattle.auction_program.proofs.part_runs.serve_part.Goals as goal

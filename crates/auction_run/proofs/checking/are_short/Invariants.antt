@@ -1,7 +1,7 @@
 use Rattle.std.proofs.Common.{ℕ, ◌+◌, ◌<◌, ◌≤◌, length}
 use Rattle.item_shards.specs.OpeningBooks.{rows_of}
 use Rattle.item_shards.specs.OpeningRows.{rows_by}
-use Rattle.run_serving.specs.Serving.{script_of}
+use Rattle.run_laws.specs.Serving.{script_of}
 use Rattle.auction_run.specs.Phases.{lists}
 use Rattle.auction_run.proofs.checking.are_short.Given as goal
 

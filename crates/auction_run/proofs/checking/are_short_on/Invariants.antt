@@ -1,6 +1,6 @@
 use Rattle.std.proofs.Common.{ℕ, ◌+◌, ◌<◌, ◌≤◌, length}
-use Rattle.phase_closing.specs.Standing.{counters_at, stores}
-use Rattle.run_serving.specs.Serving.{script_of}
+use Rattle.closing_laws.specs.Standing.{counters_at, stores}
+use Rattle.run_laws.specs.Serving.{script_of}
 use Rattle.auction_run.specs.Phases.{lists}
 use Rattle.auction_run.proofs.checking.are_short_on.Given as goal
 

@@ -1,7 +1,7 @@
 use Rattle.std.proofs.Common.{false, length, refl, sym, ap, ◌∙◌}
 use Rattle.phase_permits.specs.Slicing.{objects_of}
 use Rattle.auction_run.proofs.PhaseLemmas.{only_memory, not_too_long, given_quotas}
-use Rattle.run_serving.proofs.ScriptLemmas.{lists_length}
+use Rattle.run_laws.proofs.ScriptLemmas.{lists_length}
 use Rattle.auction_run.proofs.joined_phase.begin.Goals as goal
 
 pub begin_joined-requires : goal.begin_joined-requires

@@ -2,7 +2,7 @@ use Rattle.std.proofs.Common.{◌≡◌, ◌∙◌, length, sym, ap, refl}
 use Rattle.worker_journals.specs.Histories.{HistoryView}
 use Rattle.worker_journals.specs.Merged.{merged}
 use Rattle.worker_journals.proofs.HistoryLemmas.{merged_nothing}
-use Rattle.run_serving.proofs.ScriptLemmas.{lists_length}
+use Rattle.run_laws.proofs.ScriptLemmas.{lists_length}
 use Rattle.auction_run.specs.Phases.{lists}
 use Rattle.auction_run.proofs.RunLemmas.{begun}
 use Rattle.auction_run.proofs.running.begin.Goals as goal

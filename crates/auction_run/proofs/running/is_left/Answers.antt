@@ -3,7 +3,7 @@ use Rattle.std.proofs.lemmas.Bool.{false≢true}
 use Rattle.auction_run.specs.Phases.{lists}
 use Rattle.auction_run.proofs.ScriptLemmas.{nothing_left, something_left, one_worker_more, nobody}
 use Rattle.auction_run.proofs.running.is_left.Goals as goal
-use Rattle.run_serving.proofs.ScriptLemmas.{lists_length}
+use Rattle.run_laws.proofs.ScriptLemmas.{lists_length}
 
 pub loop-worker-preserved : goal.loop-worker-preserved
 loop-worker-preserved c = one_worker_more _ c.loop-worker.worker c.loop-worker.invariant

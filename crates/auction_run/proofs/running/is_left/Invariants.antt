@@ -1,5 +1,5 @@
 use Rattle.std.proofs.Common.{◌≡◌, ℕ, ◌<◌, ◌≤◌, length}
-use Rattle.run_serving.specs.Serving.{script_of}
+use Rattle.run_laws.specs.Serving.{script_of}
 use Rattle.auction_run.specs.Phases.{lists, waiting_in}
 use Rattle.auction_run.proofs.running.is_left.Given as goal
 

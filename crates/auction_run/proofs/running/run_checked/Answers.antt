@@ -4,7 +4,7 @@ use Rattle.phase_floor.specs.States.{IsBookOf}
 use Rattle.phase_workers.proofs.WorkLemmas.{err_as}
 use Rattle.auction_rows.specs.History.{book_after}
 use Rattle.item_shards.specs.OpeningBooks.{opening_of, rows_of}
-use Rattle.run_serving.proofs.ScriptLemmas.{lists_length}
+use Rattle.run_laws.proofs.ScriptLemmas.{lists_length}
 use Rattle.auction_run.specs.declared.fault.RunFault.TheVariants.{Memory}
 use Rattle.auction_run.specs.GoingOn.{BeginsWith}
 use Rattle.auction_run.specs.Outcomes.{HasShownAll, HasShownFirst, IsOutcome}

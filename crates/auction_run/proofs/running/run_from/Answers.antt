@@ -3,9 +3,9 @@ use Rattle.auction_rows.specs.declared.rows.Row.{Row}
 use Rattle.auction_rows.specs.Book.{Book}
 use Rattle.auction_window.specs.Published.{book_of}
 use Rattle.phase_workers.proofs.WorkLemmas.{err_as}
-use Rattle.run_serving.specs.Run.{HasLeft, first_index}
-use Rattle.run_serving.specs.Serving.{script_of}
-use Rattle.run_serving.proofs.ScriptLemmas.{lists_length}
+use Rattle.run_laws.specs.Run.{HasLeft, first_index}
+use Rattle.run_laws.specs.Serving.{script_of}
+use Rattle.run_laws.proofs.ScriptLemmas.{lists_length}
 use Rattle.auction_run.specs.declared.fault.RunFault.TheVariants.{Memory}
 use Rattle.auction_run.specs.Beginning.{HasShards, HasQuotas}
 use Rattle.auction_run.specs.Boards.{HasShownAfter}

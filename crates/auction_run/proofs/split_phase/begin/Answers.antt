@@ -1,7 +1,7 @@
 use Rattle.std.proofs.Common.{true, [], map, length, sym, ap, ◌∙◌}
 use Rattle.phase_floor.specs.Begins.{empty_stash}
 use Rattle.auction_run.proofs.PhaseLemmas.{only_memory, not_too_long, given_quotas, empty_at}
-use Rattle.run_serving.proofs.ScriptLemmas.{lists_length}
+use Rattle.run_laws.proofs.ScriptLemmas.{lists_length}
 use Rattle.auction_run.proofs.split_phase.begin.Goals as goal
 
 pub begin_split-requires : goal.begin_split-requires

@@ -1,5 +1,5 @@
 use Rattle.std.proofs.Common.{sym, subst, arith}
-use Rattle.phase_closing.specs.Merging.{CanTake}
+use Rattle.closing_laws.specs.Merging.{CanTake}
 use Rattle.phase_floor.specs.Closings.{IsKnown}
 use Rattle.phase_floor.proofs.Merges.{placed}
 use Rattle.phase_floor.proofs.merge.merge.Goals as goal

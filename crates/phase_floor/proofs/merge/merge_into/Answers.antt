@@ -2,7 +2,7 @@ use Rattle.std.proofs.Common.{subst}
 use Rattle.auction_rows.specs.declared.ids.Object.TheVariants.{Item, User, Category}
 use Rattle.item_shards.specs.declared.slices.Slice.TheVariants as slice
 use Rattle.item_shards.specs.ShardContents.{LiesIn, contents, opening}
-use Rattle.phase_closing.specs.Merging.{CanTake}
+use Rattle.closing_laws.specs.Merging.{CanTake}
 use Rattle.phase_floor.specs.Closings.{IsKnown}
 use Rattle.phase_floor.proofs.Merges.{room_of, with_merged}
 use Rattle.phase_floor.proofs.merge.merge_into.Goals as goal

@@ -2,7 +2,7 @@ use Rattle.std.proofs.Common.{arith, ◌≡◌, ◌<◌, length, set, ap, sym, �
 use Rattle.std.proofs.lemmas.List.{get_or_read}
 use Rattle.std.proofs.lemmas.List.Edits.{map_over_more}
 use Rattle.phase_permits.specs.declared.counters.Counters.{Counters}
-use Rattle.phase_closing.specs.Standing.{counters_at, stores}
+use Rattle.closing_laws.specs.Standing.{counters_at, stores}
 use Rattle.phase_permits.specs.Workers.{no_counters}
 use Rattle.phase_floor.specs.NextRun.{stores_as_commits}
 use Rattle.phase_floor.proofs.next_run.set_commits.Goals as goal

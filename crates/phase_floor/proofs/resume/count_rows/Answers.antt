@@ -4,7 +4,7 @@ use Rattle.std.proofs.lemmas.List.Elements.{All-get_or}
 use Rattle.auction_rows.specs.Book.{worker_of}
 use Rattle.item_shards.proofs.SerialLemmas.{one_more}
 use Rattle.phase_permits.specs.Workers.{no_counters}
-use Rattle.phase_closing.specs.Standing.{counters_at}
+use Rattle.closing_laws.specs.Standing.{counters_at}
 use Rattle.phase_floor.specs.Resuming.{counters_in, with_row, HaveRoom}
 use Rattle.phase_floor.proofs.ResumeLemmas.{have_room, each_next, below_front}
 use Rattle.phase_floor.proofs.resume.count_rows.Goals as goal

@@ -4,7 +4,7 @@ use Rattle.item_shards.specs.Limits.{IsWithinLimits}
 use Rattle.item_shards.proofs.SerialLemmas.{one_more, next_goes_on}
 use Rattle.item_shards.proofs.StandingLemmas.{blank_of_none}
 use Rattle.shard_boxes.specs.States.{state_of}
-use Rattle.phase_closing.specs.Standing.{ShardsStandFor}
+use Rattle.closing_laws.specs.Standing.{ShardsStandFor}
 use Rattle.phase_floor.proofs.ResumeActs.{ready_next, stand_next, can_write}
 use Rattle.phase_floor.proofs.ResumeLemmas.{front_within}
 use Rattle.phase_floor.proofs.resume.write_rows.Goals as goal

@@ -1,6 +1,6 @@
 use Rattle.std.proofs.Common.{◌≡◌, [], length, map, take}
 use Rattle.shard_boxes.specs.States.{state_of}
-use Rattle.phase_closing.specs.Standing.{ShardsStandFor}
+use Rattle.closing_laws.specs.Standing.{ShardsStandFor}
 use Rattle.phase_floor.specs.Resuming.{AreReady}
 use Rattle.phase_floor.proofs.resume.write_rows.Given as goal
 

@@ -1,5 +1,5 @@
 use Rattle.std.proofs.Common.{◌≡◌, ◌<◌, length, true, arith, ap}
-use Rattle.run_serving.specs.Serving.{script_of}
+use Rattle.run_laws.specs.Serving.{script_of}
 use Rattle.history_check.specs.Scripts.{lists}
 use Rattle.history_check.specs.Marks.{is_marked}
 use Rattle.history_check.proofs.ScriptLemmas.{script_there, worker_within, one_worker_more}

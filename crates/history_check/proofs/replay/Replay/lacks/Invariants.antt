@@ -1,5 +1,5 @@
 use Rattle.std.proofs.Common.{◌≡◌, ℕ, ◌<◌, true, length}
-use Rattle.run_serving.specs.Serving.{script_of}
+use Rattle.run_laws.specs.Serving.{script_of}
 use Rattle.history_check.specs.Scripts.{lists}
 use Rattle.history_check.specs.Marks.{is_marked}
 use Rattle.history_check.proofs.replay.Replay.lacks.Given as goal

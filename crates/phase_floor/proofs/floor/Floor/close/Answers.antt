@@ -6,7 +6,7 @@ use Rattle.shard_boxes.specs.States.{state_of}
 use Rattle.worker_journals.specs.Histories.{HistoryView}
 use Rattle.worker_journals.specs.Merged.{AreByWorker, added}
 use Rattle.worker_journals.proofs.AddedLemmas.{added_front, last_merged, added_stars}
-use Rattle.phase_closing.specs.Phases.{journal_of}
+use Rattle.closing_laws.specs.Phases.{journal_of}
 use Rattle.phase_floor.specs.Closings.{at_start}
 use Rattle.phase_floor.specs.Floors.{FloorState, IsOpen}
 use Rattle.phase_floor.proofs.Closings.{nothing_added, in_order, are_spent}

@@ -3,7 +3,7 @@ use Rattle.std.proofs.lemmas.List.{get_or_read}
 use Rattle.std.specs.Vec.Iter.{into_iter_items}
 use Rattle.shard_boxes.proofs.Each.{each_push, drop_next}
 use Rattle.phase_permits.specs.Workers.{no_counters}
-use Rattle.phase_closing.specs.Standing.{counters_at}
+use Rattle.closing_laws.specs.Standing.{counters_at}
 use Rattle.phase_floor.specs.Begins.{start_of}
 use Rattle.phase_floor.specs.Floors.{FloorState, IsOpen, IsBegun, stash_at}
 use Rattle.phase_floor.proofs.Begins.{begun_next, can_start}

@@ -4,7 +4,7 @@ use Rattle.auction_rows.specs.History.{IsBook}
 use Rattle.auction_rows.specs.Book.{worker_of}
 use Rattle.item_shards.specs.OpeningBooks.{rows_of}
 use Rattle.shard_boxes.specs.States.{state_of}
-use Rattle.phase_closing.specs.Standing.{ShardsStandFor, counters_at}
+use Rattle.closing_laws.specs.Standing.{ShardsStandFor, counters_at}
 use Rattle.phase_floor.specs.Resuming.{counters_in, AreReady}
 use Rattle.phase_floor.proofs.ResumeKept.{stand_for, kept_of}
 use Rattle.phase_floor.proofs.joined.Joined.resume.Goals as goal

@@ -1,6 +1,6 @@
 use Rattle.std.proofs.Common.{◌≡◌, length, get_or, sym, ap, ◌∙◌, subst, arith}
 use Rattle.auction_rows.specs.Requests.{shard_of}
-use Rattle.phase_closing.specs.Phases.{value_on}
+use Rattle.closing_laws.specs.Phases.{value_on}
 use Rattle.phase_floor.specs.States.{JoinedState, joined_of, states_of, StandsFor}
 use Rattle.phase_floor.proofs.Views.{lies, opening_is, value_is, stands}
 use Rattle.phase_floor.proofs.joined.Joined.shard.Goals as goal

@@ -6,7 +6,7 @@ use Rattle.auction_rows.specs.declared.ids.Object.TheVariants.{Item}
 use Rattle.auction_rows.specs.declared.requests.Facts.{Facts}
 use Rattle.phase_laws.proofs.OrderLemmas.{all_push}
 use Rattle.phase_permits.specs.Slicing.{objects_of, IsStocked}
-use Rattle.phase_closing.specs.Phases.{IsReadFrom}
+use Rattle.closing_laws.specs.Phases.{IsReadFrom}
 use Rattle.phase_floor.specs.States.{DoesExist, states_of}
 use Rattle.phase_floor.proofs.Every.{at_place}
 use Rattle.phase_floor.proofs.HotItems.{objects_push}

@@ -1,7 +1,7 @@
 use Rattle.std.proofs.Common.{◌≡◌, take}
 use Rattle.std.specs.List.{AllByRecursion}
 use Rattle.phase_permits.specs.Slicing.{objects_of, IsStocked}
-use Rattle.phase_closing.specs.Phases.{IsReadFrom}
+use Rattle.closing_laws.specs.Phases.{IsReadFrom}
 use Rattle.phase_floor.specs.States.{states_of}
 use Rattle.phase_floor.proofs.joined.Joined.stocks_of.Given as goal
 

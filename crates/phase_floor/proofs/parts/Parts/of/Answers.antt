@@ -4,7 +4,7 @@ use Rattle.std.specs.List.{AllByRecursion}
 use Rattle.std.specs.Vec.Iter.{into_iter_items}
 use Rattle.phase_laws.proofs.OrderLemmas.{all_push}
 use Rattle.shard_boxes.proofs.Each.{drop_next, at_head}
-use Rattle.phase_closing.specs.Phases.{no_receipt}
+use Rattle.closing_laws.specs.Phases.{no_receipt}
 use Rattle.phase_floor.specs.Closings.{ArePartsOf, IsFinished}
 use Rattle.phase_floor.proofs.PartLemmas.{parts_next}
 use Rattle.phase_floor.proofs.parts.Parts.of.Goals as goal

@@ -1,0 +1,37 @@
+-- What is found of a history, by the text of its rows and scripts.
+use Rattle.std.proofs.Common.{◌≡◌, ℕ, List, Option, Some, None, subst}
+use Rattle.std.specs.Prelude.{IfSome, Ok}
+use Rattle.auction_rows.specs.declared.numbers.Opening.{Opening}
+use Rattle.auction_rows.specs.declared.requests.Request.{Request}
+use Rattle.auction_rows.specs.Book.{Book}
+use Rattle.auction_text.specs.Scripts.{input_of}
+use Rattle.item_shards.specs.OpeningRows.{AreRows, opening_rows}
+use Rattle.item_shards.specs.declared.opened.Opened.{Opened}
+use Rattle.history_check.specs.declared.lines.Verdict.{Verdict}
+use Rattle.history_check.specs.declared.lines.Verdict.TheVariants.{Replays}
+use Rattle.history_check.specs.Checking.{IsAccepted, IsVerdict}
+use Rattle.check_program.specs.declared.options.Options.{Options}
+use Rattle.check_program.specs.Finding.{IsFound}
+
+module _ (options : Options) (rows : List Opened) (scripts : List (List Request)) (opening : Opening) (start : Book) (verdict : Verdict)
+    (opening_is : opening ≡ options.opening) (start_is : start ≡ opening_rows options.opening rows) (are_rows : AreRows options.opening rows) where
+  here : (input text : List ℕ) → input_of options.workers input ≡ Ok (record { rows = rows; scripts = scripts })
+      → IsVerdict opening start scripts options.order text verdict → (IsAccepted opening start scripts options.order text → verdict ≡ Replays) → IsFound options input text verdict
+  here input text reads found accepted = record {
+    rows = rows;
+    scripts = scripts;
+    reads = reads;
+    are_rows = are_rows;
+    found = subst (λ o. IsVerdict o (opening_rows options.opening rows) scripts options.order text verdict) opening_is
+        (subst (λ b. IsVerdict opening b scripts options.order text verdict) start_is found);
+    accepted = subst (λ o. IsAccepted o (opening_rows options.opening rows) scripts options.order text → verdict ≡ Replays) opening_is
+        (subst (λ b. IsAccepted opening b scripts options.order text → verdict ≡ Replays) start_is accepted);
+  }
+
+  pub known : (read left : Option (List ℕ)) → IfSome read (λ bytes. input_of options.workers bytes ≡ Ok (record { rows = rows; scripts = scripts }))
+      → IfSome left (λ text. IsVerdict opening start scripts options.order text verdict)
+      → IfSome left (λ text. IsAccepted opening start scripts options.order text → verdict ≡ Replays)
+      → IfSome read (λ input. IfSome left (λ text. IsFound options input text verdict))
+  known None left reads found accepted = tt
+  known (Some input) None reads found accepted = tt
+  known (Some input) (Some text) reads found accepted = here input text reads found accepted

@@ -1,0 +1,83 @@
+-- A phase that closes: a user is hot, and the one worker comments on a stored item about that user.
+use Rattle.std.specs.Prelude.{pos, false, [], ◌∷◌, Some, None}
+use Rattle.auction_rows.specs.declared.ids.ItemId.{ItemId}
+use Rattle.auction_rows.specs.declared.ids.Object.TheVariants.{Item, User}
+use Rattle.auction_rows.specs.declared.replies.Reply.TheVariants.{CommentStored}
+use Rattle.auction_rows.specs.declared.requests.Facts.{Facts}
+use Rattle.auction_rows.specs.declared.requests.Request.TheVariants.{StoreComment}
+use Rattle.auction_rows.specs.declared.rows.Entry.{Entry}
+use Rattle.auction_rows.specs.declared.rows.Row.TheVariants as row
+use Rattle.auction_rows.specs.Book.{Book}
+use Rattle.auction_rows.specs.History.{rows_of}
+use Rattle.item_shards.specs.Values.{stock, value}
+use Rattle.shard_boxes.specs.declared.line.Line.{Line}
+use Rattle.shard_boxes.specs.Keys.{KeyState}
+use Rattle.shard_boxes.specs.Lines.{after_line}
+use Rattle.shard_boxes.specs.States.{ShardState}
+use Rattle.phase_permits.specs.declared.counters.Counters.{Counters}
+use Rattle.phase_permits.specs.Txns.{Setting, Txn, line_on, after_txn}
+use Rattle.phase_permits.specs.Slicing.{slices_of}
+use Rattle.phase_permits.specs.Workers.{WorkerState}
+use Rattle.closing_laws.specs.Phases.{Phase}
+
+abbrev pub first_item : ItemId
+first_item = record { worker = 0; serial = 0 }
+
+abbrev pub setting : Setting
+setting = record { opening = record { users = 1; categories = 1 }; shards = 1; stocks = (User 0, None) ∷ [] }
+
+-- the worker has stored an item before
+abbrev pub counters : Counters
+counters = record { items = 1; bids = 0; comments = 0; buys = 0; commits = 1 }
+
+abbrev pub entry : Entry
+entry = record {
+  phase = 1;
+  number = 1;
+  worker = 0;
+  index = 0;
+  request = StoreComment 0 0 first_item (pos 5);
+  reply = CommentStored (record { worker = 0; serial = 0 });
+}
+
+module _ (facts : Facts) where
+  -- the book of the phase's opening
+  abbrev pub example_book : Book
+  example_book = row.Item (record { id = first_item; facts = facts; time = 0 }) ∷ []
+
+  abbrev pub opened : ShardState
+  opened = record { number = 0; shards = 1; opening = setting.opening; clock = 0; contents = value example_book }
+
+  abbrev pub txn : Txn
+  txn = (entry, record { stock = stock (value example_book (Item first_item)); clocks = Some (0, 0) ∷ None ∷ [] })
+
+  abbrev pub line : Line
+  line = line_on setting 0 txn
+
+  abbrev pub key : KeyState
+  key = record { boxes = []; worker = 0; seats = record { holds = false; lines = line ∷ []; seen = (0, line) ∷ [] } ∷ [] }
+
+  abbrev pub receipt : WorkerState
+  receipt = record {
+    key = key;
+    opening = setting.opening;
+    begun = (counters, 0);
+    counters = after_txn counters txn;
+    journal = record { phase = 1; worker = 0; room = 1; entries = entry ∷ [] };
+    stash = record { requests = []; done = []; room = 0 };
+    slices = slices_of setting.stocks (rows_of (entry ∷ []));
+    left = 0;
+    tries = 1;
+    clock = 1;
+    txns = txn ∷ [];
+  }
+
+  abbrev pub example_phase : Phase
+  example_phase = record {
+    setting = setting;
+    opening = opened ∷ [];
+    counters = counters ∷ [];
+    receipts = receipt ∷ [];
+    given = after_line opened line ∷ [];
+    entries = entry ∷ [];
+  }

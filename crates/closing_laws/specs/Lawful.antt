@@ -1,0 +1,60 @@
+-- How a phase closes lawfully.
+use Rattle.std.specs.Prelude.{◌≡◌, ℕ, ◌<◌, true, false, List, map, filter, fold, length}
+use Rattle.phase_laws.specs.Order.{part}
+use Rattle.auction_rows.specs.declared.ids.Object.{Object}
+use Rattle.auction_rows.specs.Footprint.{is_hot}
+use Rattle.auction_rows.specs.History.{rows_of}
+use Rattle.auction_rows.specs.Phases.{IsNumbered}
+use Rattle.item_shards.specs.declared.slices.Slice.{Slice}
+use Rattle.item_shards.specs.Values.{Value, value}
+use Rattle.worker_journals.specs.Journals.{entry_worker}
+use Rattle.shard_boxes.specs.Lines.{IsHistory}
+use Rattle.shard_boxes.specs.States.{ShardState, state_at}
+use Rattle.phase_permits.specs.Txns.{Txn, hot_in, entry_of, takes}
+use Rattle.phase_permits.specs.Slicing.{slice_of, slices_of}
+use Rattle.phase_permits.specs.Workers.{WorkerState}
+use Rattle.closing_laws.specs.Phases.{Phase, value_on, journal_of, receipt_at}
+use Rattle.closing_laws.specs.Histories.{worker_line}
+use Rattle.closing_laws.specs.Merging.{merged_with}
+
+-- a worker's slice of an object: it has the value that the accepted stores of the worker's journal give the object
+abbrev pub slice_by : WorkerState → Object → Slice
+slice_by receipt object = slice_of object (value (rows_of (journal_of receipt).entries) object)
+
+-- a value of an object with one such slice of each worker merged
+abbrev pub with_slices_by : List WorkerState → Object → Value → Value
+with_slices_by receipts object old = fold (λ merged receipt. merged_with (slice_by receipt object) merged) old receipts
+
+-- each worker has one slice of each hot object, and this is what its journal makes of it
+abbrev pub AreSliced : Phase → Type 0
+AreSliced p = (w : ℕ) → w < length p.receipts →
+    let receipt = receipt_at p.receipts w in receipt.slices ≡ slices_of p.setting.stocks (rows_of (journal_of receipt).entries)
+
+-- each hot object has what it had as the phase began, with one slice of each worker merged
+abbrev pub AreHotMerged : Phase → List ShardState → Type 0
+AreHotMerged p closing = (object : Object) → is_hot (hot_in p.setting) object ≡ true →
+    value_on closing object ≡ with_slices_by p.receipts object (value_on p.opening object)
+
+-- each other object has what its shard had of it as the boxes gave it back
+abbrev pub AreOthersAsGiven : Phase → List ShardState → Type 0
+AreOthersAsGiven p closing = (object : Object) → is_hot (hot_in p.setting) object ≡ false → value_on closing object ≡ value_on p.given object
+
+-- A phase closes lawfully, and leaves these shards.
+pub record ClosesLawfully (p : Phase) (closing : List ShardState) : Type 0 where
+  -- the entries ascend by number and then worker, and each number is 1 + the greatest earlier one with which it shares something
+  pub numbers : IsNumbered p.setting.opening p.setting.shards (hot_in p.setting) p.entries
+  -- the part of each worker is its journal
+  pub parts : (w : ℕ) → part entry_worker w p.entries ≡ (journal_of (receipt_at p.receipts w)).entries
+  -- the entries with what their transactions found
+  pub txns : List Txn
+  pub entries : map entry_of txns ≡ p.entries
+  -- from the shard with which the phase opened to the one given back, a shard's list holds the lines of exactly the entries that
+  -- take it, in their order
+  pub lists : (s : ℕ) → s < length p.opening →
+      IsHistory p.opening (length p.receipts) s (map (worker_line p.setting s) (filter (takes p.setting s) txns)) (state_at p.given s)
+  -- there is a shard given back, and one left, for each with which the phase opened
+  pub given : length p.given ≡ length p.opening
+  pub left : length closing ≡ length p.opening
+  pub slices : AreSliced p
+  pub merged : AreHotMerged p closing
+  pub others : AreOthersAsGiven p closing

@@ -1,0 +1,54 @@
+-- The slices of the workers, merged into the shards in which their objects lie.
+use Rattle.std.specs.Prelude.{◌≡◌, ℕ, ◌+◌, ◌<◌, ◌^◌, ◌+ℤ◌, FitsSigned, IsSome, ⊤, List, fold, length, slice_set}
+use Rattle.std.specs.Int.{w64}
+use Rattle.std.specs.List.{flat_map}
+use Rattle.std.specs.List.Sorted.{IsPermutation}
+use Rattle.auction_rows.specs.declared.ids.Object.{Object}
+use Rattle.auction_rows.specs.declared.ids.Object.TheVariants.{Item, User, Category}
+use Rattle.auction_rows.specs.Requests.{shard_of}
+use Rattle.item_shards.specs.declared.slices.Slice.{Slice}
+use Rattle.item_shards.specs.declared.slices.Slice.TheVariants as slice
+use Rattle.item_shards.specs.Contents.{changed, bids_merged, comments_merged, items_merged}
+use Rattle.item_shards.specs.Values.{Value}
+use Rattle.shard_boxes.specs.States.{ShardState, state_at}
+use Rattle.phase_permits.specs.Workers.{WorkerState}
+use Rattle.phase_permits.specs.Slicing.{slices_in}
+use Rattle.closing_laws.specs.Phases.{Phase, value_on}
+
+-- a value with a slice of its object merged
+abbrev pub merged_with : Slice → Value → Value
+merged_with (slice.Item s) value = bids_merged s value
+merged_with (slice.User s) value = comments_merged s value
+merged_with (slice.Category s) value = items_merged s value
+
+-- a shard with a slice of an object merged
+abbrev pub with_slice : ShardState → Object × Slice → ShardState
+with_slice state pair = record state { contents = changed pair.0 (merged_with pair.1) state.contents }
+
+-- the shards after a slice of an object is merged into the one in which it lies
+abbrev pub after_merge : List ShardState → Object × Slice → List ShardState
+after_merge states pair = let s = shard_of pair.0 (length states) in slice_set states s (with_slice (state_at states s) pair)
+
+-- the slices of all workers, each with its object
+abbrev pub slices_left : List WorkerState → List (Object × Slice)
+slices_left receipts = flat_map (λ receipt. slices_in receipt.slices) receipts
+
+-- A slice can be merged into a value of its object: the object is of its kind, an item is stored, and the sums that are made fit their types.
+abbrev pub CanTake : Value → Object × Slice → Type 0
+CanTake value (Item id, slice.Item s) = IsSome value.facts × (value.bids.bids + s.bids < 2 ^ 64)
+CanTake value (User user, slice.User s) =
+    FitsSigned w64 (value.comments.rating +ℤ s.rating) × (value.comments.comments + s.comments < 2 ^ 64)
+CanTake value (Category category, slice.Category s) = ⊤
+CanTake value pair = ⊥
+
+-- it can be merged into the shard in which its object lies
+abbrev pub CanMerge : List ShardState → Object × Slice → Type 0
+CanMerge states pair = CanTake (value_on states pair.0) pair
+
+-- What reconciliation does: into the shards that the boxes gave back all slices of all workers are merged, once each, in some
+-- order. Clocks don't matter.
+pub record IsReconciled (p : Phase) (closing : List ShardState) : Type 0 where
+  pub order : List (Object × Slice)
+  pub each : IsPermutation (slices_left p.receipts) order
+  pub count : length closing ≡ length p.given
+  pub contents : (s : ℕ) → s < length p.given → (state_at closing s).contents ≡ (state_at (fold after_merge p.given order) s).contents

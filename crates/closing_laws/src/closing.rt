@@ -1,0 +1,54 @@
+//! What a phase that has closed comes to.
+ghost use Rattle.std.specs.Prelude.{◌≡◌, ◌+◌, ◌<◌, ◌≤◌, ℕ, [], length};
+ghost use Rattle.std.specs.List.{AllByRecursion};
+ghost use Rattle.auction_rows.specs.Book.{Book};
+ghost use Rattle.auction_rows.specs.History.{IsBook, book_after};
+ghost use Rattle.item_shards.specs.Limits.{GivesStars, HasStars};
+ghost use Rattle.phase_permits.specs.Txns.{hot_in};
+ghost use Rattle.closing_laws.specs.Phases.{Phase, HasClosed, receipt_at, counters_of, journal_of};
+ghost use Rattle.closing_laws.specs.Standing.{StandFor, AreOfWorkers, counters_at, stores};
+ghost use Rattle.closing_laws.specs.Histories.{HoldTheEntries, FollowWhatTheyShare, ReplaysAndStands};
+
+/// Each shard's list holds the lines of the entries whose footprint has the shard, in the entries' order, and
+/// nothing else.
+pub fn lists_hold_the_entries()
+    ensures { (p : Phase) (closed : HasClosed p) → HoldTheEntries p closed }
+{}
+
+/// Each entry's number is 1 + the greatest of the entries before it that are of its worker or share a shard with it,
+/// and 1 where there is none.
+pub fn numbers_follow_what_entries_share()
+    ensures { (p : Phase) → HasClosed p →
+        FollowWhatTheyShare p.setting.opening p.setting.shards (hot_in p.setting) p.entries }
+{}
+
+/// From every book for which the shards and the counters stood as the phase began, the entries replay, and the
+/// shards that the boxes gave back stand for the book after them, but for hot objects, as do the counters.
+pub fn entries_replay()
+    ensures { (p : Phase) → HasClosed p → (book : Book) → StandFor p.opening p.counters book [] →
+        ReplaysAndStands p book }
+{}
+
+/// A book of the opening leaves one. Its stars are from -5 to 5, where those of the book and of the entries are, and
+/// its rows are of the phase's workers, where those of the book are.
+pub fn books_go_on()
+    ensures books { (p : Phase) → HasClosed p → (book : Book) → StandFor p.opening p.counters book [] →
+        IsBook p.setting.opening book → IsBook p.setting.opening (book_after p.setting.opening book p.entries) }
+    ensures stars { (p : Phase) → HasClosed p → (book : Book) → StandFor p.opening p.counters book [] →
+        AllByRecursion HasStars book → AllByRecursion (λ entry. GivesStars entry.request) p.entries →
+        AllByRecursion HasStars (book_after p.setting.opening book p.entries) }
+    ensures workers { (p : Phase) → HasClosed p → (book : Book) → StandFor p.opening p.counters book [] →
+        AreOfWorkers (length p.counters) book →
+        AreOfWorkers (length p.receipts) (book_after p.setting.opening book p.entries) }
+{}
+
+/// A worker's commits grow by the entries of its journal. Its stores, where they were no more than its commits, are
+/// so after the phase.
+pub fn commits_grow()
+    ensures commits { (p : Phase) → HasClosed p → (w : ℕ) → w < length p.receipts →
+        let receipt = receipt_at p.receipts w in
+        (counters_of receipt).commits ≡ (counters_at p.counters w).commits + length (journal_of receipt).entries }
+    ensures stores { (p : Phase) → HasClosed p → (w : ℕ) → w < length p.receipts →
+        let after = counters_of (receipt_at p.receipts w) in
+        stores (counters_at p.counters w) ≤ (counters_at p.counters w).commits → stores after ≤ after.commits }
+{}

@@ -1,0 +1,66 @@
+//! An auction of two workers between two phases.
+ghost use Rattle.std.specs.Prelude.{◌≡◌, IfOk};
+ghost use Rattle.example_phases.specs.Auctions.{IsOfTwo};
+
+use crate::client::Client;
+use auction_rows::{Opening, Request};
+use phase_floor::Joined;
+use phase_permits::{PermitFault, Stash};
+use std::alloc::{AllocError, Global};
+use worker_journals::History;
+
+/// What there is between two phases.
+#[derive(Drop)]
+pub struct Auction {
+    /// The objects.
+    pub state: Joined,
+    /// What each worker has deferred.
+    pub stashes: Vec<Stash>,
+    /// All commits so far.
+    pub history: History,
+    /// The client of worker 0.
+    pub first: Client,
+    /// The client of worker 1.
+    pub second: Client,
+}
+
+impl Auction {
+    /// An auction before its first phase.
+    pub fn new(
+        alloc: Global,
+        opening: Opening,
+        first: Vec<Request>,
+        second: Vec<Request>,
+    ) -> Result<Auction, AllocError>
+        ensures two { IfOk result IsOfTwo }
+        ensures phase { IfOk result (λ auction. auction.state.phase ≡ 0) }
+    {
+        let stash = Stash::with_room(alloc, 0)?;
+        let other = Stash::with_room(alloc, 0)?;
+        Ok(Auction {
+            state: Joined::new(alloc, opening, 2, 4)?,
+            stashes: vec![in alloc; stash, other]?,
+            history: History::new(alloc),
+            first: Client::new(alloc, 0, first),
+            second: Client::new(alloc, 1, second),
+        })
+    }
+
+    /// Whether each client has all its replies.
+    pub fn is_over(&self) -> bool {
+        self.first.has_asked_all()
+            && self.second.has_asked_all()
+            && self.stashes.iter().all(|stash| stash.is_empty())
+    }
+}
+
+/// What a worker leaves at the end of a phase.
+#[derive(Drop)]
+pub struct Worked<T> {
+    /// The receipt of its permit.
+    pub receipt: T,
+    /// Its client.
+    pub client: Client,
+    /// The fault that stopped it, if any.
+    pub done: Result<(), PermitFault>,
+}

@@ -1,4 +1,0 @@
-pub mod Serving
-pub mod Run
-pub mod Books
-pub mod Answers
