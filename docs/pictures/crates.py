@@ -19,9 +19,9 @@ LAYERS = {
     "engine": {"shard_boxes": 690, "phase_permits": 600, "closing_laws": 640, "phase_floor": 630,
                "phase_workers": 420, "auction_run": 560},
     "texts": {"program_options": 420, "auction_text": 940, "part_log": 860, "history_check": 230},
-    "programs, examples and tests": {"auction_program": 645, "load_program": 983, "rubis_auction": 575, "check_program": 300, "rubis_check": 300, "rubis_load": 983,
-                                     "example_watch": 869, "engine_tests": 524, "program_tests": 715, "phase_tests": 762, "example_vase": 195,
-                                     "example_phases": 415},
+    "programs": {"auction_program": 735, "load_program": 960, "check_program": 300, "rubis_auction": 735, "rubis_load": 960, "rubis_check": 300},
+    "examples and tests": {"example_vase": 235, "example_phases": 370, "engine_tests": 500, "phase_tests": 615, "program_tests": 735,
+                           "example_watch": 865},
 }
 MODEL = "auction_rows"
 KNOWS, KNOWS_NOT = "#b3261e", "#3d6e91"
