@@ -17,15 +17,13 @@ new-requires-2 g c =
     record {
       key = c.requires.unused;
       worker = ap (λ (j : JournalView). j.worker) journal ∙ sym c.requires.worker;
-      start = record {
-        empty = ap (λ (j : JournalView). j.entries) journal;
-        identities = slices ∙ ap (λ stocks. slices_of stocks []) (sym (ap stocks_of slices ∙ stocks_of_rows hot []));
-        room = omega (arith, ap length stash.empty, ap (λ (j : JournalView). j.room) journal);
-        stash_room = stash_room _ _ _ (omega (arith, stash.room));
-        limit = omega (arith, ap length stash.empty);
-        counted = record { items = omega arith; bids = omega arith; comments = omega arith; buys = omega arith };
-        stored = λ item is own.
-            let first : item.serial ≡ 0 = c.requires.stored item (ap (λ objects. is_hot objects (Item item)) (sym (ap objects_of slices ∙ objects_of_slices hot [])) ∙ is) in
-            omega (arith, first);
-      };
+      empty = ap (λ (j : JournalView). j.entries) journal;
+      identities = slices ∙ ap (λ stocks. slices_of stocks []) (sym (ap stocks_of slices ∙ stocks_of_rows hot []));
+      room = omega (arith, ap length stash.empty, ap (λ (j : JournalView). j.room) journal);
+      stash_room = stash_room _ _ _ (omega (arith, stash.room));
+      limit = omega (arith, ap length stash.empty);
+      counted = record { items = omega arith; bids = omega arith; comments = omega arith; buys = omega arith };
+      stored = λ item is own.
+          let first : item.serial ≡ 0 = c.requires.stored item (ap (λ objects. is_hot objects (Item item)) (sym (ap objects_of slices ∙ objects_of_slices hot [])) ∙ is) in
+          omega (arith, first);
     }
