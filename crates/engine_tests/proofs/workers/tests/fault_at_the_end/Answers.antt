@@ -72,13 +72,11 @@ new-permit-requires g c =
     record {
       key = c.requires.unused;
       worker = ap (λ (j : JournalView). j.worker) journal ∙ sym c.requires.worker;
-      start = record {
-        empty = ap (λ (j : JournalView). j.entries) journal;
-        identities = refl;
-        room = omega (arith, waits, ap (λ (j : JournalView). j.room) journal);
-        stash_room = tt;
-        limit = omega (arith, waits, none);
-        counted = record { items = omega (arith, zero.0, none); bids = omega (arith, zero.1.0, none); comments = omega (arith, zero.1.1.0, none); buys = omega (arith, zero.1.1.1.0, none) };
-        stored = λ item hot own. absurd (false≢true hot);
-      };
+      empty = ap (λ (j : JournalView). j.entries) journal;
+      identities = refl;
+      room = omega (arith, waits, ap (λ (j : JournalView). j.room) journal);
+      stash_room = tt;
+      limit = omega (arith, waits, none);
+      counted = record { items = omega (arith, zero.0, none); bids = omega (arith, zero.1.0, none); comments = omega (arith, zero.1.1.0, none); buys = omega (arith, zero.1.1.1.0, none) };
+      stored = λ item hot own. absurd (false≢true hot);
     }
