@@ -22,7 +22,6 @@ pub mod PutLemmas
 pub mod RightLemmas
 pub mod RoomLemmas
 pub mod RowSlices
-pub mod SendLemmas
 pub mod SlicedLemmas
 pub mod StartLemmas
 pub mod StashLemmas

@@ -9,7 +9,7 @@ use crate::slices::Slices;
 use crate::stash::Stash;
 use crate::store::Store;
 use auction_rows::{Entry, ItemId, MOST_TRIES, Object, Opening, Reply, Request};
-use ghost_log::{Ghost, Log};
+use ghost_log::Log;
 use shard_boxes::{Key, PhaseName};
 use std::marker::Model;
 use worker_journals::{Answer, Journal, Told};
@@ -28,19 +28,19 @@ pub(crate) struct Worker<N: PhaseName> {
     pub(crate) tries: u32,
     pub(crate) clock: u64,
     // What it began with, and its transactions: for proofs alone.
-    pub(crate) begun: Ghost<(Counters, u64)>,
+    pub(crate) begun: Log<Counters, u64>,
     pub(crate) txns: Log<Entry, ReadSet>,
 }
 
 impl<N: PhaseName> Model for Worker<N> {
-    ghost use Rattle.phase_permits.specs.Workers.{WorkerState, IsLawful};
+    ghost use Rattle.phase_permits.specs.Workers.{WorkerState, IsLawful, begun_of};
 
     ghost Value = { WorkerState };
 
     ghost view = { λ w. record {
       key = w.key;
       opening = w.opening;
-      begun = w.begun;
+      begun = begun_of w.begun.items;
       counters = w.counters;
       journal = w.journal;
       stash = w.stash;
@@ -54,7 +54,7 @@ impl<N: PhaseName> Model for Worker<N> {
     ghost invariant = { λ w. IsLawful (record {
       key = w.key;
       opening = w.opening;
-      begun = w.begun;
+      begun = begun_of w.begun.items;
       counters = w.counters;
       journal = w.journal;
       stash = w.stash;
@@ -97,7 +97,7 @@ impl<N: PhaseName> Worker<N> {
             left: quota,
             tries: 0,
             clock,
-            begun: Ghost::of(&(counters, clock)),
+            begun: Log::new().and(&counters, &clock),
             txns: Log::new(),
         }
     }

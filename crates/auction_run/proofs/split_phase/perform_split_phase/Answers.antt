@@ -1,6 +1,4 @@
 use Rattle.std.proofs.Common.{false, ◌∙◌, sym, subst}
-use denote.Param.Send.{sendable}
-use Rattle.phase_permits.proofs.SendLemmas.{split_permit_send, split_receipt_send}
 use Rattle.auction_run.specs.declared.fault.RunFault.TheVariants.{Memory}
 use Rattle.auction_run.specs.Phases.{IsMet, lists, told}
 use Rattle.auction_run.proofs.PhaseLemmas.{failed, fault_met, as_many, shown, are_ready, receipts_are, closed_phase}
@@ -47,9 +45,3 @@ returns g c =
           (record { state = c.in_ok-state.state; stashes = c.in_ok-state.stashes }) closed.leaves;
       fault = tt;
     }
-
-pub serve_all-requires-send-P : goal.serve_all-requires-send-P
-serve_all-requires-send-P g c κs within = search (sendable, split_permit_send) depth 99
-
-pub serve_all-requires-send-P-Receipt : goal.serve_all-requires-send-P-Receipt
-serve_all-requires-send-P-Receipt g c κs within = search (sendable, split_receipt_send) depth 99

@@ -5,7 +5,7 @@ use Rattle.item_shards.specs.ShardContents.{clock}
 use Rattle.shard_boxes.specs.Helds.{HeldState}
 use Rattle.phase_permits.specs.declared.fault.PermitFault.TheVariants.{NumberFull}
 use Rattle.phase_permits.specs.Takens.{footprint_of, held_in, HasTakenAll}
-use Rattle.phase_permits.specs.Workers.{WorkerState}
+use Rattle.phase_permits.specs.Workers.{WorkerState, begun_of}
 use Rattle.phase_permits.proofs.ChainLemmas.{store_fails}
 use Rattle.phase_permits.proofs.worker.Worker.begin.Goals as goal
 
@@ -15,7 +15,7 @@ returns-in-None-clause-full g c =
     let w : WorkerState = record {
       key = inside.key;
       opening = inside.opening;
-      begun = inside.begun;
+      begun = begun_of inside.begun.items;
       counters = inside.counters;
       journal = inside.journal;
       stash = inside.stash;

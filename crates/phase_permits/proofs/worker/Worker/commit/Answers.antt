@@ -1,6 +1,6 @@
 use Rattle.std.proofs.Common.{◌<◌, ◌+◌, refl, sym, subst, arith}
 use Rattle.phase_permits.specs.Slicing.{AreFew}
-use Rattle.phase_permits.specs.Workers.{WorkerState}
+use Rattle.phase_permits.specs.Workers.{WorkerState, begun_of}
 use Rattle.phase_permits.proofs.FewLemmas.{few_more}
 use Rattle.phase_permits.proofs.LawfulLemmas.{lawful_as}
 use Rattle.phase_permits.proofs.worker.Worker.commit.Goals as goal
@@ -11,7 +11,7 @@ invariant_of-self g c =
     let w : WorkerState = record {
       key = inside.key;
       opening = inside.opening;
-      begun = inside.begun;
+      begun = begun_of inside.begun.items;
       counters = inside.counters;
       journal = inside.journal;
       stash = inside.stash;

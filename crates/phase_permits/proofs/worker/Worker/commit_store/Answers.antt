@@ -3,7 +3,7 @@ use Rattle.auction_rows.specs.Replies.{row_of}
 use Rattle.auction_rows.specs.StoreReplies.{reply_of}
 use Rattle.item_shards.specs.Writing.{writes_if}
 use Rattle.phase_permits.specs.Slicing.{objects_of, AreFew}
-use Rattle.phase_permits.specs.Workers.{WorkerState}
+use Rattle.phase_permits.specs.Workers.{WorkerState, begun_of}
 use Rattle.phase_permits.proofs.LawfulLemmas.{lawful_sliced, objects-acts, counts_one}
 use Rattle.phase_permits.proofs.worker.Worker.commit_store.Goals as goal
 
@@ -13,7 +13,7 @@ invariant_of-self g c =
     let w : WorkerState = record {
       key = inside.key;
       opening = inside.opening;
-      begun = inside.begun;
+      begun = begun_of inside.begun.items;
       counters = inside.counters;
       journal = inside.journal;
       stash = inside.stash;

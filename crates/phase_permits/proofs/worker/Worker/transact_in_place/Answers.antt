@@ -6,7 +6,7 @@ use Rattle.auction_rows.specs.StoreReplies.{reply_of}
 use Rattle.phase_permits.specs.declared.fault.PermitFault.TheVariants.{Memory}
 use Rattle.phase_permits.specs.Performing.{HasCommitted, HasFailed, HasPerformed, asks}
 use Rattle.phase_permits.specs.Takens.{footprint_of, is_one_of, AreBack}
-use Rattle.phase_permits.specs.Workers.{WorkerState, IsLawful}
+use Rattle.phase_permits.specs.Workers.{WorkerState, IsLawful, begun_of}
 use Rattle.phase_permits.proofs.AnswerLemmas.{item_home}
 use Rattle.phase_permits.proofs.BegunLemmas.{begun_fails, item_first}
 use Rattle.phase_permits.proofs.EmptyLemmas.{stored_performed, refused_untaken, hot_untaken}
@@ -57,7 +57,7 @@ returns-then-is_err g c =
     let back : WorkerState = record {
       key = c.put_back.new.key;
       opening = inside.opening;
-      begun = inside.begun;
+      begun = begun_of inside.begun.items;
       counters = inside.counters;
       journal = inside.journal;
       stash = inside.stash;
