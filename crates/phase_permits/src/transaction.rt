@@ -38,53 +38,7 @@ impl<N: PhaseName> Worker<N> {
 
     /// Performs a request of the quota that is not put off. After a fault nothing has changed but what the key has
     /// seen of the shards of its footprint.
-    #[inline(always)]
     pub(crate) fn transact<R: Wait>(
-        &mut self,
-        rt: &R,
-        boxes: &Boxes<N>,
-        request: &Request,
-        index: u32,
-    ) -> Result<(), PermitFault>
-        requires of { self.old.key.boxes ≡ boxes.now }
-        requires idle { IsIdle self.old.key }
-        requires opened { HaveOpening N.opening self.old.opening }
-        requires goes { is_put_off (objects_of self.old.slices) request.now ≡ false }
-        requires left { 0 < self.old.left }
-        ensures { HasPerformed N.opening self.old self.new request.now index result }
-    {
-        // A bid has code of its own, in which no step asks what kind of request it is.
-        match *request {
-            Request::StoreBid { .. } => {
-                let bid = *request;
-                self.transact_in_place(rt, boxes, &bid, index)
-            }
-            _ => self.transact_apart(rt, boxes, request, index),
-        }
-    }
-
-    // As `transact`, by code that all other kinds share.
-    #[inline(never)]
-    fn transact_apart<R: Wait>(
-        &mut self,
-        rt: &R,
-        boxes: &Boxes<N>,
-        request: &Request,
-        index: u32,
-    ) -> Result<(), PermitFault>
-        requires of { self.old.key.boxes ≡ boxes.now }
-        requires idle { IsIdle self.old.key }
-        requires opened { HaveOpening N.opening self.old.opening }
-        requires goes { is_put_off (objects_of self.old.slices) request.now ≡ false }
-        requires left { 0 < self.old.left }
-        ensures { HasPerformed N.opening self.old self.new request.now index result }
-    {
-        self.transact_in_place(rt, boxes, request, index)
-    }
-
-    // As `transact`, by code that stands where it is called.
-    #[inline(always)]
-    fn transact_in_place<R: Wait>(
         &mut self,
         rt: &R,
         boxes: &Boxes<N>,
@@ -100,8 +54,6 @@ impl<N: PhaseName> Worker<N> {
     {
         // One of the phase's workers.
         let _worker = self.key.worker();
-        // Asked here, so that the code of a bid has no view in it.
-        let shows = is_view(*request);
 
         // A request that the opening refuses takes no shard, nor does a store on hot objects alone.
         if let Some(reason) = number_refusal(self.opening, *request) {
@@ -120,7 +72,7 @@ impl<N: PhaseName> Worker<N> {
         let Some(mut begun) = self.begin(rt, boxes, request, &homes) else {
             return Err(PermitFault::NumberFull);
         };
-        if shows {
+        if is_view(*request) {
             self.show(rt, boxes, begun, request, index);
             return Ok(());
         }

@@ -11,7 +11,7 @@ use Rattle.phase_permits.proofs.AnswerLemmas.{item_home}
 use Rattle.phase_permits.proofs.BegunLemmas.{begun_fails, item_first}
 use Rattle.phase_permits.proofs.EmptyLemmas.{stored_performed, refused_untaken, hot_untaken}
 use Rattle.phase_permits.proofs.FirstLemmas.{begun_before}
-use Rattle.phase_permits.proofs.worker.Worker.transact_in_place.Goals as goal
+use Rattle.phase_permits.proofs.worker.Worker.transact.Goals as goal
 
 of_err : {T E : Type 0} {P : Type 0} (result : Result T E) → is_err result ≡ true → IfErr result (λ _. P) → P
 of_err (Ok x) is p = absurd (cc)
