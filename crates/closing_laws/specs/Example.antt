@@ -20,16 +20,23 @@ use Rattle.phase_permits.specs.Slicing.{slices_of}
 use Rattle.phase_permits.specs.Workers.{WorkerState}
 use Rattle.closing_laws.specs.Phases.{Phase}
 
+-- the item that is stored
 abbrev pub first_item : ItemId
 first_item = record { worker = 0; serial = 0 }
 
+-- there is one shard, and a user is hot
 abbrev pub setting : Setting
-setting = record { opening = record { users = 1; categories = 1 }; shards = 1; stocks = (User 0, None) ∷ [] }
+setting = record {
+  opening = record { users = 1; categories = 1 };
+  shards = 1;
+  stocks = (User 0, None) ∷ [];
+}
 
 -- the worker has stored an item before
 abbrev pub counters : Counters
 counters = record { items = 1; bids = 0; comments = 0; buys = 0; commits = 1 }
 
+-- the worker's comment
 abbrev pub entry : Entry
 entry = record {
   phase = 1;
@@ -45,18 +52,39 @@ module _ (facts : Facts) where
   abbrev pub example_book : Book
   example_book = row.Item (record { id = first_item; facts = facts; time = 0 }) ∷ []
 
+  -- the shard with which the phase opens
   abbrev pub opened : ShardState
-  opened = record { number = 0; shards = 1; opening = setting.opening; clock = 0; contents = value example_book }
+  opened = record {
+    number = 0;
+    shards = 1;
+    opening = setting.opening;
+    clock = 0;
+    contents = value example_book;
+  }
 
+  -- the transaction of the comment
   abbrev pub txn : Txn
-  txn = (entry, record { stock = stock (value example_book (Item first_item)); clocks = Some (0, 0) ∷ None ∷ [] })
+  txn = (
+    entry,
+    record {
+      stock = stock (value example_book (Item first_item));
+      clocks = Some (0, 0) ∷ None ∷ [];
+    },
+  )
 
+  -- the line of the transaction
   abbrev pub line : Line
   line = line_on setting 0 txn
 
+  -- the worker's key after the transaction
   abbrev pub key : KeyState
-  key = record { boxes = []; worker = 0; seats = record { holds = false; lines = line ∷ []; seen = (0, line) ∷ [] } ∷ [] }
+  key = record {
+    boxes = [];
+    worker = 0;
+    seats = record { holds = false; lines = line ∷ []; seen = (0, line) ∷ [] } ∷ [];
+  }
 
+  -- the worker's receipt
   abbrev pub receipt : WorkerState
   receipt = record {
     key = key;
@@ -72,6 +100,7 @@ module _ (facts : Facts) where
     txns = txn ∷ [];
   }
 
+  -- the phase that has closed
   abbrev pub example_phase : Phase
   example_phase = record {
     setting = setting;

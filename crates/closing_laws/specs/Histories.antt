@@ -18,23 +18,40 @@ use Rattle.closing_laws.specs.Standing.{StandFor}
 abbrev pub worker_line : Setting → ℕ → Txn → ℕ × Line
 worker_line z shard txn = ((entry_of txn).worker, line_on z shard txn)
 
--- Each shard's list holds the lines of the entries that take it, in the order of the entries, and nothing else: the entries are
--- those of transactions of which each worker has its receipt's.
+-- a shard's list of lines, as its box tells once it is closed
+abbrev pub list_at : (p : Phase) → HasClosed p → (s : ℕ) → s < length p.opening → List (ℕ × Line)
+list_at p closed s known = (closed.boxes.1 s known).lines
+
+-- the lines that transactions put on a shard, in order
+abbrev pub lines_on : Setting → ℕ → List Txn → List (ℕ × Line)
+lines_on z s txns = map (worker_line z s) (filter (takes z s) txns)
+
+-- each shard's list holds the lines of the entries that take the shard, in order, and nothing else
 pub record HoldTheEntries (p : Phase) (closed : HasClosed p) : Type 0 where
+  -- the transactions of the entries
   pub txns : List Txn
   pub entries : map entry_of txns ≡ p.entries
-  pub parts : (w : ℕ) → part (λ txn. (entry_of txn).worker) w txns ≡ txns_of (receipt_at p.receipts w)
+  -- each worker's transactions are those of its receipt
+  pub parts : (w : ℕ) →
+      part (λ txn. (entry_of txn).worker) w txns ≡ txns_of (receipt_at p.receipts w)
+  -- each shard's list holds the lines of these transactions
   pub lists : (s : ℕ) (known : s < length p.opening) →
-      (closed.boxes.1 s known).lines ≡ map (worker_line p.setting s) (filter (takes p.setting s) txns)
+      list_at p closed s known ≡ lines_on p.setting s txns
 
--- Each number is 1 + the greatest number of the entries before it that are of its worker or share a shard with it, and 1 where
--- there is none.
+-- each number is 1 + the greatest of the entries before it that are of its worker or share a shard with it, and 1 if there is none
 abbrev pub FollowWhatTheyShare : Opening → ℕ → List Object → List Entry → Type 0
 FollowWhatTheyShare opening shards hot =
-    FollowsWhatItShares entry_number (shares entry_worker (footprint opening shards hot) (λ shard entry. takes_shard opening shards hot entry shard))
+    FollowsWhatItShares entry_number
+    (shares entry_worker (footprint opening shards hot)
+    (λ shard entry. takes_shard opening shards hot entry shard))
 
--- From a book the entries replay, and the shards that the boxes gave back stand for the book after them, but for hot objects,
--- as do the counters.
+-- the book to which the entries of a phase lead
+abbrev pub book_left : Phase → Book → Book
+book_left p book = book_after p.setting.opening book p.entries
+
+-- what a phase does to a book for which it began
 pub record ReplaysAndStands (p : Phase) (book : Book) : Type 0 where
+  -- from the book the entries replay
   pub replays : ReplaysFrom p.setting.opening book p.entries
-  pub stand : StandFor p.given (map counters_of p.receipts) (book_after p.setting.opening book p.entries) (hot_in p.setting)
+  -- shards and counters stand for the book to which the entries lead, but for hot objects
+  pub stand : StandFor p.given (map counters_of p.receipts) (book_left p book) (hot_in p.setting)

@@ -1,5 +1,5 @@
 -- How a phase closes lawfully.
-use Rattle.std.specs.Prelude.{◌≡◌, ℕ, ◌<◌, true, false, List, map, filter, fold, length}
+use Rattle.std.specs.Prelude.{◌≡◌, ℕ, ◌<◌, true, false, List, map, fold, length}
 use Rattle.phase_laws.specs.Order.{part}
 use Rattle.auction_rows.specs.declared.ids.Object.{Object}
 use Rattle.auction_rows.specs.Footprint.{is_hot}
@@ -10,11 +10,11 @@ use Rattle.item_shards.specs.Values.{Value, value}
 use Rattle.worker_journals.specs.Journals.{entry_worker}
 use Rattle.shard_boxes.specs.Lines.{IsHistory}
 use Rattle.shard_boxes.specs.States.{ShardState, state_at}
-use Rattle.phase_permits.specs.Txns.{Txn, hot_in, entry_of, takes}
+use Rattle.phase_permits.specs.Txns.{Txn, hot_in, entry_of}
 use Rattle.phase_permits.specs.Slicing.{slice_of, slices_of}
 use Rattle.phase_permits.specs.Workers.{WorkerState}
 use Rattle.closing_laws.specs.Phases.{Phase, value_on, journal_of, receipt_at}
-use Rattle.closing_laws.specs.Histories.{worker_line}
+use Rattle.closing_laws.specs.Histories.{lines_on}
 use Rattle.closing_laws.specs.Merging.{merged_with}
 
 -- a worker's slice of an object: it has the value that the accepted stores of the worker's journal give the object
@@ -23,12 +23,14 @@ slice_by receipt object = slice_of object (value (rows_of (journal_of receipt).e
 
 -- a value of an object with one such slice of each worker merged
 abbrev pub with_slices_by : List WorkerState → Object → Value → Value
-with_slices_by receipts object old = fold (λ merged receipt. merged_with (slice_by receipt object) merged) old receipts
+with_slices_by receipts object old =
+    fold (λ merged receipt. merged_with (slice_by receipt object) merged) old receipts
 
 -- each worker has one slice of each hot object, and this is what its journal makes of it
 abbrev pub AreSliced : Phase → Type 0
 AreSliced p = (w : ℕ) → w < length p.receipts →
-    let receipt = receipt_at p.receipts w in receipt.slices ≡ slices_of p.setting.stocks (rows_of (journal_of receipt).entries)
+    let receipt = receipt_at p.receipts w in
+    receipt.slices ≡ slices_of p.setting.stocks (rows_of (journal_of receipt).entries)
 
 -- each hot object has what it had as the phase began, with one slice of each worker merged
 abbrev pub AreHotMerged : Phase → List ShardState → Type 0
@@ -37,24 +39,29 @@ AreHotMerged p closing = (object : Object) → is_hot (hot_in p.setting) object 
 
 -- each other object has what its shard had of it as the boxes gave it back
 abbrev pub AreOthersAsGiven : Phase → List ShardState → Type 0
-AreOthersAsGiven p closing = (object : Object) → is_hot (hot_in p.setting) object ≡ false → value_on closing object ≡ value_on p.given object
+AreOthersAsGiven p closing = (object : Object) → is_hot (hot_in p.setting) object ≡ false →
+    value_on closing object ≡ value_on p.given object
 
--- A phase closes lawfully, and leaves these shards.
+-- a phase closes lawfully, and leaves these shards
 pub record ClosesLawfully (p : Phase) (closing : List ShardState) : Type 0 where
-  -- the entries ascend by number and then worker, and each number is 1 + the greatest earlier one with which it shares something
+  -- the entries ascend, and each number is 1 + the greatest that it follows
   pub numbers : IsNumbered p.setting.opening p.setting.shards (hot_in p.setting) p.entries
   -- the part of each worker is its journal
-  pub parts : (w : ℕ) → part entry_worker w p.entries ≡ (journal_of (receipt_at p.receipts w)).entries
-  -- the entries with what their transactions found
+  pub parts : (w : ℕ) →
+      part entry_worker w p.entries ≡ (journal_of (receipt_at p.receipts w)).entries
+  -- the transactions of the entries
   pub txns : List Txn
   pub entries : map entry_of txns ≡ p.entries
-  -- from the shard with which the phase opened to the one given back, a shard's list holds the lines of exactly the entries that
-  -- take it, in their order
+  -- the lines of exactly these transactions lead from each opening shard to the one given back
   pub lists : (s : ℕ) → s < length p.opening →
-      IsHistory p.opening (length p.receipts) s (map (worker_line p.setting s) (filter (takes p.setting s) txns)) (state_at p.given s)
-  -- there is a shard given back, and one left, for each with which the phase opened
+      IsHistory p.opening (length p.receipts) s (lines_on p.setting s txns) (state_at p.given s)
+  -- as many shards are given back as the phase opened with
   pub given : length p.given ≡ length p.opening
+  -- as many shards are left
   pub left : length closing ≡ length p.opening
+  -- each worker has one slice of each hot object
   pub slices : AreSliced p
+  -- hot objects have these slices merged
   pub merged : AreHotMerged p closing
+  -- no other object has changed since the boxes gave the shards back
   pub others : AreOthersAsGiven p closing

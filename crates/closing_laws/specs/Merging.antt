@@ -21,34 +21,51 @@ merged_with (slice.Item s) value = bids_merged s value
 merged_with (slice.User s) value = comments_merged s value
 merged_with (slice.Category s) value = items_merged s value
 
+-- the object of a slice
+abbrev pub sliced_object : Object × Slice → Object
+sliced_object pair = pair.0
+
+-- the slice itself
+abbrev pub slice_itself : Object × Slice → Slice
+slice_itself pair = pair.1
+
 -- a shard with a slice of an object merged
 abbrev pub with_slice : ShardState → Object × Slice → ShardState
-with_slice state pair = record state { contents = changed pair.0 (merged_with pair.1) state.contents }
+with_slice state pair = record state {
+  contents = changed (sliced_object pair) (merged_with (slice_itself pair)) state.contents;
+}
 
 -- the shards after a slice of an object is merged into the one in which it lies
 abbrev pub after_merge : List ShardState → Object × Slice → List ShardState
-after_merge states pair = let s = shard_of pair.0 (length states) in slice_set states s (with_slice (state_at states s) pair)
+after_merge states pair =
+    let s = shard_of (sliced_object pair) (length states) in
+    slice_set states s (with_slice (state_at states s) pair)
 
 -- the slices of all workers, each with its object
 abbrev pub slices_left : List WorkerState → List (Object × Slice)
 slices_left receipts = flat_map (λ receipt. slices_in receipt.slices) receipts
 
--- A slice can be merged into a value of its object: the object is of its kind, an item is stored, and the sums that are made fit their types.
+-- a slice can be merged into a value of its object: it is of the object's kind, an item is stored, and the sums fit their types
 abbrev pub CanTake : Value → Object × Slice → Type 0
 CanTake value (Item id, slice.Item s) = IsSome value.facts × (value.bids.bids + s.bids < 2 ^ 64)
 CanTake value (User user, slice.User s) =
-    FitsSigned w64 (value.comments.rating +ℤ s.rating) × (value.comments.comments + s.comments < 2 ^ 64)
+    FitsSigned w64 (value.comments.rating +ℤ s.rating)
+    × (value.comments.comments + s.comments < 2 ^ 64)
 CanTake value (Category category, slice.Category s) = ⊤
 CanTake value pair = ⊥
 
--- it can be merged into the shard in which its object lies
+-- a slice can be merged into the shard in which its object lies
 abbrev pub CanMerge : List ShardState → Object × Slice → Type 0
-CanMerge states pair = CanTake (value_on states pair.0) pair
+CanMerge states pair = CanTake (value_on states (sliced_object pair)) pair
 
--- What reconciliation does: into the shards that the boxes gave back all slices of all workers are merged, once each, in some
--- order. Clocks don't matter.
+-- all slices of all workers are merged into the shards that the boxes gave back; clocks don't matter
 pub record IsReconciled (p : Phase) (closing : List ShardState) : Type 0 where
+  -- the order in which the slices are merged
   pub order : List (Object × Slice)
+  -- each slice is merged once
   pub each : IsPermutation (slices_left p.receipts) order
+  -- there are as many shards as before
   pub count : length closing ≡ length p.given
-  pub contents : (s : ℕ) → s < length p.given → (state_at closing s).contents ≡ (state_at (fold after_merge p.given order) s).contents
+  -- each shard has the contents that merging leaves
+  pub contents : (s : ℕ) → s < length p.given →
+      (state_at closing s).contents ≡ (state_at (fold after_merge p.given order) s).contents

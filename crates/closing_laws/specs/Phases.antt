@@ -19,14 +19,13 @@ use Rattle.phase_permits.specs.Workers.{WorkerState, IsExplained, no_counters, n
 use Rattle.phase_permits.specs.Slicing.{IsStocked}
 use Rattle.closing_laws.specs.Standing.{counters_at}
 
--- its setting; the shards and each worker's counters as it began; each worker's receipt; the shards that the boxes gave back,
--- and the entries of all journals
+-- a phase that has closed
 pub record Phase : Type 0 where
   -- what the phase is run with
   pub setting : Setting
-  -- the shards as it began
+  -- the shards as the phase began
   pub opening : List ShardState
-  -- each worker's counters as it began
+  -- each worker's counters as the phase began
   pub counters : List Counters
   -- each worker's receipt
   pub receipts : List WorkerState
@@ -35,28 +34,33 @@ pub record Phase : Type 0 where
   -- the entries of all journals
   pub entries : List Entry
 
--- of a worker that is none of the phase's: it has done nothing
+-- a receipt of a worker that is none of the phase's and has done nothing
 abbrev pub no_receipt : WorkerState
 no_receipt =
-    new_worker no_key (record { users = 0; categories = 0 }) no_counters (empty_journal 0 0 0) (record { requests = []; done = []; room = 0 }) [] 0 0
+    new_worker no_key (record { users = 0; categories = 0 }) no_counters (empty_journal 0 0 0)
+    (record { requests = []; done = []; room = 0 }) [] 0 0
 
+-- the receipt of a worker
 abbrev pub receipt_at : List WorkerState → ℕ → WorkerState
 receipt_at receipts worker = slice_index_or receipts worker no_receipt
 
--- what a receipt has: its key, its journal, the counters after the phase, and the transactions behind them
+-- a receipt's key
 abbrev pub key_of : WorkerState → KeyState
 key_of receipt = receipt.key
 
+-- a receipt's journal
 abbrev pub journal_of : WorkerState → JournalView
 journal_of receipt = receipt.journal
 
+-- a receipt's counters after the phase
 abbrev pub counters_of : WorkerState → Counters
 counters_of receipt = receipt.counters
 
+-- the transactions behind a receipt
 abbrev pub txns_of : WorkerState → List Txn
 txns_of receipt = receipt.txns
 
--- The value of an object on the shard in which it lies.
+-- the value of an object on the shard in which it lies
 abbrev pub value_on : List ShardState → Object → Value
 value_on states object = (state_at states (shard_of object (length states))).contents object
 
@@ -66,45 +70,48 @@ IsReadFrom states (Item id, fixed) = fixed ≡ stock (value_on states (Item id))
 IsReadFrom states (User user, fixed) = ⊤
 IsReadFrom states (Category category, fixed) = ⊤
 
--- how a phase begins: it has shards, no object is hot twice, and what is fixed of hot items, which are stored, was read from
--- the shards
+-- how a phase begins
 pub record IsBegun (p : Phase) : Type 0 where
-  -- it has a shard
+  -- the phase has a shard
   pub some : 0 < length p.opening
-  -- it has as many as its setting says
+  -- the phase has as many shards as its setting says
   pub shards : p.setting.shards ≡ length p.opening
   -- each worker has counters and a receipt
   pub workers : length p.counters ≡ length p.receipts
   -- no object is hot twice
   pub distinct : IsDistinct same_object (hot_in p.setting)
-  -- of hot items something is fixed
+  -- each hot item is stored, and its facts are fixed
   pub stocked : AllByRecursion IsStocked p.setting.stocks
-  -- and that is what the shards showed
+  -- what is fixed was read from the shards
   pub read : AllByRecursion (IsReadFrom p.opening) p.setting.stocks
 
--- a worker's receipt, in a phase that it began with these counters and with clock 0
-pub record IsReceiptOf (z : Setting) (worker : ℕ) (opened : Counters) (receipt : WorkerState) : Type 0 where
-  -- its transactions explain it
+-- a worker's receipt, in a phase that the worker began with these counters and with clock 0
+pub record IsReceiptOf (z : Setting) (worker : ℕ) (opened : Counters)
+    (receipt : WorkerState) : Type 0 where
+  -- the receipt's transactions explain it
   pub explained : IsExplained z.shards receipt
-  -- it is the worker's
+  -- the receipt is the worker's
   pub worker_is : receipt.key.worker ≡ worker
-  -- it is of this phase
+  -- the receipt is of this phase
   pub setting : setting_of receipt z.shards ≡ z
-  -- it began with these counters, at clock 0
+  -- the worker began with these counters, at clock 0
   pub begun : receipt.begun ≡ (opened, 0)
 
 -- a receipt of each worker, in order
 abbrev pub AreReceipts : Phase → Type 0
-AreReceipts p = (w : ℕ) → w < length p.receipts → IsReceiptOf p.setting w (counters_at p.counters w) (receipt_at p.receipts w)
+AreReceipts p = (w : ℕ) → w < length p.receipts →
+    IsReceiptOf p.setting w (counters_at p.counters w) (receipt_at p.receipts w)
 
 -- the entries are those of the journals, by number and then worker
 pub record AreMerged (p : Phase) : Type 0 where
+  -- the entries ascend by number and then worker
   pub ascending : IsAscending entry_number entry_worker p.entries
+  -- the part of each worker is its journal
   pub parts : (w : ℕ) → part entry_worker w p.entries ≡ entries_of w (map journal_of p.receipts)
 
--- What permits, boxes and journals tell of a phase that has closed.
+-- what permits, boxes and journals tell of a phase that has closed
 pub record HasClosed (p : Phase) : Type 0 where
-  -- how it began
+  -- how the phase began
   pub begun : IsBegun p
   -- what permits tell
   pub receipts : AreReceipts p

@@ -10,6 +10,7 @@ use Rattle.phase_permits.specs.declared.counters.Counters.{Counters}
 use Rattle.phase_permits.specs.Workers.{no_counters}
 use Rattle.phase_permits.specs.Replying.{CountsOf}
 
+-- the counters of a worker
 abbrev pub counters_at : List Counters → ℕ → Counters
 counters_at counters worker = slice_index_or counters worker no_counters
 
@@ -19,17 +20,22 @@ stores counters = counters.items + counters.bids + counters.comments + counters.
 
 -- each shard has the values that a book gives its objects, but for hot ones
 abbrev pub ShardsStandFor : List ShardState → Book → List Object → Type 0
-ShardsStandFor states book hot = (s : ℕ) → s < length states → ContentsStandsFor s (length states) (state_at states s).contents book hot
+ShardsStandFor states book hot = (s : ℕ) → s < length states →
+    ContentsStandsFor s (length states) (state_at states s).contents book hot
 
 -- each worker's counters count its rows of a book
 abbrev pub AreCountersOf : List Counters → Book → Type 0
-AreCountersOf counters book = (w : ℕ) → w < length counters → CountsOf book w (counters_at counters w)
+AreCountersOf counters book = (w : ℕ) → w < length counters →
+    CountsOf book w (counters_at counters w)
 
 -- each row is of one of so many workers
 abbrev pub AreOfWorkers : ℕ → Book → Type 0
 AreOfWorkers workers book = AllByRecursion (λ row. worker_of row < workers) book
 
--- Shards and counters stand for a book, but for hot objects.
-pub record StandFor (states : List ShardState) (counters : List Counters) (book : Book) (hot : List Object) : Type 0 where
+-- shards and counters stand for a book, but for hot objects
+pub record StandFor (states : List ShardState) (counters : List Counters) (book : Book)
+    (hot : List Object) : Type 0 where
+  -- the shards have the values that the book gives
   pub shards : ShardsStandFor states book hot
+  -- the counters count the rows of the book
   pub counts : AreCountersOf counters book

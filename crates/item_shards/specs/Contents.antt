@@ -20,7 +20,8 @@ Contents = Object → Value
 
 -- the contents with one object's value changed
 abbrev pub changed : Object → (Value → Value) → Contents → Contents
-changed object change contents other = if same_object object other then change (contents other) else contents other
+changed object change contents other =
+    if same_object object other then change (contents other) else contents other
 
 -- the object that an act is about, if there is one
 abbrev pub target : Act → Option Object
@@ -36,38 +37,48 @@ target (Look (Reply object reply)) = Some object
 
 -- an item's facts are those that it was first stored with
 abbrev pub with_facts : Facts → Value → Value
-with_facts facts value = record value { facts = if is_some value.facts then value.facts else Some facts }
+with_facts facts value = record value {
+  facts = if is_some value.facts then value.facts else Some facts;
+}
 
+-- an item has one bid more
 abbrev pub bid_on : BidEntry → Value → Value
 bid_on bid value = record value { bids = with_bid value.bids bid }
 
+-- one more purchase of an item
 abbrev pub bought_of : ℕ → Value → Value
 bought_of quantity value = record value { bought = value.bought + quantity }
 
+-- a user has one comment more
 abbrev pub comment_about : ℤ → Value → Value
 comment_about stars value = record value { comments = with_comment value.comments stars }
 
+-- a category has one item more
 abbrev pub item_listed : ItemEntry → Value → Value
 item_listed entry value = record value { items = with_item value.items entry }
 
--- what a slice of its kind does to a value
+-- an item's bids have those of a slice added
 abbrev pub bids_merged : ItemSlice → Value → Value
 bids_merged slice value = record value { bids = with_bids value.bids slice }
 
+-- a user's comments have those of a slice added
 abbrev pub comments_merged : UserSlice → Value → Value
 comments_merged slice value = record value { comments = with_comments value.comments slice }
 
+-- a category's items have those of a slice added
 abbrev pub items_merged : CategorySlice → Value → Value
 items_merged slice value = record value { items = with_items value.items slice }
 
--- the contents after an act: a look leaves it
+-- the contents after an act: a look changes nothing
 abbrev pub after_act : Contents → Act → Contents
 after_act contents (AddItem id facts) = changed (Item id) (with_facts facts) contents
-after_act contents (ListItem category entry) = changed (Category category) (item_listed entry) contents
+after_act contents (ListItem category entry) =
+    changed (Category category) (item_listed entry) contents
 after_act contents (Bid id entry) = changed (Item id) (bid_on entry) contents
 after_act contents (Comment user stars) = changed (User user) (comment_about stars) contents
 after_act contents (Buy id quantity) = changed (Item id) (bought_of quantity) contents
 after_act contents (Look shown) = contents
 
+-- the contents after acts, in order
 abbrev pub after_acts : Contents → List Act → Contents
 after_acts contents acts = fold after_act contents acts

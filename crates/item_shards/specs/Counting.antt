@@ -25,4 +25,6 @@ counted (row.Buy r) counts = record counts { buys = counts.buys + 1 }
 
 -- counts so small that one more fits
 abbrev pub AreFew : StoreCounts → Type 0
-AreFew counts = (counts.items < MOST_ROWS) × (counts.bids < MOST_ROWS) × (counts.comments < MOST_ROWS) × (counts.buys < MOST_ROWS)
+AreFew counts =
+    (counts.items < MOST_ROWS) × (counts.bids < MOST_ROWS)
+    × (counts.comments < MOST_ROWS) × (counts.buys < MOST_ROWS)

@@ -12,7 +12,7 @@ use Rattle.item_shards.specs.Values.{Value, stock}
 use Rattle.item_shards.specs.Contents.{Contents}
 use Rattle.item_shards.specs.Views.{item_view, bids_view, category_view, user_view}
 
--- the view of an object that a reply is one of: an item is seen with its bids, or itself
+-- the view of an object, of the kind of a reply: of an item there are two kinds
 abbrev pub view_like : Reply → Object → Value → Reply
 view_like (BidsSeen bids) (Item id) value = bids_view value
 view_like reply (Item id) value = item_view value

@@ -14,12 +14,13 @@ use Rattle.item_shards.specs.ShardContents.{opening, StandsFor}
 abbrev pub opening_of : SerialAuction → Opening
 opening_of auction = opening auction.shard
 
--- the auction's records are those of a book within limits, and its counts are those of the stores of each of 16 workers in it
+-- what the auction keeps is what a book within limits says
 pub record HoldsBook (auction : SerialAuction) (book : Book) : Type 0 where
-  -- its shard stands for the book, with nothing hot
+  -- the auction's shard stands for the book, with nothing hot
   pub records : StandsFor auction.shard book []
-  -- its counts are those of each worker's stores
-  pub counts : (worker : ℕ) → worker < MOST_WORKERS → slice_get auction.stored worker ≡ Some (stored_by book worker)
+  -- the auction's counts are those of each worker's stores
+  pub counts : (worker : ℕ) → worker < MOST_WORKERS →
+      slice_get auction.stored worker ≡ Some (stored_by book worker)
   -- the book is within limits
   pub limits : IsWithinLimits book
 
@@ -29,17 +30,24 @@ IsNotFull book = length book < MOST_ROWS
 
 -- the auction holds some book that is not full
 pub record CanGrow (auction : SerialAuction) : Type 0 where
+  -- the auction holds this book
   pub book : Book
   pub holds : HoldsBook auction book
+  -- the book is not full
   pub not_full : IsNotFull book
 
 -- a row of one of 16 workers that goes on a book which the auction holds and which is not full
 pub record CanStore (auction : SerialAuction) (row : Row) : Type 0 where
+  -- the auction holds this book
   pub book : Book
   pub holds : HoldsBook auction book
+  -- the book is not full
   pub not_full : IsNotFull book
+  -- the row goes on the book
   pub goes_on : GoOn (opening_of auction) book (row ∷ [])
+  -- the row's stars are from -5 to 5
   pub stars : HasStars row
+  -- the row's worker is one of 16
   pub worker : worker_of row < MOST_WORKERS
 
 -- rows that can be stored after a book
@@ -48,16 +56,20 @@ pub record CanFollow (start : Opening) (book : Book) (rows : List Row) : Type 0 
   pub is_book : IsBook start (book ++ rows)
   -- each is of one of 16 workers
   pub workers : All (λ row. worker_of row < MOST_WORKERS) rows
-  -- they are no more than an auction may have
+  -- the rows are no more than an auction may have
   pub few : length book + length rows ≤ MOST_ROWS
 
 -- rows that follow some book which the auction holds
 pub record CanAdd (auction : SerialAuction) (rows : List Row) : Type 0 where
+  -- the auction holds this book
   pub book : Book
   pub holds : HoldsBook auction book
+  -- the rows can be stored after it
   pub follow : CanFollow (opening_of auction) book rows
 
 -- the auction holds a book and then the first so many of these rows
 pub record HoldsFirst (auction : SerialAuction) (book : Book) (rows : List Row) : Type 0 where
+  -- how many of the rows are held
   pub count : ℕ
+  -- the auction holds the book and these rows
   pub holds : HoldsBook auction (book ++ take count rows)

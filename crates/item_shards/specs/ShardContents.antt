@@ -1,5 +1,5 @@
 -- A shard by its contents.
-use Rattle.std.specs.Prelude.{ℕ, ◌≡◌, ◌==◌, ◌/◌, if◌then◌else◌, Bool, false, ◌||◌, List, [], slice_get, is_some, IsTrue, MatchOption}
+use Rattle.std.specs.Prelude.{ℕ, ◌≡◌, ◌==◌, ◌/◌, if◌then◌else◌, Bool, false, ◌||◌, List, [], slice_get, Option, is_some, IsTrue, MatchOption}
 use Rattle.indexmap.specs.IndexMap.{IndexMap, get}
 use Rattle.auction_rows.specs.declared.ids.ItemId.{ItemId}
 use Rattle.auction_rows.specs.declared.ids.Object.{Object}
@@ -12,19 +12,21 @@ use Rattle.item_shards.specs.declared.shard.Shard.{Shard}
 use Rattle.item_shards.specs.declared.slices.UserSlice.{UserSlice}
 use Rattle.item_shards.specs.declared.slices.CategorySlice.{CategorySlice}
 use Rattle.item_shards.specs.declared.items.ItemRecord.{ItemRecord}
-use Rattle.item_shards.specs.Values.{blank}
+use Rattle.item_shards.specs.Values.{Value, blank}
 use Rattle.item_shards.specs.Records.{item_value, user_value, category_value}
-use Rattle.item_shards.specs.Contents.{Contents}
+use Rattle.item_shards.specs.Contents.{Contents, changed}
 use Rattle.item_shards.specs.Standing.{ContentsStandsFor}
 
 -- what lies in one shard of several, blank elsewhere
 abbrev pub in_shard : ℕ → ℕ → Contents → Contents
-in_shard number shards contents object = if shard_of object shards == number then contents object else blank
+in_shard number shards contents object =
+    if shard_of object shards == number then contents object else blank
 
--- which shard it is, and of how many
+-- which shard it is
 abbrev pub shard_number : Shard → ℕ
 shard_number shard = shard.parts.value.number
 
+-- how many shards there are
 abbrev pub shard_count : Shard → ℕ
 shard_count shard = shard.parts.value.shards
 
@@ -33,13 +35,18 @@ abbrev pub LiesIn : Shard → Object → Type 0
 LiesIn shard object = shard_of object (shard_count shard) ≡ shard_number shard
 
 -- the values of what is stored, wherever it lies
-abbrev pub kept_in : {S : Type 0} → IndexMap ItemId ItemRecord S → List UserSlice → List CategorySlice → ℕ → Contents
+abbrev pub kept_in : {S : Type 0} → IndexMap ItemId ItemRecord S → List UserSlice →
+    List CategorySlice → ℕ → Contents
 kept_in items users categories shards (Item id) = item_value (get same_item items id)
 kept_in items users categories shards (User user) = user_value (slice_get users (user / shards))
-kept_in items users categories shards (Category category) = category_value (slice_get categories (category / shards))
+kept_in items users categories shards (Category category) =
+    category_value (slice_get categories (category / shards))
 
+-- the values of what the shard stores, wherever it lies
 abbrev pub kept : Shard → Contents
-kept shard = kept_in shard.parts.value.items shard.parts.value.users.items shard.parts.value.categories.items shard.parts.value.shards
+kept shard =
+    let parts = shard.parts.value in
+    kept_in parts.items parts.users.items parts.categories.items parts.shards
 
 -- the values of the objects of the shard
 abbrev pub contents : Shard → Contents
@@ -49,52 +56,80 @@ contents shard = in_shard shard.parts.value.number shard.parts.value.shards (kep
 abbrev pub clock : Shard → ℕ
 clock shard = shard.parts.value.clock
 
+-- the users and categories of the auction
 abbrev pub opening : Shard → Opening
 opening shard = shard.parts.value.opening
 
--- the items that a map has room for: those in it, stored or not
+-- whether a map has room for an item, stored or not
 abbrev pub rooms_in : {S : Type 0} → IndexMap ItemId ItemRecord S → ItemId → Bool
 rooms_in items id = is_some (get same_item items id)
 
--- the items that the shard has room for
+-- whether the shard has room for an item
 abbrev pub rooms : Shard → ItemId → Bool
 rooms shard = rooms_in shard.parts.value.items
 
+-- the shard has room for this item
 abbrev pub HasRoom : Shard → ItemId → Type 0
 HasRoom shard id = IsTrue (rooms shard id)
 
--- a place of a map, where it has the item
-abbrev pub IsPlaceOf : {S : Type 0} → IndexMap ItemId ItemRecord S → ItemId → ℕ → Type 0
-IsPlaceOf items id place = MatchOption (slice_get items.entries place) ⊥ (λ entry. entry.0 ≡ id)
+-- the record of an item, if the shard has room for it
+abbrev pub record_in : Shard → ItemId → Option ItemRecord
+record_in shard id = get same_item shard.parts.value.items id
 
--- rooms, and room for one item
+-- the item of an entry of a map
+abbrev pub id_in : ItemId × ItemRecord → ItemId
+id_in entry = entry.0
+
+-- the place of a map at which it has the item
+abbrev pub IsPlaceOf : {S : Type 0} → IndexMap ItemId ItemRecord S → ItemId → ℕ → Type 0
+IsPlaceOf items id place = MatchOption (slice_get items.entries place) ⊥ (λ entry. id_in entry ≡ id)
+
+-- there is room for these items and for one more
 abbrev pub with_room : ItemId → (ItemId → Bool) → ItemId → Bool
 with_room item rooms other = same_item item other || rooms other
 
--- the shard is the same one of as many, of the same opening
+-- the value of one object has changed, and that of no other
+abbrev pub HasChanged : Shard → Shard → Object → (Value → Value) → Type 0
+HasChanged old new object change = contents new ≡ changed object change (contents old)
+
+-- the shard is the same one of the same auction
 pub record IsSameShard (old new : Shard) : Type 0 where
+  -- the shard has the same number
   pub number : shard_number new ≡ shard_number old
+  -- the shard is one of as many
   pub shards : shard_count new ≡ shard_count old
+  -- users and categories are the same
   pub opening : opening new ≡ opening old
 
 -- the shard stands for a book, but for hot objects
 abbrev pub StandsFor : Shard → Book → List Object → Type 0
-StandsFor shard book hot = ContentsStandsFor (shard_number shard) (shard_count shard) (contents shard) book hot
+StandsFor shard book hot =
+    ContentsStandsFor (shard_number shard) (shard_count shard) (contents shard) book hot
 
--- it is so with each book that the shard stands for, where the object is not hot
+-- each book that the shard stands for has the property, if the object is not hot
 abbrev pub ForEachBook : Shard → Object → (Book → Type 0) → Type 0
-ForEachBook shard object P = (book : Book) (hot : List Object) → StandsFor shard book hot → is_hot hot object ≡ false → P book
+ForEachBook shard object P =
+    (book : Book) (hot : List Object) → StandsFor shard book hot → is_hot hot object ≡ false →
+    P book
 
--- whatever the shard stood for, it stands for
+-- the new shard stands for each book that the old one stood for
 abbrev pub KeepsBooks : Shard → Shard → Type 0
-KeepsBooks old new = (book : Book) (hot : List Object) → StandsFor old book hot → StandsFor new book hot
+KeepsBooks old new =
+    (book : Book) (hot : List Object) → StandsFor old book hot → StandsFor new book hot
 
--- a shard of which nothing is known, at clock 0: it stands for the empty book
+-- a shard in which nothing is stored
 pub record IsNewShard (number shards : ℕ) (start : Opening) (shard : Shard) : Type 0 where
+  -- the shard has this number
   pub number_is : shard_number shard ≡ number
+  -- the shard is one of so many
   pub shards_is : shard_count shard ≡ shards
+  -- the shard has these users and categories
   pub opening_is : opening shard ≡ start
+  -- no commit has taken the shard
   pub clock_is : clock shard ≡ 0
+  -- the shard has room for no item
   pub no_rooms : (id : ItemId) → rooms shard id ≡ false
+  -- nothing is known of any object
   pub nothing : (object : Object) → contents shard object ≡ blank
+  -- the shard stands for the empty book
   pub stands : (hot : List Object) → StandsFor shard [] hot

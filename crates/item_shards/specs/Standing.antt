@@ -10,4 +10,5 @@ use Rattle.item_shards.specs.Contents.{Contents}
 -- each object of the shard of this number that is not hot has the value that the book gives it
 abbrev pub ContentsStandsFor : ℕ → ℕ → Contents → Book → List Object → Type 0
 ContentsStandsFor number shards contents book hot =
-    (object : Object) → shard_of object shards ≡ number → is_hot hot object ≡ false → contents object ≡ value book object
+    (object : Object) → shard_of object shards ≡ number → is_hot hot object ≡ false →
+    contents object ≡ value book object

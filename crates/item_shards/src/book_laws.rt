@@ -37,9 +37,11 @@ pub fn views_are_replies()
     ensures bids { (opening : Opening) (book : Book) (worker : ℕ) (id : ItemId) →
         bids_view (value book (Item id)) ≡ reply opening book worker (ViewBids id) }
     ensures categories { (opening : Opening) (book : Book) (worker category : ℕ) →
-        category_reply opening category (value book (Category category)) ≡ reply opening book worker (ViewCategory category) }
+        category_reply opening category (value book (Category category))
+        ≡ reply opening book worker (ViewCategory category) }
     ensures users { (opening : Opening) (book : Book) (worker user : ℕ) →
-        user_reply opening user (value book (User user)) ≡ reply opening book worker (ViewUser user) }
+        user_reply opening user (value book (User user))
+        ≡ reply opening book worker (ViewUser user) }
     ensures stock { (book : Book) (id : ItemId) → stock (value book (Item id)) ≡ stock_in book id }
     ensures left { (book : Book) (id : ItemId) → unwrap_or (left_in book id) 0 ≡ left_of book id }
 {}
@@ -47,7 +49,8 @@ pub fn views_are_replies()
 /// An object has at most as many bids or comments as the book has rows, and a rating of at most 5 for each.
 pub fn counts_of_books()
     ensures bids { (book : Book) (id : ItemId) → (value book (Item id)).bids.bids ≤ length book }
-    ensures comments { (book : Book) (user : ℕ) → (value book (User user)).comments.comments ≤ length book }
+    ensures comments { (book : Book) (user : ℕ) →
+        (value book (User user)).comments.comments ≤ length book }
     ensures ratings { (book : Book) (user : ℕ) → AllByRecursion HasStars book →
         unsigned_abs (value book (User user)).comments.rating ≤ 5 * length book }
 {}
@@ -68,8 +71,10 @@ pub fn opening_books()
         length (opening_rows opening all) ≡ length all }
     ensures workers { (opening : Opening) (all : List Opened) (worker : ℕ) → AreRows opening all →
         rows_by (opening_rows opening all) worker ≡ asked_by all worker }
-    ensures again { (opening : Opening) (book : Book) → IsBook opening book → All (λ row. worker_of row < MOST_WORKERS) book →
+    ensures again { (opening : Opening) (book : Book) → IsBook opening book →
+        All (λ row. worker_of row < MOST_WORKERS) book →
         AreRows opening (map opened_of book) }
-    ensures same { (opening : Opening) (book : Book) → IsBook opening book → All (λ row. worker_of row < MOST_WORKERS) book →
+    ensures same { (opening : Opening) (book : Book) → IsBook opening book →
+        All (λ row. worker_of row < MOST_WORKERS) book →
         opening_rows opening (map opened_of book) ≡ book }
 {}

@@ -30,7 +30,7 @@ impl StoreCounts {
     }
 }
 
-// A row's stars are from -5 to 5. Their type keeps this, and says it where `value` is called.
+// A row's stars are from -5 to 5. Their type keeps this, and says it at a call of `value`.
 pub(crate) fn row_has_stars(row: &Row)
     ensures { HasStars row.now }
 {

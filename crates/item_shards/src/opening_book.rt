@@ -1,11 +1,11 @@
 //! The rows that an auction is opened with.
-ghost use Rattle.std.specs.Prelude.{◌≡◌, ℕ, ◌≤◌, ◌<◌, ◌↔◌, [], ◌∷◌, ◌++◌, All, IsTrue, slice_index, IfSome, IfNone, OnSome, IfOk, OnOk, IsErrOf, IsOkUnless};
+ghost use Rattle.std.specs.Prelude.{◌≡◌, ℕ, ◌<◌, ◌↔◌, [], ◌∷◌, ◌++◌, All, IsTrue, slice_index, IfSome, IfNone, OnSome, IfOk, OnOk, IsErrOf, IsOkUnless};
 ghost use Rattle.auction_rows.specs.History.{IsBook};
 ghost use Rattle.auction_rows.proofs.OneProof.{IsBook-prop};
 ghost use Rattle.item_shards.specs.Counting.{worker_of};
 ghost use Rattle.item_shards.specs.Limits.{IsWithinLimits};
-ghost use Rattle.item_shards.specs.OpeningRows.{asked_by, IsTooLong, rows_by, rows_in};
-ghost use Rattle.auction_rows.specs.declared.limits.TheConstants.{MOST_OF_A_WORKER, MOST_WORKERS};
+ghost use Rattle.item_shards.specs.OpeningRows.{asked_by, IsTooLong, AreFewOfEach, rows_in};
+ghost use Rattle.auction_rows.specs.declared.limits.TheConstants.{MOST_WORKERS};
 
 use crate::opened::Opened;
 use crate::serial::SerialAuction;
@@ -16,10 +16,10 @@ use thiserror::Error;
 /// Why requests are not the rows of an auction.
 #[derive(Clone, Copy, Debug, PartialEq, Eq, Drop, Error)]
 pub enum ResumeFault {
-    /// More than 1,000,000 are of one worker below 16.
+    /// More than 1,000,000 requests are of one worker below 16.
     #[error("more than 1000000 requests for a worker")]
     TooLong,
-    /// The one with this number, from 1, is a view, is refused at its place or is of no worker below 16.
+    /// The request with this number, from 1, is a view, is refused at its place or is of no worker below 16.
     #[error("row {0}: refused")]
     BadRow(u32),
     /// No memory was left.
@@ -47,8 +47,8 @@ impl<T: Drop> From<AllocFailed<T>> for ResumeFault {
     }
 }
 
-/// The rows that an auction is opened with, for the users and categories of an opening. They are a book of it, of
-/// workers below 16, with at most 1,000,000 rows of each.
+/// The rows that an auction is opened with, for the users and categories of an opening: a book of it, of workers
+/// below 16, with at most 1,000,000 rows of each.
 #[derive(Drop)]
 pub struct OpeningBook {
     opening: Opening,
@@ -56,7 +56,7 @@ pub struct OpeningBook {
     rows: Option<Vec<Row>>,
     ghost is_book: { IsBook opening (rows_in rows) } by { IsBook-prop opening (rows_in rows) },
     ghost of_workers: { All (λ row. worker_of row < MOST_WORKERS) (rows_in rows) },
-    ghost few: { (worker : ℕ) → worker < MOST_WORKERS → rows_by (rows_in rows) worker ≤ MOST_OF_A_WORKER },
+    ghost few: { AreFewOfEach (rows_in rows) },
     ghost within: { ∥ IsWithinLimits (rows_in rows) ∥₁ },
 }
 
@@ -87,7 +87,8 @@ impl OpeningBook {
         ensures rows { IfOk result (λ book. rows_of book ≡ opening_rows opening rows.items) }
         ensures opening { IfOk result (λ book. opening_of book ≡ opening) }
         ensures accepted { OnOk result (AreRows opening rows.items) }
-        ensures ok { AreRows opening rows.items → ¬ IsTooLong rows.items → IsOkUnless result Memory }
+        ensures ok { AreRows opening rows.items → ¬ IsTooLong rows.items →
+            IsOkUnless result Memory }
         ensures too_long { IsErrOf result TooLong ↔ IsTooLong rows.items }
         ensures bad_row { (n : ℕ) → IsErrOf result (BadRow n) → IsFirstBad opening rows.items n }
     {
@@ -120,7 +121,7 @@ impl OpeningBook {
         ensures rows { result.now ≡ rows_of self.now }
         ensures book { IsBook (opening_of self.now) (rows_of self.now) }
         ensures workers { All (λ row. worker_of row < MOST_WORKERS) (rows_of self.now) }
-        ensures few { (worker : ℕ) → worker < MOST_WORKERS → rows_by (rows_of self.now) worker ≤ MOST_OF_A_WORKER }
+        ensures few { AreFewOfEach (rows_of self.now) }
         ensures limits { IsWithinLimits (rows_of self.now) }
     {
         match &self.rows {
@@ -132,7 +133,8 @@ impl OpeningBook {
 
 // How many requests are of each worker below 16.
 fn asked_by_each(rows: &[Opened]) -> [u64; MOST_WORKERS]
-    ensures { (worker : ℕ) → worker < MOST_WORKERS → slice_index result worker ≡ asked_by rows.now worker }
+    ensures { (worker : ℕ) → worker < MOST_WORKERS →
+        slice_index result worker ≡ asked_by rows.now worker }
 {
     let mut counts = [0; MOST_WORKERS];
     for opened in rows {
@@ -158,7 +160,7 @@ impl SerialAuction {
     ghost use Rattle.item_shards.specs.OpeningBooks as opened;
 
     /// The auction that holds a book. It costs in proportion to the rows, the users and the categories, and errs
-    /// where the auction can't be made or grow for want of memory.
+    /// if the auction can't be made or grow for want of memory.
     pub fn resume(alloc: Global, book: &OpeningBook) -> Result<SerialAuction, AllocError>
         ensures book { IfOk result (λ auction. HoldsBook auction (opened.rows_of book.now)) }
         ensures opening { IfOk result (λ auction. opening_of auction ≡ opened.opening_of book.now) }
@@ -172,10 +174,12 @@ impl SerialAuction {
         ensures opening { opening_of self.new ≡ opening_of self.old }
         ensures bad { IfOk result (λ added. IfNone added ((book : Book) → HoldsBook self.old book →
             ¬ IsRow (opening_of self.old) book opened.now)) }
-        ensures row { IfOk result (λ added. IfSome added (λ row. (book : Book) → HoldsBook self.old book →
+        ensures row { IfOk result (λ added. IfSome added (λ row.
+            (book : Book) → HoldsBook self.old book →
             IsRow (opening_of self.old) book opened.now
             × (with_opened (opening_of self.old) book opened.now ≡ book ++ row ∷ []))) }
-        ensures book { IfOk result (λ added. OnSome added ((book : Book) → HoldsBook self.old book → IsNotFull book →
+        ensures book { IfOk result (λ added. OnSome added (
+            (book : Book) → HoldsBook self.old book → IsNotFull book →
             HoldsBook self.new (with_opened (opening_of self.old) book opened.now))) }
     {
         if opened.worker as usize >= MOST_WORKERS {

@@ -1,21 +1,20 @@
 //! Where the records of a shard's items lie.
 ghost use Rattle.std.specs.Prelude.{◌≡◌, ◌<◌, option_map, Some, IfSome};
-ghost use Rattle.std.specs.HashMap.{get};
 
 use crate::items::ItemRecord;
 use crate::shard::Shard;
 use auction_rows::{ItemId, MOST_WORKERS};
 use std::alloc::{AllocError, Global};
 
-/// Of each worker, by an item's serial over the number of shards: its place in the map of items. A look-up there needs no
-/// hash. A place is a guess, and whoever asks looks at the id that is there: so it may be missing, and nothing relies on it.
+/// The place of each worker's items in the map of items, by an item's serial over the number of shards: a look-up there
+/// needs no hash. A place is a guess: whoever asks looks at the id that is there, and a place may be missing.
 #[derive(Drop)]
 pub(crate) struct Places {
     by_worker: Vec<Vec<u32>>,
 }
 
 impl Places {
-    /// No place is noted.
+    /// Places of which none is noted.
     pub(crate) fn new(alloc: Global) -> Result<Places, AllocError> {
         let mut by_worker = Vec::with_capacity(alloc, MOST_WORKERS)?;
         for _worker in 0..MOST_WORKERS {
@@ -34,7 +33,7 @@ impl Places {
         Some(*place as usize)
     }
 
-    /// Notes the place of an item of one shard of so many: where its worker's items before it are noted, and memory is left.
+    /// Notes the place of an item of one shard of so many, if its worker's items before it are noted and memory is left.
     pub(crate) fn note(&mut self, item: ItemId, shards: u32, place: usize)
         requires { 0 < shards }
     {
@@ -52,13 +51,12 @@ impl Places {
 }
 
 impl Shard {
-    ghost use Rattle.auction_rows.specs.Book.{same_item};
-    ghost use Rattle.item_shards.specs.ShardContents.{HasRoom, IsPlaceOf};
+    ghost use Rattle.item_shards.specs.ShardContents.{record_in, HasRoom, IsPlaceOf};
 
-    // The place that is noted for an item, and its record, where the item lies there.
+    // The place that is noted for an item, and its record, if the item lies there.
     #[inline(always)]
     fn find_noted(&self, item: ItemId) -> Option<(usize, &ItemRecord)>
-        ensures record { IfSome result (λ found. get same_item self.now.parts.value.items item ≡ Some found.1.now) }
+        ensures record { IfSome result (λ found. record_in self.now item ≡ Some found.1.now) }
         ensures place { IfSome result (λ found. IsPlaceOf self.now.parts.value.items item found.0) }
     {
         let place = self.parts.places.noted(item, self.parts.shards)?;
@@ -70,10 +68,10 @@ impl Shard {
         }
     }
 
-    /// The place of an item, and its record, where there is room for it.
+    /// The place of an item, and its record, if there is room for it.
     #[inline(always)]
     pub(crate) fn find(&self, item: ItemId) -> Option<(usize, &ItemRecord)>
-        ensures record { option_map (λ found. found.1.now) result ≡ get same_item self.now.parts.value.items item }
+        ensures record { option_map (λ found. found.1.now) result ≡ record_in self.now item }
         ensures place { IfSome result (λ found. IsPlaceOf self.now.parts.value.items item found.0) }
     {
         if let Some(found) = self.find_noted(item) {
@@ -83,10 +81,10 @@ impl Shard {
         Some((place, record))
     }
 
-    /// The record of an item, where there is room for it.
+    /// The record of an item, if there is room for it.
     #[inline(always)]
     pub(crate) fn record(&self, item: ItemId) -> Option<&ItemRecord>
-        ensures { option_map (λ found. found.now) result ≡ get same_item self.now.parts.value.items item }
+        ensures { option_map (λ found. found.now) result ≡ record_in self.now item }
     {
         let (_, record) = self.find(item)?;
         Some(record)

@@ -13,7 +13,7 @@ use auction_rows::{
 use std::alloc::{AllocError, Global};
 
 /// The auction of one thread, which 16 workers ask in turn. It answers by the records of one shard
-/// and not by its rows, so that a request costs the same however many rows there are.
+/// and not by its rows: a request costs the same however many rows there are.
 #[derive(Drop)]
 pub struct SerialAuction {
     pub(crate) shard: Shard,
@@ -30,7 +30,7 @@ impl SerialAuction {
     ghost use Rattle.item_shards.specs.Limits.{IsWithinLimits};
     ghost use Rattle.item_shards.specs.Serial.{HoldsBook, IsNotFull, CanGrow, CanStore, CanFollow, CanAdd, HoldsFirst, opening_of};
 
-    /// An auction in which nothing is stored. It errs where the shard can't be made for want of memory.
+    /// An auction in which nothing is stored. It errs if the shard can't be made for want of memory.
     pub fn new(alloc: Global, opening: Opening) -> Result<SerialAuction, AllocError>
         ensures book { IfOk result (λ auction. HoldsBook auction []) }
         ensures opening { IfOk result (λ auction. opening_of auction ≡ opening) }
@@ -64,7 +64,7 @@ impl SerialAuction {
         Ok(auction)
     }
 
-    /// Stores rows that can follow a book which the auction holds. It costs in proportion to the rows. Where the auction
+    /// Stores rows that can follow a book which the auction holds. It costs in proportion to the rows. If the auction
     /// can't grow for want of memory, it holds that book with the first of the rows.
     pub fn add_rows(&mut self, rows: &[Row]) -> Result<(), AllocError>
         requires { CanAdd self.old rows.now }
@@ -135,12 +135,13 @@ impl SerialAuction {
         refusal_with(&self.shard.stock(item), request)
     }
 
-    // Stores a row. Without memory the auction holds what it held.
+    // Stores a row. Without memory the auction holds the books that it held.
     fn store(&mut self, row: &Row) -> Result<(), AllocError>
         requires { CanStore self.old row.now }
         ensures stored { OnOk result ((book : Book) → HoldsBook self.old book → IsNotFull book →
             HoldsBook self.new (book ++ row.now ∷ [])) }
-        ensures refused { OnErr result ((book : Book) → HoldsBook self.old book → HoldsBook self.new book) }
+        ensures refused { OnErr result (
+            (book : Book) → HoldsBook self.old book → HoldsBook self.new book) }
         ensures opening { opening_of self.new ≡ opening_of self.old }
     {
         self.shard.write(row)?;
@@ -151,8 +152,8 @@ impl SerialAuction {
         Ok(())
     }
 
-    /// Commits the request of a worker below 16, where the auction has fewer than 16,000,000 rows.
-    /// Without memory it holds what it held.
+    /// Commits the request of a worker below 16, if the auction has fewer than 16,000,000 rows.
+    /// Without memory the auction holds the books that it held.
     pub fn perform(&mut self, worker: u32, request: Request) -> Result<Reply, AllocError>
         requires worker { worker < MOST_WORKERS }
         requires room { CanGrow self.old }
@@ -160,7 +161,8 @@ impl SerialAuction {
             answered ≡ reply (opening_of self.old) book worker request) }
         ensures book { OnOk result ((book : Book) → HoldsBook self.old book → IsNotFull book →
             HoldsBook self.new (next (opening_of self.old) book worker request)) }
-        ensures refused { OnErr result ((book : Book) → HoldsBook self.old book → HoldsBook self.new book) }
+        ensures refused { OnErr result (
+            (book : Book) → HoldsBook self.old book → HoldsBook self.new book) }
         ensures opening { opening_of self.new ≡ opening_of self.old }
     {
         let request = &request;

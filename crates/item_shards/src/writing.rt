@@ -17,7 +17,8 @@ impl Shard {
     pub(crate) fn write(&mut self, row: &Row) -> Result<(), AllocError>
         requires has_all { (object : Object) → LiesIn self.old object }
         requires can { CanWrite self.old row.now }
-        ensures written { OnOk result (contents self.new ≡ after_acts (contents self.old) (writes_of row.now)) }
+        ensures written { OnOk result (
+            contents self.new ≡ after_acts (contents self.old) (writes_of row.now)) }
         ensures refused { OnErr result (contents self.new ≡ contents self.old) }
         ensures same { IsSameShard self.old self.new }
     {

@@ -10,9 +10,13 @@ use Rattle.auction_rows.specs.declared.policy.Policy.{Policy}
 use Rattle.run_laws.specs.Serving.{Serves}
 use Rattle.run_laws.specs.Run.{AreChosen}
 
--- The hot sets and the history answer the scripts, from a book: the history serves them, the hot sets are chosen, and it replays.
-pub record IsAnswer (opening : Opening) (start : Book) (policy : Policy) (scripts : List (List Request))
-    (hot : List (List Object)) (history : List Entry) : Type 0 where
+-- the hot sets and the history answer the scripts, from a book
+pub record IsAnswer (opening : Opening) (start : Book) (policy : Policy)
+    (scripts : List (List Request)) (hot : List (List Object))
+    (history : List Entry) : Type 0 where
+  -- the history serves the scripts
   pub serves : Serves opening policy scripts hot history
+  -- the hot sets are chosen from the history
   pub chosen : AreChosen policy hot history
+  -- the history replays from the book
   pub replays : ReplaysFrom opening start history

@@ -12,8 +12,10 @@ reach joined split index =
 
 -- the first index that reaches a phase or a later one
 abbrev pub first_of : ℕ → ℕ → ℕ → ℕ
-first_of joined split phase = (phase / 2) * (joined + split) + (if is_split phase then joined else 0)
+first_of joined split phase =
+    (phase / 2) * (joined + split) + (if is_split phase then joined else 0)
 
 -- how many requests a phase takes of a script of some length
 abbrev pub quota : ℕ → ℕ → ℕ → ℕ → ℕ
-quota joined split phase len = min (if is_split phase then split else joined) (len - first_of joined split phase)
+quota joined split phase len =
+    min (if is_split phase then split else joined) (len - first_of joined split phase)

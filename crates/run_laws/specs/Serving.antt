@@ -26,7 +26,7 @@ lists vectors = map (λ v. v.items) vectors
 abbrev pub script_of : List (List Request) → ℕ → List Request
 script_of scripts worker = unwrap_or (slice_get scripts worker) []
 
--- the hot set of a phase, of one for each
+-- the hot set of a phase, from a list with one for each phase
 abbrev pub hot_in : List (List Object) → ℕ → List Object
 hot_in hot phase = unwrap_or (slice_get hot phase) []
 
@@ -38,30 +38,36 @@ segment_of phase history = filter (λ e. e.phase == phase) history
 abbrev pub phase_reached : Policy → ℕ → ℕ
 phase_reached policy index = reach policy.joined_quota policy.split_quota index
 
--- the phase in which a call commits: the one that it reaches, or the next where that one is split and puts it off
+-- the phase in which a call commits: the one that it reaches, or the next if that one is split and puts it off
 abbrev pub commit_phase : Policy → List (List Object) → ℕ × Request → ℕ
-commit_phase policy hot = commits_in (phase_reached policy) (λ phase request. is_put_off (hot_in hot phase) request)
+commit_phase policy hot =
+    commits_in (phase_reached policy) (λ phase request. is_put_off (hot_in hot phase) request)
 
 -- each phase's entries are numbered
 abbrev pub AreNumbered : Opening → Policy → List (List Object) → List Entry → Type 0
-AreNumbered opening policy hot history = (phase : ℕ) → IsNumbered opening policy.shards (hot_in hot phase) (segment_of phase history)
+AreNumbered opening policy hot history = (phase : ℕ) →
+    IsNumbered opening policy.shards (hot_in hot phase) (segment_of phase history)
 
--- A history serves scripts, with a hot set for each phase.
+-- a history serves scripts, with a hot set for each phase
 pub record Serves (opening : Opening) (policy : Policy) (scripts : List (List Request))
     (hot : List (List Object)) (history : List Entry) : Type 0 where
   -- each index of each script occurs exactly once, and no other
   pub once : (worker index : ℕ) →
-      count_by (λ e. (e.worker == worker) && (e.index == index)) history ≡ (if nat_lt index (length (script_of scripts worker)) then 1 else 0)
-  -- with its request
-  pub requests : AllByRecursion (λ e. slice_get (script_of scripts e.worker) e.index ≡ Some e.request) history
-  -- in its phase
+      count_by (λ e. (e.worker == worker) && (e.index == index)) history
+      ≡ (if nat_lt index (length (script_of scripts worker)) then 1 else 0)
+  -- each entry has the request of its index
+  pub requests : AllByRecursion
+      (λ e. slice_get (script_of scripts e.worker) e.index ≡ Some e.request) history
+  -- each entry is in the phase in which its call commits
   pub phases : AllByRecursion (λ e. e.phase ≡ commit_phase policy hot (call_of e)) history
   -- phases don't fall
   pub phases_rise : IsOrderedBy (λ d e. d.phase ≤ e.phase) history
-  -- one worker's entries of one phase stand in the order of their indexes
-  pub indexes_rise : IsOrderedBy (λ d e. d.worker ≡ e.worker → d.phase ≡ e.phase → d.index < e.index) history
+  -- one worker's entries of one phase are in the order of their indexes
+  pub indexes_rise : IsOrderedBy
+      (λ d e. d.worker ≡ e.worker → d.phase ≡ e.phase → d.index < e.index) history
   -- no entry comes before a splittable store of its own script that has a smaller index
-  pub stores_first : IsOrderedBy (λ d e. d.worker ≡ e.worker → is_splittable e.request ≡ true → d.index < e.index) history
+  pub stores_first : IsOrderedBy
+      (λ d e. d.worker ≡ e.worker → is_splittable e.request ≡ true → d.index < e.index) history
   -- there is one phase more than the greatest phase of an entry, and none without entries
   pub phase_count : length hot ≡ greatest_by (λ e. suc e.phase) history
   -- each number is 1 + the greatest earlier one of its phase with which it shares something

@@ -27,7 +27,7 @@ pub fn quota_gives()
         calls_given policy phase script ≡ reaching (phase_reached policy) phase script }
 {}
 
-/// A closed phase takes a run one phase on, where a worker had something left.
+/// A closed phase takes a run one phase on, if a worker had something left.
 pub fn phase_runs()
     ensures { (policy : Policy) (scripts : List (List Request)) (phase worker : ℕ)
         (hot : List (List Object)) (hot_now : List Object) (history segment : List Entry)
@@ -40,7 +40,7 @@ pub fn phase_runs()
 {}
 
 /// After a phase whose hot set is the one chosen from the entries before it, the hot sets are the
-/// chosen ones still; where its entries are numbered, each phase's still are; and its entries are the
+/// chosen ones still; if the phase's entries are numbered, each phase's still are; and they are the
 /// last of the history.
 pub fn phase_closes()
     ensures chosen { (policy : Policy) (scripts : List (List Request)) (phase : ℕ)

@@ -2,8 +2,8 @@
 ghost use Rattle.std.specs.Prelude.{◌≡◌, ◌<◌, ◌≤◌, ◌+◌, ◌*◌, ◌↔◌, ℕ, suc, if◌then◌else◌};
 ghost use Rattle.run_laws.specs.Phases.{is_split, reach, first_of};
 
-/// The indexes that reach a phase or a later one are those from its first one on. So a later
-/// request of a script reaches no earlier phase.
+/// The indexes that reach a phase or a later one are those from its first one on: a later request of
+/// a script reaches no earlier phase.
 pub fn phases_reached()
     ensures from_its_first { (joined split phase index : ℕ) → 0 < joined + split →
         (phase ≤ reach joined split index) ↔ (first_of joined split phase ≤ index) }

@@ -10,7 +10,7 @@ ghost use Rattle.run_laws.specs.Serving.{Serves, AreNumbered, script_of};
 ghost use Rattle.run_laws.specs.Run.{HasRun, IsDone};
 ghost use Rattle.run_laws.specs.Answers.{IsAnswer};
 
-/// Where nobody has anything left and each phase is numbered, the history serves the scripts.
+/// If nobody has anything left and each phase is numbered, the history serves the scripts.
 pub fn run_serves()
     ensures { (opening : Opening) (policy : Policy) (scripts : List (List Request)) (phase : ℕ)
         (hot : List (List Object)) (history : List Entry) (stashes : ℕ → List (ℕ × Request)) →

@@ -4,8 +4,8 @@ ghost use Rattle.std.specs.List.{filter, AllByRecursion};
 ghost use Rattle.run_laws.specs.Phases.{is_split, reach, first_of, quota};
 ghost use Rattle.run_laws.specs.Turns.{numbered, given, reaching, commits_in, turn, turns, waiting};
 
-/// What a phase's quota gives of a script is exactly what reaches the phase. There are as many as
-/// the quota says, and they follow one another from the phase's first index on.
+/// What a phase's quota gives of a script is exactly what reaches the phase: as many requests as the
+/// quota says, one after the other from the phase's first index on.
 pub fn quotas_give<R>()
     ensures reaching { (joined split phase : ℕ) (script : List R) → 0 < joined + split →
         given joined split phase script ≡ reaching (reach joined split) phase script }
@@ -39,8 +39,8 @@ pub fn phases_take<R>()
         waiting reach (commits_in reach puts_off) (suc phase) script ≡ [] }
 {}
 
-/// Where each call of a script commits in one of the first phases, the turns in these have each
-/// index of the script once, with its request.
+/// If each call of a script commits in one of the first phases, the turns in these have each index
+/// of the script once, with its request.
 pub fn turns_are_whole<R>()
     ensures once { (commit : ℕ × R → ℕ) (phases index : ℕ) (script : List R) →
         AllByRecursion (λ call. commit call < phases) (numbered 0 script) →

@@ -15,7 +15,7 @@ use Rattle.shard_boxes.specs.Lines.{after, lines_of}
 use Rattle.shard_boxes.specs.Limits.{IsWellFormedIfAny}
 use Rattle.shard_boxes.specs.Keys.{added, entries}
 use Rattle.shard_boxes.specs.Helds.{MayPut}
-use Rattle.shard_boxes.specs.Rule.{IsKept, Speaks, HasParts, Fits, IsIn, IsOut, BoxRule, maker, opened, TakenBy, with_first, put, head_of, tail_of}
+use Rattle.shard_boxes.specs.Rule.{IsKept, Speaks, HasParts, BoxState, Fits, IsIn, IsOut, BoxRule, maker, opened, TakenBy, with_first, put, head_of, tail_of}
 use Rattle.shard_boxes.proofs.LineLemmas.{kept_put, lines_of-append, entries-own, entries-other}
 
 -- lists read by index
@@ -80,33 +80,28 @@ blank (suc n) (suc i) = blank n i
 
 -- the maker of an empty box
 pub begins : (opening : List ShardState) (workers : ℕ) → 0 < workers → 0 < length opening → IsOpened (length opening) 0 (state_at opening 0) → BoxRule opening workers [] (maker workers ∷ [])
-unfolding BoxRule
 begins opening workers some_worker some_shard is_opened =
     let long : length (replicate {A = List Line} workers []) ≡ workers = length-replicate workers [] in
-    let fits : Fits workers 0 [] 0 (λ _. 0) 0 (maker workers) = (
-      (λ _. refl),
-      ([], refl),
-      omega arith,
-      (λ i h. refl),
-      (λ i h. blank workers i),
-      (λ _. (refl, refl, omega arith)),
-    ) in (
-      0,
-      [],
-      0,
-      (λ _. 0),
-      record { known = some_shard; opened = is_opened; lawful = tt; within = is_opened.within },
-      inr (refl, (maker workers, refl, refl)),
-      λ pass v e. let o = only (maker workers) v pass e in subst (λ (y : ℕ × View). Fits workers 0 [] 0 (λ _. 0) y.0 y.1) (λ i. (sym o.0 i, o.1 i)) fits,
-    )
+    let box : BoxState = record { number = 0; list = []; holder = 0; seat = λ _. 0 } in
+    let fits : Fits workers box 0 (maker workers) = record {
+      number = λ _. refl;
+      prefix = ([], refl);
+      known = omega arith;
+      seats = λ i h. refl;
+      parts = λ i h. blank workers i;
+      holder = λ _. record { only = refl; current = refl; speaks = omega arith };
+    } in record {
+      box = box;
+      kept = record { known = some_shard; opened = is_opened; lawful = tt; within = is_opened.within };
+      place = inr (record { none = refl; view = maker workers; at = refl; holds = refl });
+      fits = λ pass v e. let o = only (maker workers) v pass e in subst (λ (y : ℕ × View). Fits workers box y.0 y.1) (λ i. (sym o.0 i, o.1 i)) fits;
+    }
 
--- where a pass holds the shard, the box is empty
+-- if a pass holds the shard, the box is empty
 out : (opening : List ShardState) (workers : ℕ) (items : List Shard) (views : List View) → BoxRule opening workers items views → (pass : ℕ) (v : View) → get_elem? views pass ≡ some v → v.holds ≡ true → items ≡ []
-unfolding BoxRule
-out opening workers items views h pass v at t = ⊎_elim (λ (x : IsIn opening h.0 h.1 items views). absurd (both_ways v.holds t (x.3 pass v at))) (λ (x : IsOut h.2 items views). x.0) h.5
+out opening workers items views h pass v at t = ⊎_elim (λ (x : IsIn opening h.box items views). absurd (both_ways v.holds t (x.free pass v at))) (λ (x : IsOut h.box items views). x.none) h.place
 
 pub learns_empty : (opening : List ShardState) (workers pass : ℕ) (v : View) → v.holds ≡ true → Learns (BoxRule opening workers) pass v (λ items. items ≡ [])
-unfolding BoxRule
 learns_empty opening workers pass v t items views h at = out opening workers items views h pass v at t
 
 cons_ne : (x : Shard) (xs : List Shard) → x ∷ xs ≢ []
@@ -114,21 +109,20 @@ cons_ne x xs e = cc
 
 -- a pass that speaks for all workers and does not hold the shard finds it in the box
 pub learns_full : (opening : List ShardState) (workers pass : ℕ) (v : View) → v.first ≡ 0 → length v.own ≡ workers → v.holds ≡ false → Learns (BoxRule opening workers) pass v (λ items. items ≢ [])
-unfolding BoxRule
 learns_full opening workers pass v zeroth all f items views h at none =
-    ⊎_elim (λ (x : IsIn opening h.0 h.1 items views). absurd (cons_ne _ _ (sym x.1 ∙ none)))
-    (λ (x : IsOut h.2 items views).
-    let theirs = h.6 h.2 x.1.0 x.1.1 in
-    let mine = h.6 pass v at in
-    let s : 0 < length x.1.0.own = (theirs.5 x.1.2).2 in
-    let a : h.3 (x.1.0.first + 0) ≡ h.2 = theirs.3 0 s in
-    let below : x.1.0.first < length v.own = (let t2 = theirs.2 in omega arith) in
-    let b : h.3 (v.first + x.1.0.first) ≡ pass = mine.3 x.1.0.first below in
-    let one : v.first + x.1.0.first ≡ x.1.0.first + 0 = omega arith in
-    let same : pass ≡ h.2 = sym b ∙ ap h.3 one ∙ a in
-    let is : some v ≡ some x.1.0 = sym at ∙ ap (get_elem? views) same ∙ x.1.1 in
-    both_ways v.holds (ap (λ (y : View). y.holds) (some-injective _ _ is) ∙ x.1.2) f)
-    h.5
+    ⊎_elim (λ (x : IsIn opening h.box items views). absurd (cons_ne _ _ (sym x.one ∙ none)))
+    (λ (x : IsOut h.box items views).
+    let theirs = h.fits h.box.holder x.view x.at in
+    let mine = h.fits pass v at in
+    let s : 0 < length x.view.own = (theirs.holder x.holds).speaks in
+    let a : h.box.seat (x.view.first + 0) ≡ h.box.holder = theirs.seats 0 s in
+    let below : x.view.first < length v.own = (let known = theirs.known in omega arith) in
+    let b : h.box.seat (v.first + x.view.first) ≡ pass = mine.seats x.view.first below in
+    let one : v.first + x.view.first ≡ x.view.first + 0 = omega arith in
+    let same : pass ≡ h.box.holder = sym b ∙ ap h.box.seat one ∙ a in
+    let is : some v ≡ some x.view = sym at ∙ ap (get_elem? views) same ∙ x.at in
+    both_ways v.holds (ap (λ (y : View). y.holds) (some-injective _ _ is) ∙ x.holds) f)
+    h.place
 
 last_of_two : (x y : Shard) (xs : List Shard) → x ∷ xs ≡ y ∷ [] → (x ≡ y) × (xs ≡ [])
 last_of_two x y xs e = (cc, cc)
@@ -136,7 +130,6 @@ last_of_two x y xs e = (cc, cc)
 -- the maker puts the shard of `new` into the box
 pub opens : (opening : List ShardState) (workers n pass : ℕ) (v : View) (x : Shard) → v ≡ maker workers → IsKept opening workers (shard_number x) [] → state_of x ≡ state_at opening (shard_number x)
     → Pushes (BoxRule opening workers) n pass v x (λ w. w ≡ opened v x)
-unfolding BoxRule
 opens opening workers n pass v x is kept stands items views room h at =
     let w : View = opened v x in
     let holds_now : v.holds ≡ true = ap (λ (y : View). y.holds) is in
@@ -144,69 +137,85 @@ opens opening workers n pass v x is kept stands items views room h at =
     let nothing_seen : v.seen ≡ [] = ap (λ (y : View). y.seen) is in
     let all : length v.own ≡ workers = ap (λ (y : View). length y.own) is ∙ length-replicate workers [] in
     let empty : items ≡ [] = out opening workers items views h pass v at holds_now in
-    let mine = h.6 pass v at in
-    let held = mine.5 holds_now in
-    let no_list : h.1 ≡ [] = sym held.1 ∙ nothing_seen in
+    let mine = h.fits pass v at in
+    let held = mine.holder holds_now in
+    let no_list : h.box.list ≡ [] = sym held.current ∙ nothing_seen in
+    let box : BoxState = record h.box { number = shard_number x } in
     let no_other : (j : ℕ) (u : View) → j ≢ pass → get_elem? views j ≡ some u → Speaks u → ⊥ = (λ j u other e s.
-    let theirs = h.6 j u e in
-    let a : h.3 (u.first + 0) ≡ j = theirs.3 0 s in
-    let below : u.first < length v.own = (let t2 = theirs.2 in omega arith) in
-    let b : h.3 (v.first + u.first) ≡ pass = mine.3 u.first below in
+    let theirs = h.fits j u e in
+    let a : h.box.seat (u.first + 0) ≡ j = theirs.seats 0 s in
+    let below : u.first < length v.own = (let known = theirs.known in omega arith) in
+    let b : h.box.seat (v.first + u.first) ≡ pass = mine.seats u.first below in
     let one : u.first + 0 ≡ v.first + u.first = omega arith in
-    other (sym a ∙ ap h.3 one ∙ b)) in (
+    other (sym a ∙ ap h.box.seat one ∙ b)) in (
       w,
-      (
-        shard_number x,
-        h.1,
-        h.2,
-        h.3,
-        subst (IsKept opening workers (shard_number x)) (sym no_list) kept,
-        inl (
-          x,
-          ap (λ l. l ++ x ∷ []) empty,
-          stands ∙ ap (after (state_at opening (shard_number x))) (sym no_list),
-          each_set (λ j u. u.holds ≡ false) views pass w refl (λ j u other e. false_from_ne_true u.holds (λ t. other (((h.6 j u e).5 t).0 ∙ sym held.0))),
-        ),
-        each_set (Fits workers (shard_number x) h.1 h.2 h.3) views pass w
-            ((λ _. refl), mine.1, mine.2, mine.3, mine.4, λ t. absurd (true≢false (sym t)))
-            (λ j u other e. let theirs = h.6 j u e in ((λ s. absurd (no_other j u other e s)), theirs.1, theirs.2, theirs.3, theirs.4, theirs.5)),
-      ),
+      record {
+        box = box;
+        kept = subst (IsKept opening workers (shard_number x)) (sym no_list) kept;
+        place = inl (record {
+          shard = x;
+          one = ap (λ l. l ++ x ∷ []) empty;
+          state = stands ∙ ap (after (state_at opening (shard_number x))) (sym no_list);
+          free = each_set (λ j u. u.holds ≡ false) views pass w refl (λ j u other e. false_from_ne_true u.holds (λ t. other (((h.fits j u e).holder t).only ∙ sym held.only)));
+        });
+        fits = each_set (Fits workers box) views pass w
+            (record { number = λ _. refl; prefix = mine.prefix; known = mine.known; seats = mine.seats; parts = mine.parts; holder = λ t. absurd (true≢false (sym t)) })
+            (λ j u other e. let theirs = h.fits j u e in record {
+              number = λ s. absurd (no_other j u other e s);
+              prefix = theirs.prefix;
+              known = theirs.known;
+              seats = theirs.seats;
+              parts = theirs.parts;
+              holder = λ t. absurd (other ((theirs.holder t).only ∙ sym held.only));
+            });
+      },
       refl,
     )
 
 -- a take: the shard after its list goes to a pass that speaks for some worker
 pub takes : (opening : List ShardState) (workers pass : ℕ) (v : View) → Speaks v → Pops (BoxRule opening workers) pass v (TakenBy opening workers v)
-unfolding BoxRule
 takes opening workers pass v speaks x items views h at =
-    let mine = h.6 pass v at in
-    let w : View = record v { seen = h.1; holds = true } in
+    let mine = h.fits pass v at in
+    let w : View = record v { seen = h.box.list; holds = true } in
+    let box : BoxState = record h.box { holder = pass } in
     ⊎_elim
-    (λ (b : IsIn opening h.0 h.1 (x ∷ items) views).
-    let two = last_of_two x b.0 items b.1 in
-    let number_is : h.0 ≡ v.number = sym (mine.0 speaks) in
-    let stands : state_of x ≡ after (state_at opening h.0) h.1 = ap state_of two.0 ∙ b.2 in (
+    (λ (b : IsIn opening h.box (x ∷ items) views).
+    let two = last_of_two x b.shard items b.one in
+    let number_is : h.box.number ≡ v.number = sym (mine.number speaks) in
+    let stands : state_of x ≡ after (state_at opening h.box.number) h.box.list = ap state_of two.0 ∙ b.state in (
       w,
-      (
-        h.0,
-        h.1,
-        pass,
-        h.3,
-        h.4,
-        inr (two.1, (w, set_here views pass w (there views pass v at), refl)),
-        each_set (Fits workers h.0 h.1 pass h.3) views pass w
-            (mine.0, ([], sym (append-nil h.1)), mine.2, mine.3, mine.4, λ _. (refl, refl, speaks))
-            (λ j u other e. let theirs = h.6 j u e in (theirs.0, theirs.1, theirs.2, theirs.3, theirs.4, λ t. absurd (both_ways u.holds t (b.3 j u e)))),
-      ),
-      (
-        refl,
-        subst (λ n. IsKept opening workers n h.1) number_is h.4,
-        stands ∙ ap (λ n. after (state_at opening n) h.1) number_is,
-        mine.1,
-        mine.4,
-      ),
+      record {
+        box = box;
+        kept = h.kept;
+        place = inr (record { none = two.1; view = w; at = set_here views pass w (there views pass v at); holds = refl });
+        fits = each_set (Fits workers box) views pass w
+            (record {
+              number = mine.number;
+              prefix = ([], sym (append-nil h.box.list));
+              known = mine.known;
+              seats = mine.seats;
+              parts = mine.parts;
+              holder = λ _. record { only = refl; current = refl; speaks = speaks };
+            })
+            (λ j u other e. let theirs = h.fits j u e in record {
+              number = theirs.number;
+              prefix = theirs.prefix;
+              known = theirs.known;
+              seats = theirs.seats;
+              parts = theirs.parts;
+              holder = λ t. absurd (both_ways u.holds t (b.free j u e));
+            });
+      },
+      record {
+        view = refl;
+        kept = subst (λ n. IsKept opening workers n h.box.list) number_is h.kept;
+        state = stands ∙ ap (λ n. after (state_at opening n) h.box.list) number_is;
+        later = mine.prefix;
+        own = mine.parts;
+      },
     ))
-    (λ (o : IsOut h.2 (x ∷ items) views). absurd (cons_ne x items o.0))
-    h.5
+    (λ (o : IsOut h.box (x ∷ items) views). absurd (cons_ne x items o.none))
+    h.place
 
 pub plus_zero : (n : ℕ) → n ≡ n + 0
 plus_zero n = omega arith
@@ -223,58 +232,56 @@ put_parts v line list before list_is speaks parts (suc i) below =
     with_first-tail v.own (added line) i ∙ parts (suc i) below' ∙ sym (append-nil _) ∙ ap (λ l. lines_of (v.first + suc i) before ++ l) (sym (entries-other v.first line (v.first + suc i) apart))
     ∙ sym (lines_of-append (v.first + suc i) before (entries v.first line)) ∙ ap (lines_of (v.first + suc i)) (sym list_is)
 
--- a put: the holder gives the shard back, after the line of its first worker where there is one
+-- a put: the holder gives the shard back, after the line of its first worker, if there is one
 pub puts : (opening : List ShardState) (workers n pass : ℕ) (v : View) (x : Shard) (line : Option Line) → v.holds ≡ true → IsWellFormedIfAny line
     → MayPut (after (state_at opening v.number) v.seen) (state_of x) line → Pushes (BoxRule opening workers) n pass v x (λ w. w ≡ put v line)
-unfolding BoxRule
 puts opening workers n pass v x line holds_now well may items views room h at =
     let w : View = put v line in
-    let mine = h.6 pass v at in
-    let held = mine.5 holds_now in
-    let speaks : Speaks v = held.2 in
+    let mine = h.fits pass v at in
+    let held = mine.holder holds_now in
+    let speaks : Speaks v = held.speaks in
     let more : List (ℕ × Line) = entries v.first line in
-    let list : List (ℕ × Line) = h.1 ++ more in
-    let seen_is : v.seen ++ more ≡ list = ap (λ l. l ++ more) held.1 in
+    let list : List (ℕ × Line) = h.box.list ++ more in
+    let box : BoxState = record h.box { list = list } in
+    let seen_is : v.seen ++ more ≡ list = ap (λ l. l ++ more) held.current in
     let was_out = out opening workers items views h pass v at holds_now in
-    let number_is : v.number ≡ h.0 = mine.0 speaks in
-    let known : v.first < workers = (let t2 = mine.2 in omega arith) in
-    let may_put = subst (λ (y : ℕ × List (ℕ × Line)). MayPut (after (state_at opening y.0) y.1) (state_of x) line) (λ i. (number_is i, held.1 i)) may in
-    let kept = kept_put opening workers h.0 v.first h.1 line (state_of x) h.4 known well may_put in
+    let number_is : v.number ≡ h.box.number = mine.number speaks in
+    let first_known : v.first < workers = (let known = mine.known in omega arith) in
+    let may_put = subst (λ (y : ℕ × List (ℕ × Line)). MayPut (after (state_at opening y.0) y.1) (state_of x) line) (λ i. (number_is i, held.current i)) may in
+    let kept = kept_put opening workers h.box.number v.first h.box.list line (state_of x) h.kept first_known well may_put in
     let own_long : length w.own ≡ length v.own = length-with_first v.own (added line) in
-    let seat_first : h.3 (v.first + 0) ≡ pass = mine.3 0 speaks in
-    let parts : HasParts w list = put_parts v line list h.1 refl speaks mine.4 in (
+    let seat_first : h.box.seat (v.first + 0) ≡ pass = mine.seats 0 speaks in
+    let parts : HasParts w list = put_parts v line list h.box.list refl speaks mine.parts in (
       w,
-      (
-        h.0,
-        list,
-        h.2,
-        h.3,
-        kept.0,
-        inl (
-          x,
-          ap (λ l. l ++ x ∷ []) was_out,
-          kept.1,
-          each_set (λ j u. u.holds ≡ false) views pass w refl (λ j u other e. false_from_ne_true u.holds (λ t. other (((h.6 j u e).5 t).0 ∙ sym held.0))),
-        ),
-        each_set (Fits workers h.0 list h.2 h.3) views pass w (
-          (λ _. number_is),
-          ([], sym seen_is ∙ sym (append-nil (v.seen ++ more))),
-          (let t2 = mine.2 in omega arith),
-          (λ i below. mine.3 i (subst (λ m. i < m) own_long below)),
-          parts,
-          λ t. absurd (true≢false (sym t)),
-        )
-            (λ j u other e. let theirs = h.6 j u e in (
-              theirs.0,
-              (theirs.1.0 ++ more, ap (λ l. l ++ more) theirs.1.1 ∙ append_assoc u.seen theirs.1.0 more),
-              theirs.2,
-              theirs.3,
-              (λ i below.
-                  let not_first : u.first + i ≢ v.first = (λ same. other (sym (theirs.3 i below) ∙ ap h.3 (same ∙ plus_zero v.first) ∙ seat_first)) in
-                  theirs.4 i below ∙ sym (append-nil _) ∙ ap (λ l. lines_of (u.first + i) h.1 ++ l) (sym (entries-other v.first line (u.first + i) not_first)) ∙ sym (lines_of-append (u.first + i) h.1 more)),
-              λ t. absurd (other ((theirs.5 t).0 ∙ sym held.0)),
-            )),
-      ),
+      record {
+        box = box;
+        kept = kept.0;
+        place = inl (record {
+          shard = x;
+          one = ap (λ l. l ++ x ∷ []) was_out;
+          state = kept.1;
+          free = each_set (λ j u. u.holds ≡ false) views pass w refl (λ j u other e. false_from_ne_true u.holds (λ t. other (((h.fits j u e).holder t).only ∙ sym held.only)));
+        });
+        fits = each_set (Fits workers box) views pass w
+            (record {
+              number = λ _. number_is;
+              prefix = ([], sym seen_is ∙ sym (append-nil (v.seen ++ more)));
+              known = (let known = mine.known in omega arith);
+              seats = λ i below. mine.seats i (subst (λ m. i < m) own_long below);
+              parts = parts;
+              holder = λ t. absurd (true≢false (sym t));
+            })
+            (λ j u other e. let theirs = h.fits j u e in record {
+              number = theirs.number;
+              prefix = (theirs.prefix.0 ++ more, ap (λ l. l ++ more) theirs.prefix.1 ∙ append_assoc u.seen theirs.prefix.0 more);
+              known = theirs.known;
+              seats = theirs.seats;
+              parts = λ i below.
+                  let not_first : u.first + i ≢ v.first = (λ same. other (sym (theirs.seats i below) ∙ ap h.box.seat (same ∙ plus_zero v.first) ∙ seat_first)) in
+                  theirs.parts i below ∙ sym (append-nil _) ∙ ap (λ l. lines_of (u.first + i) h.box.list ++ l) (sym (entries-other v.first line (u.first + i) not_first)) ∙ sym (lines_of-append (u.first + i) h.box.list more);
+              holder = λ t. absurd (other ((theirs.holder t).only ∙ sym held.only));
+            });
+      },
       refl,
     )
 

@@ -8,20 +8,24 @@ use Rattle.shard_boxes.specs.States.{ShardState, state_at}
 use Rattle.shard_boxes.specs.Lines.{after, after_line, MayFollow}
 use Rattle.shard_boxes.specs.Keys.{KeyState, seen_at}
 
--- a held shard: its number, and the shard as it is
+-- what a held shard shows
 pub record HeldState : Type 0 where
+  -- the shard's number
   pub number : ℕ
+  -- the shard as it is
   pub shard : Shard
 
--- it is stored as the pair of these
+-- a held shard is stored as the pair of its number and the shard
 abbrev pub held_code : Coded HeldState
-held_code = code_by (ℕ × Shard) (coded× coded_ℕ shard_row.coded) (λ h. (h.number, h.shard)) (λ p. record { number = p.0; shard = p.1 }) (λ _. refl)
+held_code =
+    code_by (ℕ × Shard) (coded× coded_ℕ shard_row.coded)
+    (λ h. (h.number, h.shard)) (λ p. record { number = p.0; shard = p.1 }) (λ _. refl)
 
 -- the shard as the key took it: the one with which the phase opened, after the lines that the key has seen
 abbrev pub taken_at : List ShardState → KeyState → ℕ → ShardState
 taken_at opening key s = after (state_at opening s) (seen_at key s)
 
--- what may be put back where this was taken: with a line what the line makes of it, which may follow it; with none the same
+-- a shard may be put back after a line that may follow, or as it was taken
 abbrev pub MayPut : ShardState → ShardState → Option Line → Type 0
 MayPut taken now None = now ≡ taken
 MayPut taken now (Some line) = MayFollow taken line × (now ≡ after_line taken line)

@@ -7,27 +7,29 @@ use Rattle.shard_boxes.specs.declared.line.Line.{Line}
 abbrev pub BoxId : Type 0
 BoxId = TableId
 
--- what a key shows of one shard: whether it holds it, its worker's lines, and the list that it has seen
+-- what a key shows of one shard
 pub record SeatState : Type 0 where
   -- whether the key has the shard
   pub holds : Bool
-  -- the lines that its worker put
+  -- the lines that the key's worker put
   pub lines : List Line
-  -- all workers' lines that it has seen
+  -- the lines of all workers that the key has seen
   pub seen : List (ℕ × Line)
 
--- the boxes that the key is for, its worker, and a seat for each shard
+-- what a key shows
 pub record KeyState : Type 0 where
-  -- the boxes that it is for
+  -- the boxes that the key is for
   pub boxes : List BoxId
-  -- whose it is
+  -- the worker whose key it is
   pub worker : ℕ
-  -- a seat for each shard
+  -- what the key shows of each shard
   pub seats : List SeatState
 
+-- the seat of a shard that the key does not know
 abbrev pub no_seat : SeatState
 no_seat = record { holds = false; lines = []; seen = [] }
 
+-- what the key shows of the shard of this number
 abbrev pub seat_at : KeyState → ℕ → SeatState
 seat_at key s = slice_index_or key.seats s no_seat
 
@@ -61,9 +63,13 @@ abbrev pub entries : ℕ → Option Line → List (ℕ × Line)
 entries worker None = []
 entries worker (Some line) = (worker, line) ∷ []
 
--- a worker's seat after a put
+-- what a worker's key shows of a shard that it has put back
 abbrev pub put_seat : ℕ → SeatState → Option Line → SeatState
-put_seat worker seat line = record { holds = false; lines = seat.lines ++ added line; seen = seat.seen ++ entries worker line }
+put_seat worker seat line = record {
+  holds = false;
+  lines = seat.lines ++ added line;
+  seen = seat.seen ++ entries worker line;
+}
 
 -- the key that has put a shard back
 abbrev pub putting : KeyState → ℕ → Option Line → KeyState
@@ -73,19 +79,26 @@ putting key s line = with_seat key s (put_seat key.worker (seat_at key s) line)
 abbrev pub HoldsNoneFrom : KeyState → ℕ → Type 0
 HoldsNoneFrom key s = (t : ℕ) → s ≤ t → holds_at key t ≡ false
 
+-- a key to no boxes
 abbrev pub no_key : KeyState
 no_key = record { boxes = []; worker = 0; seats = [] }
 
+-- the key of the worker with this number
 abbrev pub key_at : List KeyState → ℕ → KeyState
 key_at keys w = slice_index_or keys w no_key
 
 -- a key of this worker to these boxes that has taken and put nothing
 pub record IsNewKey (boxes : List BoxId) (worker : ℕ) (key : KeyState) : Type 0 where
+  -- the key is to these boxes
   pub boxes_are : key.boxes ≡ boxes
+  -- the key is this worker's
   pub worker_is : key.worker ≡ worker
+  -- the key has a seat for each box
   pub seats_are : length key.seats ≡ length boxes
+  -- nothing was taken or put by it
   pub unused : (s : ℕ) → seat_at key s ≡ no_seat
 
 -- a new key for each worker, in order
 abbrev pub AreNewKeys : List BoxId → ℕ → List KeyState → Type 0
-AreNewKeys boxes workers keys = (length keys ≡ workers) × ((w : ℕ) → w < workers → IsNewKey boxes w (key_at keys w))
+AreNewKeys boxes workers keys =
+    (length keys ≡ workers) × ((w : ℕ) → w < workers → IsNewKey boxes w (key_at keys w))

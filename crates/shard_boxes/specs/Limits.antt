@@ -15,15 +15,19 @@ SumsFit contents (AddItem id facts) = ⊤
 SumsFit contents (ListItem category entry) = ⊤
 SumsFit contents (Bid id entry) = (contents (Item id)).bids.bids + 1 < 2 ^ 64
 SumsFit contents (Comment user stars) =
-    FitsSigned w64 ((contents (User user)).comments.rating +ℤ stars) × ((contents (User user)).comments.comments + 1 < 2 ^ 64)
+    FitsSigned w64 ((contents (User user)).comments.rating +ℤ stars)
+    × ((contents (User user)).comments.comments + 1 < 2 ^ 64)
 SumsFit contents (Buy id quantity) = ⊤
 SumsFit contents (Look shown) = ⊤
 
--- the line has two acts, and the stars that they give are such
+-- the line has two acts, which give stars from -5 to 5
 pub record IsWellFormed (line : Line) : Type 0 where
+  -- the line has two acts
   pub two : length line.acts ≡ 2
+  -- the stars that the acts give are from -5 to 5
   pub stars : AllByRecursion ActGivesStars line.acts
 
+-- the line is well formed, if there is one
 abbrev pub IsWellFormedIfAny : Option Line → Type 0
 IsWellFormedIfAny None = ⊤
 IsWellFormedIfAny (Some line) = IsWellFormed line

@@ -12,18 +12,33 @@ use Rattle.shard_boxes.specs.States.{ShardState, state_at, IsWithin}
 
 -- the shard after a line: its acts are done, and its number is the clock
 abbrev pub after_line : ShardState → Line → ShardState
-after_line state line = record state { clock = line.number; contents = after_acts state.contents line.acts }
+after_line state line = record state {
+  clock = line.number;
+  contents = after_acts state.contents line.acts;
+}
+
+-- the worker who put the line
+abbrev pub put_by : ℕ × Line → ℕ
+put_by entry = entry.0
+
+-- the line that the worker put
+abbrev pub line_put : ℕ × Line → Line
+line_put entry = entry.1
+
+-- the shard after a line that was put
+abbrev pub after_put : ShardState → ℕ × Line → ShardState
+after_put found entry = after_line found (line_put entry)
 
 -- the shard after the lines of all workers, in order
 abbrev pub after : ShardState → List (ℕ × Line) → ShardState
 after state [] = state
-after state (entry ∷ lines) = after (after_line state entry.1) lines
+after state (entry ∷ lines) = after (after_put state entry) lines
 
 -- the lines of one worker
 abbrev pub lines_of : ℕ → List (ℕ × Line) → List Line
-lines_of worker lines = map (λ entry. entry.1) (part (λ entry. entry.0) worker lines)
+lines_of worker lines = map line_put (part put_by worker lines)
 
--- the list begins with what was seen
+-- the list begins with the lines that were seen
 abbrev pub StartsWith : List (ℕ × Line) → List (ℕ × Line) → Type 0
 StartsWith lines seen = (more : List (ℕ × Line)) × (lines ≡ seen ++ more)
 
@@ -31,33 +46,47 @@ StartsWith lines seen = (more : List (ℕ × Line)) × (lines ≡ seen ++ more)
 abbrev pub AreTrueOf : Contents → List Act → Type 0
 AreTrueOf contents acts = SawInTurn IsTrueAct after_act contents acts
 
--- the line tells the clock of the shard, its number is greater, and its looks are true
+-- the line may be the next one of the shard
 pub record MayFollow (state : ShardState) (line : Line) : Type 0 where
-  -- it tells the clock of the shard
+  -- the line tells the clock of the shard
   pub found : line.before ≡ state.clock
-  -- its number is greater
+  -- the line's number is greater than the clock
   pub later : state.clock < line.number
-  -- what it shows was there
+  -- the line's looks show what the shard has
   pub looks : AreTrueOf state.contents line.acts
 
--- the shard is the one of this number with which the phase opened, after these lines of workers below a number: they ascend
--- in number, each one's `before` is the number of the line before it, 0 at first, and their looks are true
-pub record IsHistory (opening : List ShardState) (workers number : ℕ) (lines : List (ℕ × Line)) (state : ShardState) : Type 0 where
+-- the number of a line that was put
+abbrev pub number_put : ℕ × Line → ℕ
+number_put entry = (line_put entry).number
+
+-- the clock that a line found when it was put
+abbrev pub before_put : ℕ × Line → ℕ
+before_put entry = (line_put entry).before
+
+-- the looks of a line that was put are true of the shard as the line found it
+abbrev pub LooksTrue : ShardState → ℕ × Line → Type 0
+LooksTrue found entry = AreTrueOf found.contents (line_put entry).acts
+
+-- the shard of this number is the one with which the phase opened, after these lines
+pub record IsHistory (opening : List ShardState) (workers number : ℕ) (lines : List (ℕ × Line))
+    (state : ShardState) : Type 0 where
   -- there is a shard of this number
   pub known : number < length opening
-  -- it is the opening one after the lines
+  -- the shard is the opening one after the lines
   pub state_is : state ≡ after (state_at opening number) lines
   -- each line is of a worker below the number of workers
-  pub workers_are : AllByRecursion (λ entry. entry.0 < workers) lines
+  pub workers_are : AllByRecursion (λ entry. put_by entry < workers) lines
   -- the lines ascend in number
-  pub ascending : IsAscendingByNumber (λ entry. entry.1.number) lines
+  pub ascending : IsAscendingByNumber number_put lines
   -- each `before` is the number of the line before, 0 at first
-  pub linked : IsLinkedFrom (λ entry. entry.1.number) (λ entry. entry.1.before) 0 lines
+  pub linked : IsLinkedFrom number_put before_put 0 lines
   -- what each line shows was there
-  pub looks : SawInTurn (λ (found : ShardState) entry. AreTrueOf found.contents entry.1.acts) (λ found entry. after_line found entry.1) (state_at opening number) lines
-  -- it is still the same shard of the same auction
+  pub looks : SawInTurn LooksTrue after_put (state_at opening number) lines
+  -- the shard has this number
   pub number_is : state.number ≡ number
+  -- the shard is one of as many
   pub shards_is : state.shards ≡ length opening
+  -- the shard has the users and categories with which it opened
   pub opening_is : state.opening ≡ (state_at opening number).opening
-  -- its counts and ratings fit
+  -- the shard's counts and ratings fit
   pub within : IsWithin state

@@ -1,4 +1,4 @@
-//! What was done on a shard, for proofs alone.
+//! What was done on a shard, for proofs only.
 ghost use Rattle.std.specs.Prelude.{◌≡◌, length};
 ghost use Rattle.std.specs.List.{AllByRecursion};
 ghost use Rattle.shard_boxes.specs.GivenStars.{ActGivesStars};
@@ -7,7 +7,7 @@ use ghost_log::Ghost;
 use item_shards::Act;
 use std::marker::Model;
 
-/// The acts of a line, with looks at nothing in the places that are left. They stand in proofs alone: they have no bytes.
+/// The two acts of a line; a place that is left has a look at nothing. Only proofs read them: they have no bytes.
 #[derive(Drop)]
 pub struct Acts {
     done: Ghost<[Act; 2]>,
@@ -27,7 +27,7 @@ impl Model for Acts {
 }
 
 impl Acts {
-    /// These acts, in order.
+    /// The acts of a line, in order.
     #[inline(always)]
     pub fn of(acts: &[Act; 2]) -> Acts
         ensures { result ≡ acts.now }
@@ -40,7 +40,7 @@ impl Acts {
         }
     }
 
-    // What the type keeps.
+    // There are two acts, and their stars are from -5 to 5.
     #[inline(always)]
     pub(crate) fn are_well_formed(&self)
         ensures two { length self.now ≡ 2 }
@@ -55,7 +55,7 @@ fn gives_stars(act: &Act)
     ensures { ActGivesStars act.now }
 {
     if let Act::Comment(_, stars) = act {
-        // From -5 to 5.
+        // Stars are from -5 to 5.
         let _known = stars.value();
     }
 }

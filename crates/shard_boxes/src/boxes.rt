@@ -30,8 +30,10 @@ impl<N: PhaseName> Model for Boxes<N> {
 
     ghost view = { λ b. b.places.items };
 
-    ghost invariant = { λ b. (vec_len b.places ≡ length N.opening) × (length N.opening ≤ MOST_SHARDS) × (0 < N.workers)
-        × (vec_len b.answer ≡ 0) × (length N.opening ≤ vec_capacity b.answer) × (0 < length N.opening) };
+    ghost invariant = { λ b. (vec_len b.places ≡ length N.opening)
+        × (length N.opening ≤ MOST_SHARDS) × (0 < N.workers)
+        × (vec_len b.answer ≡ 0) × (length N.opening ≤ vec_capacity b.answer)
+        × (0 < length N.opening) };
 }
 
 impl<N: PhaseName> Boxes<N> {
@@ -44,7 +46,7 @@ impl<N: PhaseName> Boxes<N> {
         self.places.len() as u32
     }
 
-    /// Takes a shard: it tries until the shard is in its box. A key that holds shards takes greater ones alone, so that
+    /// Takes a shard: it tries until the shard is in its box. A key that holds shards takes only greater ones: then
     /// workers don't wait for one another in a ring. It takes no memory.
     #[inline(always)]
     pub fn take<R: Wait>(&self, rt: &R, key: &mut Key<N>, s: u32) -> Held<N>
@@ -54,7 +56,8 @@ impl<N: PhaseName> Boxes<N> {
         ensures key { key.new ≡ taking key.old s (seen_at key.new s) }
         ensures holds { holds_at key.new s ≡ true }
         ensures number { result.number ≡ s }
-        ensures history { IsHistory N.opening N.workers s (seen_at key.new s) (state_of result.shard) }
+        ensures history { IsHistory N.opening N.workers s (seen_at key.new s)
+            (state_of result.shard) }
         ensures later { StartsWith (seen_at key.new s) (seen_at key.old s) }
         ensures own { lines_of key.old.worker (seen_at key.new s) ≡ lines_at key.old s }
     {

@@ -79,7 +79,8 @@ fn take_all<N: PhaseName, R: Wait>(
     requires answer { (vec_len answer ≡ 0) × (length N.opening ≤ vec_capacity answer) }
     ensures len { length result.items ≡ length N.opening }
     ensures each { (s : ℕ) (d : LeaveState) → s < length N.opening →
-        IsTaken N.opening N.workers (own_at leaves.items s d) s (state_at (map state_of result.items) s) }
+        IsTaken N.opening N.workers (own_at leaves.items s d) s
+        (state_at (map state_of result.items) s) }
 {
     for leave in leaves {
         let mut leave = leave;

@@ -64,7 +64,7 @@ impl<N: PhaseName> Key<N> {
         place.take(rt, leave)
     }
 
-    // Puts the shard back, after the line, where there is one.
+    // Puts the shard back, after the line, if there is one.
     #[inline(always)]
     pub(crate) fn put<R: Wait>(
         &mut self,

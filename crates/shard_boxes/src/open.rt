@@ -51,7 +51,7 @@ impl<N: PhaseName> Boxes<N> {
     }
 }
 
-// So many empty boxes, and their makers' leaves.
+// Makes empty boxes, with their makers' leaves.
 fn make_places<N: PhaseName>(
     alloc: Global,
     count: usize,
@@ -76,7 +76,8 @@ fn make_places<N: PhaseName>(
 fn make_rooms(alloc: Global, count: usize, workers: u32) -> Result<Vec<Vec<Leave>>, AllocError>
     ensures len { IfOk result (λ v. vec_len v ≡ workers) }
     ensures each { IfOk result (λ v. (w : ℕ) (d : _) → w < workers →
-        (vec_len (slice_index_or v.items w d) ≡ 0) × (count ≤ vec_capacity (slice_index_or v.items w d))) }
+        (vec_len (slice_index_or v.items w d) ≡ 0)
+        × (count ≤ vec_capacity (slice_index_or v.items w d))) }
 {
     let mut rooms = Vec::new(alloc);
     for _ in 0..workers {

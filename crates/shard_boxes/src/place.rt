@@ -87,7 +87,7 @@ impl<N: PhaseName> Place<N> {
         take_from(rt, &self.queue, &mut leave.pass)
     }
 
-    /// The holder puts the shard back, after the line that is named, where there is one. The line is lent for who
+    /// The holder puts the shard back, after the line that is named, if there is one. The line is lent for who
     /// names it.
     #[inline(always)]
     pub fn put<L: LineName, R: Wait>(
@@ -102,7 +102,8 @@ impl<N: PhaseName> Place<N> {
         requires holds { leave.old.knows.holds ≡ true }
         requires stars { IsWellFormedIfAny L.line }
         requires may { MayPut
-            (after (state_at N.opening leave.old.knows.number) leave.old.knows.seen) (state_of shard) L.line }
+            (after (state_at N.opening leave.old.knows.number) leave.old.knows.seen)
+            (state_of shard) L.line }
         ensures { leave.new ≡ record leave.old { knows = put leave.old.knows L.line } }
     {
         match self.queue.push_as::<Put<L>, R>(rt, &mut leave.pass, shard) {

@@ -42,7 +42,7 @@ impl Lesson<Shard, View> for Opened {
     ghost fact = { λ v items. items ≡ [] };
 }
 
-/// A pass takes the shard, where it is there.
+/// A pass takes the shard, if it is there.
 pub struct Taken<N>(PhantomData<N>);
 
 impl<N: PhaseName> Outcome<Shard, View> for Taken<N> {
@@ -68,7 +68,7 @@ impl<N: PhaseName> Lesson<Shard, View> for TakenLast<N> {
     ghost fact = { λ v items. items ≢ [] };
 }
 
-/// The holder puts the shard back, after the line named, where there is one: the box is empty.
+/// The holder puts the shard back, after the line named, if there is one: the box is empty.
 pub struct Put<L>(PhantomData<L>);
 
 impl<L: LineName> Outcome<Shard, View> for Put<L> {
@@ -92,7 +92,7 @@ impl Split<View> for Deal {
     ghost right = { first_of };
 }
 
-/// The pass that stays speaks for the workers of both.
+/// Unites two passes: the one that stays speaks for the workers of both.
 pub struct Collect;
 
 impl Join<View> for Collect {

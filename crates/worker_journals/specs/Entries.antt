@@ -4,7 +4,7 @@ use Rattle.std.specs.List.{AllByRecursion}
 use Rattle.auction_rows.specs.declared.rows.Entry.{Entry}
 use Rattle.worker_journals.specs.declared.heads.Head.{Head}
 use Rattle.worker_journals.specs.Journals.{JournalView, seen, IsLawful}
-use Rattle.worker_journals.specs.Sides.{SideLists, request_from, reply_from, HasRequest, HasReply}
+use Rattle.worker_journals.specs.Sides.{SideLists, request_from, reply_with, HasRequest, HasReplyWith}
 
 -- the entry that a head of a worker's journal of a phase says, with the journal's side lists
 abbrev pub entry_from : ℕ → ℕ → SideLists → Head → Entry
@@ -14,13 +14,12 @@ entry_from phase worker sides head = record {
   worker = worker;
   index = head.index;
   request = request_from sides.facts head.request;
-  reply = reply_from sides.items sides.users sides.bids sides.latest head.reply;
+  reply = reply_with sides head.reply;
 }
 
 -- the places of a head lie within the side lists
 abbrev pub HasHead : SideLists → Head → Type 0
-HasHead sides head =
-    HasRequest sides.facts head.request × HasReply sides.items sides.users sides.bids sides.latest head.reply
+HasHead sides head = HasRequest sides.facts head.request × HasReplyWith sides head.reply
 
 -- a journal by its heads and side lists
 abbrev pub shown : ℕ → ℕ → List Head → SideLists → JournalView
@@ -28,7 +27,11 @@ shown phase worker heads sides =
     seen phase worker (length heads + sides.left) (map (entry_from phase worker sides) heads)
 
 -- what heads of such a capacity and side lists keep
-pub record IsKept (phase worker : ℕ) (heads : List Head) (capacity : ℕ) (sides : SideLists) : Type 0 where
+pub record IsKept (phase worker : ℕ) (heads : List Head) (capacity : ℕ)
+    (sides : SideLists) : Type 0 where
+  -- the journal that the heads say is lawful
   pub lawful : IsLawful (shown phase worker heads sides)
+  -- the places of each head lie within the side lists
   pub within : AllByRecursion (HasHead sides) heads
+  -- there is room for all heads
   pub room : length heads + sides.left ≤ capacity

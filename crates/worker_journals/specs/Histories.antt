@@ -7,11 +7,11 @@ use Rattle.auction_rows.specs.declared.rows.Entry.{Entry}
 use Rattle.worker_journals.specs.Journals.{JournalView, IsLawful, closed_journal}
 use Rattle.worker_journals.specs.Merged.{merged, AreByWorker}
 
--- a history: the entries of its phases, one phase after the other, and the journals of the last phase
+-- what a history shows
 pub record HistoryView : Type 0 where
-  -- those of all phases, one phase after the other
+  -- the entries of all phases, one phase after the other
   pub entries : List Entry
-  -- the journals of the last one
+  -- the journals of the last phase
   pub last : List JournalView
 
 -- a history before the first phase
@@ -23,10 +23,13 @@ abbrev pub with_phase : HistoryView → List JournalView → HistoryView
 with_phase history journals =
     record { entries = history.entries ++ merged journals; last = map closed_journal journals }
 
--- the journals of a phase: of at most 16 workers, in the order of these
+-- the journals of a phase
 pub record ArePhase (journals : List JournalView) : Type 0 where
+  -- the journals are of at most 16 workers
   pub few : length journals ≤ MOST_WORKERS
+  -- the journals are in the order of their workers
   pub by_worker : AreByWorker journals
+  -- each journal is lawful
   pub lawful : AllByRecursion IsLawful journals
 
 -- the entries of phases, one phase after the other
@@ -49,5 +52,7 @@ shown phases = record { entries = entries_in phases; last = last_of phases }
 
 -- phases, and how many entries they have
 pub record IsHistory (phases : List (List JournalView)) (len : ℕ) : Type 0 where
+  -- each phase is one of at most 16 workers
   pub each : AllByRecursion ArePhase phases
+  -- the phases have so many entries
   pub count : length (entries_in phases) ≡ len

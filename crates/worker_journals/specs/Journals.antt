@@ -8,29 +8,37 @@ use Rattle.auction_rows.specs.declared.replies.Reply.{Reply}
 use Rattle.auction_rows.specs.declared.rows.Entry.{Entry}
 use Rattle.auction_rows.specs.Stars.{GivesStars}
 
--- a journal: whose commits of which phase it holds, for how many entries in all a place was asked, and its entries
+-- what a journal shows
 pub record JournalView : Type 0 where
-  -- whose commits of which phase it holds
+  -- the phase whose commits it holds
   pub phase : ℕ
+  -- the worker whose commits it holds
   pub worker : ℕ
   -- for how many entries in all a place was asked
   pub room : ℕ
-  -- its entries, in the order of their numbers
+  -- the entries, in the order of their numbers
   pub entries : List Entry
 
--- an entry's number, and its worker
+-- an entry's number
 abbrev pub entry_number : Entry → ℕ
 entry_number entry = entry.number
 
+-- an entry's worker
 abbrev pub entry_worker : Entry → ℕ
 entry_worker entry = entry.worker
 
+-- an entry's index in its worker's script
 abbrev pub entry_index : Entry → ℕ
 entry_index entry = entry.index
 
 -- a journal by its parts
 abbrev pub seen : ℕ → ℕ → ℕ → List Entry → JournalView
-seen phase worker room entries = record { phase = phase; worker = worker; room = room; entries = entries }
+seen phase worker room entries = record {
+  phase = phase;
+  worker = worker;
+  room = room;
+  entries = entries;
+}
 
 -- a journal before the first commit
 abbrev pub empty_journal : ℕ → ℕ → ℕ → JournalView
@@ -54,7 +62,8 @@ commit_in journal number index request reply = record {
 -- a journal with one more commit at its end
 abbrev pub with_commit : JournalView → ℕ → ℕ → Request → Reply → JournalView
 with_commit journal number index request reply =
-    seen journal.phase journal.worker journal.room (journal.entries ++ commit_in journal number index request reply ∷ [])
+    seen journal.phase journal.worker journal.room
+    (journal.entries ++ commit_in journal number index request reply ∷ [])
 
 -- a number is greater than the last entry's, if there is one
 abbrev pub ComesAfter : List Entry → ℕ → Type 0
@@ -65,9 +74,11 @@ ComesAfter (entry ∷ entries) number = last_by entry_number (entry_number entry
 abbrev pub IsOf : ℕ → ℕ → Entry → Type 0
 IsOf phase worker entry = (entry.phase ≡ phase) × (entry.worker ≡ worker)
 
--- what each journal keeps: its entries are of its phase and its worker, in the order of their numbers, and the stars that
--- they give are from -5 to 5
+-- the journal is one of its phase and its worker
 pub record IsLawful (journal : JournalView) : Type 0 where
+  -- each entry is of the journal's phase and worker
   pub own : AllByRecursion (IsOf journal.phase journal.worker) journal.entries
+  -- the entries ascend in number
   pub ascending : IsAscendingByNumber entry_number journal.entries
+  -- the stars that they give are from -5 to 5
   pub stars : AllByRecursion (λ entry. GivesStars entry.request) journal.entries

@@ -8,9 +8,10 @@ use Rattle.worker_journals.specs.Journals.{JournalView}
 -- whether an entry has the lesser number, or the same number and the lesser worker
 abbrev pub comes_before : Entry → Entry → Bool
 comes_before entry other =
-    nat_lt entry.number other.number || ((entry.number == other.number) && nat_lt entry.worker other.worker)
+    nat_lt entry.number other.number
+    || ((entry.number == other.number) && nat_lt entry.worker other.worker)
 
--- entries in order, and one more among them: it goes before the first that doesn't come before it
+-- one more entry among entries in order: it goes before the first that doesn't come before it
 unfoldable pub put_in : Entry → List Entry → List Entry
 put_in entry [] = entry ∷ []
 put_in entry (other ∷ entries) =
@@ -31,7 +32,7 @@ entries_of worker [] = []
 entries_of worker (journal ∷ journals) =
     if journal.worker == worker then journal.entries else entries_of worker journals
 
--- the journals stand in the order of their workers, one for each
+-- the journals are in the order of their workers, one for each
 abbrev pub AreByWorker : List JournalView → Type 0
 AreByWorker = IsOrderedBy (λ journal later. journal.worker < later.worker)
 

@@ -15,15 +15,17 @@ use Rattle.worker_journals.specs.declared.heads.ShortReply.TheVariants as told
 use Rattle.worker_journals.specs.declared.heads.ItemSeen.{ItemSeen as SeenItem}
 use Rattle.worker_journals.specs.declared.heads.UserSeen.{UserSeen as SeenUser}
 
--- the side lists of a journal: the facts that its requests store, and what its views show;
--- and for how many commits more there is room
+-- the side lists of a journal: what its requests store and its views show
 pub record SideLists : Type 0 where
-  -- what requests store
+  -- the facts that requests store
   pub facts : List Facts
-  -- what views show
+  -- what views of items show
   pub items : List SeenItem
+  -- what views of users show
   pub users : List SeenUser
+  -- what views of bids show, one view after the other
   pub bids : List BidShown
+  -- what views of categories show, one view after the other
   pub latest : List ItemShown
   -- for how many commits more there is room
   pub left : ℕ
@@ -45,25 +47,44 @@ facts_in (ViewUser user) = []
 
 -- what a reply shows, of each kind
 pub record ShownLists : Type 0 where
+  -- an item
   pub items : List SeenItem
+  -- a user
   pub users : List SeenUser
+  -- bids on an item
   pub bids : List BidShown
+  -- items of a category
   pub latest : List ItemShown
 
+-- a reply shows nothing
 abbrev pub nothing_shown : ShownLists
 nothing_shown = record { items = []; users = []; bids = []; latest = [] }
 
+-- what a reply shows
 abbrev pub shown_in : Reply → ShownLists
 shown_in (ItemStored id) = nothing_shown
 shown_in (BidStored id) = nothing_shown
 shown_in (CommentStored id) = nothing_shown
 shown_in (Bought id) = nothing_shown
-shown_in (ItemSeen seller category name start closes highest bidder bids left) = record nothing_shown {
-  items = record { seller = seller; category = category; name = name; left = left; start = start; closes = closes; bids = bids; highest = highest; bidder = bidder } ∷ [];
-}
+shown_in (ItemSeen seller category name start closes highest bidder bids left) =
+    record nothing_shown {
+      items = record {
+        seller = seller;
+        category = category;
+        name = name;
+        left = left;
+        start = start;
+        closes = closes;
+        bids = bids;
+        highest = highest;
+        bidder = bidder;
+      } ∷ [];
+    }
 shown_in (BidsSeen bids) = record nothing_shown { bids = bids }
 shown_in (CategorySeen items) = record nothing_shown { latest = items }
-shown_in (UserSeen rating comments) = record nothing_shown { users = record { rating = rating; comments = comments } ∷ [] }
+shown_in (UserSeen rating comments) = record nothing_shown {
+  users = record { rating = rating; comments = comments } ∷ [];
+}
 shown_in (Refused reason) = nothing_shown
 
 -- the side lists with what a request stores and a reply shows, each at the end of its list
@@ -77,24 +98,43 @@ with_commit_of sides request reply = record {
   left = sides.left - 1;
 }
 
--- what lies at a place; past the end these, which no head says
+-- facts that no head says
+abbrev pub no_facts : Facts
+no_facts = record { seller = 0; category = 0; name = []; quantity = 0; start = 0; closes = 0 }
+
+-- the facts at a place, past the end those that no head says
 abbrev pub facts_at : List Facts → ℕ → Facts
-facts_at facts place =
-    slice_index_or facts place (record { seller = 0; category = 0; name = []; quantity = 0; start = 0; closes = 0 })
+facts_at facts place = slice_index_or facts place no_facts
 
+-- an item seen that no head says
+abbrev pub no_item : SeenItem
+no_item = record {
+  seller = 0;
+  category = 0;
+  name = [];
+  left = 0;
+  start = 0;
+  closes = 0;
+  bids = 0;
+  highest = None;
+  bidder = None;
+}
+
+-- the item seen at a place, past the end the one that no head says
 abbrev pub item_at : List SeenItem → ℕ → SeenItem
-item_at items place =
-    slice_index_or items place
-    (record { seller = 0; category = 0; name = []; left = 0; start = 0; closes = 0; bids = 0; highest = None; bidder = None })
+item_at items place = slice_index_or items place no_item
 
+-- the user seen at a place, past the end one that no head says
 abbrev pub user_at : List SeenUser → ℕ → SeenUser
 user_at users place = slice_index_or users place (record { rating = pos 0; comments = 0 })
 
--- what the view of an item or a user shows, as a reply
+-- what the view of an item shows, as a reply
 abbrev pub item_reply : SeenItem → Reply
 item_reply seen =
-    ItemSeen seen.seller seen.category seen.name seen.start seen.closes seen.highest seen.bidder seen.bids seen.left
+    ItemSeen seen.seller seen.category seen.name seen.start seen.closes
+    seen.highest seen.bidder seen.bids seen.left
 
+-- what the view of a user shows, as a reply
 abbrev pub user_reply : SeenUser → Reply
 user_reply seen = UserSeen seen.rating seen.comments
 
@@ -110,18 +150,21 @@ request_from all (ask.ViewCategory category) = ViewCategory category
 request_from all (ask.ViewUser user) = ViewUser user
 
 -- the reply of a head
-abbrev pub reply_from : List SeenItem → List SeenUser → List BidShown → List ItemShown → ShortReply → Reply
+abbrev pub reply_from : List SeenItem → List SeenUser → List BidShown → List ItemShown →
+    ShortReply → Reply
 reply_from items users bids latest (told.ItemStored id) = ItemStored id
 reply_from items users bids latest (told.BidStored id) = BidStored id
 reply_from items users bids latest (told.CommentStored id) = CommentStored id
 reply_from items users bids latest (told.Bought id) = Bought id
 reply_from items users bids latest (told.ItemSeen place) = item_reply (item_at items place)
-reply_from items users bids latest (told.BidsSeen count place) = BidsSeen (take count (drop place bids))
-reply_from items users bids latest (told.CategorySeen count place) = CategorySeen (take count (drop place latest))
+reply_from items users bids latest (told.BidsSeen count place) =
+    BidsSeen (take count (drop place bids))
+reply_from items users bids latest (told.CategorySeen count place) =
+    CategorySeen (take count (drop place latest))
 reply_from items users bids latest (told.UserSeen place) = user_reply (user_at users place)
 reply_from items users bids latest (told.Refused reason) = Refused reason
 
--- the places of a head lie within the lists
+-- the place of a short request lies within the facts
 abbrev pub HasRequest : List Facts → ShortRequest → Type 0
 HasRequest all (ask.StoreItem facts time) = facts < length all
 HasRequest all (ask.StoreBid bidder item amount time) = ⊤
@@ -132,26 +175,47 @@ HasRequest all (ask.ViewBids item) = ⊤
 HasRequest all (ask.ViewCategory category) = ⊤
 HasRequest all (ask.ViewUser user) = ⊤
 
-abbrev pub HasReply : List SeenItem → List SeenUser → List BidShown → List ItemShown → ShortReply → Type 0
+-- the place of a short reply lies within the lists
+abbrev pub HasReply : List SeenItem → List SeenUser → List BidShown → List ItemShown →
+    ShortReply → Type 0
 HasReply items users bids latest (told.ItemStored id) = ⊤
 HasReply items users bids latest (told.BidStored id) = ⊤
 HasReply items users bids latest (told.CommentStored id) = ⊤
 HasReply items users bids latest (told.Bought id) = ⊤
 HasReply items users bids latest (told.ItemSeen place) = place < length items
-HasReply items users bids latest (told.BidsSeen count place) = (count ≤ MOST_SHOWN) × (place + count ≤ length bids)
-HasReply items users bids latest (told.CategorySeen count place) = (count ≤ MOST_SHOWN) × (place + count ≤ length latest)
+HasReply items users bids latest (told.BidsSeen count place) =
+    (count ≤ MOST_SHOWN) × (place + count ≤ length bids)
+HasReply items users bids latest (told.CategorySeen count place) =
+    (count ≤ MOST_SHOWN) × (place + count ≤ length latest)
 HasReply items users bids latest (told.UserSeen place) = place < length users
 HasReply items users bids latest (told.Refused reason) = ⊤
 
 -- a short request says a request, with the facts that are kept
 pub record SaysRequest (all : List Facts) (short : ShortRequest) (request : Request) : Type 0 where
+  -- the place lies within the facts
   pub within : HasRequest all short
+  -- the request is the one that is said
   pub is : request_from all short ≡ request
 
 -- a short reply says a reply, with what is kept of views
-pub record SaysReply (items : List SeenItem) (users : List SeenUser) (bids : List BidShown) (latest : List ItemShown) (short : ShortReply) (reply : Reply) : Type 0 where
+pub record SaysReply (items : List SeenItem) (users : List SeenUser) (bids : List BidShown)
+    (latest : List ItemShown) (short : ShortReply) (reply : Reply) : Type 0 where
+  -- the place lies within the lists
   pub within : HasReply items users bids latest short
+  -- the reply is the one that is said
   pub is : reply_from items users bids latest short ≡ reply
+
+-- the reply of a head, with the side lists of its journal
+abbrev pub reply_with : SideLists → ShortReply → Reply
+reply_with sides = reply_from sides.items sides.users sides.bids sides.latest
+
+-- the place of a short reply lies within the side lists
+abbrev pub HasReplyWith : SideLists → ShortReply → Type 0
+HasReplyWith sides = HasReply sides.items sides.users sides.bids sides.latest
+
+-- a short reply says a reply, with the side lists
+abbrev pub SaysReplyWith : SideLists → ShortReply → Reply → Type 0
+SaysReplyWith sides = SaysReply sides.items sides.users sides.bids sides.latest
 
 -- a list of such a length and capacity has room for so many more
 abbrev pub HasRoom : ℕ → ℕ → ℕ → Type 0

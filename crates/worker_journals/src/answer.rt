@@ -5,7 +5,7 @@ ghost use Rattle.auction_rows.specs.StoreReplies.{reply_of};
 use auction_rows::{Reply, StoreReply};
 use std::marker::Model;
 
-/// The reply that a commit is told of, in few bytes, where a whole reply has room for ten bids. Contracts see the reply.
+/// The reply that a commit is told of, in few bytes: a whole reply has room for ten bids. Contracts see the reply.
 #[derive(Drop)]
 pub struct Answer<'a> {
     /// How it is told.

@@ -29,18 +29,18 @@ impl<'a> Model for EntryRef<'a> {
 }
 
 impl<'a> EntryRef<'a> {
-    /// That of a journal's entry at a place. The place after it is a `usize` too.
+    /// The reference to a journal's entry at a place. The place after it is a `usize` too.
     pub(crate) fn of(journal: &'a Journal, place: usize) -> EntryRef<'a>
         requires { place < length journal.now.entries }
         ensures entry { slice_get journal.now.entries place ≡ Some result }
         ensures next { place + 1 < 2 ^ 64 }
     {
-        // It fits.
+        // A journal's length fits.
         let _fits = journal.len();
         EntryRef { journal, place }
     }
 
-    /// The phase in which it was committed.
+    /// The phase in which the entry was committed.
     pub fn phase(&self) -> u64
         ensures { result ≡ self.now.phase }
     {
@@ -49,7 +49,7 @@ impl<'a> EntryRef<'a> {
         self.journal.phase()
     }
 
-    /// Its commit number.
+    /// The commit number of the entry.
     pub fn number(&self) -> u64
         ensures { result ≡ self.now.number }
     {
@@ -86,28 +86,28 @@ impl<'a> EntryRef<'a> {
         self.journal.reply(self.place)
     }
 
-    /// The reply, where it is one to a store or a refusal: None where it shows what a view asked for.
+    /// The reply, if it is one to a store or a refusal: None if it shows what a view asked for.
     pub fn store_reply(&self) -> Option<StoreReply>
         ensures { result ≡ store_reply self.now.reply }
     {
         self.journal.store_reply(self.place)
     }
 
-    /// Whether it is refused.
+    /// Whether the entry is refused.
     pub fn is_refused(&self) -> bool
         ensures { result ≡ is_refusal self.now.reply }
     {
         self.journal.is_refused(self.place)
     }
 
-    /// The object that it writes, where it is an accepted splittable store.
+    /// The object that the entry writes, if it is an accepted splittable store.
     pub fn object_written(&self) -> Option<Object>
         ensures { result ≡ written_by self.now }
     {
         self.journal.object_written(self.place)
     }
 
-    /// The row that it adds, where it is an accepted store.
+    /// The row that the entry adds, if it is an accepted store.
     pub fn row(&self) -> Option<Row>
         ensures { result ≡ row_of_entry self.now }
     {
@@ -125,7 +125,7 @@ impl<'a> EntryRef<'a> {
     pub(crate) fn push_to(&self, entries: &mut Vec<Entry>) -> Result<(), AllocError>
         ensures { OnOk result (entries.new.items ≡ entries.old.items ++ self.now ∷ []) }
     {
-        // Field by field, so that the check meets the types of its fields in this body.
+        // Field by field: then the check meets the types of its fields in this body.
         entries.push(Entry {
             phase: self.phase(),
             number: self.number(),

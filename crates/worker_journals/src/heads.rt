@@ -25,7 +25,7 @@ pub(crate) struct Head {
     pub(crate) reply: ShortReply,
 }
 
-/// A place in a list, in two halves, so that no head is longer for it.
+/// A place in a list, in two halves: no head is longer for it.
 #[derive(Clone, Copy)]
 pub(crate) struct Place {
     low: u32,
@@ -53,7 +53,7 @@ impl Model for Place {
 }
 
 impl Place {
-    /// This place.
+    /// The place with this number.
     pub(crate) fn of(place: usize) -> Place
         ensures { result ≡ place }
     {
@@ -84,7 +84,7 @@ pub(crate) enum ShortRequest {
     ViewUser(u32),
 }
 
-/// A reply; what a view shows lies at a place among what views of its kind show, from there on so many where it shows a list.
+/// A reply; what a view shows lies at a place among what views of its kind show, with a length if it is a list.
 #[derive(Clone, Copy)]
 pub(crate) enum ShortReply {
     ItemStored(ItemId),
@@ -105,7 +105,8 @@ impl ShortReply {
     /// A reply that shows nothing.
     #[inline(always)]
     pub(crate) fn of_store(reply: StoreReply) -> ShortReply
-        ensures { (items : List SeenItem) (users : List SeenUser) (bids : List BidShown) (latest : List ItemShown) →
+        ensures { (items : List SeenItem) (users : List SeenUser) (bids : List BidShown)
+            (latest : List ItemShown) →
             SaysReply items users bids latest result (reply_of reply) }
     {
         match reply {
@@ -117,9 +118,10 @@ impl ShortReply {
         }
     }
 
-    /// The reply, where it shows nothing.
+    /// The reply, if it shows nothing.
     pub(crate) fn as_store_reply(self) -> Option<StoreReply>
-        ensures { (items : List SeenItem) (users : List SeenUser) (bids : List BidShown) (latest : List ItemShown) →
+        ensures { (items : List SeenItem) (users : List SeenUser) (bids : List BidShown)
+            (latest : List ItemShown) →
             result ≡ store_reply (reply_from items users bids latest self) }
     {
         match self {
@@ -132,9 +134,10 @@ impl ShortReply {
         }
     }
 
-    /// Whether it is a refusal.
+    /// Whether the reply is a refusal.
     pub(crate) fn is_refusal(self) -> bool
-        ensures { (items : List SeenItem) (users : List SeenUser) (bids : List BidShown) (latest : List ItemShown) →
+        ensures { (items : List SeenItem) (users : List SeenUser) (bids : List BidShown)
+            (latest : List ItemShown) →
             result ≡ is_refusal (reply_from items users bids latest self) }
     {
         matches!(self, ShortReply::Refused(_))

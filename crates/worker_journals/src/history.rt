@@ -15,11 +15,11 @@ use auction_rows::{Entry, MOST_WORKERS};
 use std::alloc::{AllocError, Global};
 use std::marker::Model;
 
-/// The commits of all phases that have closed: one phase after the other, those of a phase by number, and those of one number
-/// by worker. Contracts see these entries, and the journals of the last phase.
+/// The commits of all phases that have closed: one phase after the other, in a phase by number, and then by worker.
+/// Contracts see the entries of these commits, and the journals of the last phase.
 ///
-/// It keeps the journals of each phase as they were written: no entry is copied into it, and the entries are merged while they
-/// are read.
+/// A history keeps the journals of each phase as they were written: no entry is copied into it, and the entries are merged
+/// while they are read.
 #[derive(Drop)]
 pub struct History {
     phases: Vec<Vec<Journal>>,
@@ -72,7 +72,7 @@ impl History {
         self.len
     }
 
-    /// Whether there is no entry.
+    /// Whether the history has no entry.
     pub fn is_empty(&self) -> bool
         ensures { result ≡ (length self.now.entries == 0) }
     {
@@ -90,7 +90,7 @@ impl History {
         }
     }
 
-    /// The last worker with a journal, 0 where there is none: no entry is of a later one.
+    /// The last worker with a journal, 0 if there is none: no entry is of a later worker.
     pub fn last_worker(&self) -> u32
         ensures { AllByRecursion (λ entry. entry.worker ≤ result) self.now.entries }
     {
@@ -200,11 +200,11 @@ impl<'a> Iterator for Entries<'a> {
 #[derive(Drop)]
 pub struct WorkerEntries<'a> {
     worker: u32,
-    // The journal that it is in is the first of these; it is in none where there are none.
+    // The first of these is the journal that is read; none is read if there are none.
     here: &'a [Journal],
-    // The place of the next entry there.
+    // The place of the next entry in the first journal.
     place: usize,
-    // The phases after it.
+    // The phases after that of the first journal.
     phases: &'a [Vec<Journal>],
 }
 
@@ -257,7 +257,7 @@ fn entry_of(here: &[Journal], place: usize) -> Option<EntryRef<'_>>
     }
 }
 
-// The journals from a worker's own on: none where it has none.
+// The journals from a worker's own on: none if it has none.
 #[inline(never)]
 fn from_own(journals: &[Journal], worker: u32) -> &[Journal]
     ensures { first_entries result.now ≡ entries_of worker journals.now }

@@ -40,7 +40,7 @@ impl Model for Journal {
 
 impl Journal {
     /// An empty journal with room for so many entries: for their heads and, at most, what all may have beside them, of which
-    /// memory is touched only as it is filled. It errs for want of memory alone.
+    /// memory is touched only as it is filled. It errs only for want of memory.
     pub fn with_room(
         alloc: Global,
         phase: u64,
@@ -57,7 +57,7 @@ impl Journal {
         })
     }
 
-    /// Adds a commit of this worker in this phase, at a number greater than the last one's, where there
+    /// Adds a commit of this worker in this phase, at a number greater than the last one's, if there
     /// is room. It takes no memory.
     pub fn push(&mut self, number: u64, index: u32, request: Request, reply: Reply)
         requires room { length self.old.entries < self.old.room }
@@ -100,7 +100,7 @@ impl Journal {
         self.heads.len()
     }
 
-    /// Whether there is no entry.
+    /// Whether the journal has no entry.
     pub fn is_empty(&self) -> bool
         ensures { result ≡ (length self.now.entries == 0) }
     {
@@ -174,7 +174,7 @@ impl Journal {
         self.sides.reply(self.heads[place].reply)
     }
 
-    /// The reply at a place from 0, where it shows nothing.
+    /// The reply at a place from 0, if it shows nothing.
     pub(crate) fn store_reply(&self, place: usize) -> Option<StoreReply>
         requires { place < length self.now.entries }
         ensures { slice_get (map entry_store_reply self.now.entries) place ≡ Some result }
@@ -190,7 +190,7 @@ impl Journal {
         self.heads[place].reply.is_refusal()
     }
 
-    /// The object that the entry at a place from 0 writes, where it is an accepted splittable store.
+    /// The object that the entry at a place from 0 writes, if it is an accepted splittable store.
     pub(crate) fn object_written(&self, place: usize) -> Option<Object>
         requires { place < length self.now.entries }
         ensures { slice_get (map written_by self.now.entries) place ≡ Some result }

@@ -38,7 +38,7 @@ impl<'a> Model for Merging<'a> {
 }
 
 impl<'a> Merging<'a> {
-    /// Those of all entries of these journals.
+    /// The merging of these journals before any entry is read.
     pub(crate) fn of(journals: &'a [Journal]) -> Merging<'a>
         requires { ArePhase journals.now }
         ensures { result ≡ merged journals.now }
@@ -79,7 +79,8 @@ impl<'a> Iterator for Merging<'a> {
 pub fn merge_journals(alloc: Global, journals: Vec<Journal>) -> Result<Vec<Entry>, AllocError>
     requires by_worker { AreByWorker journals.items }
     ensures merged { IfOk result (λ entries. entries.items ≡ merged journals.items) }
-    ensures ascending { IfOk result (λ entries. IsAscending entry_number entry_worker entries.items) }
+    ensures ascending { IfOk result (λ entries.
+        IsAscending entry_number entry_worker entries.items) }
     ensures parts { IfOk result (λ entries. (worker : ℕ) →
         part entry_worker worker entries.items ≡ entries_of worker journals.items) }
     ensures permutation { IfOk result (λ entries.
@@ -127,7 +128,8 @@ fn number_at(journal: &Journal, place: usize) -> Option<u64>
 // The place of the first of the least numbers, if there is a number.
 fn least_of(numbers: &[Option<u64>]) -> Option<usize>
     ensures least { IfSome result (IsLeastOf numbers.now) }
-    ensures none { IfNone result ((k : ℕ) → k < length numbers.now → slice_index_or numbers.now k None ≡ None) }
+    ensures none { IfNone result ((k : ℕ) → k < length numbers.now →
+        slice_index_or numbers.now k None ≡ None) }
 {
     let mut least: Option<(usize, u64)> = None;
     for (i, number) in numbers.iter().enumerate() {
@@ -137,7 +139,7 @@ fn least_of(numbers: &[Option<u64>]) -> Option<usize>
     Some(i)
 }
 
-// What is the least with one more number.
+// The least number so far, with one more number.
 fn lesser(least: Option<(usize, u64)>, i: usize, number: Option<u64>) -> Option<(usize, u64)>
     ensures { result ≡ lesser least i number }
 {

@@ -27,7 +27,14 @@ impl Model for Sides {
 
     ghost Value = { SideLists };
 
-    ghost view = { λ s. record { facts = s.facts.items; items = s.items.items; users = s.users.items; bids = s.bids.items; latest = s.latest.items; left = s.left } };
+    ghost view = { λ s. record {
+      facts = s.facts.items;
+      items = s.items.items;
+      users = s.users.items;
+      bids = s.bids.items;
+      latest = s.latest.items;
+      left = s.left;
+    } };
 
     ghost invariant = { λ s. HasRoom s.left (vec_len s.facts) (vec_capacity s.facts)
         × HasRoom s.left (vec_len s.items) (vec_capacity s.items)
@@ -39,7 +46,7 @@ impl Model for Sides {
 impl Sides {
     ghost use Rattle.auction_rows.specs.Choosing.{written_by};
     ghost use Rattle.auction_rows.specs.History.{commit};
-    ghost use Rattle.worker_journals.specs.Sides.{HasReply, HasRequest, SaysReply, SaysRequest, no_sides, reply_from, request_from, with_commit_of};
+    ghost use Rattle.worker_journals.specs.Sides.{HasReplyWith, HasRequest, SaysReplyWith, SaysRequest, no_sides, reply_with, request_from, with_commit_of};
 
     /// Empty lists with room for those of so many commits.
     pub(crate) fn with_room(alloc: Global, room: usize) -> Result<Sides, AllocError>
@@ -87,7 +94,7 @@ impl Sides {
         ensures kept { self.new ≡ with_commit_of self.old request.now reply.now }
         ensures request { SaysRequest self.new.facts result.0 request.now }
         ensures stars { GivesStars request.now }
-        ensures reply { SaysReply self.new.items self.new.users self.new.bids self.new.latest result.1 reply.now }
+        ensures reply { SaysReplyWith self.new result.1 reply.now }
     {
         let short_request = keep_request(&mut self.facts, request);
         self.left -= 1;
@@ -143,8 +150,8 @@ impl Sides {
 
     /// The reply of a head of this journal.
     pub(crate) fn reply(&self, short: ShortReply) -> Reply
-        requires { HasReply self.now.items self.now.users self.now.bids self.now.latest short }
-        ensures { result ≡ reply_from self.now.items self.now.users self.now.bids self.now.latest short }
+        requires { HasReplyWith self.now short }
+        ensures { result ≡ reply_with self.now short }
     {
         match short {
             ShortReply::ItemStored(id) => Reply::ItemStored(id),
@@ -169,7 +176,7 @@ impl Sides {
         }
     }
 
-    /// The object that a head of this journal writes, where it is an accepted splittable store of the worker.
+    /// The object that a head of this journal writes, if it is an accepted splittable store of the worker.
     pub(crate) fn object_written(
         &self,
         worker: u32,
@@ -178,7 +185,7 @@ impl Sides {
     ) -> Option<Object>
         requires { HasRequest self.now.facts request }
         ensures { result ≡ written_by (commit worker (request_from self.now.facts request)
-            (reply_from self.now.items self.now.users self.now.bids self.now.latest reply)) }
+            (reply_with self.now reply)) }
     {
         match request {
             ShortRequest::StoreItem(facts, _) => match reply {
@@ -327,9 +334,12 @@ fn keep_reply(
     ensures users { users.new.items ≡ users.old.items ++ (shown_in reply.now).users }
     ensures bids { bids.new.items ≡ bids.old.items ++ (shown_in reply.now).bids }
     ensures latest { latest.new.items ≡ latest.old.items ++ (shown_in reply.now).latest }
-    ensures says { SaysReply items.new.items users.new.items bids.new.items latest.new.items result reply.now }
-    ensures capacities { (vec_capacity items.new ≡ vec_capacity items.old) × (vec_capacity users.new ≡ vec_capacity users.old)
-        × (vec_capacity bids.new ≡ vec_capacity bids.old) × (vec_capacity latest.new ≡ vec_capacity latest.old) }
+    ensures says { SaysReply items.new.items users.new.items bids.new.items latest.new.items
+        result reply.now }
+    ensures capacities { (vec_capacity items.new ≡ vec_capacity items.old)
+        × (vec_capacity users.new ≡ vec_capacity users.old)
+        × (vec_capacity bids.new ≡ vec_capacity bids.old)
+        × (vec_capacity latest.new ≡ vec_capacity latest.old) }
 {
     if let Some(seen) = item_seen(reply) {
         return ShortReply::ItemSeen(keep_one(items, seen));

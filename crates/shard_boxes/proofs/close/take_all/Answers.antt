@@ -51,7 +51,7 @@ loop-leave-preserved g c =
       subst (λ n. length opening ≤ n) (sym p.capacity) was.2,
       λ k d low. each_push (λ j state. IsTaken opening workers (own_at leaves j d) j state) (map state_of c.loop-leave.answer.items) (map state_of c.push_reserved.new.self.items) (state_of shard) no_shard s many grown (λ j lo. was.3 j d lo)
           (taken_is opening workers s leave.knows (own_at leaves s d) c.take_last-shard.new.leave.knows.seen (state_of shard) free
-          (ap (λ (l : LeaveState). l.knows.own) (at_head leaves s leave (into_iter_items c.next.new.self) d (sym step.0 ∙ was.1))) (c.requires.own s d below) took.1 took.2 took.4) k (subst (λ n. k < n) p.len low),
+          (ap (λ (l : LeaveState). l.knows.own) (at_head leaves s leave (into_iter_items c.next.new.self) d (sym step.0 ∙ was.1))) (c.requires.own s d below) took.kept took.state took.own) k (subst (λ n. k < n) p.len low),
     )
 
 pub bounds-places-len : goal.bounds-places-len

@@ -17,7 +17,7 @@ returns-clause-key g c =
     let leave = c.index_mut-leave.result.now in
     let lines = c.take.new.leave.knows.seen in
     let below : c.args.s < length inside.leaves.items = omega (arith, inside.leaves.ok.0, c.self.invariant.1, c.requires.known) in
-    let knows = c.take.ensures.taken.0 in
+    let knows = c.take.ensures.taken.view in
     key_after (λ t. record t { holds = true; seen = lines }) inside.worker c.args.s inside.leaves.items leave c.take.new.leave c.args.self.now c.self.view_is below c.index_mut-leave.ensures.value c.take.ensures.place
     (λ i. record { holds = (knows i).holds; lines = own_of (knows i); seen = (knows i).seen })
     ∙ ap (taking c.args.self.now c.args.s) (sym (seen_after inside.worker c.args.s inside.leaves.items c.take.new.leave below))
@@ -26,7 +26,7 @@ pub returns-clause-holds : goal.returns-clause-holds
 returns-clause-holds g c =
     let inside = c.self.inside in
     let below : c.args.s < length inside.leaves.items = omega (arith, inside.leaves.ok.0, c.self.invariant.1, c.requires.known) in
-    holds_after inside.worker c.args.s inside.leaves.items c.take.new.leave below ∙ ap (λ (v : View). v.holds) c.take.ensures.taken.0
+    holds_after inside.worker c.args.s inside.leaves.items c.take.new.leave below ∙ ap (λ (v : View). v.holds) c.take.ensures.taken.view
 
 pub returns-clause-history : goal.returns-clause-history
 returns-clause-history g c =
@@ -38,7 +38,7 @@ returns-clause-history g c =
     let number = ap (λ (l : LeaveState). l.knows.number) c.index_mut-leave.ensures.value ∙ (c.self.invariant.2 c.args.s leave below).numbered in
     let seen = seen_after inside.worker c.args.s inside.leaves.items c.take.new.leave below in
     subst (λ (y : ℕ × List (ℕ × Line)). IsHistory opening workers y.0 y.1 (state_of c.take.result)) (λ i. (number i, sym seen i))
-    (history_of opening workers leave.knows.number c.take.new.leave.knows.seen (state_of c.take.result) taken.1 taken.2)
+    (history_of opening workers leave.knows.number c.take.new.leave.knows.seen (state_of c.take.result) taken.kept taken.state)
 
 pub returns-clause-later : goal.returns-clause-later
 returns-clause-later g c =
@@ -48,7 +48,7 @@ returns-clause-later g c =
     let below : c.args.s < length inside.leaves.items = omega (arith, inside.leaves.ok.0, c.self.invariant.1, c.requires.known) in
     let seen = seen_after inside.worker c.args.s inside.leaves.items c.take.new.leave below in
     let seat = read inside.worker inside.leaves.items c.args.s leave c.args.self.now c.self.view_is below c.index_mut-leave.ensures.value in
-    (taken.3.0, seen ∙ taken.3.1 ∙ ap (λ (t : SeatState). t.seen ++ taken.3.0) (sym seat))
+    (taken.later.0, seen ∙ taken.later.1 ∙ ap (λ (t : SeatState). t.seen ++ taken.later.0) (sym seat))
 
 pub returns-clause-own : goal.returns-clause-own
 returns-clause-own g c =
@@ -62,4 +62,4 @@ returns-clause-own g c =
     let seat = read inside.worker inside.leaves.items c.args.s leave c.args.self.now c.self.view_is below at in
     let first = ap (λ (l : LeaveState). l.knows.first) at ∙ fit.from ∙ ap (λ (k : KeyState). k.worker) c.self.view_is in
     let one : 0 < length leave.knows.own = omega (arith, ap (λ (l : LeaveState). length l.knows.own) at, fit.as_many) in
-    (λ i. lines_of (sym first i) (seen i)) ∙ ap (λ n. lines_of n c.take.new.leave.knows.seen) (plus_zero leave.knows.first) ∙ sym (taken.4 0 one) ∙ ap (λ (t : SeatState). t.lines) (sym seat)
+    (λ i. lines_of (sym first i) (seen i)) ∙ ap (λ n. lines_of n c.take.new.leave.knows.seen) (plus_zero leave.knows.first) ∙ sym (taken.own 0 one) ∙ ap (λ (t : SeatState). t.lines) (sym seat)
