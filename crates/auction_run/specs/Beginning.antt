@@ -29,10 +29,12 @@ pub record HasQuotas (policy : Policy) : Type 0 where
 
 -- no worker's rows and script have more than 1,000,000 together
 abbrev pub AreShort : Book → List (List Request) → Type 0
-AreShort rows scripts = (worker : ℕ) → worker < length scripts → rows_by rows worker + length (script_of scripts worker) ≤ MOST_OF_A_WORKER
+AreShort rows scripts = (worker : ℕ) → worker < length scripts →
+    rows_by rows worker + length (script_of scripts worker) ≤ MOST_OF_A_WORKER
 
 -- what each answer of the check says: all four hold, or the fault is that of the first that doesn't
-abbrev pub IsFirstToFail : {T : Type 0} → Result T RunFault → Type 0 → Type 0 → Type 0 → Type 0 → Type 0
+abbrev pub IsFirstToFail : {T : Type 0} → Result T RunFault →
+    Type 0 → Type 0 → Type 0 → Type 0 → Type 0
 IsFirstToFail (Ok done) workers shards quotas short = workers × (shards × (quotas × short))
 IsFirstToFail (Err Workers) workers shards quotas short = ¬ workers
 IsFirstToFail (Err Shards) workers shards quotas short = workers × ¬ shards
@@ -42,10 +44,20 @@ IsFirstToFail (Err Spawn) workers shards quotas short = ⊥
 IsFirstToFail (Err Memory) workers shards quotas short = ⊥
 IsFirstToFail (Err NumberFull) workers shards quotas short = ⊥
 
--- A run of such scripts is refused for the first of the four that doesn't hold, exactly then; where it answers Ok, all hold.
-pub record IsRefusedInOrder {T : Type 0} (result : Result T RunFault) (policy : Policy) (rows : Book) (scripts : List (List Request)) : Type 0 where
-  pub ready : OnOk result (HaveWorkers rows scripts × (HasShards policy × (HasQuotas policy × AreShort rows scripts)))
+-- A run of such scripts is refused for the first of the four that doesn't hold, exactly then.
+pub record IsRefusedInOrder {T : Type 0} (result : Result T RunFault) (policy : Policy)
+    (rows : Book) (scripts : List (List Request)) : Type 0 where
+  -- where it is not refused, all four hold
+  pub ready : OnOk result (HaveWorkers rows scripts
+      × (HasShards policy × (HasQuotas policy × AreShort rows scripts)))
+  -- there are not 1 to 16 scripts, or a row is of a worker without one
   pub workers : IsErrOf result Workers ↔ ¬ HaveWorkers rows scripts
+  -- or else there are not 1 to 64 shards
   pub shards : IsErrOf result Shards ↔ (HaveWorkers rows scripts × ¬ HasShards policy)
-  pub quota : IsErrOf result Quota ↔ (HaveWorkers rows scripts × (HasShards policy × ¬ HasQuotas policy))
-  pub too_long : IsErrOf result TooLong ↔ (HaveWorkers rows scripts × (HasShards policy × (HasQuotas policy × ¬ AreShort rows scripts)))
+  -- or else a quota or the threshold is 0, or more than 64 objects may be hot
+  pub quota : IsErrOf result Quota
+      ↔ (HaveWorkers rows scripts × (HasShards policy × ¬ HasQuotas policy))
+  -- or else some worker's rows and script have more than 1,000,000 together
+  pub too_long : IsErrOf result TooLong
+      ↔ (HaveWorkers rows scripts × (HasShards policy
+      × (HasQuotas policy × ¬ AreShort rows scripts)))

@@ -11,16 +11,19 @@ use Rattle.phase_floor.specs.States.{JoinedState, IsBookOf}
 use Rattle.run_laws.specs.Serving.{segment_of}
 
 -- A board can take these rows as its next phase: they follow the book of the phases that it has.
-pub record CanShow {B : Type 0} (has : B → Opening → Book → List (List Row) → Type 0) (board : B) (last : List Row) : Type 0 where
+pub record CanShow {B : Type 0} (has : B → Opening → Book → List (List Row) → Type 0)
+    (board : B) (last : List Row) : Type 0 where
   pub opening : Opening
   pub rows : Book
   pub phases : List (List Row)
   pub has_them : has board opening rows phases
   pub follow : CanFollow opening (book_of rows phases) last
 
--- A publisher of an auction has published these phases, and told them last; it may have failed at the next.
-pub record HasPublished (failed : Bool) (own_opening : Opening) (own_rows : Book) (opening : Opening) (rows : Book)
-    (publisher : Published) (told : Option (List (List Row))) (phases : List (List Row)) : Type 0 where
+-- A publisher of an auction has published these phases, and told them last; it may have failed at
+-- the next.
+pub record HasPublished (failed : Bool) (own_opening : Opening) (own_rows : Book)
+    (opening : Opening) (rows : Book) (publisher : Published) (told : Option (List (List Row)))
+    (phases : List (List Row)) : Type 0 where
   pub opening_is : own_opening ≡ opening
   pub rows_are : own_rows ≡ rows
   pub published : publisher ≡ record { phases = phases; failed = failed }
@@ -32,17 +35,24 @@ phase_rows zero history = []
 phase_rows (suc n) history = phase_rows n history ++ rows_of (segment_of n history) ∷ []
 
 -- A board that had these phases before a run has those of the run so far after them.
-pub record HasShownAfter {B : Type 0} (has : B → Opening → Book → List (List Row) → Type 0) (opening : Opening) (rows : Book)
-    (before : List (List Row)) (phase : ℕ) (history : List Entry) (board : B) : Type 0 where
+pub record HasShownAfter {B : Type 0} (has : B → Opening → Book → List (List Row) → Type 0)
+    (opening : Opening) (rows : Book) (before : List (List Row)) (phase : ℕ) (history : List Entry)
+    (board : B) : Type 0 where
+  -- it has the phases before and those of the run
   pub has_them : has board opening rows (before ++ phase_rows phase history)
-  pub book_is : book_of rows (before ++ phase_rows phase history) ≡ book_of rows before ++ rows_of history
+  -- their rows are those before and the history's
+  pub book_is : book_of rows (before ++ phase_rows phase history)
+      ≡ book_of rows before ++ rows_of history
 
 -- A board has the phases of a run so far.
-abbrev pub HasShown : {B : Type 0} → (B → Opening → Book → List (List Row) → Type 0) → Opening → Book → ℕ → List Entry → B → Type 0
-HasShown has opening rows phase history board = HasShownAfter has opening rows [] phase history board
+abbrev pub HasShown : {B : Type 0} → (B → Opening → Book → List (List Row) → Type 0) →
+    Opening → Book → ℕ → List Entry → B → Type 0
+HasShown has opening rows phase history board =
+    HasShownAfter has opening rows [] phase history board
 
 -- A board is up to date with a state: what is stored after its phases is a book of the state.
-pub record IsUpToDate {B : Type 0} (has : B → Opening → Book → List (List Row) → Type 0) (board : B) (state : JoinedState) : Type 0 where
+pub record IsUpToDate {B : Type 0} (has : B → Opening → Book → List (List Row) → Type 0)
+    (board : B) (state : JoinedState) : Type 0 where
   pub rows : Book
   pub phases : List (List Row)
   pub has_them : has board state.opening rows phases

@@ -16,11 +16,14 @@ use Rattle.auction_run.specs.declared.fault.RunFault.{RunFault}
 use Rattle.auction_run.specs.declared.phase.Closed.{Closed}
 use Rattle.auction_run.specs.Phases.{waiting_in, IsMet}
 
--- The next phase of a state was performed, with these stashes and hot objects, and has closed with these entries.
-pub record HasClosedPhase (policy : Policy) (scripts : List (List Request)) (state : JoinedState) (stashes : List StashState)
-    (hot : List Object) (entries : List Entry) (closed : Closed) : Type 0 where
+-- The next phase of a state was performed, with these stashes and hot objects, and has closed with
+-- these entries.
+pub record HasClosedPhase (policy : Policy) (scripts : List (List Request)) (state : JoinedState)
+    (stashes : List StashState) (hot : List Object) (entries : List Entry) (closed : Closed)
+    : Type 0 where
   -- each worker has performed what it was given, and what waits is in the stashes left
-  pub performed : HasPerformed policy scripts state.phase hot (waiting_in stashes) (waiting_in closed.stashes.items) entries
+  pub performed : HasPerformed policy scripts state.phase hot (waiting_in stashes)
+      (waiting_in closed.stashes.items) entries
   -- the entries are numbered
   pub numbered : IsNumbered state.opening policy.shards hot entries
   -- they replay from each book for which the state stood
@@ -36,14 +39,17 @@ pub record HasClosedPhase (policy : Policy) (scripts : List (List Request)) (sta
       (counters_at closed.state.counters worker).commits
       ≡ (counters_at state.counters worker).commits + length (calls_of worker entries)
 
--- What the next phase of a state answers, with these stashes and hot objects, and what it makes of a history.
-pub record HasPerformedPhase (policy : Policy) (scripts : List (List Request)) (state : JoinedState) (stashes : List StashState)
-    (hot : List Object) (before after : HistoryView) (result : Result Closed RunFault) : Type 0 where
+-- What the next phase of a state answers, with these stashes and hot objects, and what it makes of
+-- a history.
+pub record HasPerformedPhase (policy : Policy) (scripts : List (List Request))
+    (state : JoinedState) (stashes : List StashState) (hot : List Object)
+    (before after : HistoryView) (result : Result Closed RunFault) : Type 0 where
   -- entries were added at the end of the history
   pub history : OnOk result (after.entries ≡ before.entries ++ added before.entries after.entries)
   -- they are all that its journals have, merged
   pub last : OnOk result (merged after.last ≡ added before.entries after.entries)
   -- with them the phase has closed
-  pub closed : IfOk result (HasClosedPhase policy scripts state stashes hot (added before.entries after.entries))
+  pub closed : IfOk result
+      (HasClosedPhase policy scripts state stashes hot (added before.entries after.entries))
   -- a fault is one that a phase meets
   pub fault : IfErr result (IsMet scripts)

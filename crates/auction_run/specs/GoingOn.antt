@@ -29,31 +29,39 @@ HasItsShards state policy = policy.shards ≡ length state.shards
 -- no worker's rows and script have more than 1,000,000 together
 abbrev pub AreShortOn : JoinedState → List (List Request) → Type 0
 AreShortOn state scripts = (worker : ℕ) → worker < length scripts →
-    stores (counters_at state.counters worker) + length (script_of scripts worker) ≤ MOST_OF_A_WORKER
+    stores (counters_at state.counters worker) + length (script_of scripts worker)
+    ≤ MOST_OF_A_WORKER
 
 -- a run of these scripts can go on from the state
 abbrev pub IsReadyFor : JoinedState → Policy → List (List Request) → Type 0
-IsReadyFor state policy scripts = HasScripts state scripts × (HasItsShards state policy × (HasQuotas policy × AreShortOn state scripts))
+IsReadyFor state policy scripts = HasScripts state scripts
+    × (HasItsShards state policy × (HasQuotas policy × AreShortOn state scripts))
 
 -- the fault is that of the first of the four that doesn't hold, or there is none and all hold
-abbrev pub IsCheckedOn : {T : Type 0} → Result T RunFault → JoinedState → Policy → List (List Request) → Type 0
+abbrev pub IsCheckedOn : {T : Type 0} → Result T RunFault → JoinedState → Policy →
+    List (List Request) → Type 0
 IsCheckedOn result state policy scripts =
-    IsFirstToFail result (HasScripts state scripts) (HasItsShards state policy) (HasQuotas policy) (AreShortOn state scripts)
+    IsFirstToFail result (HasScripts state scripts) (HasItsShards state policy) (HasQuotas policy)
+    (AreShortOn state scripts)
 
--- why a run that goes on stops: the state is given back as it was, for the first of the four that doesn't hold; or all hold, and a phase
--- met the fault
+-- why a run that goes on stops: the state is given back as it was, for the first of the four that
+-- doesn't hold; or all hold, and a phase met the fault
 abbrev pub IsStopped : JoinedState → Policy → List (List Request) → Stopped → Type 0
-IsStopped state policy scripts (Refused back fault) = (back ≡ state) × IsCheckedOn {T = Unit {0}} (Err fault) state policy scripts
-IsStopped state policy scripts (Failed fault) = IsReadyFor state policy scripts × IsMet scripts fault
+IsStopped state policy scripts (Refused back fault) =
+    (back ≡ state) × IsCheckedOn {T = Unit {0}} (Err fault) state policy scripts
+IsStopped state policy scripts (Failed fault) =
+    IsReadyFor state policy scripts × IsMet scripts fault
 
 -- the fault of a run that stopped
 abbrev pub fault_of : Stopped → RunFault
 fault_of (Refused back fault) = fault
 fault_of (Failed fault) = fault
 
--- A run of scripts begins with a state, from a book: it is one of their workers' rows, which were all their commits, and short together
--- with the scripts; the state stands for it, before a phase 0, over the policy's shards.
-pub record BeginsWith (state : JoinedState) (rows : Book) (policy : Policy) (scripts : List (List Request)) : Type 0 where
+-- A run of scripts begins with a state, from a book: it is one of their workers' rows, which were
+-- all their commits, and short together with the scripts; the state stands for it, before a phase
+-- 0, over the policy's shards.
+pub record BeginsWith (state : JoinedState) (rows : Book) (policy : Policy)
+    (scripts : List (List Request)) : Type 0 where
   pub is_book : IsBook state.opening rows
   pub few : length scripts ≤ MOST_WORKERS
   pub own : All (λ row. worker_of row < length scripts) rows
@@ -62,15 +70,17 @@ pub record BeginsWith (state : JoinedState) (rows : Book) (policy : Policy) (scr
   pub phase_is : state.phase ≡ 0
   pub shards_are : length state.shards ≡ policy.shards
   pub workers_are : length state.counters ≡ length scripts
-  pub commits : (worker : ℕ) → worker < length scripts → (counters_at state.counters worker).commits ≡ rows_by rows worker
+  pub commits : (worker : ℕ) → worker < length scripts →
+      (counters_at state.counters worker).commits ≡ rows_by rows worker
 
 -- there is no book from which it begins
 abbrev pub CannotBegin : JoinedState → Policy → List (List Request) → Type 0
 CannotBegin state policy scripts = (rows : Book) → BeginsWith state rows policy scripts → ⊥
 
 -- A board can be shown such a run: it begins from the book of the phases that the board has.
-pub record CanShowRun {B : Type 0} (has : B → Opening → Book → List (List Row) → Type 0) (board : B) (state : JoinedState) (policy : Policy)
-    (scripts : List (List Request)) : Type 0 where
+pub record CanShowRun {B : Type 0} (has : B → Opening → Book → List (List Row) → Type 0)
+    (board : B) (state : JoinedState) (policy : Policy) (scripts : List (List Request))
+    : Type 0 where
   pub rows : Book
   pub before : List (List Row)
   pub begins : BeginsWith state (book_of rows before) policy scripts

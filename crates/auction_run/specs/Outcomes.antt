@@ -19,29 +19,40 @@ use Rattle.auction_run.specs.declared.fault.RunFault.TheVariants.{Memory}
 use Rattle.auction_run.specs.declared.running.Outcome.{Outcome}
 
 -- The outcome of a run of these scripts, from an opening book on.
-pub record IsOutcome (opening : Opening) (rows : Book) (policy : Policy) (scripts : List (List Request)) (outcome : Outcome) : Type 0 where
-  -- its history holds each request once, in its phase and order
+pub record IsOutcome (opening : Opening) (rows : Book) (policy : Policy)
+    (scripts : List (List Request)) (outcome : Outcome) : Type 0 where
+  -- its history holds every request of every script exactly once, each worker's commits in commit
+  -- order and none before an earlier splittable store of its script
   pub serves : Serves opening policy scripts (hot_sets outcome.hot.items) outcome.history.entries
   -- what was hot in a split phase is what the entries of the phase before choose
   pub chosen : AreChosen policy (hot_sets outcome.hot.items) outcome.history.entries
-  -- an auction of one thread gives each reply
+  -- it replays on an auction of one thread: each reply, every highest bid, bidder, count, rating
+  -- and top list in it, is the one computed afresh from the rows committed before it
   pub replays : ReplaysFrom opening rows outcome.history.entries
-  -- the state is that of the book at the end, after so many phases
+  -- the state left is that of the rows at the end
   pub stands : StandsFor outcome.state (book_after opening rows outcome.history.entries)
+  -- it is of the same users and categories
   pub opening_is : outcome.state.opening ≡ opening
+  -- its number is that of the phases, each of which has a hot set
   pub phases : outcome.state.phase ≡ length outcome.hot.items
-  -- it has the policy's shards, and counters for each script
+  -- it has the policy's shards
   pub shards : length outcome.state.shards ≡ policy.shards
+  -- and counters for each script
   pub counters : length outcome.state.counters ≡ length scripts
 
 -- A board has all phases of a run, of an auction that was opened with these rows.
-abbrev pub HasShownAll : {B : Type 0} → (B → Opening → Book → List (List Row) → Type 0) → Opening → Book → B → Outcome → Type 0
-HasShownAll has opening rows board outcome = HasShown has opening rows (length outcome.hot.items) outcome.history.entries board
+abbrev pub HasShownAll : {B : Type 0} → (B → Opening → Book → List (List Row) → Type 0) →
+    Opening → Book → B → Outcome → Type 0
+HasShownAll has opening rows board outcome =
+    HasShown has opening rows (length outcome.hot.items) outcome.history.entries board
 
--- A board that had these phases before a run of these scripts has the first phases of the run after them, which is refused for this
--- fault. They are all that it was given; or, where no memory was left, it has them and has refused the next.
-pub record HasShownFirstAfter {B : Type 0} (has has_refused : B → Opening → Book → List (List Row) → Type 0) (opening : Opening) (rows : Book)
-    (before : List (List Row)) (policy : Policy) (scripts : List (List Request)) (board : B) (fault : RunFault) : Type 0 where
+-- A board that had these phases before a run of these scripts has the first phases of the run after
+-- them, which is refused for this fault. They are all that it was given; or, if no memory was left,
+-- it has them and has refused the next.
+pub record HasShownFirstAfter {B : Type 0}
+    (has has_refused : B → Opening → Book → List (List Row) → Type 0) (opening : Opening)
+    (rows : Book) (before : List (List Row)) (policy : Policy) (scripts : List (List Request))
+    (board : B) (fault : RunFault) : Type 0 where
   -- so many phases are done, with these hot sets, entries and stashes
   pub phase : ℕ
   pub hot : List (List Object)
@@ -56,8 +67,10 @@ pub record HasShownFirstAfter {B : Type 0} (has has_refused : B → Opening → 
   pub shown : HasShownAfter has opening rows before phase history board
       ⊎ ((fault ≡ Memory) × HasShownAfter has_refused opening rows before phase history board)
 
--- A board has the first phases of a run of these scripts, from an opening book on, which is refused for this fault.
-abbrev pub HasShownFirst : {B : Type 0} → (B → Opening → Book → List (List Row) → Type 0) → (B → Opening → Book → List (List Row) → Type 0) →
+-- A board has the first phases of a run of these scripts, from an opening book on, which is refused
+-- for this fault.
+abbrev pub HasShownFirst : {B : Type 0} → (B → Opening → Book → List (List Row) → Type 0) →
+    (B → Opening → Book → List (List Row) → Type 0) →
     Opening → Book → Policy → List (List Request) → B → RunFault → Type 0
 HasShownFirst has has_refused opening rows policy scripts board fault =
     HasShownFirstAfter has has_refused opening rows [] policy scripts board fault

@@ -20,7 +20,8 @@ abbrev pub ArePartsFrom : Opening → Book → List (List Entry) → Type 0
 ArePartsFrom opening rows parts = Replays (ReplaysFrom opening) (book_after opening) rows parts
 
 -- These parts of an auction that was opened with these rows left this state.
-pub record HaveLeft (opening : Opening) (rows : Book) (parts : List (List Entry)) (state : JoinedState) : Type 0 where
+pub record HaveLeft (opening : Opening) (rows : Book) (parts : List (List Entry))
+    (state : JoinedState) : Type 0 where
   pub parts_are : ArePartsFrom opening rows parts
   pub opening_is : state.opening ≡ opening
   pub book : IsBookOf state (book_after_parts opening rows parts)

@@ -32,13 +32,15 @@ waiting_in stashes worker = (stash_at stashes worker).requests
 abbrev pub quota_of : Policy → ℕ → List Request → ℕ
 quota_of policy phase script = quota policy.joined_quota policy.split_quota phase (length script)
 
--- the plan's round is that of the phase, and goes on with each script at the first index that reaches it
+-- the plan's round is that of the phase, and goes on with each script at the first index that
+-- reaches it
 abbrev pub IsPlanOf : {G : Type 0} → Plan G → ℕ → Type 0
-IsPlanOf plan phase = (plan.round.phase ≡ phase) × (plan.round.first ≡ first_index plan.policy phase)
+IsPlanOf plan phase =
+    (plan.round.phase ≡ phase) × (plan.round.first ≡ first_index plan.policy phase)
 
 -- A run may perform the next phase of a state.
-pub record MayPerform (policy : Policy) (scripts : List (List Request)) (state : JoinedState) (stashes : List StashState)
-    (hot : List Object) : Type 0 where
+pub record MayPerform (policy : Policy) (scripts : List (List Request)) (state : JoinedState)
+    (stashes : List StashState) (hot : List Object) : Type 0 where
   pub counted : state.phase + 1 < 2 ^ 64
   -- there are a script and a stash for each worker, and the policy's shards
   pub scripts_are : length scripts ≡ length state.counters
@@ -62,8 +64,9 @@ told serving.Memory = Memory
 told (serving.Worker worker_fault.Memory) = Memory
 told (serving.Worker worker_fault.NumberFull) = NumberFull
 
--- Why a phase of such scripts fails: a thread, of those of all workers but the first, could not be started; or no memory was left, or
--- numbers ended, of which no clause says when. None of the faults that are found before a run begins is met.
+-- Why a phase of such scripts fails: a thread, of those of all workers but the first, could not be
+-- started; or no memory was left, or numbers ended, of which no clause says when. None of the
+-- faults that are found before a run begins is met.
 abbrev pub IsMet : List (List Request) → RunFault → Type 0
 IsMet scripts Workers = ⊥
 IsMet scripts Shards = ⊥

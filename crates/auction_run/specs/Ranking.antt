@@ -19,7 +19,8 @@ heat_shown (suc n) = Some (suc n)
 -- A table has each object that entries write, once, with its heat.
 pub record HasHeats (entries : List Entry) (table : List (Object × ℕ)) : Type 0 where
   pub once : IsDistinct same_object (keys_of table)
-  pub heats : (object : Object) → lookup (same_object object) table ≡ heat_shown (heat entries object)
+  pub heats : (object : Object) →
+      lookup (same_object object) table ≡ heat_shown (heat entries object)
 
 abbrev pub candidate : Object × ℕ → Candidate
 candidate row = record { heat = record { 0 = row.1 }; object = row.0 }
@@ -33,6 +34,7 @@ abbrev pub hot_ones : ℕ → List (Object × ℕ) → List Candidate
 hot_ones threshold table = map candidate (filter (λ row. nat_le threshold row.1) table)
 
 -- The candidates of a table, ranked.
-pub record IsRanking (table : List (Object × ℕ)) (threshold : ℕ) (candidates : List Candidate) : Type 0 where
+pub record IsRanking (table : List (Object × ℕ)) (threshold : ℕ) (candidates : List Candidate)
+    : Type 0 where
   pub all : IsPermutation (hot_ones threshold table) candidates
   pub ranked : IsSorted candidate_cmp candidates

@@ -17,10 +17,11 @@ use Rattle.auction_run.specs.Phases.{hot_sets, waiting_in}
 use Rattle.auction_run.specs.declared.running.Running.{Running}
 
 -- What a run from an opening book knows before a phase.
-pub record IsRunning (opening : Opening) (rows : Book) (policy : Policy) (scripts : List (List Request)) (phase : ℕ)
-    (running : Running) : Type 0 where
+pub record IsRunning (opening : Opening) (rows : Book) (policy : Policy)
+    (scripts : List (List Request)) (phase : ℕ) (running : Running) : Type 0 where
   -- the phases before this one are done
-  pub run : HasRun policy scripts phase (hot_sets running.hot.items) running.history.entries (waiting_in running.stashes.items)
+  pub run : HasRun policy scripts phase (hot_sets running.hot.items) running.history.entries
+      (waiting_in running.stashes.items)
   -- their hot sets are the chosen ones
   pub chosen : AreChosen policy (hot_sets running.hot.items) running.history.entries
   -- the entries of each are numbered
@@ -33,9 +34,11 @@ pub record IsRunning (opening : Opening) (rows : Book) (policy : Policy) (script
   pub shards_are : length running.state.shards ≡ policy.shards
   pub workers_are : length running.state.counters ≡ length scripts
   pub stashes_are : length running.stashes.items ≡ length scripts
-  -- what a worker committed and what waits are no more than its rows and what it was given of its script
+  -- what a worker committed and what waits are no more than its rows and what it was given of its
+  -- script
   pub counted : (worker : ℕ) → worker < length scripts →
-      (counters_at running.state.counters worker).commits + length (waiting_in running.stashes.items worker)
+      (counters_at running.state.counters worker).commits
+      + length (waiting_in running.stashes.items worker)
       ≤ rows_by rows worker + min (first_index policy phase) (length (script_of scripts worker))
   -- the entries of the phase before are the last of the history
   pub from : ℕ
@@ -44,7 +47,8 @@ pub record IsRunning (opening : Opening) (rows : Book) (policy : Policy) (script
   pub last : drop from running.history.entries ≡ segment_of (phase - 1) running.history.entries
 
 -- A run that can go on: it runs from some book, which is short together with the scripts.
-pub record CanGoOn (policy : Policy) (scripts : List (List Request)) (running : Running) : Type 0 where
+pub record CanGoOn (policy : Policy) (scripts : List (List Request)) (running : Running)
+    : Type 0 where
   pub opening : Opening
   pub rows : Book
   pub is_book : IsBook opening rows

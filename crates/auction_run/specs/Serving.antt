@@ -11,16 +11,18 @@ use Rattle.auction_rows.specs.declared.policy.Policy.{Policy}
 use Rattle.run_laws.specs.Serving.{script_of}
 use Rattle.auction_run.specs.Phases.{waiting_in, quota_of}
 
--- The next phase of a state has begun, with these hot objects: each worker's permit is a new one, for its quota, with what waits in
--- its stash.
-pub record HasBegun (policy : Policy) (scripts : List (List Request)) (state : JoinedState) (stashes : List StashState) (hot : List Object)
-    (floor : FloorState) (permits : List WorkerState) : Type 0 where
+-- The next phase of a state has begun, with these hot objects: each worker's permit is a new one,
+-- for its quota, with what waits in its stash.
+pub record HasBegun (policy : Policy) (scripts : List (List Request)) (state : JoinedState)
+    (stashes : List StashState) (hot : List Object) (floor : FloorState)
+    (permits : List WorkerState) : Type 0 where
   pub opening_is : floor.opening ≡ state.opening
   pub phase_is : floor.phase ≡ state.phase
   pub counters_are : floor.counters ≡ state.counters
   pub hot_are : objects_of floor.stocks ≡ hot
   pub quotas : List ℕ
-  pub quotas_are : (worker : ℕ) → worker < length scripts → slice_index quotas worker ≡ quota_of policy state.phase (script_of scripts worker)
+  pub quotas_are : (worker : ℕ) → worker < length scripts →
+      slice_index quotas worker ≡ quota_of policy state.phase (script_of scripts worker)
   pub handed : List StashState
   pub handed_are : (worker : ℕ) → (stash_at handed worker).requests ≡ waiting_in stashes worker
   pub new : AreBegun floor quotas handed permits

@@ -18,24 +18,30 @@ pub trait Board {
     /// It has these phases, and has refused the next.
     ghost has_refused: { Self → Opening → Book → List (List Stored) → Type 0 };
 
-    /// Somebody can look at it, as at every board that does not say otherwise. If nobody can, nothing is asked of its phases.
+    /// Somebody can look at it, as at every board that does not say otherwise. If nobody can,
+    /// nothing is asked of its phases.
     ghost can_be_watched: { Type 0 } = { Unit {0} };
 
-    /// Whether anybody looks at it. Where nobody does, it counts as having every phase, so a run makes no rows for it.
+    /// Whether anybody looks at it. If nobody does, it counts as having every phase, so a run makes
+    /// no rows for it.
     fn is_watched(&self) -> bool
-        ensures { result ≡ false → (opening : Opening) (rows : Book) (phases : List (List Stored)) (last : List Stored) →
+        ensures { result ≡ false →
+            (opening : Opening) (rows : Book) (phases : List (List Stored)) (last : List Stored) →
             has self.now opening rows phases → has self.now opening rows (phases ++ last ∷ []) }
     {
         true
     }
 
-    /// Takes the rows of one phase. Its only error is want of memory, after which it has refused this phase; a run then ends
-    /// and calls it no more.
+    /// Takes the rows of one phase. Its only error is want of memory, after which it has refused
+    /// this phase; a run then ends and calls it no more.
     fn publish<R: Wait>(&mut self, rt: &R, last: Vec<Row>) -> Result<(), AllocError>
         requires { can_be_watched → CanShow has self.old last.items }
-        ensures taken { OnOk result ((opening : Opening) (rows : Book) (phases : List (List Stored)) →
-            has self.old opening rows phases → has self.new opening rows (phases ++ last.items ∷ [])) }
-        ensures refused { OnErr result ((opening : Opening) (rows : Book) (phases : List (List Stored)) →
+        ensures taken { OnOk result (
+            (opening : Opening) (rows : Book) (phases : List (List Stored)) →
+            has self.old opening rows phases →
+            has self.new opening rows (phases ++ last.items ∷ [])) }
+        ensures refused { OnErr result (
+            (opening : Opening) (rows : Book) (phases : List (List Stored)) →
             has self.old opening rows phases → has_refused self.new opening rows phases) };
 }
 
@@ -59,7 +65,8 @@ impl Board for NoBoard {
     }
 }
 
-/// The board of a publisher's windows, which are shown each phase. It is spent by ending its publisher.
+/// The board of a publisher's windows, which are shown each phase. It is spent by ending its
+/// publisher.
 pub struct WindowBoard<J: WindowName, P = Publisher<J>> {
     pub publisher: P,
     /// What the publisher told last, for a window to learn: None before the first phase.

@@ -17,8 +17,8 @@ pub(crate) fn check(
     scripts: &[Vec<Request>],
     policy: Policy,
 ) -> Result<(), RunFault>
-    ensures { IsFirstToFail result (HaveWorkers (rows_of book.now) (lists scripts.now)) (HasShards policy) (HasQuotas policy)
-        (AreShort (rows_of book.now) (lists scripts.now)) }
+    ensures { IsFirstToFail result (HaveWorkers (rows_of book.now) (lists scripts.now))
+        (HasShards policy) (HasQuotas policy) (AreShort (rows_of book.now) (lists scripts.now)) }
 {
     if !have_workers(book.rows(), scripts) {
         return Err(RunFault::Workers);
@@ -35,7 +35,8 @@ pub(crate) fn check(
     Ok(())
 }
 
-/// Checks what a run that goes on from a state is handed: the fault is that of the first that doesn't hold.
+/// Checks what a run that goes on from a state is handed: the fault is that of the first that
+/// doesn't hold.
 pub(crate) fn check_on(
     state: &Joined,
     scripts: &[Vec<Request>],
@@ -125,7 +126,8 @@ fn are_short(book: &OpeningBook, scripts: &[Vec<Request>]) -> bool
 
 // How many rows are of each worker below 16.
 fn rows_by_each(rows: &[Row]) -> [usize; MOST_WORKERS]
-    ensures { (worker : ℕ) → worker < MOST_WORKERS → slice_index result worker ≡ rows_by rows.now worker }
+    ensures { (worker : ℕ) → worker < MOST_WORKERS →
+        slice_index result worker ≡ rows_by rows.now worker }
 {
     let mut counts = [0; MOST_WORKERS];
     for row in rows {

@@ -53,7 +53,8 @@ struct Candidate {
     object: Object,
 }
 
-/// The objects that these entries write, each with its heat: how many accepted splittable stores do.
+/// The objects that these entries write, each with its heat: how many accepted splittable stores
+/// do.
 fn heats(alloc: Global, entries: &[Entry]) -> Result<IndexMap<Object, u64>, AllocError>
     ensures { IfOk result (λ heats. HasHeats entries.now heats.entries) }
 {
@@ -88,7 +89,8 @@ fn object_written(entry: &Entry) -> Option<Object>
 
 /// Adds one to the heat of the object that an entry writes, if it does.
 fn add_heat(heats: &mut IndexMap<Object, u64>, written: Option<Object>) -> Result<(), AllocError>
-    ensures { OnOk result ((entries : List Committed) (entry : Committed) → written ≡ written_by entry →
+    ensures { OnOk result (
+        (entries : List Committed) (entry : Committed) → written ≡ written_by entry →
         HasHeats entries heats.old.entries → HasHeats (entries ++ entry ∷ []) heats.new.entries) }
 {
     if let Some(object) = written {

@@ -21,9 +21,10 @@ use std::alloc::Global;
 use std::sync::Wait;
 use std::thread::Threads;
 
-/// Goes on from a state that a run left, or with which an auction was resumed: performs scripts of its workers as `run` does.
-/// The history is that of these scripts, and replays from each book of the state; the state left has the book after it. Phases
-/// and indexes count from 0 again, and nothing is hot at first. The first four faults are found first, in their order, exactly for
+/// Goes on from a state that a run left, or with which an auction was resumed: performs scripts of
+/// its workers as `run` does. The history is that of these scripts, and replays from each book of
+/// the state; the state left has the book after it. Phases and indexes count from 0 again, and
+/// nothing is hot at first. The first four faults are found first, in their order, exactly for
 /// their causes, and give the state back as it was; after another it is gone.
 pub fn run_on<R: Threads + Wait + Sync, G: Gate + Sync>(
     rt: &R,
@@ -43,9 +44,10 @@ pub fn run_on<R: Threads + Wait + Sync, G: Gate + Sync>(
     run_on_shown(rt, alloc, state, scripts, policy, gate, &mut NoBoard)
 }
 
-/// The same, of which a board that is up to date with the state is given the rows of each phase, after all that it has. It is up to
-/// date with the state left, and so the next part can be shown to it too. A board that errs ends the run with `Memory`. After a fault
-/// it has the phases that it was given, which are the first ones of such a run; it may have refused one more.
+/// The same, of which a board that is up to date with the state is given the rows of each phase,
+/// after all that it has. It is up to date with the state left, and so the next part can be shown
+/// to it too. A board that errs ends the run with `Memory`. After a fault it has the phases that it
+/// was given, which are the first ones of such a run; it may have refused one more.
 pub fn run_on_shown<R: Threads + Wait + Sync, G: Gate + Sync, B: Board>(
     rt: &R,
     alloc: Global,
@@ -64,11 +66,15 @@ pub fn run_on_shown<R: Threads + Wait + Sync, G: Gate + Sync, B: Board>(
     ensures stopped { IfErr result (IsStopped state policy (lists scripts.items)) }
     ensures board { IfOk result (λ outcome. (rows : Book) (before : List (List Stored)) →
         B.has board.old state.opening rows before → IsBookOf state (book_of rows before) →
-        HasShownAfter B.has state.opening rows before (length outcome.hot.items) outcome.history.entries board.new) }
-    ensures up_to_date { IfOk result (λ outcome. IsUpToDate B.has board.old state → IsUpToDate B.has board.new outcome.state) }
-    ensures board_after_fault { IfErr result (λ stopped. (rows : Book) (before : List (List Stored)) →
+        HasShownAfter B.has state.opening rows before (length outcome.hot.items)
+        outcome.history.entries board.new) }
+    ensures up_to_date { IfOk result (λ outcome.
+        IsUpToDate B.has board.old state → IsUpToDate B.has board.new outcome.state) }
+    ensures board_after_fault { IfErr result (λ stopped.
+        (rows : Book) (before : List (List Stored)) →
         B.has board.old state.opening rows before → IsBookOf state (book_of rows before) →
-        HasShownFirstAfter B.has B.has_refused state.opening rows before policy (lists scripts.items) board.new (fault_of stopped)) }
+        HasShownFirstAfter B.has B.has_refused state.opening rows before policy
+        (lists scripts.items) board.new (fault_of stopped)) }
 {
     if let Err(fault) = check_on(&state, &scripts, policy) {
         return Err(Stopped::Refused(state, fault));

@@ -10,8 +10,7 @@ ghost use Rattle.auction_run.specs.Serving.{HasBegun};
 
 use crate::fault::RunFault;
 use crate::phase::{Closed, begin_fault};
-use crate::plan::Plan;
-use crate::quotas::quotas;
+use crate::plan::{Plan, worker_quotas};
 use phase_floor::{Joined, JoinedFloor};
 use phase_permits::{JoinedPermit, Stash};
 use phase_workers::{Gate, serve_all};
@@ -39,8 +38,8 @@ where
     requires joined { is_split state.phase ≡ false }
     requires plan { IsPlanOf plan state.phase }
     requires may { MayPerform plan.policy (lists plan.round.scripts.now) state stashes.items [] }
-    ensures { HasPerformedPhase plan.entry.policy (lists plan.entry.round.scripts.now) state stashes.items []
-        history.old history.new result }
+    ensures { HasPerformedPhase plan.entry.policy (lists plan.entry.round.scripts.now) state
+        stashes.items [] history.old history.new result }
 {
     let (floor, permits) = begin::<N, R, G>(rt, alloc, state, stashes, &plan)?;
     let receipts = serve_all(rt, alloc, floor.boxes(), permits, plan.round)?;
@@ -63,12 +62,14 @@ where
     requires workers { length state.counters ≡ N.workers }
     requires joined { is_split state.phase ≡ false }
     requires first { plan.now.round.first ≡ first_index plan.now.policy state.phase }
-    requires may { MayPerform plan.now.policy (lists plan.now.round.scripts.now) state stashes.items [] }
+    requires may { MayPerform plan.now.policy (lists plan.now.round.scripts.now) state
+        stashes.items [] }
     ensures begun { IfOk result (λ begun.
-        HasBegun plan.entry.now.policy (lists plan.entry.now.round.scripts.now) state stashes.items [] begun.0 begun.1.items) }
+        HasBegun plan.entry.now.policy (lists plan.entry.now.round.scripts.now) state
+        stashes.items [] begun.0 begun.1.items) }
     ensures fault { IfErr result (λ fault. fault ≡ Memory) }
 {
-    let quotas = quotas(
+    let quotas = worker_quotas(
         alloc,
         plan.round.scripts,
         plan.policy.joined_quota,

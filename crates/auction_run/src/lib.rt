@@ -10,7 +10,6 @@ mod joined_phase;
 mod parts;
 mod phase;
 mod plan;
-mod quotas;
 mod running;
 mod split_phase;
 mod stopped;

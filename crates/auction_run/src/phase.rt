@@ -38,9 +38,10 @@ pub(crate) fn perform_phase<R: Threads + Wait + Sync, G: Gate + Sync>(
     plan: Plan<'_, G>,
 ) -> Result<Closed, RunFault>
     requires plan { IsPlanOf plan state.phase }
-    requires may { MayPerform plan.policy (lists plan.round.scripts.now) state stashes.items hot.now.keys }
-    ensures { HasPerformedPhase plan.entry.policy (lists plan.entry.round.scripts.now) state stashes.items hot.now.keys
-        history.old history.new result }
+    requires may { MayPerform plan.policy (lists plan.round.scripts.now) state stashes.items
+        hot.now.keys }
+    ensures { HasPerformedPhase plan.entry.policy (lists plan.entry.round.scripts.now) state
+        stashes.items hot.now.keys history.old history.new result }
 {
     if state.phase() % 2 == 0 {
         return perform_joined_phase::<Brand, R, G>(rt, alloc, history, state, stashes, plan);

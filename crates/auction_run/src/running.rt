@@ -4,21 +4,21 @@ ghost use Rattle.auction_rows.specs.Choosing.{choose};
 ghost use Rattle.auction_rows.specs.declared.numbers.Opening.{Opening as Numbers};
 ghost use Rattle.auction_rows.specs.declared.rows.Row.{Row as Stored};
 ghost use Rattle.auction_rows.specs.Book.{Book};
-ghost use Rattle.auction_rows.specs.History.{IsBook, ReplaysFrom, book_after, rows_of as stored_rows};
+ghost use Rattle.auction_rows.specs.History.{IsBook, book_after, rows_of as stored_rows};
 ghost use Rattle.auction_window.specs.Published.{book_of};
 ghost use Rattle.item_shards.specs.OpeningBooks.{opening_of, rows_of};
-ghost use Rattle.phase_floor.specs.States.{StandsFor, IsBookOf};
+ghost use Rattle.phase_floor.specs.States.{IsBookOf};
 ghost use Rattle.run_laws.specs.Phases.{is_split};
 ghost use Rattle.worker_journals.specs.Merged.{merged};
 ghost use Rattle.auction_rows.specs.declared.policy.Policy.{Policy as Rule};
-ghost use Rattle.run_laws.specs.Run.{HasLeft, AreChosen};
-ghost use Rattle.run_laws.specs.Serving.{script_of, Serves};
-ghost use Rattle.auction_run.specs.declared.fault.RunFault.TheVariants.{Workers, Shards, Quota, TooLong, Spawn};
+ghost use Rattle.run_laws.specs.Run.{HasLeft};
+ghost use Rattle.run_laws.specs.Serving.{script_of};
+ghost use Rattle.auction_run.specs.declared.fault.RunFault.TheVariants.{Spawn};
 ghost use Rattle.auction_run.specs.Boards.{CanShow, HasShownAfter, IsUpToDate};
 ghost use Rattle.auction_run.specs.Beginning.{HaveWorkers, HasShards, HasQuotas, AreShort, IsRefusedInOrder};
 ghost use Rattle.auction_run.specs.GoingOn.{BeginsWith, CannotBegin, CanShowRun};
 ghost use Rattle.auction_run.specs.Outcomes.{HasShownAll, HasShownFirst, HasShownFirstAfter, IsOutcome};
-ghost use Rattle.auction_run.specs.Phases.{lists, hot_sets, waiting_in, IsPlanOf, IsMet};
+ghost use Rattle.auction_run.specs.Phases.{lists, waiting_in, IsPlanOf, IsMet};
 ghost use Rattle.auction_run.specs.Running.{IsRunning, CanGoOn};
 
 use crate::board::{Board, NoBoard};
@@ -53,12 +53,19 @@ pub struct Outcome {
     pub state: Joined,
 }
 
-/// Performs the scripts of 1 to 16 workers in joined and split phases by turns, from an opening book on, each worker but
-/// the first on a thread of its own in each phase. The history serves the scripts, and replays from the book on an auction of one thread.
-/// The first four faults are found first, in their order, exactly for their causes. `Spawn` comes only where there is a thread to
-/// start; a fault gives no part of a history. No clause says when memory is refused, that `NumberFull` is of a worker that met the
-/// end of numbers, nor which of several faults of a phase is told: it is `Spawn` before that of the least worker, and this before
-/// that of the close. The state left can be gone on with, by `run_on`.
+/// Performs the scripts of 1 to 16 workers in joined and split phases by turns, from an opening
+/// book on, each worker but the first on a thread of its own in each phase.
+///
+/// Its history holds every request of every script exactly once, each worker's commits in commit
+/// order and none before an earlier splittable store of its script (`serves` of `IsOutcome`). It
+/// replays on an auction of one thread (`replays`): every highest bid, bidder, count, rating and top
+/// list shown is the one computed afresh from the rows committed before it.
+///
+/// The first four faults are found first, in their order, exactly for their causes. `Spawn` comes
+/// only if there is a thread to start; a fault gives no part of a history. No clause says when
+/// memory is refused, that `NumberFull` is of a worker that met the end of numbers, nor which of
+/// several faults of a phase is told: it is `Spawn` before that of the least worker, and this
+/// before that of the close. The state left can be gone on with, by `run_on`.
 pub fn run<R: Threads + Wait + Sync, G: Gate + Sync>(
     rt: &R,
     alloc: Global,
@@ -67,37 +74,20 @@ pub fn run<R: Threads + Wait + Sync, G: Gate + Sync>(
     policy: Policy,
     gate: &G,
 ) -> Result<Outcome, RunFault>
-    ensures ready { OnOk result (HaveWorkers (rows_of book.now) (lists scripts.items) × (HasShards policy
-        × (HasQuotas policy × AreShort (rows_of book.now) (lists scripts.items)))) }
-    ensures serves { IfOk result (λ outcome.
-        Serves (opening_of book.now) policy (lists scripts.items) (hot_sets outcome.hot.items) outcome.history.entries) }
-    ensures hot { IfOk result (λ outcome.
-        AreChosen policy (hot_sets outcome.hot.items) outcome.history.entries) }
-    ensures replays { IfOk result (λ outcome. ReplaysFrom (opening_of book.now) (rows_of book.now) outcome.history.entries) }
-    ensures stands { IfOk result (λ outcome.
-        StandsFor outcome.state (book_after (opening_of book.now) (rows_of book.now) outcome.history.entries)) }
-    ensures opening { IfOk result (λ outcome. outcome.state.opening ≡ opening_of book.now) }
-    ensures phases { IfOk result (λ outcome. outcome.state.phase ≡ length outcome.hot.items) }
-    ensures state_shards { IfOk result (λ outcome. length outcome.state.shards ≡ policy.shards) }
-    ensures state_counters { IfOk result (λ outcome. length outcome.state.counters ≡ length (lists scripts.items)) }
+    ensures outcome { IfOk result
+        (IsOutcome (opening_of book.now) (rows_of book.now) policy (lists scripts.items)) }
     ensures left { IfOk result (λ outcome. IsBookOf outcome.state
         (book_after (opening_of book.now) (rows_of book.now) outcome.history.entries)) }
-    ensures workers { IsErrOf result Workers ↔ ¬ HaveWorkers (rows_of book.now) (lists scripts.items) }
-    ensures shards { IsErrOf result Shards
-        ↔ (HaveWorkers (rows_of book.now) (lists scripts.items) × ¬ HasShards policy) }
-    ensures quota { IsErrOf result Quota
-        ↔ (HaveWorkers (rows_of book.now) (lists scripts.items) × (HasShards policy × ¬ HasQuotas policy)) }
-    ensures too_long { IsErrOf result TooLong
-        ↔ (HaveWorkers (rows_of book.now) (lists scripts.items) × (HasShards policy × (HasQuotas policy
-        × ¬ AreShort (rows_of book.now) (lists scripts.items)))) }
+    ensures refused { IsRefusedInOrder result policy (rows_of book.now) (lists scripts.items) }
     ensures spawn { IsErrOf result Spawn → 1 < length (lists scripts.items) }
 {
     run_shown(rt, alloc, book, scripts, policy, gate, &mut NoBoard)
 }
 
-/// The same run, of which a board is given the rows of each phase once it has closed, in order. A board that errs ends it with
-/// `Memory`, after the faults of the phase itself. After a fault the board has the phases that it was given, which are the first
-/// ones of such a run; it may have refused one more.
+/// The same run, of which a board is given the rows of each phase once it has closed, in order. A
+/// board that errs ends it with `Memory`, after the faults of the phase itself. After a fault the
+/// board has the phases that it was given, which are the first ones of such a run; it may have
+/// refused one more.
 pub fn run_shown<R: Threads + Wait + Sync, G: Gate + Sync, B: Board>(
     rt: &R,
     alloc: Global,
@@ -108,12 +98,14 @@ pub fn run_shown<R: Threads + Wait + Sync, G: Gate + Sync, B: Board>(
     board: &mut B,
 ) -> Result<Outcome, RunFault>
     requires { B.has board.old (opening_of book.now) (rows_of book.now) [] }
-    ensures outcome { IfOk result (IsOutcome (opening_of book.now) (rows_of book.now) policy (lists scripts.items)) }
+    ensures outcome { IfOk result
+        (IsOutcome (opening_of book.now) (rows_of book.now) policy (lists scripts.items)) }
     ensures left { IfOk result (λ outcome. IsBookOf outcome.state
         (book_after (opening_of book.now) (rows_of book.now) outcome.history.entries)) }
     ensures refused { IsRefusedInOrder result policy (rows_of book.now) (lists scripts.items) }
     ensures spawn { IsErrOf result Spawn → 1 < length (lists scripts.items) }
-    ensures board { IfOk result (HasShownAll B.has (opening_of book.now) (rows_of book.now) board.new) }
+    ensures board { IfOk result
+        (HasShownAll B.has (opening_of book.now) (rows_of book.now) board.new) }
     ensures up_to_date { IfOk result (λ outcome. IsUpToDate B.has board.new outcome.state) }
     ensures board_after_fault { IfErr result (HasShownFirst B.has B.has_refused
         (opening_of book.now) (rows_of book.now) policy (lists scripts.items) board.new) }
@@ -146,8 +138,10 @@ fn run_checked<R: Threads + Wait + Sync, G: Gate + Sync, B: Board>(
     requires shards { HasShards policy }
     requires quotas { HasQuotas policy }
     requires short { AreShort (rows_of book.now) (lists scripts.now) }
-    ensures board { IfOk result (HasShownAll B.has (opening_of book.now) (rows_of book.now) board.new) }
-    ensures outcome { IfOk result (IsOutcome (opening_of book.now) (rows_of book.now) policy (lists scripts.now)) }
+    ensures board { IfOk result
+        (HasShownAll B.has (opening_of book.now) (rows_of book.now) board.new) }
+    ensures outcome { IfOk result
+        (IsOutcome (opening_of book.now) (rows_of book.now) policy (lists scripts.now)) }
     ensures left { IfOk result (λ outcome. IsBookOf outcome.state
         (book_after (opening_of book.now) (rows_of book.now) outcome.history.entries)) }
     ensures up_to_date { IfOk result (λ outcome. IsUpToDate B.has board.new outcome.state) }
@@ -170,17 +164,23 @@ pub(crate) fn run_from<R: Threads + Wait + Sync, G: Gate + Sync, B: Board>(
     board: &mut B,
 ) -> Result<Outcome, RunFault>
     requires begins { ¬ CannotBegin state policy (lists scripts.now) }
-    requires board { B.can_be_watched → CanShowRun B.has board.old state policy (lists scripts.now) }
+    requires board { B.can_be_watched →
+        CanShowRun B.has board.old state policy (lists scripts.now) }
     requires shards { HasShards policy }
     requires quotas { HasQuotas policy }
-    ensures outcome { IfOk result (λ outcome. (book : Book) → BeginsWith state book policy (lists scripts.now) →
+    ensures outcome { IfOk result (λ outcome.
+        (book : Book) → BeginsWith state book policy (lists scripts.now) →
         IsOutcome state.opening book policy (lists scripts.now) outcome) }
     ensures board { IfOk result (λ outcome. (rows : Book) (before : List (List Stored)) →
-        BeginsWith state (book_of rows before) policy (lists scripts.now) → B.has board.old state.opening rows before →
-        HasShownAfter B.has state.opening rows before (length outcome.hot.items) outcome.history.entries board.new) }
+        BeginsWith state (book_of rows before) policy (lists scripts.now) →
+        B.has board.old state.opening rows before →
+        HasShownAfter B.has state.opening rows before (length outcome.hot.items)
+        outcome.history.entries board.new) }
     ensures board_after_fault { IfErr result (λ fault. (rows : Book) (before : List (List Stored)) →
-        BeginsWith state (book_of rows before) policy (lists scripts.now) → B.has board.old state.opening rows before →
-        HasShownFirstAfter B.has B.has_refused state.opening rows before policy (lists scripts.now) board.new fault) }
+        BeginsWith state (book_of rows before) policy (lists scripts.now) →
+        B.has board.old state.opening rows before →
+        HasShownFirstAfter B.has B.has_refused state.opening rows before policy
+        (lists scripts.now) board.new fault) }
     ensures fault { IfErr result (IsMet (lists scripts.now)) }
 {
     let mut running = begin(alloc, state, scripts)?;
@@ -207,7 +207,8 @@ pub(crate) fn run_from<R: Threads + Wait + Sync, G: Gate + Sync, B: Board>(
 
 // A run before its first phase.
 fn begin(alloc: Global, state: Joined, scripts: &[Vec<Request>]) -> Result<Running, AllocError>
-    ensures running { IfOk result (λ running. (rows : Book) (policy : Rule) → BeginsWith state rows policy (lists scripts.now) →
+    ensures running { IfOk result (λ running. (rows : Book) (policy : Rule) →
+        BeginsWith state rows policy (lists scripts.now) →
         IsRunning state.opening rows policy (lists scripts.now) 0 running) }
 {
     Ok(Running {
@@ -233,9 +234,11 @@ fn no_stashes(alloc: Global, workers: usize) -> Result<Vec<Stash>, AllocError>
 // Whether a worker has a request or a stash left.
 fn is_left(scripts: &[Vec<Request>], stashes: &[Stash], first: u64) -> bool
     requires { length stashes.now ≡ length scripts.now }
-    ensures some { IsTrue result → (worker : ℕ) × ((first < length (script_of (lists scripts.now) worker))
+    ensures some { IsTrue result → (worker : ℕ)
+        × ((first < length (script_of (lists scripts.now) worker))
         ⊎ (0 < length (waiting_in stashes.now worker))) }
-    ensures none { ¬ IsTrue result → (worker : ℕ) → (length (script_of (lists scripts.now) worker) ≤ first)
+    ensures none { ¬ IsTrue result → (worker : ℕ) →
+        (length (script_of (lists scripts.now) worker) ≤ first)
         × (length (waiting_in stashes.now worker) ≡ 0) }
 {
     for worker in 0..scripts.len() {
@@ -265,10 +268,13 @@ fn next_phase<R: Threads + Wait + Sync, G: Gate + Sync>(
     requires counted { running.state.phase + 1 < 2 ^ 64 }
     requires plan { IsPlanOf plan running.state.phase }
     requires running { ¬ ¬ CanGoOn plan.policy (lists plan.round.scripts.now) running }
-    requires left { (worker : ℕ) × HasLeft plan.policy (lists plan.round.scripts.now) running.state.phase (waiting_in running.stashes.items) worker }
+    requires left { (worker : ℕ) × HasLeft plan.policy (lists plan.round.scripts.now)
+        running.state.phase (waiting_in running.stashes.items) worker }
     ensures running { IfOk result (λ next. (opening : Numbers) (rows : Book) → IsBook opening rows →
-        IsRunning opening rows plan.entry.policy (lists plan.entry.round.scripts.now) running.state.phase running →
-        IsRunning opening rows plan.entry.policy (lists plan.entry.round.scripts.now) (suc running.state.phase) next) }
+        IsRunning opening rows plan.entry.policy (lists plan.entry.round.scripts.now)
+        running.state.phase running →
+        IsRunning opening rows plan.entry.policy (lists plan.entry.round.scripts.now)
+        (suc running.state.phase) next) }
     ensures grown { IfOk result (λ next. next.history.entries
         ≡ running.history.entries ++ merged next.history.last) }
     ensures fault { IfErr result (IsMet (lists plan.entry.round.scripts.now)) }
@@ -299,10 +305,12 @@ fn show_phase<R: Wait, B: Board>(
     history: &History,
 ) -> Result<(), AllocError>
     requires { B.can_be_watched → CanShow B.has board.old (stored_rows (merged history.now.last)) }
-    ensures shown { OnOk result ((opening : Numbers) (rows : Book) (phases : List (List Stored)) →
+    ensures shown { OnOk result (
+        (opening : Numbers) (rows : Book) (phases : List (List Stored)) →
         B.has board.old opening rows phases →
         B.has board.new opening rows (phases ++ stored_rows (merged history.now.last) ∷ [])) }
-    ensures refused { OnErr result ((opening : Numbers) (rows : Book) (phases : List (List Stored)) →
+    ensures refused { OnErr result (
+        (opening : Numbers) (rows : Book) (phases : List (List Stored)) →
         B.has board.old opening rows phases →
         B.has board.new opening rows phases ⊎ B.has_refused board.new opening rows phases) }
 {

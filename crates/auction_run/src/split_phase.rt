@@ -10,8 +10,7 @@ ghost use Rattle.auction_run.specs.Serving.{HasBegun};
 
 use crate::fault::RunFault;
 use crate::phase::{Closed, begin_fault};
-use crate::plan::Plan;
-use crate::quotas::quotas;
+use crate::plan::{Plan, worker_quotas};
 use auction_rows::Object;
 use indexmap::IndexSet;
 use phase_floor::{Joined, SplitFloor};
@@ -41,9 +40,10 @@ where
     requires workers { length state.counters ≡ N.workers }
     requires split { is_split state.phase ≡ true }
     requires plan { IsPlanOf plan state.phase }
-    requires may { MayPerform plan.policy (lists plan.round.scripts.now) state stashes.items hot.now.keys }
-    ensures { HasPerformedPhase plan.entry.policy (lists plan.entry.round.scripts.now) state stashes.items hot.now.keys
-        history.old history.new result }
+    requires may { MayPerform plan.policy (lists plan.round.scripts.now) state stashes.items
+        hot.now.keys }
+    ensures { HasPerformedPhase plan.entry.policy (lists plan.entry.round.scripts.now) state
+        stashes.items hot.now.keys history.old history.new result }
 {
     let (floor, permits) = begin::<N, R, G>(rt, alloc, state, hot, stashes, &plan)?;
     let receipts = serve_all(rt, alloc, floor.boxes(), permits, plan.round)?;
@@ -51,7 +51,8 @@ where
     Ok(Closed { state, stashes })
 }
 
-// Begins a split phase: each worker is given its quota, and an empty stash in place of its own, in which nothing waits.
+// Begins a split phase: each worker is given its quota, and an empty stash in place of its own, in
+// which nothing waits.
 fn begin<N, R, G>(
     rt: &R,
     alloc: Global,
@@ -67,13 +68,15 @@ where
     requires workers { length state.counters ≡ N.workers }
     requires split { is_split state.phase ≡ true }
     requires first { plan.now.round.first ≡ first_index plan.now.policy state.phase }
-    requires may { MayPerform plan.now.policy (lists plan.now.round.scripts.now) state stashes.items hot.now.keys }
+    requires may { MayPerform plan.now.policy (lists plan.now.round.scripts.now) state
+        stashes.items hot.now.keys }
     ensures begun { IfOk result (λ begun.
-        HasBegun plan.entry.now.policy (lists plan.entry.now.round.scripts.now) state stashes.items hot.now.keys begun.0 begun.1.items) }
+        HasBegun plan.entry.now.policy (lists plan.entry.now.round.scripts.now) state
+        stashes.items hot.now.keys begun.0 begun.1.items) }
     ensures fault { IfErr result (λ fault. fault ≡ Memory) }
 {
-    let_go(stashes);
-    let quotas = quotas(
+    drop_empty(stashes);
+    let quotas = worker_quotas(
         alloc,
         plan.round.scripts,
         plan.policy.split_quota,
@@ -85,8 +88,8 @@ where
     }
 }
 
-// Lets stashes go in which nothing waits.
-fn let_go(stashes: Vec<Stash>)
+// Drops stashes in which nothing waits.
+fn drop_empty(stashes: Vec<Stash>)
     requires { (worker : ℕ) → waiting_in stashes.items worker ≡ [] }
 {
     drop(stashes);

@@ -1,5 +1,6 @@
 -- What a phase begins with.
 use Rattle.std.proofs.Common.{◌≡◌, ◌+◌, ◌<◌, ◌≤◌, ℕ, zero, suc, Bool, true, false, IsTrue, Option, List, [], ◌∷◌, ◌++◌, append_assoc, map, length, get_or, drop, refl, sym, ap, ◌∙◌, subst, arith}
+use Rattle.std.specs.Global.{Vec}
 use Rattle.std.specs.List.{AllByRecursion}
 use Rattle.std.proofs.lemmas.Bool.{false≢true}
 use Rattle.std.proofs.lemmas.List.{get_or-map}
@@ -21,8 +22,9 @@ use Rattle.closing_laws.specs.Phases.{no_receipt}
 use Rattle.closing_laws.specs.Standing.{counters_at}
 use Rattle.phase_floor.specs.declared.fault.BeginFault.TheVariants.{UnknownHot, TooLong, Memory}
 use Rattle.phase_floor.specs.declared.kits.Kit.{Kit}
-use Rattle.phase_floor.specs.Begins.{IsTooLong, asked_in_all, empty_stash, IsKit, AreKits, start_of, HasNoSlices, HaveStashRoom}
+use Rattle.phase_floor.specs.Begins.{IsTooLong, asked_in_all, empty_stash, IsKit, AreKits, start_of, HasNoSlices, HaveStashRoom, HasRefusedJoined, HasRefusedSplit}
 use Rattle.phase_floor.specs.Floors.{FloorState, IsOpen, IsBegun, AreBegun, no_stash, stash_at}
+use Rattle.phase_floor.specs.States.{JoinedState, DoAllExist, states_of}
 use Rattle.phase_floor.proofs.HotItems.{objects_of_slices, hot_is_stored}
 use Rattle.phase_floor.proofs.StoredItems.{stored_before}
 use Rattle.phase_laws.proofs.ListLemmas.{every_from}
@@ -42,17 +44,53 @@ begun_next floor workers w quotas keys keys_left kits kits_left stashes stashes_
     }
 
 -- the causes for which a phase does not begin are told apart
-pub unknown_not_long : ¬ (UnknownHot ≡ TooLong)
+unknown_not_long : ¬ (UnknownHot ≡ TooLong)
 unknown_not_long same = absurd cc
 
-pub long_not_unknown : ¬ (TooLong ≡ UnknownHot)
+long_not_unknown : ¬ (TooLong ≡ UnknownHot)
 long_not_unknown same = absurd cc
 
-pub memory_not_unknown : ¬ (Memory ≡ UnknownHot)
+memory_not_unknown : ¬ (Memory ≡ UnknownHot)
 memory_not_unknown same = absurd cc
 
-pub memory_not_long : ¬ (Memory ≡ TooLong)
+memory_not_long : ¬ (Memory ≡ TooLong)
 memory_not_long same = absurd cc
+
+-- a joined phase that does not begin, by its fault
+module _ (old : JoinedState) (held : Vec StashState) (given : List ℕ) (back : JoinedState) (kept : Vec StashState) (state_is : back ≡ old) (stashes_are : kept ≡ held) where
+  pub joined_too_long : IsTooLong old.counters held.items given → HasRefusedJoined old held given back kept TooLong
+  joined_too_long long = record { state = state_is; stashes = stashes_are; too_long = ((λ same. long), λ yes. refl); known = long_not_unknown }
+
+  pub joined_memory : ¬ IsTooLong old.counters held.items given → HasRefusedJoined old held given back kept Memory
+  joined_memory short = record {
+    state = state_is;
+    stashes = stashes_are;
+    too_long = ((λ same. absurd (memory_not_long same)), λ long. absurd (short long));
+    known = memory_not_unknown;
+  }
+
+-- a split phase that does not begin, by its fault
+module _ (old : JoinedState) (given : List ℕ) (objects : List Object) (back : JoinedState) (state_is : back ≡ old) where
+  pub split_unknown : ¬ DoAllExist old.opening (states_of old) objects → HasRefusedSplit old given objects back UnknownHot
+  split_unknown none = record {
+    state = state_is;
+    unknown = ((λ same. none), λ no. refl);
+    too_long = ((λ same. absurd (unknown_not_long same)), λ both. absurd (none both.0));
+  }
+
+  pub split_too_long : DoAllExist old.opening (states_of old) objects → IsTooLong old.counters [] given → HasRefusedSplit old given objects back TooLong
+  split_too_long exist long = record {
+    state = state_is;
+    unknown = ((λ same. absurd (long_not_unknown same)), λ none. absurd (none exist));
+    too_long = ((λ same. (exist, long)), λ both. refl);
+  }
+
+  pub split_memory : DoAllExist old.opening (states_of old) objects → ¬ IsTooLong old.counters [] given → HasRefusedSplit old given objects back Memory
+  split_memory exist short = record {
+    state = state_is;
+    unknown = ((λ same. absurd (memory_not_unknown same)), λ none. absurd (none exist));
+    too_long = ((λ same. absurd (memory_not_long same)), λ both. absurd (short both.1));
+  }
 
 -- what the test says of these, of the same as it was given
 module _ (test : Bool) (counters given_counters : List Counters) (stashes given_stashes : List StashState) (quotas : List ℕ) (same_counters : given_counters ≡ counters) (same_stashes : given_stashes ≡ stashes) where

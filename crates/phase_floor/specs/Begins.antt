@@ -1,50 +1,148 @@
 -- When a phase begins, and when it does not.
-use Rattle.std.specs.Prelude.{◌≡◌, ℕ, ◌+◌, ◌<◌, List, [], Option, length, slice_index, slice_index_or}
+use Rattle.std.specs.Prelude.{◌≡◌, ◌+◌, ◌<◌, ◌^◌, ◌↔◌}
+use Rattle.std.specs.Prelude.{ℕ, List, [], length, map, slice_index, slice_index_or}
+use Rattle.std.specs.Global.{Vec}
 use Rattle.auction_rows.specs.declared.limits.TheConstants.{MOST_OF_A_WORKER}
 use Rattle.auction_rows.specs.declared.ids.Object.{Object}
 use Rattle.auction_rows.specs.declared.numbers.Opening.{Opening}
-use Rattle.auction_rows.specs.declared.requests.Facts.{Facts}
 use Rattle.shard_boxes.specs.Keys.{KeyState}
+use Rattle.shard_boxes.specs.States.{ShardState}
 use Rattle.worker_journals.specs.Journals.{JournalView, empty_journal}
 use Rattle.phase_permits.specs.declared.counters.Counters.{Counters}
 use Rattle.phase_permits.specs.declared.slices.Hot.{Hot}
-use Rattle.phase_permits.specs.Slicing.{slices_of}
+use Rattle.phase_permits.specs.Slicing.{objects_of, slices_of}
 use Rattle.phase_permits.specs.Workers.{HasStashRoom, new_worker, WorkerState}
 use Rattle.phase_permits.specs.Stashes.{StashState}
 use Rattle.closing_laws.specs.Standing.{counters_at}
+use Rattle.phase_floor.specs.declared.fault.BeginFault.{BeginFault}
+use Rattle.phase_floor.specs.declared.fault.BeginFault.TheVariants.{UnknownHot, TooLong}
 use Rattle.phase_floor.specs.declared.kits.Kit.{Kit}
-use Rattle.phase_floor.specs.Floors.{stash_at}
+use Rattle.phase_floor.specs.Floors.{FloorState, Stocks, AreBegun, AreStocksOf, stash_at}
+use Rattle.phase_floor.specs.States.{JoinedState, DoAllExist, states_of}
 
 -- what a worker has committed, what waits, and its quota
 abbrev pub asked_in_all : List Counters → List StashState → List ℕ → ℕ → ℕ
-asked_in_all counters stashes quotas w = (counters_at counters w).commits + length (stash_at stashes w).requests + slice_index quotas w
+asked_in_all counters stashes quotas w =
+    (counters_at counters w).commits + length (stash_at stashes w).requests + slice_index quotas w
 
 -- what some worker has committed, what waits and its quota are more than 1,000,000 together
 abbrev pub IsTooLong : List Counters → List StashState → List ℕ → Type 0
-IsTooLong counters stashes quotas = (w : ℕ) × (w < length counters) × (MOST_OF_A_WORKER < asked_in_all counters stashes quotas w)
+IsTooLong counters stashes quotas =
+    (w : ℕ) × (w < length counters) × (MOST_OF_A_WORKER < asked_in_all counters stashes quotas w)
 
 -- an empty stash with room for a quota
 abbrev pub empty_stash : ℕ → StashState
 empty_stash quota = record { requests = []; done = []; room = quota }
 
--- what a worker gets in a phase: an empty journal with room for what waits and for its quota, and a slice of each hot object to
--- which nothing is applied
-pub record IsKit (phase : ℕ) (stocks : List (Object × Option (Facts × ℕ))) (worker room : ℕ) (kit : Kit) : Type 0 where
+-- each worker's stash has room for its quota, where something is hot
+abbrev pub HaveStashRoom : Stocks → List StashState → List ℕ → Type 0
+HaveStashRoom stocks stashes quotas = (w : ℕ) → w < length quotas →
+    HasStashRoom (slices_of stocks []) (slice_index quotas w) (stash_at stashes w).room
+
+-- ---- what is asked for
+
+-- A phase of these shards and so many workers can begin with this state and these quotas.
+pub record CanBegin (opening : List ShardState) (count : ℕ) (state : JoinedState)
+    (given : List ℕ) : Type 0 where
+  -- they are the state's shards
+  pub shards : states_of state ≡ opening
+  -- and its workers
+  pub workers : length state.counters ≡ count
+  -- there is a quota for each worker
+  pub quotas : length given ≡ count
+  -- the phase's number is below 2^64 - 1
+  pub phase : state.phase + 1 < 2 ^ 64
+
+-- The workers of this state can be given these hot objects, stashes and quotas.
+pub record CanBeGiven (state : JoinedState) (hot : Stocks) (waiting : List StashState)
+    (given : List ℕ) : Type 0 where
+  -- what is fixed of the hot objects is what the shards show
+  pub stocks : AreStocksOf state.opening (states_of state) hot
+  -- no worker has more than 1,000,000 commits then
+  pub fits : ¬ IsTooLong state.counters waiting given
+  -- each stash has room for what is put off
+  pub rooms : HaveStashRoom hot waiting given
+
+-- ---- what is open then
+
+-- A phase is open that goes on from this state: its workers begin with these permits.
+pub record OpensPhase (state : JoinedState) (given : List ℕ) (waiting : List StashState)
+    (floor : FloorState) (begun : List WorkerState) : Type 0 where
+  -- it is of the state's users and categories
+  pub opening : floor.opening ≡ state.opening
+  -- its number is the state's
+  pub phase : floor.phase ≡ state.phase
+  -- each worker begins with the state's counters
+  pub counters : floor.counters ≡ state.counters
+  -- each worker has a new permit for its quota, with its stash
+  pub permits : AreBegun floor given waiting begun
+
+-- A joined phase is open.
+pub record OpensJoined (state : JoinedState) (given : List ℕ) (waiting : List StashState)
+    (floor : FloorState) (begun : List WorkerState) : Type 0 where
+  -- it goes on from the state, and each worker has its stash and its quota
+  pub opens : OpensPhase state given waiting floor begun
+  -- nothing is hot
+  pub cold : floor.stocks ≡ []
+  -- no worker has more than 1,000,000 commits, stashed and given requests together
+  pub fits : ¬ IsTooLong state.counters waiting given
+
+-- A split phase is open, in which these objects are hot.
+pub record OpensSplit (state : JoinedState) (given : List ℕ) (objects : List Object)
+    (floor : FloorState) (begun : List WorkerState) : Type 0 where
+  -- it goes on from the state, and each worker has an empty stash and its quota
+  pub opens : OpensPhase state given (map empty_stash given) floor begun
+  -- these objects are hot
+  pub hot : objects_of floor.stocks ≡ objects
+  -- they exist
+  pub known : DoAllExist state.opening (states_of state) objects
+  -- no worker has more than 1,000,000 commits and given requests together
+  pub fits : ¬ IsTooLong state.counters [] given
+
+-- ---- what comes back otherwise
+
+-- A joined phase does not begin with this state, these stashes and quotas, for this fault.
+pub record HasRefusedJoined (old : JoinedState) (held : Vec StashState) (given : List ℕ)
+    (back : JoinedState) (kept : Vec StashState) (fault : BeginFault) : Type 0 where
+  -- the state comes back as it was
+  pub state : back ≡ old
+  -- so do the stashes
+  pub stashes : kept ≡ held
+  -- TooLong is told exactly where some worker would have more than 1,000,000
+  pub too_long : (fault ≡ TooLong) ↔ IsTooLong old.counters held.items given
+  -- UnknownHot is never told
+  pub known : ¬ (fault ≡ UnknownHot)
+
+-- A split phase does not begin with this state, these quotas and hot objects, for this fault.
+pub record HasRefusedSplit (old : JoinedState) (given : List ℕ) (objects : List Object)
+    (back : JoinedState) (fault : BeginFault) : Type 0 where
+  -- the state comes back as it was
+  pub state : back ≡ old
+  -- UnknownHot is told exactly where a hot object does not exist
+  pub unknown : (fault ≡ UnknownHot) ↔ ¬ DoAllExist old.opening (states_of old) objects
+  -- TooLong is told exactly where all exist and some worker would have more than 1,000,000
+  pub too_long : (fault ≡ TooLong)
+      ↔ (DoAllExist old.opening (states_of old) objects × IsTooLong old.counters [] given)
+
+-- ---- what a worker gets
+
+-- what a worker gets in a phase: an empty journal with room for what waits and for its quota, and
+-- a slice of each hot object to which nothing is applied
+pub record IsKit (phase : ℕ) (stocks : Stocks) (worker room : ℕ) (kit : Kit) : Type 0 where
   pub journal : kit.journal ≡ empty_journal phase worker room
   pub slices : kit.slices ≡ slices_of stocks []
 
 -- the first so many workers' kits, in order
-abbrev pub AreKits : ℕ → List (Object × Option (Facts × ℕ)) → List StashState → List ℕ → ℕ → List Kit → Type 0
+abbrev pub AreKits : ℕ → Stocks → List StashState → List ℕ → ℕ → List Kit → Type 0
 AreKits phase stocks stashes quotas count kits = (w : ℕ) (d : Kit) → w < count →
-    IsKit phase stocks w (length (stash_at stashes w).requests + slice_index quotas w) (slice_index_or kits w d)
+    IsKit phase stocks w (length (stash_at stashes w).requests + slice_index quotas w)
+    (slice_index_or kits w d)
 
 -- the permit of a worker who has done nothing in the phase, of its parts
-abbrev pub start_of : KeyState → Opening → Counters → JournalView → StashState → List (Object × Hot) → ℕ → WorkerState
-start_of key opening counters journal stash slices quota = new_worker key opening counters journal stash slices quota 0
-
--- each worker's stash has room for its quota, where something is hot
-abbrev pub HaveStashRoom : List (Object × Option (Facts × ℕ)) → List StashState → List ℕ → Type 0
-HaveStashRoom stocks stashes quotas = (w : ℕ) → w < length quotas → HasStashRoom (slices_of stocks []) (slice_index quotas w) (stash_at stashes w).room
+abbrev pub start_of : KeyState → Opening → Counters → JournalView → StashState →
+    List (Object × Hot) → ℕ → WorkerState
+start_of key opening counters journal stash slices quota =
+    new_worker key opening counters journal stash slices quota 0
 
 -- nothing is hot
 abbrev pub HasNoSlices : WorkerState → Type 0

@@ -26,7 +26,8 @@ use Rattle.closing_laws.specs.Standing.{StandFor, counters_at}
 use Rattle.phase_floor.specs.Floors.{FloorState}
 use Rattle.phase_floor.specs.States.{JoinedState, states_of, StandsFor}
 
--- the worker's receipt of the phase: its key is to the phase's boxes, and it began with the floor's counters, at clock 0
+-- the worker's receipt of the phase: its key is to the phase's boxes, and it began with the floor's
+-- counters, at clock 0
 pub record IsReceipt (floor : FloorState) (worker : ℕ) (receipt : WorkerState) : Type 0 where
   -- its key is to the phase's boxes
   pub boxes_are : receipt.key.boxes ≡ floor.boxes
@@ -44,12 +45,16 @@ pub record IsReceipt (floor : FloorState) (worker : ℕ) (receipt : WorkerState)
 -- each worker's receipt of the phase, in order
 abbrev pub AreReceiptsOf : FloorState → List WorkerState → Type 0
 AreReceiptsOf floor receipts =
-    (length receipts ≡ length floor.counters) × ((w : ℕ) → w < length floor.counters → IsReceipt floor w (receipt_at receipts w))
+    (length receipts ≡ length floor.counters)
+    × ((w : ℕ) → w < length floor.counters → IsReceipt floor w (receipt_at receipts w))
 
--- The receipt is of a worker who has ended: its transactions explain it, and its commits, and the operations in a slice, are at most 1,000,000.
+-- The receipt is of a worker who has ended.
 pub record IsFinished (shards : ℕ) (receipt : WorkerState) : Type 0 where
+  -- its transactions explain it
   pub explained : IsExplained shards receipt
+  -- it has at most 1,000,000 commits
   pub limit : (counters_of receipt).commits ≤ MOST_OF_A_WORKER
+  -- and as many operations in a slice
   pub few : AreFew MOST_OF_A_WORKER receipt.slices
 
 abbrev pub stash_of : WorkerState → StashState
@@ -58,8 +63,10 @@ stash_of receipt = receipt.stash
 abbrev pub sliced_of : WorkerState → List (Object × Hot)
 sliced_of receipt = receipt.slices
 
--- the phase that began with these shards, ended with these receipts, and left these shards and entries
-abbrev pub phase_of : List ShardState → FloorState → List WorkerState → List ShardState → List Entry → Phase
+-- the phase that began with these shards, ended with these receipts, and left these shards and
+-- entries
+abbrev pub phase_of : List ShardState → FloorState → List WorkerState → List ShardState →
+    List Entry → Phase
 phase_of opening floor receipts given entries = record {
   setting = record { opening = floor.opening; shards = length opening; stocks = floor.stocks };
   opening = opening;
@@ -73,34 +80,36 @@ phase_of opening floor receipts given entries = record {
 abbrev pub at_start : ShardState → ShardState
 at_start state = record state { clock = 0 }
 
--- The phase has closed: the boxes gave back shards, and the states left are these with their clocks at 0.
-pub record HasSettled (opening : List ShardState) (floor : FloorState) (receipts : List WorkerState) (states : List ShardState)
-    (entries : List Entry) : Type 0 where
+-- The phase has closed: the boxes gave back shards, and the states left are these with their clocks
+-- at 0.
+pub record HasSettled (opening : List ShardState) (floor : FloorState)
+    (receipts : List WorkerState) (states : List ShardState) (entries : List Entry) : Type 0 where
   pub given : List ShardState
   pub closed : HasClosed (phase_of opening floor receipts given entries)
   pub states_are : states ≡ map at_start given
 
--- The phase has closed: the boxes gave back shards, into these the slices of all workers were merged, each once, in some order,
--- and the states left are what came of it, with their clocks at 0.
-pub record HasReconciled (opening : List ShardState) (floor : FloorState) (receipts : List WorkerState) (states : List ShardState)
-    (entries : List Entry) : Type 0 where
+-- The phase has closed: the boxes gave back shards, into these the slices of all workers were
+-- merged, each once, in some order, and the states left are what came of it, with their clocks at
+-- 0.
+pub record HasReconciled (opening : List ShardState) (floor : FloorState)
+    (receipts : List WorkerState) (states : List ShardState) (entries : List Entry) : Type 0 where
   pub given : List ShardState
   pub closed : HasClosed (phase_of opening floor receipts given entries)
   pub order : List (Object × Slice)
   pub each : IsPermutation (slices_left receipts) order
   pub states_are : states ≡ map at_start (fold after_merge given order)
 
--- The phase closes lawfully with these receipts and entries, by the shards that its boxes gave back, and leaves these states.
-pub record HasClosedLawfully (opening : List ShardState) (floor : FloorState) (receipts : List WorkerState) (states : List ShardState)
-    (entries : List Entry) : Type 0 where
+-- The phase closes lawfully with these receipts and entries, by the shards that its boxes gave
+-- back, and leaves these states.
+pub record HasClosedLawfully (opening : List ShardState) (floor : FloorState)
+    (receipts : List WorkerState) (states : List ShardState) (entries : List Entry) : Type 0 where
   pub given : List ShardState
   pub lawful : ClosesLawfully (phase_of opening floor receipts given entries) states
 
--- What a phase that closes with these receipts and entries leaves: the state after it, and the stashes. Each worker has as many
--- commits more as its journal has entries; of each book for which the state before the phase stood the entries replay, and the
--- state after it stands for the book with their rows.
-pub record Leaves (opening : List ShardState) (floor : FloorState) (receipts : List WorkerState) (entries : List Entry)
-    (state : JoinedState) (stashes : List StashState) : Type 0 where
+-- What a phase that closes with these receipts and entries leaves: the state after it, and the
+-- stashes.
+pub record Leaves (opening : List ShardState) (floor : FloorState) (receipts : List WorkerState)
+    (entries : List Entry) (state : JoinedState) (stashes : List StashState) : Type 0 where
   -- it is the next phase of the same auction
   pub opening_is : state.opening ≡ floor.opening
   pub phase_is : state.phase ≡ floor.phase + 1
@@ -114,9 +123,11 @@ pub record Leaves (opening : List ShardState) (floor : FloorState) (receipts : L
       (counters_at state.counters w).commits
       ≡ (counters_at floor.counters w).commits + length (journal_of (receipt_at receipts w)).entries
   -- the entries replay from each book for which the state before stood
-  pub replays : (book : Book) → StandFor opening floor.counters book [] → ReplaysFrom floor.opening book entries
+  pub replays : (book : Book) → StandFor opening floor.counters book [] →
+      ReplaysFrom floor.opening book entries
   -- and the state after stands for the book after them
-  pub stands : (book : Book) → StandFor opening floor.counters book [] → StandsFor state (book_after floor.opening book entries)
+  pub stands : (book : Book) → StandFor opening floor.counters book [] →
+      StandsFor state (book_after floor.opening book entries)
 
 -- the users and categories of shards
 abbrev pub opening_in : List ShardState → Opening
@@ -145,8 +156,9 @@ pub record AreOfOne (states : List ShardState) : Type 0 where
   pub opening_is : HaveOpening states (opening_in states)
 
 -- the parts of receipts, each kind by itself, of slices those that there are
-pub record ArePartsOf (receipts : List WorkerState) (journals : List JournalView) (stashes : List StashState) (keys : List KeyState)
-    (counters : List Counters) (slices : List (List (Object × Hot))) : Type 0 where
+pub record ArePartsOf (receipts : List WorkerState) (journals : List JournalView)
+    (stashes : List StashState) (keys : List KeyState) (counters : List Counters)
+    (slices : List (List (Object × Hot))) : Type 0 where
   pub journals_are : journals ≡ map journal_of receipts
   pub stashes_are : stashes ≡ map stash_of receipts
   pub keys_are : keys ≡ map key_of receipts

@@ -16,8 +16,11 @@ use Rattle.closing_laws.specs.Phases.{IsReadFrom}
 use Rattle.closing_laws.specs.Standing.{counters_at}
 use Rattle.phase_floor.specs.States.{DoAllExist, IsKept}
 
--- the users and categories, the phase's number, the counters with which each worker begins, what is fixed of each hot object
--- (there is none in a joined phase), and the boxes
+-- what is fixed of each hot object: of an item its facts and how many are left
+abbrev pub Stocks : Type 0
+Stocks = List (Object × Option (Facts × ℕ))
+
+-- An open phase.
 pub record FloorState : Type 0 where
   -- the users and categories
   pub opening : Opening
@@ -31,7 +34,8 @@ pub record FloorState : Type 0 where
   pub boxes : List BoxId
 
 -- the hot objects exist, none is named twice, and what is fixed of each is what the shards show
-pub record AreStocksOf (opening : Opening) (states : List ShardState) (stocks : List (Object × Option (Facts × ℕ))) : Type 0 where
+pub record AreStocksOf (opening : Opening) (states : List ShardState) (stocks : Stocks)
+    : Type 0 where
   pub exist : DoAllExist opening states (objects_of stocks)
   pub distinct : IsDistinct same_object (objects_of stocks)
   pub stocked : AllByRecursion IsStocked stocks
@@ -53,10 +57,13 @@ pub record IsOpen (states : List ShardState) (workers : ℕ) (floor : FloorState
 -- the permit of a worker who has done nothing in the phase, with this quota, stash and key
 abbrev pub new_permit : FloorState → ℕ → ℕ → StashState → KeyState → WorkerState
 new_permit floor worker quota stash key =
-    new_worker key floor.opening (counters_at floor.counters worker) (empty_journal floor.phase worker (length stash.requests + quota)) stash (slices_of floor.stocks []) quota 0
+    new_worker key floor.opening (counters_at floor.counters worker)
+    (empty_journal floor.phase worker (length stash.requests + quota)) stash
+    (slices_of floor.stocks []) quota 0
 
 -- the worker's permit is such a new one, with a new key to the phase's boxes
-pub record IsBegun (floor : FloorState) (worker quota : ℕ) (stash : StashState) (permit : WorkerState) : Type 0 where
+pub record IsBegun (floor : FloorState) (worker quota : ℕ) (stash : StashState)
+    (permit : WorkerState) : Type 0 where
   pub new : permit ≡ new_permit floor worker quota stash permit.key
   pub key : IsNewKey floor.boxes worker permit.key
 

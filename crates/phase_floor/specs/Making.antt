@@ -15,4 +15,5 @@ pub record IsBlank (opening : Opening) (shards number : ℕ) (state : ShardState
 
 -- the shards with numbers below `count`, of `shards` in all, are blank
 abbrev pub AreBlank : Opening → ℕ → ℕ → List ShardState → Type 0
-AreBlank opening shards count states = (s : ℕ) → s < count → IsBlank opening shards s (state_at states s)
+AreBlank opening shards count states = (s : ℕ) → s < count →
+    IsBlank opening shards s (state_at states s)

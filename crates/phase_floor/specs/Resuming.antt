@@ -31,15 +31,18 @@ counters_in book worker = record {
   commits = rows_by book worker;
 }
 
--- each act that writes a row can be done on the shard where its object lies, once there is room for the item that it adds
+-- each act that writes a row can be done on the shard where its object lies, once there is room for
+-- the item that it adds
 abbrev pub CanWriteOn : List ShardState → Row → Type 0
 CanWriteOn states row = (s : ℕ) → s < length states →
     AllByRecursion (λ act. is_done_on s (length states) [] act ≡ true →
-    CanActOn (state_at states s).opening s (length states) (λ id. true) (state_at states s).contents act) (writes_of row)
+    CanActOn (state_at states s).opening s (length states) (λ id. true)
+    (state_at states s).contents act) (writes_of row)
 
 -- the shard of these in which an object lies
 abbrev pub IsShardOf : List Shard → Object → Shard → Type 0
-IsShardOf shards object shard = shard ≡ slice_index_or shards (shard_of object (length shards)) shard
+IsShardOf shards object shard =
+    shard ≡ slice_index_or shards (shard_of object (length shards)) shard
 
 -- the act can be done on the shard in which the object lies
 abbrev pub CanActIn : List Shard → Object → Act → Type 0
@@ -51,19 +54,25 @@ HasRoomIn shards id = (shard : Shard) → IsShardOf shards (object.Item id) shar
 
 -- a shard after those of the acts that are about its objects
 abbrev pub with_acts : ℕ → List Act → ShardState → ShardState
-with_acts shards acts state = record state { contents = after_acts state.contents (done_on state.number shards [] acts) }
+with_acts shards acts state =
+    record state { contents = after_acts state.contents (done_on state.number shards [] acts) }
 
 -- each of the shards is what the acts on its objects make of it
 pub record HaveDone (old new : List ShardState) (acts : List Act) : Type 0 where
   pub len : length new ≡ length old
-  pub each : (s : ℕ) → s < length old → state_at new s ≡ with_acts (length old) acts (state_at old s)
+  pub each : (s : ℕ) → s < length old →
+      state_at new s ≡ with_acts (length old) acts (state_at old s)
 
 -- counters with one more row of its kind, which was a commit
 abbrev pub with_row : Row → Counters → Counters
-with_row (row.Item r) counters = record counters { items = counters.items + 1; commits = counters.commits + 1 }
-with_row (row.Bid r) counters = record counters { bids = counters.bids + 1; commits = counters.commits + 1 }
-with_row (row.Comment r) counters = record counters { comments = counters.comments + 1; commits = counters.commits + 1 }
-with_row (row.Buy r) counters = record counters { buys = counters.buys + 1; commits = counters.commits + 1 }
+with_row (row.Item r) counters =
+    record counters { items = counters.items + 1; commits = counters.commits + 1 }
+with_row (row.Bid r) counters =
+    record counters { bids = counters.bids + 1; commits = counters.commits + 1 }
+with_row (row.Comment r) counters =
+    record counters { comments = counters.comments + 1; commits = counters.commits + 1 }
+with_row (row.Buy r) counters =
+    record counters { buys = counters.buys + 1; commits = counters.commits + 1 }
 
 -- so few that one more fits
 pub record HaveRoom (counters : Counters) : Type 0 where
@@ -75,7 +84,8 @@ pub record HaveRoom (counters : Counters) : Type 0 where
 
 -- each shard has its place for number, and is one of as many as there are
 abbrev pub AreNumbered : List ShardState → Type 0
-AreNumbered states = (s : ℕ) → s < length states → ((state_at states s).number ≡ s) × ((state_at states s).shards ≡ length states)
+AreNumbered states = (s : ℕ) → s < length states →
+    ((state_at states s).number ≡ s) × ((state_at states s).shards ≡ length states)
 
 -- the shards are numbered, of this opening, and at clock 0
 pub record AreReady (opening : Opening) (states : List ShardState) : Type 0 where

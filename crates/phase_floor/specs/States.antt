@@ -16,7 +16,8 @@ use Rattle.phase_permits.specs.Performing.{HaveOpening}
 use Rattle.closing_laws.specs.Phases.{value_on}
 use Rattle.closing_laws.specs.Standing.{StandFor, AreOfWorkers, counters_at, stores}
 
--- the users and categories, the number of the next phase, the shards, and the counters of each worker
+-- the users and categories, the number of the next phase, the shards, and the counters of each
+-- worker
 pub record JoinedState : Type 0 where
   -- the users and categories
   pub opening : Opening
@@ -28,7 +29,8 @@ pub record JoinedState : Type 0 where
   pub counters : List Counters
 
 abbrev pub joined_of : Opening → ℕ → List Shard → List Counters → JoinedState
-joined_of opening phase shards counters = record { opening = opening; phase = phase; shards = shards; counters = counters }
+joined_of opening phase shards counters =
+    record { opening = opening; phase = phase; shards = shards; counters = counters }
 
 -- what the shards show
 abbrev pub states_of : JoinedState → List ShardState
@@ -64,15 +66,17 @@ pub record IsWithinLimit (counters : Counters) : Type 0 where
 abbrev pub AreWithinLimit : List Counters → Type 0
 AreWithinLimit counters = (w : ℕ) → w < length counters → IsWithinLimit (counters_at counters w)
 
--- It is not so that they stand for no book of their workers' rows. Whatever can be tested of them, and holds where they stand
--- for such a book, holds here.
+-- It is not so that they stand for no book of their workers' rows. Whatever can be tested of them,
+-- and holds if they stand for such a book, holds here.
 abbrev pub AreOfABook : Opening → List ShardState → List Counters → Type 0
 AreOfABook opening states counters =
-    ¬ ((book : Book) → IsBook opening book → AllByRecursion HasStars book → AreOfWorkers (length counters) book → StandFor states counters book [] → ⊥)
+    ¬ ((book : Book) → IsBook opening book → AllByRecursion HasStars book →
+    AreOfWorkers (length counters) book → StandFor states counters book [] → ⊥)
 
--- what is kept between phases: 1 to 64 shards with which a phase may open, 1 to 16 workers within limits, and that they are of
--- a book
-pub record IsKept (opening : Opening) (states : List ShardState) (counters : List Counters) : Type 0 where
+-- what is kept between phases: 1 to 64 shards with which a phase may open, 1 to 16 workers within
+-- limits, and that they are of a book
+pub record IsKept (opening : Opening) (states : List ShardState) (counters : List Counters)
+    : Type 0 where
   -- there are 1 to 64 shards
   pub some_shards : 0 < length states
   pub few_shards : length states ≤ MOST_SHARDS

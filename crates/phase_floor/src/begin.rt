@@ -1,9 +1,9 @@
 //! How a phase begins.
-ghost use Rattle.std.specs.Prelude.{◌≡◌, ◌+◌, ◌<◌, ◌≤◌, ◌^◌, ℕ, [], length, vec_len, vec_capacity, IfOk, IfErr, ◌↔◌};
+ghost use Rattle.std.specs.Prelude.{◌≡◌, ◌<◌, ◌≤◌, ℕ, length, vec_len, vec_capacity, IfOk, IfErr};
 ghost use Rattle.shard_boxes.specs.Keys.{AreNewKeys};
-ghost use Rattle.phase_floor.specs.declared.fault.BeginFault.TheVariants.{UnknownHot, TooLong};
-ghost use Rattle.phase_floor.specs.Begins.{IsTooLong, asked_in_all, AreKits, HaveStashRoom};
-ghost use Rattle.phase_floor.specs.Floors.{AreBegun, AreStocksOf};
+ghost use Rattle.phase_floor.specs.Begins.{asked_in_all, AreKits, CanBegin, CanBeGiven, HasRefusedJoined};
+ghost use Rattle.phase_floor.specs.Begins.{HaveStashRoom, OpensJoined, OpensPhase};
+ghost use Rattle.phase_floor.specs.Floors.{AreBegun};
 
 use crate::fault::BeginFault;
 use crate::floor::{Floor, JoinedFloor};
@@ -18,11 +18,10 @@ use std::alloc::Global;
 use std::sync::Wait;
 
 impl Joined {
-    ghost use Rattle.phase_floor.specs.States.{states_of};
-
-    /// Begins a joined phase: a permit for each worker to perform what waits in its stash and its quota. The phase is of
-    /// this state's shards and workers, and its number is below 2^64 - 1. Else the state and the stashes come back unchanged:
-    /// TooLong where some worker's commits, stash and quota are more than 1,000,000 together, Memory where none is left.
+    /// Begins a joined phase: a permit for each worker to perform what waits in its stash and its
+    /// quota. The phase is of this state's shards and workers, and its number is below 2^64 - 1. If
+    /// it does not begin, the state and the stashes come back unchanged: `TooLong` if some worker's
+    /// commits, stash and quota are more than 1,000,000 together, `Memory` if none is left.
     pub fn begin_joined<N: PhaseName, R: Wait>(
         self,
         rt: &R,
@@ -30,22 +29,12 @@ impl Joined {
         quotas: &[u32],
         stashes: Vec<Stash>,
     ) -> Result<(JoinedFloor<N>, Vec<JoinedPermit<N>>), (Joined, Vec<Stash>, BeginFault)>
-        requires shards { states_of self ≡ N.opening }
-        requires workers { length self.counters ≡ N.workers }
-        requires quotas { length quotas.now ≡ N.workers }
+        requires can { CanBegin N.opening N.workers self quotas.now }
         requires stashes { vec_len stashes ≡ N.workers }
-        requires phase { self.phase + 1 < 2 ^ 64 }
-        ensures opening { IfOk result (λ begun. begun.0.opening ≡ self.opening) }
-        ensures phase { IfOk result (λ begun. begun.0.phase ≡ self.phase) }
-        ensures counters { IfOk result (λ begun. begun.0.counters ≡ self.counters) }
-        ensures cold { IfOk result (λ begun. begun.0.stocks ≡ []) }
-        ensures permits { IfOk result (λ begun. AreBegun begun.0 quotas.now stashes.items begun.1.items) }
-        ensures fits { IfOk result (λ begun. ¬ IsTooLong self.counters stashes.items quotas.now) }
-        ensures state { IfErr result (λ refused. refused.0 ≡ self) }
-        ensures stashes { IfErr result (λ refused. refused.1 ≡ stashes) }
-        ensures too_long { IfErr result (λ refused.
-            (refused.2 ≡ TooLong) ↔ IsTooLong self.counters stashes.items quotas.now) }
-        ensures known { IfErr result (λ refused. ¬ (refused.2 ≡ UnknownHot)) }
+        ensures begun { IfOk result (λ begun.
+            OpensJoined self quotas.now stashes.items begun.0 begun.1.items) }
+        ensures refused { IfErr result (λ refused.
+            HasRefusedJoined self stashes quotas.now refused.0 refused.1 refused.2) }
     {
         if is_too_long(&self.counters, &stashes, quotas) {
             return Err((self, stashes, BeginFault::TooLong));
@@ -65,8 +54,8 @@ impl Joined {
         }
     }
 
-    // Begins a phase of either kind: what each worker starts with. All memory is asked for before anything is moved; where it is
-    // refused the state and the stashes come back unchanged.
+    // Begins a phase of either kind: what each worker starts with. All memory is asked for before
+    // anything is moved; if it is refused, the state and the stashes come back unchanged.
     pub(crate) fn begin<N: PhaseName, R: Wait>(
         self,
         rt: &R,
@@ -75,21 +64,13 @@ impl Joined {
         quotas: &[u32],
         stashes: Vec<Stash>,
     ) -> Result<(Floor<N>, Vec<Start<N>>), (Joined, Vec<Stash>)>
-        requires shards { states_of self ≡ N.opening }
-        requires workers { length self.counters ≡ N.workers }
-        requires quotas { length quotas.now ≡ N.workers }
+        requires can { CanBegin N.opening N.workers self quotas.now }
         requires stashes { vec_len stashes ≡ N.workers }
-        requires phase { self.phase + 1 < 2 ^ 64 }
-        requires stocks { AreStocksOf self.opening (states_of self) stocks.items }
-        requires fits { ¬ IsTooLong self.counters stashes.items quotas.now }
-        requires rooms { HaveStashRoom stocks.items stashes.items quotas.now }
-        ensures opening { IfOk result (λ begun. begun.0.opening ≡ self.opening) }
-        ensures phase { IfOk result (λ begun. begun.0.phase ≡ self.phase) }
-        ensures counters { IfOk result (λ begun. begun.0.counters ≡ self.counters) }
+        requires given { CanBeGiven self stocks.items stashes.items quotas.now }
+        ensures begun { IfOk result (λ begun.
+            OpensPhase self quotas.now stashes.items begun.0 begun.1.items) }
         ensures stocks { IfOk result (λ begun. begun.0.stocks ≡ stocks.items) }
-        ensures starts { IfOk result (λ begun. AreBegun begun.0 quotas.now stashes.items begun.1.items) }
-        ensures state { IfErr result (λ refused. refused.0 ≡ self) }
-        ensures stashes { IfErr result (λ refused. refused.1 ≡ stashes) }
+        ensures refused { IfErr result (λ refused. (refused.0 ≡ self) × (refused.1 ≡ stashes)) }
     {
         let Ok(kits) = new_kits(alloc, self.phase, &stocks, &stashes, quotas) else {
             return Err((self, stashes));
@@ -127,9 +108,12 @@ impl<N: PhaseName> Floor<N> {
         requires empty { vec_len starts ≡ 0 }
         requires room { N.workers ≤ vec_capacity starts }
         requires keys { AreNewKeys self.now.boxes N.workers keys.items }
-        requires lens { (vec_len kits ≡ N.workers) × (vec_len stashes ≡ N.workers) × (length quotas.now ≡ N.workers) }
-        requires kits { AreKits self.now.phase self.now.stocks stashes.items quotas.now N.workers kits.items }
-        requires fits { (w : ℕ) → w < N.workers → asked_in_all self.now.counters stashes.items quotas.now w ≤ MOST_OF_A_WORKER }
+        requires lens { (vec_len kits ≡ N.workers) × (vec_len stashes ≡ N.workers)
+            × (length quotas.now ≡ N.workers) }
+        requires kits { AreKits self.now.phase self.now.stocks stashes.items quotas.now N.workers
+            kits.items }
+        requires fits { (w : ℕ) → w < N.workers →
+            asked_in_all self.now.counters stashes.items quotas.now w ≤ MOST_OF_A_WORKER }
         requires rooms { HaveStashRoom self.now.stocks stashes.items quotas.now }
         ensures { AreBegun self.now quotas.now stashes.items result.items }
     {

@@ -18,8 +18,8 @@ use std::sync::Wait;
 use worker_journals::History;
 
 impl<N: PhaseName> Floor<N> {
-    // Closes the phase, by one receipt of each worker, in order: adds it to the history, and merges all slices. All memory is asked
-    // for first.
+    // Closes the phase, by one receipt of each worker, in order: adds it to the history, and merges
+    // all slices. All memory is asked for first.
     fn close<R: Wait, T: Receipt<N>>(
         self,
         rt: &R,
@@ -28,13 +28,17 @@ impl<N: PhaseName> Floor<N> {
         receipts: Vec<T>,
     ) -> Result<(Joined, Vec<Stash>), FloorFault>
         requires { AreReceiptsOf self (map T.shows receipts.items) }
-        ensures history { history.new.entries ≡ history.old.entries ++ added history.old.entries history.new.entries }
+        ensures history { history.new.entries
+            ≡ history.old.entries ++ added history.old.entries history.new.entries }
         ensures refused { OnErr result (history.new.entries ≡ history.old.entries) }
-        ensures last { OnOk result (merged history.new.last ≡ added history.old.entries history.new.entries) }
+        ensures last { OnOk result
+            (merged history.new.last ≡ added history.old.entries history.new.entries) }
         ensures closed { IfOk result (λ closed.
-            HasReconciled N.opening self (map T.shows receipts.items) (states_of closed.0) (added history.old.entries history.new.entries)) }
+            HasReconciled N.opening self (map T.shows receipts.items) (states_of closed.0)
+            (added history.old.entries history.new.entries)) }
         ensures leaves { IfOk result (λ closed.
-            Leaves N.opening self (map T.shows receipts.items) (added history.old.entries history.new.entries) closed.0 closed.1.items) }
+            Leaves N.opening self (map T.shows receipts.items)
+            (added history.old.entries history.new.entries) closed.0 closed.1.items) }
     {
         let Floor {
             opening,
@@ -64,9 +68,10 @@ impl<N: PhaseName> Floor<N> {
 }
 
 impl<N: PhaseName> JoinedFloor<N> {
-    /// Closes the phase, by one receipt of each worker, in order: the state after it, and of each stash what was not performed.
-    /// The phase's journals go to the history: their entries, by number and then worker, stand at its end. All memory is asked for first; where
-    /// it is refused the history is as it was, and the run is over.
+    /// Closes the phase, by one receipt of each worker, in order: the state after it, and of each
+    /// stash what was not performed. The phase's journals go to the history: their entries, by
+    /// number and then worker, are at its end. All memory is asked for first; if it is refused, the
+    /// history is as it was, and the run is over.
     pub fn close<R: Wait>(
         self,
         rt: &R,
@@ -75,22 +80,27 @@ impl<N: PhaseName> JoinedFloor<N> {
         receipts: Vec<JoinedReceipt<N>>,
     ) -> Result<(Joined, Vec<Stash>), FloorFault>
         requires { AreReceiptsOf self receipts.items }
-        ensures history { history.new.entries ≡ history.old.entries ++ added history.old.entries history.new.entries }
+        ensures history { history.new.entries
+            ≡ history.old.entries ++ added history.old.entries history.new.entries }
         ensures refused { OnErr result (history.new.entries ≡ history.old.entries) }
-        ensures last { OnOk result (merged history.new.last ≡ added history.old.entries history.new.entries) }
+        ensures last { OnOk result
+            (merged history.new.last ≡ added history.old.entries history.new.entries) }
         ensures closed { IfOk result (λ closed.
-            HasSettled N.opening self receipts.items (states_of closed.0) (added history.old.entries history.new.entries)) }
+            HasSettled N.opening self receipts.items (states_of closed.0)
+            (added history.old.entries history.new.entries)) }
         ensures leaves { IfOk result (λ closed.
-            Leaves N.opening self receipts.items (added history.old.entries history.new.entries) closed.0 closed.1.items) }
+            Leaves N.opening self receipts.items (added history.old.entries history.new.entries)
+            closed.0 closed.1.items) }
     {
         self.floor.close(rt, alloc, history, receipts)
     }
 }
 
 impl<N: PhaseName> SplitFloor<N> {
-    /// Closes the phase, by one receipt of each worker, in order: the state after it, into which all slices are merged, and the
-    /// stashes. The phase's journals go to the history: their entries, by number and then worker, stand at its end. All memory is asked for
-    /// first; where it is refused the history is as it was, and the run is over.
+    /// Closes the phase, by one receipt of each worker, in order: the state after it, into which
+    /// all slices are merged, and the stashes. The phase's journals go to the history: their
+    /// entries, by number and then worker, are at its end. All memory is asked for first; if it is
+    /// refused, the history is as it was, and the run is over.
     pub fn close<R: Wait>(
         self,
         rt: &R,
@@ -99,13 +109,17 @@ impl<N: PhaseName> SplitFloor<N> {
         receipts: Vec<SplitReceipt<N>>,
     ) -> Result<(Joined, Vec<Stash>), FloorFault>
         requires { AreReceiptsOf self receipts.items }
-        ensures history { history.new.entries ≡ history.old.entries ++ added history.old.entries history.new.entries }
+        ensures history { history.new.entries
+            ≡ history.old.entries ++ added history.old.entries history.new.entries }
         ensures refused { OnErr result (history.new.entries ≡ history.old.entries) }
-        ensures last { OnOk result (merged history.new.last ≡ added history.old.entries history.new.entries) }
+        ensures last { OnOk result
+            (merged history.new.last ≡ added history.old.entries history.new.entries) }
         ensures closed { IfOk result (λ closed.
-            HasReconciled N.opening self receipts.items (states_of closed.0) (added history.old.entries history.new.entries)) }
+            HasReconciled N.opening self receipts.items (states_of closed.0)
+            (added history.old.entries history.new.entries)) }
         ensures leaves { IfOk result (λ closed.
-            Leaves N.opening self receipts.items (added history.old.entries history.new.entries) closed.0 closed.1.items) }
+            Leaves N.opening self receipts.items (added history.old.entries history.new.entries)
+            closed.0 closed.1.items) }
     {
         self.floor.close(rt, alloc, history, receipts)
     }

@@ -6,7 +6,8 @@ use item_shards::Shard;
 use phase_permits::Counters;
 use std::marker::Model;
 
-/// An auction between two phases: its 1 to 64 shards, and what each of 1 to 16 workers has committed.
+/// An auction between two phases: its 1 to 64 shards, and what each of 1 to 16 workers has
+/// committed.
 #[derive(Drop)]
 pub struct Joined {
     pub(crate) opening: Opening,

@@ -36,7 +36,8 @@ pub(crate) fn new_kits(
     requires distinct { IsDistinct same_object (objects_of stocks.now.items) }
     requires stocked { AllByRecursion IsStocked stocks.now.items }
     ensures len { IfOk result (λ kits. vec_len kits ≡ length quotas.now) }
-    ensures each { IfOk result (λ kits. AreKits phase stocks.now.items stashes.now quotas.now (length quotas.now) kits.items) }
+    ensures each { IfOk result (λ kits. AreKits phase stocks.now.items stashes.now quotas.now
+        (length quotas.now) kits.items) }
 {
     let mut kits = Vec::with_capacity(alloc, quotas.len())?;
     for w in 0..quotas.len() {

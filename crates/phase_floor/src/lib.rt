@@ -1,5 +1,5 @@
-//! Phases: how one begins from the state between two phases (`Joined`), and how it closes; a floor is a phase that is open.
-//! That state is resumed from an opening book, and answers views.
+//! Phases: how one begins from the state between two phases (`Joined`), and how it closes; a floor
+//! is a phase that is open. That state is resumed from an opening book, and answers views.
 #![tactic(auto)]
 
 mod begin;

@@ -12,7 +12,8 @@ use phase_permits::Counters;
 use std::alloc::{AllocError, Global};
 
 impl Joined {
-    /// An auction of 1 to 16 workers in which nothing is stored, over 1 to 64 shards. It fails for want of memory alone.
+    /// An auction of 1 to 16 workers in which nothing is stored, over 1 to 64 shards. It fails for
+    /// want of memory alone.
     pub fn new(
         alloc: Global,
         opening: Opening,
@@ -56,7 +57,8 @@ pub(crate) fn new_shards(
     count: u32,
 ) -> Result<Vec<Shard>, AllocError>
     ensures len { IfOk result (λ shards. vec_len shards ≡ count) }
-    ensures blank { IfOk result (λ shards. AreBlank opening count count (map state_of shards.items)) }
+    ensures blank { IfOk result (λ shards.
+        AreBlank opening count count (map state_of shards.items)) }
 {
     let mut shards = Vec::with_capacity(alloc, count as usize)?;
     for number in 0..count {

@@ -16,7 +16,8 @@ pub(crate) fn merge(shards: &mut Vec<Shard>, object: Object, slice: Slice)
     requires shards { AreOfOne (map state_of shards.old.items) }
     requires known { IsKnown (opening_in (map state_of shards.old.items)) object }
     requires can { CanMerge (map state_of shards.old.items) (object, slice) }
-    ensures { map state_of shards.new.items ≡ after_merge (map state_of shards.old.items) (object, slice) }
+    ensures { map state_of shards.new.items
+        ≡ after_merge (map state_of shards.old.items) (object, slice) }
 {
     let place = shard_of(object, shards.len() as u32) as usize;
     merge_into(&mut shards[place], object, slice);
@@ -43,8 +44,10 @@ fn merge_into(shard: &mut Shard, object: Object, slice: Slice)
 fn merge_own(shards: &mut Vec<Shard>, mut slices: Slices)
     requires shards { AreOfOne (map state_of shards.old.items) }
     requires known { AreKnown (map state_of shards.old.items) (from_the_last slices) }
-    requires can { SawInTurn CanMerge after_merge (map state_of shards.old.items) (from_the_last slices) }
-    ensures { map state_of shards.new.items ≡ fold after_merge (map state_of shards.old.items) (from_the_last slices) }
+    requires can { SawInTurn CanMerge after_merge (map state_of shards.old.items)
+        (from_the_last slices) }
+    ensures { map state_of shards.new.items
+        ≡ fold after_merge (map state_of shards.old.items) (from_the_last slices) }
 {
     while let Some((object, slice)) = slices.pop() {
         merge(shards, object, slice);
@@ -54,8 +57,10 @@ fn merge_own(shards: &mut Vec<Shard>, mut slices: Slices)
 // Merges the slices of all workers, one worker's after the other.
 pub(crate) fn merge_all(shards: &mut Vec<Shard>, slices: Vec<Slices>)
     requires shards { AreOfOne (map state_of shards.old.items) }
-    requires known { AreKnown (map state_of shards.old.items) (flat_map from_the_last slices.items) }
-    requires can { SawInTurn CanMerge after_merge (map state_of shards.old.items) (flat_map from_the_last slices.items) }
+    requires known { AreKnown (map state_of shards.old.items)
+        (flat_map from_the_last slices.items) }
+    requires can { SawInTurn CanMerge after_merge (map state_of shards.old.items)
+        (flat_map from_the_last slices.items) }
     ensures { map state_of shards.new.items
         ≡ fold after_merge (map state_of shards.old.items) (flat_map from_the_last slices.items) }
 {

@@ -37,8 +37,8 @@ impl Joined {
         stores(&self.counters[worker])
     }
 
-    /// The same auction before the first phase of another run: its next phase has number 0, and each worker's commits are its
-    /// rows, as after a resume. It stands for the same books.
+    /// The same auction before the first phase of another run: its next phase has number 0, and
+    /// each worker's commits are its rows, as after a resume. It stands for the same books.
     pub fn for_next_run(self) -> Joined
         ensures next { result ≡ for_next_run self }
         ensures stands { (book : Book) → StandsFor self book → StandsFor result book }

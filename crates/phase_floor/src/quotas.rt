@@ -13,7 +13,8 @@ pub(crate) fn is_over(commits: u32, waiting: usize, quota: u32) -> bool
         || commits as u64 + waiting as u64 + quota as u64 > MOST_OF_A_WORKER
 }
 
-// Whether some worker has committed and shall perform more than 1,000,000 requests. Past the stashes nothing waits.
+// Whether some worker has committed and shall perform more than 1,000,000 requests. Past the
+// stashes nothing waits.
 pub(crate) fn is_too_long(counters: &[Counters], stashes: &[Stash], quotas: &[u32]) -> bool
     requires quotas { length quotas.now ≡ length counters.now }
     ensures { IsTrue result ↔ IsTooLong counters.now stashes.now quotas.now }

@@ -12,7 +12,8 @@ pub(crate) trait Receipt<N: PhaseName>: Drop {
     /// What it shows.
     ghost shows: { Self → WorkerState };
 
-    /// The journal, the slices, the stash, the key and the counters, which are explained by its transactions. It takes no memory.
+    /// The journal, the slices, the stash, the key and the counters, which are explained by its
+    /// transactions. It takes no memory.
     fn open(self) -> (Journal, Option<Slices>, Stash, Key<N>, Counters)
         ensures journal { result.0 ≡ (shows self).journal }
         ensures sliced { IfSome result.1 (λ slices. slices ≡ (shows self).slices) }

@@ -23,8 +23,9 @@ use phase_permits::Counters;
 use std::alloc::{AllocError, Global};
 
 impl Joined {
-    /// The auction of 1 to 16 workers, over 1 to 64 shards, that an opening book leaves, whose rows are of these workers
-    /// alone: each row was a commit of its worker. It fails for want of memory alone, and leaves the book as it is.
+    /// The auction of 1 to 16 workers, over 1 to 64 shards, that an opening book leaves, whose rows
+    /// are only of these workers: each row was a commit of its worker. It fails only for want of
+    /// memory, and leaves the book as it is.
     pub fn resume(
         alloc: Global,
         book: &OpeningBook,
@@ -112,7 +113,8 @@ fn write(shards: &mut Vec<Shard>, count: u32, row: &Row) -> Result<(), AllocErro
     requires count { length shards.old.items ≡ count }
     requires numbered { AreNumbered (map state_of shards.old.items) }
     requires can { CanWriteOn (map state_of shards.old.items) row.now }
-    ensures { OnOk result (HaveDone (map state_of shards.old.items) (map state_of shards.new.items) (writes_of row.now)) }
+    ensures { OnOk result (HaveDone (map state_of shards.old.items) (map state_of shards.new.items)
+        (writes_of row.now)) }
 {
     match *row {
         Row::Item(row) => write_item(shards, count, row)?,
@@ -156,7 +158,8 @@ fn write_item(shards: &mut Vec<Shard>, count: u32, row: ItemRow) -> Result<(), A
     requires count { length shards.old.items ≡ count }
     requires numbered { AreNumbered (map state_of shards.old.items) }
     requires can { CanWriteOn (map state_of shards.old.items) (Item row) }
-    ensures { OnOk result (HaveDone (map state_of shards.old.items) (map state_of shards.new.items) (writes_of (Item row))) }
+    ensures { OnOk result (HaveDone (map state_of shards.old.items) (map state_of shards.new.items)
+        (writes_of (Item row))) }
 {
     let entry = ItemEntry {
         time: row.time,

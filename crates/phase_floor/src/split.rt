@@ -1,8 +1,6 @@
 //! How a split phase begins.
-ghost use Rattle.std.specs.Prelude.{◌≡◌, ◌+◌, ◌<◌, ◌^◌, [], length, map, IfOk, IfErr, ◌↔◌, IsTrue};
-ghost use Rattle.phase_floor.specs.declared.fault.BeginFault.TheVariants.{UnknownHot, TooLong};
-ghost use Rattle.phase_floor.specs.Begins.{IsTooLong, empty_stash};
-ghost use Rattle.phase_floor.specs.Floors.{AreBegun};
+ghost use Rattle.std.specs.Prelude.{◌≡◌, IfOk, IfErr, ◌↔◌, IsTrue};
+ghost use Rattle.phase_floor.specs.Begins.{CanBegin, HasRefusedSplit, OpensSplit};
 
 use crate::fault::BeginFault;
 use crate::floor::SplitFloor;
@@ -23,10 +21,11 @@ impl Joined {
     ghost use Rattle.phase_permits.specs.Slicing.{objects_of, IsStocked};
     ghost use Rattle.phase_floor.specs.States.{DoesExist, DoAllExist, states_of};
 
-    /// Begins a split phase: a permit for each worker to perform its quota, with a slice of each hot object. The phase is of
-    /// this state's shards and workers, and its number is below 2^64 - 1. Else the state comes back unchanged: UnknownHot where
-    /// a hot object does not exist, then TooLong where some worker's commits and quota are more than 1,000,000 together, then
-    /// Memory where none is left.
+    /// Begins a split phase: a permit for each worker to perform its quota, with a slice of each
+    /// hot object. The phase is of this state's shards and workers, and its number is below 2^64 -
+    /// 1. If it does not begin, the state comes back unchanged: `UnknownHot` if a hot object does
+    /// not exist, then `TooLong` if some worker's commits and quota are more than 1,000,000
+    /// together, then `Memory` if none is left.
     pub fn begin_split<N: PhaseName, R: Wait>(
         self,
         rt: &R,
@@ -34,23 +33,11 @@ impl Joined {
         quotas: &[u32],
         hot: &IndexSet<Object>,
     ) -> Result<(SplitFloor<N>, Vec<SplitPermit<N>>), (Joined, BeginFault)>
-        requires shards { states_of self ≡ N.opening }
-        requires workers { length self.counters ≡ N.workers }
-        requires quotas { length quotas.now ≡ N.workers }
-        requires phase { self.phase + 1 < 2 ^ 64 }
-        ensures opening { IfOk result (λ begun. begun.0.opening ≡ self.opening) }
-        ensures phase { IfOk result (λ begun. begun.0.phase ≡ self.phase) }
-        ensures counters { IfOk result (λ begun. begun.0.counters ≡ self.counters) }
-        ensures hot { IfOk result (λ begun. objects_of begun.0.stocks ≡ hot.now.keys) }
-        ensures permits { IfOk result (λ begun.
-            AreBegun begun.0 quotas.now (map empty_stash quotas.now) begun.1.items) }
-        ensures known { IfOk result (λ begun. DoAllExist self.opening (states_of self) hot.now.keys) }
-        ensures fits { IfOk result (λ begun. ¬ IsTooLong self.counters [] quotas.now) }
-        ensures state { IfErr result (λ refused. refused.0 ≡ self) }
-        ensures unknown { IfErr result (λ refused.
-            (refused.1 ≡ UnknownHot) ↔ ¬ DoAllExist self.opening (states_of self) hot.now.keys) }
-        ensures too_long { IfErr result (λ refused. (refused.1 ≡ TooLong)
-            ↔ (DoAllExist self.opening (states_of self) hot.now.keys × IsTooLong self.counters [] quotas.now)) }
+        requires can { CanBegin N.opening N.workers self quotas.now }
+        ensures begun { IfOk result (λ begun.
+            OpensSplit self quotas.now hot.now.keys begun.0 begun.1.items) }
+        ensures refused { IfErr result (λ refused.
+            HasRefusedSplit self quotas.now hot.now.keys refused.0 refused.1) }
     {
         let objects = hot.as_slice();
         if !self.do_exist(objects) {
@@ -106,7 +93,8 @@ impl Joined {
     // What is fixed of an object while it is hot.
     fn stock_of(&self, object: Object) -> Option<(Facts, u32)>
         ensures read { IsReadFrom (states_of self.now) (object, result) }
-        ensures stocked { DoesExist self.now.opening (states_of self.now) object → IsStocked (object, result) }
+        ensures stocked { DoesExist self.now.opening (states_of self.now) object →
+            IsStocked (object, result) }
     {
         match object {
             Object::Item(item) => self.shard(object).stock(item),
@@ -119,7 +107,8 @@ impl Joined {
         requires exist { DoAllExist self.now.opening (states_of self.now) objects.now }
         ensures objects { IfOk result (λ stocks. objects_of stocks.items ≡ objects.now) }
         ensures stocked { IfOk result (λ stocks. AllByRecursion IsStocked stocks.items) }
-        ensures read { IfOk result (λ stocks. AllByRecursion (IsReadFrom (states_of self.now)) stocks.items) }
+        ensures read { IfOk result (λ stocks.
+            AllByRecursion (IsReadFrom (states_of self.now)) stocks.items) }
     {
         let mut stocks = Vec::with_capacity(alloc, objects.len())?;
         for object in objects {

@@ -9,7 +9,8 @@ use shard_boxes::{Key, PhaseName};
 use std::marker::Model;
 use worker_journals::Journal;
 
-/// What a worker starts a phase with, of either kind. It shows what the permit shows that is made of it.
+/// What a worker starts a phase with, of either kind. It shows what the permit shows that is made
+/// of it.
 #[derive(Drop)]
 pub(crate) struct Start<N: PhaseName> {
     pub(crate) key: Key<N>,
@@ -29,7 +30,8 @@ impl<N: PhaseName> Model for Start<N> {
 
     ghost view = { λ s. start_of s.key s.opening s.counters s.journal s.stash s.slices s.quota };
 
-    ghost invariant = { λ s. CanStart (start_of s.key s.opening s.counters s.journal s.stash s.slices s.quota) };
+    ghost invariant = { λ s.
+        CanStart (start_of s.key s.opening s.counters s.journal s.stash s.slices s.quota) };
 }
 
 impl<N: PhaseName> Start<N> {

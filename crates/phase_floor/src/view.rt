@@ -38,7 +38,8 @@ impl Joined {
         ensures here { LiesIn result.now object }
         ensures opening { opening result.now ≡ self.now.opening }
         ensures value { contents result.now object ≡ value_on (states_of self.now) object }
-        ensures books { (book : Book) → StandsFor self.now book → ShardStandsFor result.now book [] }
+        ensures books { (book : Book) →
+            StandsFor self.now book → ShardStandsFor result.now book [] }
     {
         &self.shards[shard_of(object, self.shards.len() as u32) as usize]
     }

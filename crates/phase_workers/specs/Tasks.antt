@@ -14,7 +14,8 @@ use Rattle.phase_workers.specs.declared.fault.ServingFault.TheVariants.{Worker, 
 use Rattle.phase_workers.specs.declared.serving.WorkerAnswer.{WorkerAnswer}
 use Rattle.phase_workers.specs.Working.{calls_from, committed, stashed, taken, kept, hot_for, put_off, not_put_off, IsSamePermit, HasStopped}
 
--- a worker's permit as the phase begins, its script, and the index from which on it is given requests
+-- a worker's permit as the phase begins, its script, and the index from which on it is given
+-- requests
 pub record Task : Type 0 where
   pub permit : WorkerState
   pub script : List Request
@@ -27,7 +28,8 @@ task permit script first = record { permit = permit; script = script; first = fi
 abbrev pub tasks : List WorkerState → List (List Request) → ℕ → List Task
 tasks [] scripts first = []
 tasks (permit ∷ permits) [] first = []
-tasks (permit ∷ permits) (script ∷ scripts) first = task permit script first ∷ tasks permits scripts first
+tasks (permit ∷ permits) (script ∷ scripts) first =
+    task permit script first ∷ tasks permits scripts first
 
 -- the calls that the worker is given
 abbrev pub calls_for : Task → List (ℕ × Request)
@@ -50,10 +52,12 @@ pub record CanBeDone (opening : List ShardState) (boxes : List BoxId) (t : Task)
 abbrev pub to_do : Bool → Task → List (ℕ × Request)
 to_do takes t = taken takes t.permit ++ calls_for t
 
--- a task was done: of what it had to do, what is not put off is committed, in this order, and what is waits behind what was not taken
+-- A task was done: of what it had to do, what is not put off is committed, in this order, and what
+-- is put off waits behind what was not taken.
 pub record IsDone (takes : Bool) (t : Task) (receipt : WorkerState) : Type 0 where
   pub same : IsSamePermit t.permit receipt
-  pub calls : committed receipt ≡ committed t.permit ++ not_put_off (hot_for t.permit) (to_do takes t)
+  pub calls : committed receipt
+      ≡ committed t.permit ++ not_put_off (hot_for t.permit) (to_do takes t)
   pub stash : stashed receipt ≡ kept takes t.permit ++ put_off (hot_for t.permit) (to_do takes t)
 
 -- a task was not done: it stopped at a call of these, by this fault
@@ -80,7 +84,8 @@ IsFirstFault takes opening (t ∷ more) fault =
     ((receipt : WorkerState) × HasMetFault takes opening t receipt fault)
     ⊎ (((receipt : WorkerState) × IsDone takes t receipt) × IsFirstFault takes opening more fault)
 
--- why so many workers' tasks are not done: a thread could not be started, or no memory was left, or a worker met this fault
+-- why so many workers' tasks are not done: a thread could not be started, or no memory was left, or
+-- a worker met this fault
 abbrev pub IsFaultBy : ℕ → (PermitFault → Type 0) → ServingFault → Type 0
 IsFaultBy workers HasMet Spawn = 1 < workers
 IsFaultBy workers HasMet Memory = ⊤

@@ -9,7 +9,8 @@ use Rattle.phase_workers.specs.declared.fault.ServingFault.TheVariants.{Worker, 
 abbrev pub job_of : {T J : Type 0} → PromisedHandle T (JobPromise J) → J
 job_of handle = handle.promise.job.value
 
--- why so many jobs are not done: a thread, of those of all but the first, could not be started, or no memory was left
+-- why so many jobs are not done: a thread, of those of all but the first, could not be started, or
+-- no memory was left
 abbrev pub IsUnstarted : ℕ → ServingFault → Type 0
 IsUnstarted jobs Spawn = 1 < jobs
 IsUnstarted jobs Memory = ⊤

@@ -52,14 +52,15 @@ pub record IsPermitOf (phase worker : ℕ) (permit : WorkerState) : Type 0 where
 -- permits of this phase, of the workers from this one on
 abbrev pub ArePermitsOf : ℕ → ℕ → List WorkerState → Type 0
 ArePermitsOf phase worker [] = ⊤
-ArePermitsOf phase worker (permit ∷ more) = IsPermitOf phase worker permit × ArePermitsOf phase (suc worker) more
+ArePermitsOf phase worker (permit ∷ more) =
+    IsPermitOf phase worker permit × ArePermitsOf phase (suc worker) more
 
 -- a permit's entries are of its journal's phase
 abbrev pub AreOfPhase : WorkerState → Type 0
 AreOfPhase permit = AllByRecursion (λ e. e.phase ≡ permit.journal.phase) permit.journal.entries
 
--- What a permit is of (boxes, worker, phase, users and categories, hot objects) is unchanged, and entries that are added are of
--- its phase.
+-- What a permit is of (boxes, worker, phase, users and categories, hot objects) is unchanged, and
+-- entries that are added are of its phase.
 pub record IsSamePermit (old new : WorkerState) : Type 0 where
   pub boxes : new.key.boxes ≡ old.key.boxes
   pub worker : new.key.worker ≡ old.key.worker
@@ -71,7 +72,8 @@ pub record IsSamePermit (old new : WorkerState) : Type 0 where
   pub stocks : stocks_of new.slices ≡ stocks_of old.slices
   pub own : AreOfPhase old → AreOfPhase new
 
--- Of what is taken of the stash the call that waited longest, if any, is committed: it is not to be put off.
+-- Of what is taken of the stash the call that waited longest, if any, is committed: it is not to be
+-- put off.
 pub record HasPerformedWaiting (takes : Bool) (old new : WorkerState) : Type 0 where
   pub same : IsSamePermit old new
   pub goes : put_off (hot_for old) (take 1 (taken takes old)) ≡ []
@@ -79,6 +81,22 @@ pub record HasPerformedWaiting (takes : Bool) (old new : WorkerState) : Type 0 w
   pub stash : stashed new ≡ kept takes old ++ drop 1 (taken takes old)
   pub left : new.left ≡ old.left
   pub tries : new.tries ≤ old.tries + 1
+
+-- What a phase takes of the stash is committed, the call that waited longest first: it is not to be
+-- put off.
+pub record HasPerformedStash (takes : Bool) (old new : WorkerState) : Type 0 where
+  -- what the permit is of is unchanged
+  pub same : IsSamePermit old new
+  -- none of what was taken is to be put off
+  pub go : put_off (hot_for old) (taken takes old) ≡ []
+  -- it was committed, in its order
+  pub calls : committed new ≡ committed old ++ taken takes old
+  -- what was not taken waits
+  pub stash : stashed new ≡ kept takes old
+  -- the quota is as it was
+  pub left : new.left ≡ old.left
+  -- each call took one try at most
+  pub tries : new.tries ≤ old.tries + length (taken takes old)
 
 -- The next call of the quota is committed, or waits behind the others where it is put off.
 pub record HasDealtWithNext (call : ℕ × Request) (old new : WorkerState) : Type 0 where
@@ -88,9 +106,11 @@ pub record HasDealtWithNext (call : ℕ × Request) (old new : WorkerState) : Ty
   pub left : new.left ≡ old.left - 1
   pub tries : new.tries ≡ old.tries + 1
 
--- A permit has stopped at one of these calls, of which the first are those that are taken of its stash, by its fault: of those before
--- it, the ones that are not put off are committed, and the others wait behind what it did not take of the stash or did not reach.
-pub record HasStopped (takes : Bool) (opening : List ShardState) (calls : List (ℕ × Request)) (old new : WorkerState) (fault : PermitFault) : Type 0 where
+-- A permit has stopped at one of these calls, of which the first are those that are taken of its
+-- stash, by its fault: of those before it, the ones that are not put off are committed, and the
+-- others wait behind what it did not take of the stash or did not reach.
+pub record HasStopped (takes : Bool) (opening : List ShardState) (calls : List (ℕ × Request))
+    (old new : WorkerState) (fault : PermitFault) : Type 0 where
   -- the calls that were dealt with
   pub before : List (ℕ × Request)
   -- the one at which it stopped
@@ -101,6 +121,7 @@ pub record HasStopped (takes : Bool) (opening : List ShardState) (calls : List (
   -- of those before, what is not put off is committed
   pub done : committed new ≡ committed old ++ not_put_off (hot_for old) before
   -- in the stash waits what was not taken of it or not reached, and then what is put off
-  pub waits : stashed new ≡ kept takes old ++ drop (length before) (taken takes old) ++ put_off (hot_for old) before
+  pub waits : stashed new
+      ≡ kept takes old ++ drop (length before) (taken takes old) ++ put_off (hot_for old) before
   -- the fault has its cause at the call
   pub cause : IsCause opening new new.key call.1 fault

@@ -5,7 +5,8 @@ use phase_permits::PermitFault;
 use std::alloc::{AllocError, AllocFailed};
 use thiserror::Error;
 
-/// Why a phase's workers leave no receipts. Every worker that was started has ended, and all permits are spent.
+/// Why a phase's workers leave no receipts. Every worker that was started has ended, and all
+/// permits are spent.
 #[derive(Clone, Copy, Debug, PartialEq, Eq, Drop, Error)]
 pub enum ServingFault {
     /// A worker met this fault, and none before it met one.

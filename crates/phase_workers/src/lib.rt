@@ -1,4 +1,5 @@
-//! The workers of a phase: each spends a permit on its part of a script, side by side on threads or one after the other.
+//! The workers of a phase: each spends a permit on its part of a script, side by side on threads or
+//! one after the other.
 #![tactic(auto)]
 
 mod fault;

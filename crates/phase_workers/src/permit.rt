@@ -40,8 +40,10 @@ pub trait Permit<N: PhaseName> {
         requires of { (shows self.old).key.boxes ≡ boxes.now }
         requires opening { HaveOpening N.opening (shows self.old).opening }
         requires tries { (shows self.old).tries < MOST_TRIES }
-        ensures performed { OnOk result (HasPerformedWaiting takes_stash (shows self.old) (shows self.new)) }
-        ensures failed { IfErr result (HasFailedFirst N.opening (with_try (shows self.old)) (shows self.new)) };
+        ensures performed { OnOk result
+            (HasPerformedWaiting takes_stash (shows self.old) (shows self.new)) }
+        ensures failed { IfErr result
+            (HasFailedFirst N.opening (with_try (shows self.old)) (shows self.new)) };
 
     /// Performs a request of the quota, or puts it off.
     fn perform_next<R: Wait>(
@@ -55,8 +57,10 @@ pub trait Permit<N: PhaseName> {
         requires opening { HaveOpening N.opening (shows self.old).opening }
         requires left { 0 < (shows self.old).left }
         requires tries { (shows self.old).tries < MOST_TRIES }
-        ensures dealt { OnOk result (HasDealtWithNext (index, request.now) (shows self.old) (shows self.new)) }
-        ensures failed { IfErr result (HasFailed N.opening (with_try (shows self.old)) (shows self.new) request.now) };
+        ensures dealt { OnOk result
+            (HasDealtWithNext (index, request.now) (shows self.old) (shows self.new)) }
+        ensures failed { IfErr result
+            (HasFailed N.opening (with_try (shows self.old)) (shows self.new) request.now) };
 
     /// Spends the permit.
     fn spend(self) -> Self::Receipt

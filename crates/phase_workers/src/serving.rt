@@ -1,4 +1,5 @@
-//! The workers of a phase: each but the first does its task on a thread of its own, but where the phase is short.
+//! The workers of a phase: each but the first does its task on a thread of its own, but where the
+//! phase is short.
 ghost use Rattle.std.specs.Prelude.{◌≡◌, ◌≤◌, Some, length, map, vec_len, vec_capacity, IfOk, IfErr, OnOk};
 ghost use Rattle.std.specs.List.{AllByRecursion, AllZip};
 ghost use Rattle.phase_workers.specs.Tasks.{lists, task, tasks, CanBeDone, IsDone, HasMetFault, without_fault, first_fault, IsFirstFault, IsFaultBy};
@@ -32,7 +33,8 @@ pub struct Round<'a, G> {
     pub gate: &'a G,
 }
 
-/// What a worker gives at the end of a phase: the receipt of its permit, and the fault that stopped it, if any.
+/// What a worker gives at the end of a phase: the receipt of its permit, and the fault that stopped
+/// it, if any.
 #[derive(Drop)]
 pub(crate) struct WorkerAnswer<T> {
     receipt: T,
@@ -42,8 +44,7 @@ pub(crate) struct WorkerAnswer<T> {
 /// A worker's task in a phase, with all that it takes to do it. Let go, its permit is spent.
 pub(crate) struct WorkerTask<'a, N: PhaseName, P: Permit<N>, R, G> {
     rt: &'a R,
-    boxes: &'a Boxes<N>,
-    post: Post<'a, G>,
+    post: Post<'a, N, G>,
     permit: P,
     script: &'a [Request],
     first: usize,
@@ -53,7 +54,6 @@ impl<'a, N: PhaseName, P: Permit<N>, R, G> Drop for WorkerTask<'a, N, P, R, G> {
     fn drop(self) {
         let Self {
             rt: _,
-            boxes: _,
             post: _,
             permit,
             script: _,
@@ -66,22 +66,24 @@ impl<'a, N: PhaseName, P: Permit<N>, R, G> Drop for WorkerTask<'a, N, P, R, G> {
 impl<'a, N: PhaseName, P: Permit<N>, R: Wait, G: Gate> Job for WorkerTask<'a, N, P, R, G> {
     type Answer = WorkerAnswer<P::Receipt>;
 
-    ghost can_work = { λ own. CanBeDone N.opening own.boxes.now (task (P.shows own.permit) own.script.now own.first)
+    ghost can_work = { λ own.
+        CanBeDone N.opening own.post.boxes.now (task (P.shows own.permit) own.script.now own.first)
         × IsPermitOf own.post.phase own.post.worker (P.shows own.permit) };
 
-    ghost keeps = { λ own answer. OnOk answer.done (IsDone P.takes_stash (task (P.shows own.permit) own.script.now own.first) (P.leaves answer.receipt))
-        × IfErr answer.done (HasMetFault P.takes_stash N.opening (task (P.shows own.permit) own.script.now own.first) (P.leaves answer.receipt)) };
+    ghost keeps = { λ own answer. OnOk answer.done (IsDone P.takes_stash
+        (task (P.shows own.permit) own.script.now own.first) (P.leaves answer.receipt))
+        × IfErr answer.done (HasMetFault P.takes_stash N.opening
+        (task (P.shows own.permit) own.script.now own.first) (P.leaves answer.receipt)) };
 
     fn work(self) -> WorkerAnswer<P::Receipt> {
         let WorkerTask {
             rt,
-            boxes,
             post,
             mut permit,
             script,
             first,
         } = self;
-        let done = perform_task(rt, boxes, &post, &mut permit, script, first);
+        let done = perform_task(rt, &post, &mut permit, script, first);
         WorkerAnswer {
             receipt: permit.spend(),
             done,
@@ -89,9 +91,10 @@ impl<'a, N: PhaseName, P: Permit<N>, R: Wait, G: Gate> Job for WorkerTask<'a, N,
     }
 }
 
-/// Does the first worker's task of a round, and each other's by a thread of its own, or all in turn where the round is short and
-/// the gate needs no threads, and gives their receipts in order. Where a thread can't be started the fault is Spawn, else that of
-/// the least worker that met one; all threads have ended, and all permits are spent.
+/// Does the first worker's task of a round, and each other's by a thread of its own, or all in turn
+/// if the round is short and the gate needs no threads, and gives their receipts in order. If a
+/// thread can't be started the fault is `Spawn`, else that of the least worker that met one; all
+/// threads have ended, and all permits are spent.
 pub fn serve_all<N, P, R, G>(
     rt: &R,
     alloc: Global,
@@ -107,12 +110,16 @@ where
     G: Gate + Sync,
     requires workers { vec_len permits ≡ length round.scripts.now }
     requires few { length round.scripts.now ≤ MOST_WORKERS }
-    requires can { AllByRecursion (CanBeDone N.opening boxes.now) (tasks (map P.shows permits.items) (lists round.scripts.now) round.first) }
+    requires can { AllByRecursion (CanBeDone N.opening boxes.now)
+        (tasks (map P.shows permits.items) (lists round.scripts.now) round.first) }
     requires of { ArePermitsOf round.phase 0 (map P.shows permits.items) }
     ensures done { IfOk result (λ receipts.
-        AllZip (IsDone P.takes_stash) (tasks (map P.shows permits.items) (lists round.entry.scripts.now) round.entry.first) (map P.leaves receipts.items)) }
+        AllZip (IsDone P.takes_stash)
+        (tasks (map P.shows permits.items) (lists round.entry.scripts.now) round.entry.first)
+        (map P.leaves receipts.items)) }
     ensures fault { IfErr result (IsFaultBy (length (lists round.entry.scripts.now))
-        (IsFirstFault P.takes_stash N.opening (tasks (map P.shows permits.items) (lists round.entry.scripts.now) round.entry.first))) }
+        (IsFirstFault P.takes_stash N.opening
+        (tasks (map P.shows permits.items) (lists round.entry.scripts.now) round.entry.first))) }
 {
     let gate = round.gate;
     let own_tasks = own_tasks(rt, alloc, boxes, permits, round)?;
@@ -142,12 +149,14 @@ fn own_tasks<'a, N: PhaseName, P: Permit<N>, R, G>(
 ) -> Result<Vec<WorkerTask<'a, N, P, R, G>>, AllocError>
     requires workers { vec_len permits ≡ length round.scripts.now }
     requires few { length round.scripts.now ≤ MOST_WORKERS }
-    requires can { AllByRecursion (CanBeDone N.opening boxes.now) (tasks (map P.shows permits.items) (lists round.scripts.now) round.first) }
+    requires can { AllByRecursion (CanBeDone N.opening boxes.now)
+        (tasks (map P.shows permits.items) (lists round.scripts.now) round.first) }
     requires of { ArePermitsOf round.phase 0 (map P.shows permits.items) }
     ensures can { IfOk result (λ made. AllByRecursion (λ own.
-        CanBeDone N.opening own.boxes.now (task (P.shows own.permit) own.script.now own.first)
+        CanBeDone N.opening own.post.boxes.now (task (P.shows own.permit) own.script.now own.first)
         × IsPermitOf own.post.phase own.post.worker (P.shows own.permit)) made.items) }
-    ensures tasks { IfOk result (λ made. map (λ own. task (P.shows own.permit) own.script.now own.first) made.items
+    ensures tasks { IfOk result (λ made.
+        map (λ own. task (P.shows own.permit) own.script.now own.first) made.items
         ≡ tasks (map P.shows permits.items) (lists round.entry.scripts.now) round.entry.first) }
 {
     let mut permits = permits.into_iter();
@@ -159,8 +168,8 @@ fn own_tasks<'a, N: PhaseName, P: Permit<N>, R, G>(
         let worker = made.len();
         made.push_reserved(WorkerTask {
             rt,
-            boxes,
             post: Post {
+                boxes,
                 gate: round.gate,
                 phase: round.phase,
                 worker: worker as u32,

@@ -37,7 +37,8 @@ impl<J: Job> Promise<J::Answer> for JobPromise<J> {
     ghost kept_by = { λ promise answer. J.keeps promise.job.value answer };
 }
 
-/// Does the jobs: in turn on the thread that calls, or side by side, each but the first by a thread of its own.
+/// Does the jobs: in turn on the thread that calls, or side by side, each but the first by a thread
+/// of its own.
 pub(crate) fn work<J: Job + Send, R: Threads + Wait + Sync>(
     rt: &R,
     alloc: Global,
@@ -57,7 +58,8 @@ where
     }
 }
 
-// The jobs one after the other, on the thread that calls. All memory is asked for before the first is begun.
+// The jobs one after the other, on the thread that calls. All memory is asked for before the first
+// is begun.
 fn work_in_turn<J: Job>(alloc: Global, jobs: Vec<J>) -> Result<Vec<J::Answer>, AllocError>
 where
     J::Answer: Drop,
@@ -71,8 +73,9 @@ where
     Ok(answers)
 }
 
-// The first job on the thread that calls, and each other by a thread of its own; it waits for them all. All memory is asked
-// for before a thread is started. Where one can't be started, whatever the cause, it, those after it and the first are let go.
+// The first job on the thread that calls, and each other by a thread of its own; it waits for them
+// all. All memory is asked for before a thread is started. Where one can't be started, whatever the
+// cause, it, those after it and the first are let go.
 fn work_all<J: Job + Send, R: Threads + Wait + Sync>(
     rt: &R,
     alloc: Global,

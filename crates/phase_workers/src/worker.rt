@@ -1,9 +1,11 @@
 //! What a worker does in a phase of a run.
-ghost use Rattle.std.specs.Prelude.{◌≡◌, ◌+◌, ◌-◌, ◌≤◌, ◌<◌, ◌++◌, false, [], length, OnOk, IfErr};
+ghost use Rattle.std.specs.Prelude.{◌≡◌, ◌+◌, ◌-◌, ◌≤◌, ◌<◌, ◌++◌, false, length, OnOk, IfErr};
 ghost use Rattle.phase_permits.specs.Performing.{HasFailed, HaveOpening, HasFailedFirst};
 ghost use Rattle.phase_permits.specs.Workers.{with_try};
 ghost use Rattle.phase_workers.specs.Tasks.{task, CanBeDone, IsDone, HasMetFault};
-ghost use Rattle.phase_workers.specs.Working.{calls_from, committed, stashed, taken, kept, hot_for, put_off, not_put_off, IsPermitOf, IsSamePermit, HasDealtWithNext, HasPerformedWaiting, HasStopped};
+ghost use Rattle.phase_workers.specs.Working.{calls_from, committed, stashed, taken, hot_for, put_off, not_put_off};
+ghost use Rattle.phase_workers.specs.Working.{IsPermitOf, IsSamePermit, HasDealtWithNext, HasPerformedStash};
+ghost use Rattle.phase_workers.specs.Working.{HasPerformedWaiting, HasStopped};
 
 use crate::gate::Gate;
 use crate::permit::Permit;
@@ -12,15 +14,16 @@ use phase_permits::PermitFault;
 use shard_boxes::{Boxes, PhaseName};
 use std::sync::Wait;
 
-/// A worker's place in a phase, as a gate is told of it.
+/// A worker's place in a phase: the boxes to which its key is, and what a gate is told of it.
 #[derive(Drop)]
-pub(crate) struct Post<'a, G> {
+pub(crate) struct Post<'a, N: PhaseName, G> {
+    pub(crate) boxes: &'a Boxes<N>,
     pub(crate) gate: &'a G,
     pub(crate) phase: u64,
     pub(crate) worker: u32,
 }
 
-impl<'a, G: Gate> Post<'a, G> {
+impl<'a, N: PhaseName, G: Gate> Post<'a, N, G> {
     fn arrive(&self, index: u32) {
         self.gate.arrive(self.phase, self.worker, index);
     }
@@ -30,46 +33,45 @@ impl<'a, G: Gate> Post<'a, G> {
     }
 }
 
-/// Does a worker's task: what waits in its permit, and then the permit's quota of the script, from its request `first` on, in
-/// the order of their indexes. After a fault, which is the first, the permit performs nothing more.
+/// Does a worker's task: what waits in its permit, and then the permit's quota of the script, from
+/// its request `first` on, in the order of their indexes. After a fault, which is the first, the
+/// permit performs nothing more.
 pub(crate) fn perform_task<N: PhaseName, P: Permit<N>, R: Wait, G: Gate>(
     rt: &R,
-    boxes: &Boxes<N>,
-    post: &Post<'_, G>,
+    post: &Post<'_, N, G>,
     permit: &mut P,
     script: &[Request],
     first: usize,
 ) -> Result<(), PermitFault>
-    requires can { CanBeDone N.opening boxes.now (task (P.shows permit.old) script.now first) }
+    requires can { CanBeDone N.opening post.now.boxes.now
+        (task (P.shows permit.old) script.now first) }
     requires post { IsPermitOf post.now.phase post.now.worker (P.shows permit.old) }
-    ensures done { OnOk result (IsDone P.takes_stash (task (P.shows permit.old) script.now first) (P.shows permit.new)) }
-    ensures stopped { IfErr result (HasMetFault P.takes_stash N.opening (task (P.shows permit.old) script.now first) (P.shows permit.new)) }
+    ensures done { OnOk result (IsDone P.takes_stash
+        (task (P.shows permit.old) script.now first) (P.shows permit.new)) }
+    ensures stopped { IfErr result (HasMetFault P.takes_stash N.opening
+        (task (P.shows permit.old) script.now first) (P.shows permit.new)) }
 {
-    perform_stash(rt, boxes, post, permit)?;
-    perform_quota(rt, boxes, post, permit, script, first)
+    perform_stash(rt, post, permit)?;
+    perform_quota(rt, post, permit, script, first)
 }
 
 // What the phase takes of the stash, the request that waits longest first.
 fn perform_stash<N: PhaseName, P: Permit<N>, R: Wait, G: Gate>(
     rt: &R,
-    boxes: &Boxes<N>,
-    post: &Post<'_, G>,
+    post: &Post<'_, N, G>,
     permit: &mut P,
 ) -> Result<(), PermitFault>
-    requires of { (P.shows permit.old).key.boxes ≡ boxes.now }
+    requires of { (P.shows permit.old).key.boxes ≡ post.now.boxes.now }
     requires opening { HaveOpening N.opening (P.shows permit.old).opening }
-    requires tries { (P.shows permit.old).tries + length (taken P.takes_stash (P.shows permit.old)) ≤ MOST_TRIES }
-    ensures same { OnOk result (IsSamePermit (P.shows permit.old) (P.shows permit.new)) }
-    ensures go { OnOk result (put_off (hot_for (P.shows permit.old)) (taken P.takes_stash (P.shows permit.old)) ≡ []) }
-    ensures calls { OnOk result (committed (P.shows permit.new) ≡ committed (P.shows permit.old) ++ taken P.takes_stash (P.shows permit.old)) }
-    ensures stash { OnOk result (stashed (P.shows permit.new) ≡ kept P.takes_stash (P.shows permit.old)) }
-    ensures left { OnOk result ((P.shows permit.new).left ≡ (P.shows permit.old).left) }
-    ensures tries { OnOk result ((P.shows permit.new).tries
-        ≤ (P.shows permit.old).tries + length (taken P.takes_stash (P.shows permit.old))) }
-    ensures stopped { IfErr result (HasStopped P.takes_stash N.opening (taken P.takes_stash (P.shows permit.old)) (P.shows permit.old) (P.shows permit.new)) }
+    requires tries { (P.shows permit.old).tries
+        + length (taken P.takes_stash (P.shows permit.old)) ≤ MOST_TRIES }
+    ensures done { OnOk result
+        (HasPerformedStash P.takes_stash (P.shows permit.old) (P.shows permit.new)) }
+    ensures stopped { IfErr result (HasStopped P.takes_stash N.opening
+        (taken P.takes_stash (P.shows permit.old)) (P.shows permit.old) (P.shows permit.new)) }
 {
     for _call in 0..permit.waiting() {
-        perform_first(rt, boxes, post, permit)?;
+        perform_first(rt, post, permit)?;
     }
     Ok(())
 }
@@ -77,21 +79,22 @@ fn perform_stash<N: PhaseName, P: Permit<N>, R: Wait, G: Gate>(
 // Of these the one that waits longest, if any.
 fn perform_first<N: PhaseName, P: Permit<N>, R: Wait, G: Gate>(
     rt: &R,
-    boxes: &Boxes<N>,
-    post: &Post<'_, G>,
+    post: &Post<'_, N, G>,
     permit: &mut P,
 ) -> Result<(), PermitFault>
-    requires of { (P.shows permit.old).key.boxes ≡ boxes.now }
+    requires of { (P.shows permit.old).key.boxes ≡ post.now.boxes.now }
     requires opening { HaveOpening N.opening (P.shows permit.old).opening }
     requires tries { (P.shows permit.old).tries < MOST_TRIES }
-    ensures performed { OnOk result (HasPerformedWaiting P.takes_stash (P.shows permit.old) (P.shows permit.new)) }
-    ensures failed { IfErr result (HasFailedFirst N.opening (with_try (P.shows permit.old)) (P.shows permit.new)) }
+    ensures performed { OnOk result
+        (HasPerformedWaiting P.takes_stash (P.shows permit.old) (P.shows permit.new)) }
+    ensures failed { IfErr result
+        (HasFailedFirst N.opening (with_try (P.shows permit.old)) (P.shows permit.new)) }
 {
     let Some((index, _request)) = permit.first_waiting() else {
         return Ok(());
     };
     post.arrive(index);
-    let done = permit.perform_waiting(rt, boxes);
+    let done = permit.perform_waiting(rt, post.boxes);
     post.leave(index);
     done
 }
@@ -99,28 +102,30 @@ fn perform_first<N: PhaseName, P: Permit<N>, R: Wait, G: Gate>(
 // The quota, in the order of the script.
 fn perform_quota<N: PhaseName, P: Permit<N>, R: Wait, G: Gate>(
     rt: &R,
-    boxes: &Boxes<N>,
-    post: &Post<'_, G>,
+    post: &Post<'_, N, G>,
     permit: &mut P,
     script: &[Request],
     first: usize,
 ) -> Result<(), PermitFault>
-    requires of { (P.shows permit.old).key.boxes ≡ boxes.now }
+    requires of { (P.shows permit.old).key.boxes ≡ post.now.boxes.now }
     requires opening { HaveOpening N.opening (P.shows permit.old).opening }
     requires short { length script.now ≤ MOST_OF_A_WORKER }
     requires given { (P.shows permit.old).left ≤ length script.now - first }
     requires tries { (P.shows permit.old).tries + (P.shows permit.old).left ≤ MOST_TRIES }
     ensures same { OnOk result (IsSamePermit (P.shows permit.old) (P.shows permit.new)) }
     ensures calls { OnOk result (committed (P.shows permit.new) ≡ committed (P.shows permit.old)
-        ++ not_put_off (hot_for (P.shows permit.old)) (calls_from first (P.shows permit.old).left script.now)) }
+        ++ not_put_off (hot_for (P.shows permit.old))
+        (calls_from first (P.shows permit.old).left script.now)) }
     ensures stash { OnOk result (stashed (P.shows permit.new) ≡ stashed (P.shows permit.old)
-        ++ put_off (hot_for (P.shows permit.old)) (calls_from first (P.shows permit.old).left script.now)) }
-    ensures stopped { IfErr result (HasStopped false N.opening (calls_from first (P.shows permit.old).left script.now)
+        ++ put_off (hot_for (P.shows permit.old))
+        (calls_from first (P.shows permit.old).left script.now)) }
+    ensures stopped { IfErr result (HasStopped false N.opening
+        (calls_from first (P.shows permit.old).left script.now)
         (P.shows permit.old) (P.shows permit.new)) }
 {
     for place in 0..permit.quota_left() {
         let index = first + place as usize;
-        perform_next(rt, boxes, post, permit, &script[index], index as u32)?;
+        perform_next(rt, post, permit, &script[index], index as u32)?;
     }
     Ok(())
 }
@@ -128,21 +133,22 @@ fn perform_quota<N: PhaseName, P: Permit<N>, R: Wait, G: Gate>(
 // A request of the quota.
 fn perform_next<N: PhaseName, P: Permit<N>, R: Wait, G: Gate>(
     rt: &R,
-    boxes: &Boxes<N>,
-    post: &Post<'_, G>,
+    post: &Post<'_, N, G>,
     permit: &mut P,
     request: &Request,
     index: u32,
 ) -> Result<(), PermitFault>
-    requires of { (P.shows permit.old).key.boxes ≡ boxes.now }
+    requires of { (P.shows permit.old).key.boxes ≡ post.now.boxes.now }
     requires opening { HaveOpening N.opening (P.shows permit.old).opening }
     requires left { 0 < (P.shows permit.old).left }
     requires tries { (P.shows permit.old).tries < MOST_TRIES }
-    ensures dealt { OnOk result (HasDealtWithNext (index, request.now) (P.shows permit.old) (P.shows permit.new)) }
-    ensures failed { IfErr result (HasFailed N.opening (with_try (P.shows permit.old)) (P.shows permit.new) request.now) }
+    ensures dealt { OnOk result
+        (HasDealtWithNext (index, request.now) (P.shows permit.old) (P.shows permit.new)) }
+    ensures failed { IfErr result
+        (HasFailed N.opening (with_try (P.shows permit.old)) (P.shows permit.new) request.now) }
 {
     post.arrive(index);
-    let done = permit.perform_next(rt, boxes, request, index);
+    let done = permit.perform_next(rt, post.boxes, request, index);
     post.leave(index);
     done
 }

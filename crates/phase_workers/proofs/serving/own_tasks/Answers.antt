@@ -32,14 +32,13 @@ loop-permit-preserved g c =
     (λ i. task (g.P.Permit.shows c.in-Some.permit) (c.as_slice.ensures.value i) c.args.round.first)
     ∙ ap (λ (v : Vec Request Global). task (g.P.Permit.shows c.in-Some.permit) v.items c.args.round.first) (sym c.index-round-worker.is) in
     let more = own_more (CanBeDone g.N.PhaseName.opening c.args.boxes.now)
-    (λ own. CanBeDone g.N.PhaseName.opening own.boxes.now (task (g.P.Permit.shows own.permit) own.script.now own.first)
+    (λ own. CanBeDone g.N.PhaseName.opening own.post.boxes.now (task (g.P.Permit.shows own.permit) own.script.now own.first)
     × IsPermitOf own.post.phase own.post.worker (g.P.Permit.shows own.permit))
     (λ own. task (g.P.Permit.shows own.permit) own.script.now own.first)
     c.loop-permit.made.items c.push_reserved.new.self.items
     (record {
       rt = c.args.rt;
-      boxes = c.args.boxes;
-      post = record { gate = c.args.round.gate; phase = c.args.round.phase; worker = c.len-worker.result };
+      post = record { boxes = c.args.boxes; gate = c.args.round.gate; phase = c.args.round.phase; worker = c.len-worker.result };
       permit = c.in-Some.permit;
       script = c.as_slice.result;
       first = c.args.round.first;
@@ -82,7 +81,7 @@ loop-permit-init g c =
       ap (λ n. n + into_iter_len permits.result) made.len ∙ zero-add _ ∙ permits.ensures.len ∙ c.requires.workers,
       made.capacity,
       subst (AllByRecursion (CanBeDone g.N.PhaseName.opening c.args.boxes.now)) same c.requires.can,
-      subst (AllByRecursion (λ own. CanBeDone g.N.PhaseName.opening own.boxes.now (task (g.P.Permit.shows own.permit) own.script.now own.first)
+      subst (AllByRecursion (λ own. CanBeDone g.N.PhaseName.opening own.post.boxes.now (task (g.P.Permit.shows own.permit) own.script.now own.first)
           × IsPermitOf own.post.phase own.post.worker (g.P.Permit.shows own.permit))) (sym made.items) tt,
       (λ i. map (λ own. task (g.P.Permit.shows own.permit) own.script.now own.first) (made.items i) ++ tasks (map g.P.Permit.shows (into_iter_items permits.result)) (drop (vec_len c.in-Ok.made) scripts) first) ∙ sym same,
       subst (λ n. ArePermitsOf c.args.round.phase n (map g.P.Permit.shows (into_iter_items permits.result))) (sym made.len)

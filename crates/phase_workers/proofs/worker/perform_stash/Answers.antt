@@ -27,24 +27,21 @@ loop-call-preserved g c =
       stash_goes (hot_for old) (hot_for mid) k own (stashed mid) was.0.hot waits was.5 step.goes,
     )
 
-pub returns-clause-go : goal.returns-clause-go
-returns-clause-go g c =
-    let old : WorkerState = g.P.Permit.shows c.args.permit.now in
-    let own : List (ℕ × Request) = taken g.P.Permit.takes_stash old in
-    ap (put_off (hot_for old)) (sym (take_all c.loop-call._call own (subst (λ n. n ≤ c.loop-call._call) c.waiting-call-end.ensures c.loop-call-test.false))) ∙ c.loop-call.invariant.5
-
-pub returns-clause-calls : goal.returns-clause-calls
-returns-clause-calls g c =
-    let old : WorkerState = g.P.Permit.shows c.args.permit.now in
-    let own : List (ℕ × Request) = taken g.P.Permit.takes_stash old in
-    c.loop-call.invariant.1 ∙ ap (λ ss. committed old ++ ss) (take_all c.loop-call._call own (subst (λ n. n ≤ c.loop-call._call) c.waiting-call-end.ensures c.loop-call-test.false))
-
-pub returns-clause-stash : goal.returns-clause-stash
-returns-clause-stash g c =
+pub returns-clause-done : goal.returns-clause-done
+returns-clause-done g c =
+    let was = c.loop-call.invariant in
     let old : WorkerState = g.P.Permit.shows c.args.permit.now in
     let own : List (ℕ × Request) = taken g.P.Permit.takes_stash old in
     let rest : List (ℕ × Request) = kept g.P.Permit.takes_stash old in
-    c.loop-call.invariant.2 ∙ ap (λ ss. rest ++ ss) (drop_all c.loop-call._call own (subst (λ n. n ≤ c.loop-call._call) c.waiting-call-end.ensures c.loop-call-test.false)) ∙ append-nil rest
+    let all = subst (λ n. n ≤ c.loop-call._call) c.waiting-call-end.ensures c.loop-call-test.false in
+    record {
+      same = was.0;
+      go = ap (put_off (hot_for old)) (sym (take_all c.loop-call._call own all)) ∙ was.5;
+      calls = was.1 ∙ ap (λ ss. committed old ++ ss) (take_all c.loop-call._call own all);
+      stash = was.2 ∙ ap (λ ss. rest ++ ss) (drop_all c.loop-call._call own all) ∙ append-nil rest;
+      left = was.3;
+      tries = tries_by _ _ _ _ was.4 (subst (λ n. c.loop-call._call ≤ n) c.waiting-call-end.ensures c.loop-call.auto._call-end);
+    }
 
 pub returns-in_err-perform_first-clause-stopped : goal.returns-in_err-perform_first-clause-stopped
 returns-in_err-perform_first-clause-stopped g c =
@@ -74,6 +71,3 @@ pub loop-call-init : goal.loop-call-init
 loop-call-init g c =
     let old : WorkerState = g.P.Permit.shows c.args.permit.now in
     (same old, sym (append-nil (committed old)), both_parts g.P.Permit.takes_stash (stashed old), refl, le_of_eq (sym (add-zero _)), refl)
-
-pub returns-clause-tries : goal.returns-clause-tries
-returns-clause-tries g c = tries_by _ _ _ _ c.loop-call.invariant.4 (subst (λ n. c.loop-call._call ≤ n) c.waiting-call-end.ensures c.loop-call.auto._call-end)

@@ -30,7 +30,7 @@ pub returns-clause-done : goal.returns-clause-done
 returns-clause-done g c =
     let old : WorkerState = g.P.Permit.shows c.args.permit.now in
     let mid : WorkerState = g.P.Permit.shows c.perform_stash.new.permit in
-    let stash = c.in_ok-perform_stash.ensures in
+    let stash = c.in_ok-perform_stash.ensures.done in
     let quota = c.perform_quota.ensures in
     on_ok3 c.perform_quota.result quota.same quota.calls quota.stash
     (task_done g.P.Permit.takes_stash c.args.script.now c.args.first old mid (g.P.Permit.shows c.perform_quota.new.permit) stash.same stash.go stash.calls stash.stash stash.left)
@@ -41,7 +41,7 @@ returns-clause-stopped g c =
     let mid : WorkerState = g.P.Permit.shows c.perform_stash.new.permit in
     let new : WorkerState = g.P.Permit.shows c.perform_quota.new.permit in
     let takes : Bool = g.P.Permit.takes_stash in
-    let stash = c.in_ok-perform_stash.ensures in
+    let stash = c.in_ok-perform_stash.ensures.done in
     let calls : List (ℕ × Request) = calls_from c.args.first mid.left c.args.script.now in
     IfErr-weaker c.perform_quota.result (HasStopped false g.N.PhaseName.opening calls mid new) (HasMetFault takes g.N.PhaseName.opening (task old c.args.script.now c.args.first) new)
     (λ fault. stopped_late g.N.PhaseName.opening old mid new fault takes calls (calls_from c.args.first old.left c.args.script.now)

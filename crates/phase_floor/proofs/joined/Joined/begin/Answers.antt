@@ -1,4 +1,4 @@
-use Rattle.std.proofs.Common.{◌≡◌, ◌+◌, ◌<◌, ◌≤◌, ◌^◌, List, get_or, map, length, sym, ap, ◌∙◌, subst}
+use Rattle.std.proofs.Common.{◌≡◌, ◌+◌, ◌<◌, ◌≤◌, ◌^◌, List, get_or, map, length, refl, sym, ap, ◌∙◌, subst}
 use Rattle.shard_boxes.specs.States.{ShardState, AreOpened, state_of}
 use Rattle.phase_permits.specs.Stashes.{StashState}
 use Rattle.phase_floor.specs.Begins.{AreKits, asked_in_all}
@@ -10,82 +10,78 @@ use Rattle.phase_floor.proofs.joined.Joined.begin.Goals as goal
 pub new_kits-requires-clause-fit : goal.new_kits-requires-clause-fit
 new_kits-requires-clause-fit g c = λ w low.
     subst (λ (stashes : List StashState). length (stash_at stashes w).requests + get_or c.args.quotas.now w 0 ≤ 1000000) (sym c.deref.ensures.value)
-    (waiting_within c.args.self.counters c.args.stashes.items c.args.quotas.now c.requires.fits w (subst (λ n. w < n) (c.requires.quotas ∙ sym c.requires.workers) low))
+    (waiting_within c.args.self.counters c.args.stashes.items c.args.quotas.now c.requires.given.fits w (subst (λ n. w < n) (c.requires.can.quotas ∙ sym c.requires.can.workers) low))
 
 pub new_kits-requires-clause-distinct : goal.new_kits-requires-clause-distinct
-new_kits-requires-clause-distinct g c = c.requires.stocks.distinct
+new_kits-requires-clause-distinct g c = c.requires.given.stocks.distinct
 
 pub new_kits-requires-clause-stocked : goal.new_kits-requires-clause-stocked
-new_kits-requires-clause-stocked g c = c.requires.stocks.stocked
+new_kits-requires-clause-stocked g c = c.requires.given.stocks.stocked
 
 pub invariant_of-floor : goal.invariant_of-floor
 invariant_of-floor g c =
     let is = c.self.view_is in
-    let states : map state_of c.self.inside.shards.items ≡ g.N.PhaseName.opening = ap states_of is ∙ c.requires.shards in record {
+    let states : map state_of c.self.inside.shards.items ≡ g.N.PhaseName.opening = ap states_of is ∙ c.requires.can.shards in record {
       kept = subst (λ s. IsKept c.self.inside.opening s c.self.inside.counters.items) states c.self.invariant;
       boxes_are = c.in-Ok-new.ensures.boxes;
-      workers_are = ap (λ (s : JoinedState). length s.counters) is ∙ c.requires.workers;
+      workers_are = ap (λ (s : JoinedState). length s.counters) is ∙ c.requires.can.workers;
       stocks_are = subst (λ o. AreStocksOf o g.N.PhaseName.opening c.args.stocks.items) (sym (ap (λ (s : JoinedState). s.opening) is))
-          (subst (λ states. AreStocksOf c.args.self.opening states c.args.stocks.items) c.requires.shards c.requires.stocks);
-      not_last = subst (λ n. n + 1 < 2 ^ 64) (sym (ap (λ (s : JoinedState). s.phase) is)) c.requires.phase;
+          (subst (λ states. AreStocksOf c.args.self.opening states c.args.stocks.items) c.requires.can.shards c.requires.given.stocks);
+      not_last = subst (λ n. n + 1 < 2 ^ 64) (sym (ap (λ (s : JoinedState). s.phase) is)) c.requires.can.phase;
     }
 
 pub give-starts-requires-clause-fits : goal.give-starts-requires-clause-fits
 give-starts-requires-clause-fits g c = λ w below.
     subst (λ cs. asked_in_all cs c.args.stashes.items c.args.quotas.now w ≤ 1000000) (sym (ap (λ (s : JoinedState). s.counters) c.self.view_is))
-    (within c.args.self.counters c.args.stashes.items c.args.quotas.now c.requires.fits w (subst (λ n. w < n) (sym c.requires.workers) below))
+    (within c.args.self.counters c.args.stashes.items c.args.quotas.now c.requires.given.fits w (subst (λ n. w < n) (sym c.requires.can.workers) below))
 
 pub new_kits-requires-clause-stashes : goal.new_kits-requires-clause-stashes
-new_kits-requires-clause-stashes g c = ap length c.deref.ensures.value ∙ sym c.args.stashes.ok.0 ∙ c.requires.stashes ∙ sym c.requires.quotas
+new_kits-requires-clause-stashes g c = ap length c.deref.ensures.value ∙ sym c.args.stashes.ok.0 ∙ c.requires.stashes ∙ sym c.requires.can.quotas
 
 pub new_kits-requires-clause-few : goal.new_kits-requires-clause-few
 new_kits-requires-clause-few g c =
-    subst (λ n. n ≤ 16) (ap (λ (s : JoinedState). length s.counters) c.self.view_is ∙ c.requires.workers ∙ sym c.requires.quotas) c.self.invariant.few_workers
+    subst (λ n. n ≤ 16) (ap (λ (s : JoinedState). length s.counters) c.self.view_is ∙ c.requires.can.workers ∙ sym c.requires.can.quotas) c.self.invariant.few_workers
 
 pub new-requires-clause-opening : goal.new-requires-clause-opening
-new-requires-clause-opening g c = ap states_of c.self.view_is ∙ c.requires.shards
+new-requires-clause-opening g c = ap states_of c.self.view_is ∙ c.requires.can.shards
 
 pub new-requires-clause-few : goal.new-requires-clause-few
 new-requires-clause-few g c =
-    subst (λ (states : List ShardState). (0 < length states) × (length states ≤ 64)) (ap states_of c.self.view_is ∙ c.requires.shards) (c.self.invariant.some_shards, c.self.invariant.few_shards)
+    subst (λ (states : List ShardState). (0 < length states) × (length states ≤ 64)) (ap states_of c.self.view_is ∙ c.requires.can.shards) (c.self.invariant.some_shards, c.self.invariant.few_shards)
 
 pub new-requires-clause-opened : goal.new-requires-clause-opened
-new-requires-clause-opened g c = subst AreOpened (ap states_of c.self.view_is ∙ c.requires.shards) c.self.invariant.opened
+new-requires-clause-opened g c = subst AreOpened (ap states_of c.self.view_is ∙ c.requires.can.shards) c.self.invariant.opened
 
 pub new-requires-clause-some : goal.new-requires-clause-some
 new-requires-clause-some g c =
-    subst (λ n. (0 < n) × (n ≤ 16)) (ap (λ (s : JoinedState). length s.counters) c.self.view_is ∙ c.requires.workers) (c.self.invariant.some_workers, c.self.invariant.few_workers)
+    subst (λ n. (0 < n) × (n ≤ 16)) (ap (λ (s : JoinedState). length s.counters) c.self.view_is ∙ c.requires.can.workers) (c.self.invariant.some_workers, c.self.invariant.few_workers)
 
 pub give-starts-requires-clause-keys : goal.give-starts-requires-clause-keys
 give-starts-requires-clause-keys g c = c.in-Ok-new.ensures.keys
 
 pub give-starts-requires-clause-lens : goal.give-starts-requires-clause-lens
-give-starts-requires-clause-lens g c = (c.in-Ok.ensures.len ∙ c.requires.quotas, c.requires.stashes, c.requires.quotas)
+give-starts-requires-clause-lens g c = (c.in-Ok.ensures.len ∙ c.requires.can.quotas, c.requires.stashes, c.requires.can.quotas)
 
 pub give-starts-requires-clause-kits : goal.give-starts-requires-clause-kits
 give-starts-requires-clause-kits g c =
-    subst (λ n. AreKits c.self.inside.phase c.args.stocks.items c.args.stashes.items c.args.quotas.now n c.in-Ok.kits.items) c.requires.quotas
+    subst (λ n. AreKits c.self.inside.phase c.args.stocks.items c.args.stashes.items c.args.quotas.now n c.in-Ok.kits.items) c.requires.can.quotas
     (subst (λ (stashes : List StashState). AreKits c.self.inside.phase c.args.stocks.items stashes c.args.quotas.now (length c.args.quotas.now) c.in-Ok.kits.items) c.deref.ensures.value c.in-Ok.ensures.each)
 
 pub invariant_of-result : goal.invariant_of-result
 invariant_of-result g c =
     subst (λ (states : List ShardState). IsKept c.self.inside.opening states c.self.inside.counters.items) (ap (λ shards. map state_of shards.items) (sym c.in-Err.ensures.err)) c.self.invariant
 
-pub returns-in-Err-clause-state : goal.returns-in-Err-clause-state
-returns-in-Err-clause-state g c =
-    ap (λ shards. joined_of c.self.inside.opening c.self.inside.phase shards.items c.self.inside.counters.items) c.in-Err.ensures.err ∙ c.self.view_is
+pub returns-in-Err-clause-refused : goal.returns-in-Err-clause-refused
+returns-in-Err-clause-refused g c =
+    (ap (λ shards. joined_of c.self.inside.opening c.self.inside.phase shards.items c.self.inside.counters.items) c.in-Err.ensures.err ∙ c.self.view_is, refl)
 
-pub returns-in-Ok-new-clause-opening : goal.returns-in-Ok-new-clause-opening
-returns-in-Ok-new-clause-opening g c = ap (λ (s : JoinedState). s.opening) c.self.view_is
-
-pub returns-in-Ok-new-clause-phase : goal.returns-in-Ok-new-clause-phase
-returns-in-Ok-new-clause-phase g c = ap (λ (s : JoinedState). s.phase) c.self.view_is
-
-pub returns-in-Ok-new-clause-counters : goal.returns-in-Ok-new-clause-counters
-returns-in-Ok-new-clause-counters g c = ap (λ (s : JoinedState). s.counters) c.self.view_is
-
-pub returns-in-Ok-new-clause-starts : goal.returns-in-Ok-new-clause-starts
-returns-in-Ok-new-clause-starts g c = c.give-starts.ensures
+pub returns-in-Ok-new-clause-begun : goal.returns-in-Ok-new-clause-begun
+returns-in-Ok-new-clause-begun g c = record {
+  opening = ap (λ (s : JoinedState). s.opening) c.self.view_is;
+  phase = ap (λ (s : JoinedState). s.phase) c.self.view_is;
+  counters = ap (λ (s : JoinedState). s.counters) c.self.view_is;
+  permits = c.give-starts.ensures;
+}
 
 pub give-starts-requires-clause-rooms : goal.give-starts-requires-clause-rooms
-give-starts-requires-clause-rooms g c = c.requires.rooms
+give-starts-requires-clause-rooms g c = c.requires.given.rooms

@@ -4,7 +4,7 @@ use Rattle.std.proofs.lemmas.List.{length-map}
 use Rattle.auction_rows.specs.declared.requests.Request.{Request}
 use Rattle.auction_run.specs.Phases.{lists}
 use Rattle.auction_run.proofs.QuotaLemmas.{quotas_more, quota_at}
-use Rattle.auction_run.proofs.quotas.quotas.Goals as goal
+use Rattle.auction_run.proofs.plan.worker_quotas.Goals as goal
 
 pub loop-script-preserved : goal.loop-script-preserved
 loop-script-preserved c =

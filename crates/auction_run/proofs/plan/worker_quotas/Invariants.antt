@@ -1,6 +1,6 @@
 use Rattle.std.proofs.Common.{◌≡◌, ◌-◌, length, map, min, take}
 use Rattle.auction_run.specs.Phases.{lists}
-use Rattle.auction_run.proofs.quotas.quotas.Given as goal
+use Rattle.auction_run.proofs.plan.worker_quotas.Given as goal
 
 -- the first scripts have their quotas
 abbrev pub invariant-loop-script : goal.invariant-loop-script
