@@ -1,5 +1,6 @@
 -- What a row says of an item, a category or a user: its bid, its listing, its stars.
-use Rattle.std.specs.Prelude.{ℕ, ℤ, if◌then◌else◌, ◌==◌, Option, Some, None}
+use Rattle.std.specs.Prelude.{ℕ, if◌then◌else◌, ◌==◌, Option, Some, None}
+use Rattle.auction_rows.specs.declared.numbers.Stars.{Stars}
 use Rattle.auction_rows.specs.declared.ids.ItemId.{ItemId}
 use Rattle.auction_rows.specs.declared.ids.BidEntry.{BidEntry}
 use Rattle.auction_rows.specs.declared.ids.ItemEntry.{ItemEntry}
@@ -22,7 +23,7 @@ row_listing category (Comment row) = None
 row_listing category (Buy row) = None
 
 -- the stars that a row gives a user
-abbrev pub row_stars : ℕ → Row → Option ℤ
+abbrev pub row_stars : ℕ → Row → Option Stars
 row_stars user (Item row) = None
 row_stars user (Bid row) = None
 row_stars user (Comment row) = if row.about == user then Some row.stars else None

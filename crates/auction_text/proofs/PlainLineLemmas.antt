@@ -1,11 +1,12 @@
 -- Plain lines that are read in place say what their records say.
-use Rattle.std.proofs.Common.{arith, ◌≡◌, ◌<◌, ◌+◌, ◌∷◌, ◌++◌, ◌∙◌, [], ℕ, suc, ℤ, List, Ok, Option, Some, None, IfSome, Bool, true, false, nat_lt, drop, get_or, length, refl, sym, ap, append_assoc, add-one, drop-cons}
+use Rattle.std.proofs.Common.{arith, ◌≡◌, ◌<◌, ◌+◌, ◌∷◌, ◌++◌, ◌∙◌, [], ℕ, suc, List, Ok, Option, Some, None, IfSome, Bool, true, false, nat_lt, drop, get_or, length, refl, sym, ap, append_assoc, add-one, drop-cons}
 use Rattle.std.proofs.lemmas.Grind.{common_steps}
 use Rattle.std.proofs.lemmas.Bool.{lt-ltb}
 use Rattle.csv.specs.Records.{field_at}
 use Rattle.auction_rows.specs.declared.requests.Request.{Request}
 use Rattle.auction_rows.specs.declared.requests.Request.TheVariants as request
 use Rattle.auction_rows.specs.declared.ids.ItemId.{ItemId}
+use Rattle.auction_rows.specs.declared.numbers.Stars.{Stars}
 use Rattle.auction_text.specs.Fields.{name, quantity, stars}
 use Rattle.auction_text.specs.Kinds.{has_count, kind_of}
 use Rattle.auction_text.specs.Records.{put_up, request_of}
@@ -67,7 +68,7 @@ view_user_in_place text at user next n =
     last_alone kind.ViewUser (request.ViewUser user) text at next n.field n.there (digits_plain n.field n.digits) (λ worker word. refl) (λ worker word. rw n.is refl)
 
 -- the fields of a comment
-pub comment_in_place : (text : List ℕ) (at author at_about about at_item : ℕ) (item : ItemId) (at_stars : ℕ) (last : List ℕ) (given : ℤ) (next : ℕ)
+pub comment_in_place : (text : List ℕ) (at author at_about about at_item : ℕ) (item : ItemId) (at_stars : ℕ) (last : List ℕ) (given : Stars) (next : ℕ)
     → IsNumberTo text at 44 32 author at_about → IsNumberTo text at_about 44 32 about at_item → IsItemTo text at_item 44 item at_stars
     → IsLastField text at_stars next last → is_plain last ≡ true → stars last ≡ Some given
     → IsRestOf kind.Comment text at (request.StoreComment author about item given) next

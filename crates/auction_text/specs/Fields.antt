@@ -1,10 +1,12 @@
 -- What one field of a record says.
-use Rattle.std.specs.Prelude.{ℕ, ◌+◌, ◌-◌, ℤ, pos, negsuc, ◌==◌, ◌^◌, take, drop, length, List, [], ◌∷◌, Bool, true, false, ◌&&◌, nat_lt, nat_le, Option, Some, None, if◌then◌else◌}
+use Rattle.std.specs.Prelude.{ℕ, ◌+◌, ◌-◌, pos, negsuc, ◌==◌, ◌^◌, take, drop, length, List, [], ◌∷◌, Bool, true, false, ◌&&◌, nat_lt, nat_le, Option, Some, None, if◌then◌else◌}
 use Rattle.std.specs.List.{list_all, position}
 use Rattle.std.specs.Char.{is_ascii_digit}
 use Rattle.std.specs.Str.Parse.{digits_value}
 use Rattle.auction_rows.specs.declared.ids.ItemId.{ItemId}
 use Rattle.auction_rows.specs.declared.limits.TheConstants.{MOST_QUANTITY}
+use Rattle.auction_rows.specs.declared.numbers.Stars.{Stars}
+use Rattle.auction_rows.specs.Stars.{stars_of}
 
 abbrev pub is_empty : List ℕ → Bool
 is_empty [] = true
@@ -30,10 +32,10 @@ quantity field =
     if is_numeral field && is_quantity (digits_value 10 field) then Some (digits_value 10 field) else None
 
 -- the stars that a field writes: `0` to `5`, which are the bytes 48 to 53, or a minus, which is 45, and then `1` to `5`
-abbrev pub stars : List ℕ → Option ℤ
+abbrev pub stars : List ℕ → Option Stars
 stars [] = None
-stars (digit ∷ []) = if nat_le 48 digit && nat_le digit 53 then Some (pos (digit - 48)) else None
-stars (sign ∷ digit ∷ []) = if (sign == 45) && nat_le 49 digit && nat_le digit 53 then Some (negsuc (digit - 49)) else None
+stars (digit ∷ []) = if nat_le 48 digit && nat_le digit 53 then stars_of (pos (digit - 48)) else None
+stars (sign ∷ digit ∷ []) = if (sign == 45) && nat_le 49 digit && nat_le digit 53 then stars_of (negsuc (digit - 49)) else None
 stars (first ∷ second ∷ third ∷ rest) = None
 
 -- a byte that prints: a space to a tilde

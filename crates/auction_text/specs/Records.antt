@@ -1,9 +1,10 @@
 -- What one record says: a worker's request, or a row, or the first fault.
-use Rattle.std.specs.Prelude.{ℕ, ℤ, Bool, ◌&&◌, ◌==◌, List, [], length, nat_lt, Result, Ok, Err, if◌then◌else◌}
+use Rattle.std.specs.Prelude.{ℕ, Bool, ◌&&◌, ◌==◌, List, [], length, nat_lt, Result, Ok, Err, if◌then◌else◌}
 use Rattle.std.specs.Option.{unwrap_or, ok_or}
 use Rattle.std.specs.Result.{result_map_both}
 use Rattle.csv.specs.Records.{field_at}
 use Rattle.auction_rows.specs.declared.ids.ItemId.{ItemId}
+use Rattle.auction_rows.specs.declared.numbers.Stars.{Stars}
 use Rattle.auction_rows.specs.declared.requests.Request.{Request}
 use Rattle.auction_rows.specs.declared.requests.Request.TheVariants as request
 use Rattle.auction_text.specs.Fields.{number, item_id, name, quantity, stars}
@@ -34,7 +35,7 @@ name_at fields place = ok_or (name (field fields place)) cause.Name
 abbrev pub quantity_at : List (List ℕ) → ℕ → Result ℕ Cause
 quantity_at fields place = ok_or (quantity (field fields place)) cause.Quantity
 
-abbrev pub stars_at : List (List ℕ) → ℕ → Result ℤ Cause
+abbrev pub stars_at : List (List ℕ) → ℕ → Result Stars Cause
 stars_at fields place = ok_or (stars (field fields place)) cause.Stars
 
 -- how many of an item are put up: what the ninth field says, or one

@@ -52,7 +52,7 @@ comment_row_text row =
     decimal row.id.worker ++ labelled (codes ",+comment,") row.author
     ++ labelled (codes ",") row.about
     ++ labelled_id (codes ",") row.item.worker row.item.serial
-    ++ codes "," ++ signed_decimal row.stars
+    ++ codes "," ++ signed_decimal row.stars.value
 
 abbrev pub buy_row_text : BuyRow → List ℕ
 buy_row_text row =

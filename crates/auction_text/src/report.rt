@@ -32,8 +32,8 @@ fn push_count_line(text: &mut Vec<u8>, label: &[u8], count: u64) -> Result<(), A
 fn refused_count(history: &History) -> usize
     ensures { result ≡ refused_count history.now.entries }
 {
-    // Its length fits, and so does the count.
-    let _fits = history.len();
+    // So does the count.
+    history.fits();
     history.iter().filter(|entry| entry.is_refused()).count()
 }
 

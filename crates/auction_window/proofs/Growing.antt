@@ -1,7 +1,6 @@
 -- One phase more.
 use Rattle.std.proofs.Common.{◌≡◌, suc, ◌+◌, List, [], ◌∷◌, ◌++◌, length, refl, ap, sym, ◌∙◌, subst, arith, length-append}
 use mathlib.Core.List.{IsPrefix}
-use base.Growing.{prefix_trans}
 use Rattle.std.specs.Prelude.{fold, Some, Result, Ok, Err, OnOk, OnErr, MatchResult}
 use Rattle.auction_rows.specs.declared.numbers.Opening.{Opening}
 use Rattle.auction_rows.specs.declared.rows.Row.{Row}
@@ -16,21 +15,19 @@ pub book_of-snoc : (rows : Book) (phases : List (List Row)) (last : List Row) �
 book_of-snoc rows [] last = refl
 book_of-snoc rows (phase ∷ phases) last = book_of-snoc (rows ++ phase) phases last
 
--- of two prefixes of one list, where the second has one phase more, the first is the phases before its last
-before_last : (old new both before : List (List Row)) (last : List Row) → new ≡ before ++ last ∷ [] → IsPrefix old both → IsPrefix new both → length new ≡ suc (length old)
-    → before ≡ old
-before_last old new both before last is p q len =
+-- a prefix with one phase less is the phases before the last
+before_last : (old new before : List (List Row)) (last : List Row) → new ≡ before ++ last ∷ [] → IsPrefix old new → length new ≡ suc (length old) → before ≡ old
+before_last old new before last is begins len =
     let long : length new ≡ length before + 1 = ap length is ∙ length-append before (last ∷ []) in
     let same_length : length before ≡ length old = omega arith in
-    let begins : IsPrefix before both = prefix_trans before new both (last ∷ [], sym is) q in
-    prefix_whole before old (prefix_shorter before old both begins p (omega arith)) (omega arith)
+    prefix_whole before old (prefix_shorter before old new (last ∷ [], sym is) begins (omega arith)) (omega arith)
 
 -- an auction that has the rows of some phases, and the phase that comes next
 module _ {opening : Opening} {rows : Book} {last : List Row} {new : List (List Row)} (phase : IsLastPhase opening rows last new)
-    (old both : List (List Row)) (p : IsPrefix old both) (q : IsPrefix new both) (len : length new ≡ suc (length old))
+    (old : List (List Row)) (begins : IsPrefix old new) (len : length new ≡ suc (length old))
     (auction : SerialAuction) (held : HasPhases opening rows (Some auction) old) where
   same : phase.before ≡ old
-  same = before_last old new both phase.before last phase.phases_are p q len
+  same = before_last old new phase.before last phase.phases_are begins len
 
   follow : CanFollow (opening_of auction) (book_of rows old) last
   follow =

@@ -91,8 +91,8 @@ impl<J: WindowName> AuctionCopy<J> {
             return None;
         }
         let auction = self.auction.as_ref()?;
-        // Both are prefixes of one list, so the longer begins with the shorter.
-        let _longer = known.longer(&self.phases);
+        // The longer begins with the shorter.
+        known.agrees(&self.phases);
         Some((self.phases.again(), auction.reply_to(0, request)))
     }
 }
@@ -114,8 +114,8 @@ impl<J: WindowName> Absorb<AddPhase<J>> for AuctionCopy<J> {
         if count == 0 || count - 1 != self.phases.len() {
             return Err(AllocError);
         }
-        // Both are prefixes of one list, so the phases added begin with those that the copy has.
-        let _longer = self.phases.longer(&added.phases);
+        // The phases added begin with those that the copy has.
+        self.phases.agrees(&added.phases);
         // The auction is put back once it has all the rows, so that half a phase is never shown.
         let Some(mut auction) = self.auction.take() else {
             return Err(AllocError);

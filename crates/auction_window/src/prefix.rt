@@ -1,6 +1,7 @@
 //! Prefixes of the list of phases.
 ghost use Rattle.std.specs.Prelude.{◌≡◌, ◌+◌, ◌==◌, ◌<◌, ◌++◌, ◌∷◌, ◌⊎◌, [], length, MatchBool};
 ghost use mathlib.Core.List.{IsPrefix};
+ghost use Rattle.auction_window.specs.Published.{AreComparable};
 
 use crate::name::WindowName;
 use crate::phase_log::{Add, NoGain, PhaseCount, PhaseRule, Rows};
@@ -80,6 +81,13 @@ impl<J: WindowName> Prefix<J> {
         } else {
             self.again()
         }
+    }
+
+    // Of two one begins with the other. It does nothing else than to say so.
+    pub(crate) fn agrees(&self, other: &Prefix<J>)
+        ensures { AreComparable self.now other.now }
+    {
+        self.longer(other);
     }
 
     // Adds a phase to the list, if this is all of it, and says whether it did. Else it becomes all of the list.

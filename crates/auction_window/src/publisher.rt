@@ -162,7 +162,7 @@ impl<J: WindowName> Publisher<J> {
     pub fn agrees(&self, window: &Window<J>)
         ensures { AreComparable window.now self.now.phases }
     {
-        let _longer = window.known().longer(&self.phases);
+        window.known().agrees(&self.phases);
     }
 
     /// Ends it: from now on windows answer `NoGuard`. It waits until each view that is under way is done, and takes no

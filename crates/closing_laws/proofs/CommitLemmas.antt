@@ -10,10 +10,8 @@ use Rattle.phase_permits.specs.Txns.{Txn, entry_of, after_txn}
 use Rattle.phase_permits.proofs.LawfulLemmas.{counts_one}
 use Rattle.closing_laws.specs.Phases.{Phase, HasClosed, counters_of, journal_of, receipt_at}
 use Rattle.closing_laws.specs.Standing.{StandFor, AreOfWorkers, counters_at, stores}
-use Rattle.closing_laws.proofs.WorkerLemmas.{rows_below, rows_star}
+use Rattle.closing_laws.proofs.WorkerLemmas.{rows_below}
 use Rattle.item_shards.specs.Counting.{worker_of}
-use Rattle.item_shards.specs.Limits.{GivesStars, HasStars}
-use Rattle.std.specs.List.{AllByRecursion}
 use Rattle.closing_laws.proofs.ReceiptLemmas.{txns_by, counts, journal_entries}
 use Rattle.closing_laws.proofs.ReplayLemmas.{entries_replay}
 use Rattle.phase_laws.proofs.ListLemmas.{all-append}
@@ -57,9 +55,3 @@ pub workers_go_on : (p : Phase) (closed : HasClosed p) (book : Book) → StandFo
 workers_go_on p closed book opens own =
     subst (AreOfWorkers (length p.receipts)) (sym (book_after-replays p.setting.opening book p.entries (entries_replay p closed book opens)))
     (all-append (λ row. worker_of row < length p.receipts) book (rows_of p.entries) (subst (λ n. AreOfWorkers n book) closed.begun.workers own) (rows_below p closed))
-
-pub stars_go_on : (p : Phase) (closed : HasClosed p) (book : Book) → StandFor p.opening p.counters book [] → AllByRecursion HasStars book
-    → AllByRecursion (λ entry. GivesStars entry.request) p.entries → AllByRecursion HasStars (book_after p.setting.opening book p.entries)
-stars_go_on p closed book opens stars given =
-    subst (AllByRecursion HasStars) (sym (book_after-replays p.setting.opening book p.entries (entries_replay p closed book opens)))
-    (all-append HasStars book (rows_of p.entries) stars (rows_star p.entries given))

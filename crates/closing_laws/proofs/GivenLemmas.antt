@@ -13,8 +13,8 @@ use Rattle.item_shards.specs.declared.acts.Act.TheVariants.{AddItem, ListItem, B
 use Rattle.item_shards.specs.Contents.{Contents, changed, target, after_act, after_acts, with_facts, item_listed, bid_on, comment_about, bought_of}
 use Rattle.item_shards.specs.Values.{Value}
 use Rattle.item_shards.specs.Writing.{acts_of, is_cold_in, is_done_on}
-use Rattle.item_shards.proofs.EntryLemmas.{padded_leaves}
-use Rattle.shard_boxes.specs.Lines.{after, after_line}
+use Rattle.item_shards.proofs.EntryLemmas.{padded_leaves, few_done}
+use Rattle.shard_boxes.specs.Lines.{acts_in, after, after_line}
 use Rattle.shard_boxes.specs.States.{ShardState, state_at}
 use Rattle.phase_permits.specs.Txns.{Setting, Txn, hot_in, takes, line_on}
 use Rattle.closing_laws.specs.Phases.{Phase, HasClosed, value_on}
@@ -47,17 +47,17 @@ module _ (here : Object → Bool) (object : Object) (away : here object ≡ fals
 
 -- so a hot object has on a shard what it had, after any transactions
 pub hot_alone : (z : Setting) (s : ℕ) (object : Object) → is_hot (hot_in z) object ≡ true → (txns : List Txn) (contents : Contents)
-    → fold (λ t txn. after_acts t (line_on z s txn).acts) contents txns object ≡ contents object
+    → fold (λ t txn. after_acts t (acts_in (line_on z s txn).acts)) contents txns object ≡ contents object
 hot_alone z s object hot [] contents = refl
 hot_alone z s object hot (txn ∷ txns) contents =
     let all = acts_of z.opening txn.1.stock txn.0 in
-    hot_alone z s object hot txns (after_acts contents (line_on z s txn).acts)
-    ∙ ap (λ (t : Contents). t object) (padded_leaves contents (filter (is_done_on s z.shards (hot_in z)) all))
+    hot_alone z s object hot txns (after_acts contents (acts_in (line_on z s txn).acts))
+    ∙ ap (λ (t : Contents). t object) (padded_leaves contents (filter (is_done_on s z.shards (hot_in z)) all) (few_done s z.shards (hot_in z) z.opening txn.1.stock txn.0))
     ∙ acts_alone (is_cold_in s z.shards (hot_in z)) object (ap (λ b. not b && (shard_of object z.shards == s)) hot) all contents
 
 -- of a shard after the lines of transactions, its contents
 abbrev pub after_txns : Setting → ℕ → Contents → List Txn → Contents
-after_txns z s contents txns = fold (λ t txn. after_acts t (line_on z s txn).acts) contents txns
+after_txns z s contents txns = fold (λ t txn. after_acts t (acts_in (line_on z s txn).acts)) contents txns
 
 contents_after : (z : Setting) (s : ℕ) (state : ShardState) (txns : List Txn) → (after state (map (worker_line z s) txns)).contents ≡ after_txns z s state.contents txns
 contents_after z s state [] = refl

@@ -14,7 +14,7 @@ use Rattle.auction_rows.specs.Replies.{row_of}
 use Rattle.item_shards.specs.Contents.{Contents, after_acts}
 use Rattle.item_shards.specs.Standing.{ContentsStandsFor}
 use Rattle.item_shards.proofs.EntryLemmas.{entry_stands, untaken_stands}
-use Rattle.shard_boxes.specs.Lines.{AreTrueOf}
+use Rattle.shard_boxes.specs.Lines.{acts_in, AreTrueOf}
 use Rattle.phase_permits.specs.declared.counters.Counters.{Counters}
 use Rattle.phase_permits.specs.Txns.{Setting, Txn, hot_in, takes, line_on, counted, after_txn, IsAnswered}
 use Rattle.phase_permits.specs.Slicing.{stock_of}
@@ -40,12 +40,12 @@ module _ (z : Setting) where
   takes_at fixed txn = true
 
   abbrev pub step_at : (p : Place) → State p → Txn → State p
-  step_at (shard s) contents txn = after_acts contents (line_on z s txn).acts
+  step_at (shard s) contents txn = after_acts contents (acts_in (line_on z s txn).acts)
   step_at (worker w) counters txn = after_txn counters txn
   step_at fixed items txn = items
 
   abbrev pub Saw_at : (p : Place) → State p → Txn → Type 0
-  Saw_at (shard s) contents txn = AreTrueOf contents (line_on z s txn).acts
+  Saw_at (shard s) contents txn = AreTrueOf contents (acts_in (line_on z s txn).acts)
   Saw_at (worker w) counters txn = IsAnswered z counters txn
   Saw_at fixed items txn = Unit {0}
 

@@ -17,7 +17,7 @@ use Rattle.item_shards.specs.Standing.{ContentsStandsFor}
 use Rattle.item_shards.specs.Values.{value, stock}
 use Rattle.item_shards.proofs.AnswerLemmas.{stock_is}
 use Rattle.shard_boxes.specs.declared.line.Line.{Line}
-use Rattle.shard_boxes.specs.Lines.{AreTrueOf, after_line}
+use Rattle.shard_boxes.specs.Lines.{acts_in, AreTrueOf, after_line}
 use Rattle.shard_boxes.specs.States.{ShardState, state_at}
 use Rattle.phase_permits.specs.declared.counters.Counters.{Counters}
 use Rattle.phase_permits.specs.Txns.{Setting, Txn, hot_in, entry_of, takes, line_on, IsAnswered, after_txn}
@@ -35,7 +35,7 @@ use Rattle.closing_laws.proofs.ListLemmas.{lift, all_txns, box, list_is, nowhere
 -- Of a shard after lines, its contents alone.
 
 saw_contents : (z : Setting) (s : ℕ) (state : ShardState) (txns : List Txn)
-    → SawInTurn (λ (found : ShardState) txn. AreTrueOf found.contents (line_on z s txn).acts) (λ found txn. after_line found (line_on z s txn)) state txns
+    → SawInTurn (λ (found : ShardState) txn. AreTrueOf found.contents (acts_in (line_on z s txn).acts)) (λ found txn. after_line found (line_on z s txn)) state txns
     → SawInTurn (Saw_at z (shard s)) (step_at z (shard s)) state.contents txns
 saw_contents z s state [] saw = tt
 saw_contents z s state (txn ∷ txns) saw = (saw.0, saw_contents z s (after_line state (line_on z s txn)) txns saw.1)
@@ -87,8 +87,8 @@ module _ (p : Phase) (closed : HasClosed p) (book : Book) (opens : StandFor p.op
       → SawInTurn (Saw_at z (shard s)) (step_at z (shard s)) (state_at p.opening s).contents (filter (takes z s) (all_txns p closed))
   saw_shard s (inl known) =
       saw_contents z s (state_at p.opening s) (filter (takes z s) (all_txns p closed))
-      (saw_from_map (worker_line z s) (λ (found : ShardState) entry. AreTrueOf found.contents entry.1.acts) (λ found entry. after_line found entry.1) (state_at p.opening s) (filter (takes z s) (all_txns p closed))
-      (subst (SawInTurn (λ (found : ShardState) (entry : ℕ × Line). AreTrueOf found.contents entry.1.acts) (λ found entry. after_line found entry.1) (state_at p.opening s))
+      (saw_from_map (worker_line z s) (λ (found : ShardState) entry. AreTrueOf found.contents (acts_in entry.1.acts)) (λ found entry. after_line found entry.1) (state_at p.opening s) (filter (takes z s) (all_txns p closed))
+      (subst (SawInTurn (λ (found : ShardState) (entry : ℕ × Line). AreTrueOf found.contents (acts_in entry.1.acts)) (λ found entry. after_line found entry.1) (state_at p.opening s))
       (list_is p closed s known) (box p closed s known).history.looks))
   saw_shard s (inr past) =
       subst (SawInTurn (Saw_at z (shard s)) (step_at z (shard s)) (state_at p.opening s).contents) (sym (nowhere p closed s past)) tt

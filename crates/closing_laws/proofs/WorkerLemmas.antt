@@ -13,7 +13,6 @@ use Rattle.auction_rows.specs.Book.{Book}
 use Rattle.auction_rows.specs.History.{row_of_entry, rows_of}
 use Rattle.auction_rows.specs.Replies.{row_of, row_if}
 use Rattle.item_shards.specs.Counting.{worker_of}
-use Rattle.item_shards.specs.Limits.{GivesStars, HasStars}
 use Rattle.worker_journals.specs.Journals.{entry_worker}
 use Rattle.phase_permits.specs.Txns.{entry_of}
 use Rattle.closing_laws.specs.Phases.{Phase, HasClosed, journal_of, receipt_at}
@@ -64,13 +63,6 @@ row_worker worker (StoreComment author about item stars) (CommentStored id) = if
 row_worker worker (BuyNow buyer item quantity time) (Bought id) = if_own (λ one. worker_of one ≡ worker) (id.worker == worker) _ (eqb-true id.worker worker)
 row_worker worker request given = tt
 
-row_stars : (worker : ℕ) (request : Request) (given : Reply) → GivesStars request → IfAny HasStars (row_of worker request given)
-row_stars worker (StoreItem facts time) (ItemStored id) stars = if_own HasStars (id.worker == worker) _ (λ _. tt)
-row_stars worker (StoreBid bidder item amount time) (BidStored id) stars = if_own HasStars (id.worker == worker) _ (λ _. tt)
-row_stars worker (StoreComment author about item given) (CommentStored id) stars = if_own HasStars (id.worker == worker) _ (λ _. stars)
-row_stars worker (BuyNow buyer item quantity time) (Bought id) stars = if_own HasStars (id.worker == worker) _ (λ _. tt)
-row_stars worker request given stars = tt
-
 one_more : (P : Row → Type 0) (one : Option Row) (rows : Book) → IfAny P one → AllByRecursion P rows → AllByRecursion P (cons_option one rows)
 one_more P None rows first rest = rest
 one_more P (Some one) rows first rest = (first, rest)
@@ -87,6 +79,3 @@ pub rows_below : (p : Phase) (closed : HasClosed p) → AllByRecursion (λ row. 
 rows_below p closed = rows_have (λ row. worker_of row < length p.receipts) (λ entry. entry_worker entry < length p.receipts)
     (λ entry less. below_if (length p.receipts) (entry_worker entry) (row_of_entry entry) less (row_worker (entry_worker entry) entry.request entry.reply))
     p.entries (entries_below p closed)
-
-pub rows_star : (entries : List Entry) → AllByRecursion (λ entry. GivesStars entry.request) entries → AllByRecursion HasStars (rows_of entries)
-rows_star entries all = rows_have HasStars (λ entry. GivesStars entry.request) (λ entry stars. row_stars (entry_worker entry) entry.request entry.reply stars) entries all

@@ -1,5 +1,5 @@
 -- A phase that closes: a user is hot, and the one worker comments on a stored item about that user.
-use Rattle.std.specs.Prelude.{pos, false, [], ◌∷◌, Some, None}
+use Rattle.std.specs.Prelude.{false, [], ◌∷◌, Some, None}
 use Rattle.auction_rows.specs.declared.ids.ItemId.{ItemId}
 use Rattle.auction_rows.specs.declared.ids.Object.TheVariants.{Item, User}
 use Rattle.auction_rows.specs.declared.replies.Reply.TheVariants.{CommentStored}
@@ -9,6 +9,7 @@ use Rattle.auction_rows.specs.declared.rows.Entry.{Entry}
 use Rattle.auction_rows.specs.declared.rows.Row.TheVariants as row
 use Rattle.auction_rows.specs.Book.{Book}
 use Rattle.auction_rows.specs.History.{rows_of}
+use Rattle.auction_rows.specs.Stars.{five}
 use Rattle.item_shards.specs.Values.{stock, value}
 use Rattle.shard_boxes.specs.declared.line.Line.{Line}
 use Rattle.shard_boxes.specs.Keys.{KeyState}
@@ -43,7 +44,7 @@ entry = record {
   number = 1;
   worker = 0;
   index = 0;
-  request = StoreComment 0 0 first_item (pos 5);
+  request = StoreComment 0 0 first_item five;
   reply = CommentStored (record { worker = 0; serial = 0 });
 }
 

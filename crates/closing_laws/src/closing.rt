@@ -1,9 +1,7 @@
 //! What a phase that has closed comes to.
 ghost use Rattle.std.specs.Prelude.{◌≡◌, ◌+◌, ◌<◌, ◌≤◌, ℕ, [], length};
-ghost use Rattle.std.specs.List.{AllByRecursion};
 ghost use Rattle.auction_rows.specs.Book.{Book};
 ghost use Rattle.auction_rows.specs.History.{IsBook};
-ghost use Rattle.item_shards.specs.Limits.{GivesStars, HasStars};
 ghost use Rattle.phase_permits.specs.Txns.{hot_in};
 ghost use Rattle.closing_laws.specs.Phases.{Phase, HasClosed, receipt_at, counters_of, journal_of};
 ghost use Rattle.closing_laws.specs.Standing.{StandFor, AreOfWorkers, counters_at, stores};
@@ -29,16 +27,11 @@ pub fn entries_replay()
         ReplaysAndStands p book }
 {}
 
-/// A book of the opening leaves one. The stars of what is left are from -5 to 5, if those of the book and of the
-/// entries are, and its rows are of the phase's workers, if those of the book are.
+/// A book of the opening leaves one. Its rows are of the phase's workers, if those of the book are.
 pub fn books_go_on()
     ensures books { (p : Phase) → HasClosed p →
         (book : Book) → StandFor p.opening p.counters book [] →
         IsBook p.setting.opening book → IsBook p.setting.opening (book_left p book) }
-    ensures stars { (p : Phase) → HasClosed p →
-        (book : Book) → StandFor p.opening p.counters book [] → AllByRecursion HasStars book →
-        AllByRecursion (λ entry. GivesStars entry.request) p.entries →
-        AllByRecursion HasStars (book_left p book) }
     ensures workers { (p : Phase) → HasClosed p →
         (book : Book) → StandFor p.opening p.counters book [] →
         AreOfWorkers (length p.counters) book →

@@ -8,11 +8,12 @@ use Rattle.std.proofs.lemmas.Int.{ints, fits_signed_from_abs}
 use Rattle.std.proofs.lemmas.List.{length-append}
 use Rattle.phase_laws.specs.Replay.{SawInTurn}
 use Rattle.phase_laws.proofs.MemberLemmas.{all-member}
-use Rattle.phase_laws.proofs.ListLemmas.{all-append, all-left, all-right}
+use Rattle.phase_laws.proofs.ListLemmas.{all-append}
 use Rattle.auction_rows.specs.declared.ids.ItemId.{ItemId}
 use Rattle.auction_rows.specs.declared.ids.Object.{Object}
 use Rattle.auction_rows.specs.declared.ids.Object.TheVariants.{Item, User, Category}
 use Rattle.auction_rows.specs.declared.numbers.Opening.{Opening}
+use Rattle.auction_rows.specs.declared.numbers.Stars.{Stars}
 use Rattle.auction_rows.specs.declared.requests.Facts.{Facts}
 use Rattle.auction_rows.specs.declared.requests.Request.{Request}
 use Rattle.auction_rows.specs.declared.requests.Request.TheVariants.{StoreItem, StoreBid, StoreComment, BuyNow, ViewItem, ViewBids, ViewCategory, ViewUser}
@@ -33,7 +34,7 @@ use Rattle.item_shards.specs.Contents.{Contents, after_act}
 use Rattle.item_shards.specs.Standing.{ContentsStandsFor}
 use Rattle.item_shards.specs.Writing.{looks_of, writes_of, writes_if, acts_of, is_cold_in, is_done_on, acts_owed}
 use Rattle.item_shards.specs.Acting.{CanActOn, HasRoomFor}
-use Rattle.item_shards.specs.Limits.{AreStars, HasStars, IsWithinLimits}
+use Rattle.item_shards.specs.Limits.{IsWithinLimits}
 use Rattle.item_shards.proofs.StandingLemmas.{stands_at, lies_here}
 use Rattle.item_shards.proofs.CountLemmas.{bids_at_most, comments_at_most, rating_at_most}
 use Rattle.item_shards.proofs.TurnLemmas.{owed_in_turn}
@@ -52,8 +53,8 @@ enough_left book item quantity stored few = at (facts_of book item) refl stored 
         enough = omega (arith, ltb-false (left_of book item) quantity few, up);
       }
 
-rating_fits : (z stars : ℤ) (n : ℕ) → unsigned_abs z ≤ 5 * n → n ≤ 16000000 → AreStars stars → FitsSigned w64 (z +ℤ stars)
-rating_fits z stars n near few are = fits_signed_from_abs w64 (z +ℤ stars) (omega (arith, ints))
+rating_fits : (z : ℤ) (stars : Stars) (n : ℕ) → unsigned_abs z ≤ 5 * n → n ≤ 16000000 → FitsSigned w64 (z +ℤ stars.value)
+rating_fits z stars n near few = fits_signed_from_abs w64 (z +ℤ stars.value) (omega (arith, ints, stars.at_least, stars.at_most))
 
 module _ (opening : Opening) (number shards : ℕ) (rooms : ItemId → Bool) (contents : Contents) (book : Book) (hot : List Object)
     (stands : ContentsStandsFor number shards contents book hot) where
@@ -79,52 +80,51 @@ module _ (opening : Opening) (number shards : ℕ) (rooms : ItemId → Bool) (co
   looks_can saw answered (ViewCategory category) = (λ e. tt, tt)
   looks_can saw answered (ViewUser user) = (λ e. tt, tt)
 
-  module _ (few : length book ≤ 16000000) (stars : AllByRecursion HasStars book) (worker : ℕ) where
+  module _ (few : length book ≤ 16000000) (worker : ℕ) where
     abbrev IsRoomFor : Reply → Type 0
     IsRoomFor answered = (id : ItemId) → answered ≡ ItemStored id → shard_of (Item id) shards ≡ number → IsTrue (rooms id)
 
-    row_if_can : (b : Bool) (one : Row) → AllByRecursion HasStars (option_to_list (row_if b one)) → (HasStars one → AllByRecursion Can (writes_of one)) → AllByRecursion Can (writes_if (row_if b one))
-    row_if_can true one own all = all own.0
-    row_if_can false one own all = tt
+    row_if_can : (b : Bool) (one : Row) → AllByRecursion Can (writes_of one) → AllByRecursion Can (writes_if (row_if b one))
+    row_if_can true one all = all
+    row_if_can false one all = tt
 
     -- what a request that isn't refused writes
     accepted_can : (request : Request) → refusal opening book request ≡ None → IsRoomFor (answer book worker request)
-        → AllByRecursion HasStars (option_to_list (row_of worker request (answer book worker request)))
         → AllByRecursion Can (writes_if (row_of worker request (answer book worker request)))
-    accepted_can (StoreItem facts time) e room own =
-        row_if_can (worker == worker) _ own (λ _. (λ h. (lies (Item _) h, room _ refl (lies (Item _) h)), (λ h. (lies (Category facts.category) h, known), tt))) where
+    accepted_can (StoreItem facts time) e room =
+        row_if_can (worker == worker) _ (λ h. (lies (Item _) h, room _ refl (lies (Item _) h)), (λ h. (lies (Category facts.category) h, known), tt)) where
           known : facts.category < opening.categories
           known =
               let none = in_range opening (StoreItem facts time) (not_by_number opening book (StoreItem facts time) e) in
               leb-false opening.categories facts.category (or_parts (nat_le opening.categories facts.category) false none.1).0
-    accepted_can (StoreBid bidder item amount time) e room own = row_if_can (worker == worker) _ own (λ _. (λ h. (lies (Item item) h, stored h, fits h), tt)) where
+    accepted_can (StoreBid bidder item amount time) e room = row_if_can (worker == worker) _ (λ h. (lies (Item item) h, stored h, fits h), tt) where
       stored : here (Item item) ≡ true → IsSome (contents (Item item)).facts
       stored h = subst (λ (v : Value). IsSome v.facts) (sym (at_object (Item item) h)) (is_stored (facts_of book item) (enough opening book (StoreBid bidder item amount time) e).0)
 
       fits : here (Item item) ≡ true → (contents (Item item)).bids.bids + 1 < 2 ^ 64
       fits h = omega (arith, few, bids_at_most book item, ap (λ (v : Value). v.bids.bids) (at_object (Item item) h))
-    accepted_can (StoreComment author about item given) e room own =
-        row_if_can (worker == worker) _ own (λ are. (λ h. (lies (User about) h, known, rated h are, fits h), tt)) where
+    accepted_can (StoreComment author about item given) e room =
+        row_if_can (worker == worker) _ (λ h. (lies (User about) h, known, rated h, fits h), tt) where
           known : about < opening.users
           known =
               let none = in_range opening (StoreComment author about item given) (not_by_number opening book (StoreComment author about item given) e) in
               leb-false opening.users about (or_parts (nat_le opening.users about) false (or_parts (nat_le opening.users author) _ none.0).1).0
 
-          rated : here (User about) ≡ true → AreStars given → FitsSigned w64 ((contents (User about)).comments.rating +ℤ given)
-          rated h are = subst (λ (v : Value). FitsSigned w64 (v.comments.rating +ℤ given)) (sym (at_object (User about) h))
-              (rating_fits (value book (User about)).comments.rating given (length book) (rating_at_most book about stars) few are)
+          rated : here (User about) ≡ true → FitsSigned w64 ((contents (User about)).comments.rating +ℤ given.value)
+          rated h = subst (λ (v : Value). FitsSigned w64 (v.comments.rating +ℤ given.value)) (sym (at_object (User about) h))
+              (rating_fits (value book (User about)).comments.rating given (length book) (rating_at_most book about) few)
 
           fits : here (User about) ≡ true → (contents (User about)).comments.comments + 1 < 2 ^ 64
           fits h = omega (arith, few, comments_at_most book about, ap (λ (v : Value). v.comments.comments) (at_object (User about) h))
-    accepted_can (BuyNow buyer item quantity time) e room own = row_if_can (worker == worker) _ own (λ _. (λ h. (lies (Item item) h, enough_here h), tt)) where
+    accepted_can (BuyNow buyer item quantity time) e room = row_if_can (worker == worker) _ (λ h. (lies (Item item) h, enough_here h), tt) where
       enough_here : here (Item item) ≡ true → HasLeft (contents (Item item)) quantity
       enough_here h =
           let is = enough opening book (BuyNow buyer item quantity time) e in
           subst (λ (v : Value). HasLeft v quantity) (sym (at_object (Item item) h)) (enough_left book item quantity is.0 is.1)
-    accepted_can (ViewItem item) e room own = tt
-    accepted_can (ViewBids item) e room own = tt
-    accepted_can (ViewCategory category) e room own = tt
-    accepted_can (ViewUser user) e room own = tt
+    accepted_can (ViewItem item) e room = tt
+    accepted_can (ViewBids item) e room = tt
+    accepted_can (ViewCategory category) e room = tt
+    accepted_can (ViewUser user) e room = tt
 
     refused_can : (request : Request) (reason : Refusal) → AllByRecursion Can (writes_if (row_of worker request (Refused reason)))
     refused_can (StoreItem facts time) reason = tt
@@ -137,18 +137,16 @@ module _ (opening : Opening) (number shards : ℕ) (rooms : ItemId → Bool) (co
     refused_can (ViewUser user) reason = tt
 
     writes_can : (request : Request) (refused : Option Refusal) → refusal opening book request ≡ refused → IsRoomFor (answer_unless refused (answer book worker request))
-        → AllByRecursion HasStars (option_to_list (row_of worker request (answer_unless refused (answer book worker request))))
         → AllByRecursion Can (writes_if (row_of worker request (answer_unless refused (answer book worker request))))
-    writes_can request None e room own = accepted_can request e room own
-    writes_can request (Some reason) e room own = refused_can request reason
+    writes_can request None e room = accepted_can request e room
+    writes_can request (Some reason) e room = refused_can request reason
 
   module _ (saw : Option (Facts × ℕ)) (entry : Entry) (right : IsRight opening book entry) (limits : IsWithinLimits (after_entry opening book entry)) (room : HasRoomFor number shards rooms entry) where
     pub row_can : AllByRecursion Can (writes_if (row_of_entry entry))
     row_can =
         let few : length book ≤ 16000000 = omega (arith, limits.few, length-append book (option_to_list (row_of entry.worker entry.request (reply opening book entry.worker entry.request)))) in
-        let own = all-right HasStars book _ limits.stars in
         subst (λ answered. AllByRecursion Can (writes_if (row_of entry.worker entry.request answered))) (sym right)
-        (writes_can few (all-left HasStars book _ limits.stars) entry.worker entry.request (refusal opening book entry.request) refl (λ id e. room id (right ∙ e)) own)
+        (writes_can few entry.worker entry.request (refusal opening book entry.request) refl (λ id e. room id (right ∙ e)))
 
     pub each_can : (act : Act) → Contains (acts_of opening saw entry) act → is_done_on number shards hot act ≡ true → CanActOn opening number shards rooms contents act
     each_can act member = all-member Can (acts_of opening saw entry) act (at (is_some (number_refusal opening entry.request))) member where

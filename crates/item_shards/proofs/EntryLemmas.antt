@@ -1,10 +1,11 @@
 -- What contents stand for, after the acts that an entry owes.
-use Rattle.std.proofs.Common.{◌≡◌, ℕ, ◌==◌, Bool, true, false, ◌&&◌, ◌||◌, cond, not, List, [], ◌∷◌, ◌++◌, map, filter, Option, Some, None, option_to_list, refl, sym, ap, subst, ◌∙◌}
+use Rattle.std.proofs.Common.{◌≡◌, ℕ, ◌+◌, ◌≤◌, ◌==◌, Bool, true, false, ◌&&◌, ◌||◌, cond, not, List, [], ◌∷◌, ◌++◌, map, filter, length, length-append, Option, Some, None, option_to_list, refl, sym, ap, subst, ◌∙◌, arith}
 use Rattle.std.specs.Prelude.{is_some, is_none}
 use Rattle.std.specs.List.{list_any}
 use Rattle.std.specs.Option.{option_or}
 use Rattle.std.proofs.lemmas.Bool.{false≢true, or_parts}
 use Rattle.std.proofs.lemmas.List.Elements.{filter-append}
+use Rattle.std.proofs.lemmas.List.Sums.{length-filter, count_by-le-length}
 use Rattle.auction_rows.specs.declared.ids.Object.{Object}
 use Rattle.auction_rows.specs.declared.ids.Object.TheVariants.{Item, User, Category}
 use Rattle.auction_rows.specs.declared.numbers.Opening.{Opening}
@@ -34,10 +35,32 @@ use Rattle.item_shards.proofs.StandingLemmas.{rows_stand}
 use Rattle.item_shards.proofs.Stored.{none_from}
 
 -- the looks at nothing leave the contents
-pub padded_leaves : (contents : Contents) (acts : List Act) → after_acts contents (padded acts) ≡ after_acts contents acts
-padded_leaves contents [] = refl
-padded_leaves contents (act ∷ []) = refl
-padded_leaves contents (act ∷ other ∷ acts) = refl
+pub padded_leaves : (contents : Contents) (acts : List Act) → length acts ≤ 2 → after_acts contents (padded acts) ≡ after_acts contents acts
+padded_leaves contents [] few = refl
+padded_leaves contents (act ∷ []) few = refl
+padded_leaves contents (act ∷ other ∷ []) few = refl
+padded_leaves contents (act ∷ other ∷ more ∷ acts) few = absurd (omega (arith, few))
+
+-- an entry has at most two acts
+with_row : (looks : List Act) (b : Bool) (one : Row) → length looks + length (writes_of one) ≤ 2 → length (looks ++ writes_if (row_if b one)) ≤ 2
+with_row looks true one few = omega (arith, few, length-append looks (writes_of one))
+with_row looks false one few = omega (arith, few, length-append looks [])
+
+few_in : (saw : Option (Facts × ℕ)) (worker : ℕ) (request : Request) (answered : Reply) → length (looks_of saw answered request ++ writes_if (row_of worker request answered)) ≤ 2
+few_in saw worker (StoreItem facts time) (ItemStored id) = with_row [] (id.worker == worker) _ (omega arith)
+few_in saw worker (StoreBid bidder item amount time) (BidStored id) = with_row (looks_of saw (BidStored id) (StoreBid bidder item amount time)) (id.worker == worker) _ (omega arith)
+few_in saw worker (StoreComment author about item stars) (CommentStored id) = with_row (looks_of saw (CommentStored id) (StoreComment author about item stars)) (id.worker == worker) _ (omega arith)
+few_in saw worker (BuyNow buyer item quantity time) (Bought id) = with_row (looks_of saw (Bought id) (BuyNow buyer item quantity time)) (id.worker == worker) _ (omega arith)
+few_in saw worker request answered = omega arith
+
+kept_few : (p : Act → Bool) (acts : List Act) (n : ℕ) → length acts ≤ n → length (filter p acts) ≤ n
+kept_few p acts n few = omega (arith, few, length-filter p acts, count_by-le-length p acts)
+
+pub few_done : (number shards : ℕ) (hot : List Object) (opening : Opening) (saw : Option (Facts × ℕ)) (entry : Entry) → length (done_on number shards hot (acts_of opening saw entry)) ≤ 2
+few_done number shards hot opening saw entry = kept_few (is_done_on number shards hot) (acts_of opening saw entry) 2 (at (is_some (number_refusal opening entry.request))) where
+  at : (b : Bool) → length (cond b [] (looks_of saw entry.reply entry.request ++ writes_if (row_of_entry entry))) ≤ 2
+  at true = omega arith
+  at false = few_in saw entry.worker entry.request entry.reply
 
 -- where the opening refuses a request the entry adds no row
 and_not : (b : Bool) (reason : Refusal) (o : Option Refusal) → o ≡ Some reason → (b && is_none o) ≡ false
@@ -84,7 +107,7 @@ module _ (number shards : ℕ) (hot : List Object) where
         (sym (ap (row_of entry.worker entry.request) right ∙ no_row opening book entry.worker entry.request reason e))
 
     owed_writes : after_acts contents (acts_owed opening number shards hot saw entry) ≡ after_acts contents (done_on number shards hot (writes_if (row_of_entry entry)))
-    owed_writes = padded_leaves contents (done_on number shards hot (acts_of opening saw entry)) ∙ writes_alone (number_refusal opening entry.request) refl
+    owed_writes = padded_leaves contents (done_on number shards hot (acts_of opening saw entry)) (few_done number shards hot opening saw entry) ∙ writes_alone (number_refusal opening entry.request) refl
 
     pub entry_stands : ContentsStandsFor number shards contents book hot
         → ContentsStandsFor number shards (after_acts contents (acts_owed opening number shards hot saw entry)) (after_entry opening book entry) hot

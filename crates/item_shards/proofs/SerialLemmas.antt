@@ -38,13 +38,12 @@ use Rattle.item_shards.specs.Contents.{Contents, after_acts}
 use Rattle.item_shards.specs.Standing.{ContentsStandsFor}
 use Rattle.item_shards.specs.Acting.{CanActOn, CanWrite, HasRoomFor}
 use Rattle.item_shards.specs.Counting.{stored_by, worker_of, counted, AreFew}
-use Rattle.item_shards.specs.Limits.{IsWithinLimits, HasStars}
+use Rattle.item_shards.specs.Limits.{IsWithinLimits}
 use Rattle.item_shards.specs.Writing.{writes_of, writes_if, is_done_on, done_on}
 use Rattle.item_shards.proofs.CanActLemmas.{row_can}
 use Rattle.item_shards.proofs.RowLemmas.{this_kind, other_kind, through}
 use Rattle.item_shards.proofs.StandingLemmas.{cold_here, row_stands}
 use Rattle.item_shards.proofs.CountLemmas.{of_kind}
-use Rattle.phase_laws.proofs.ListLemmas.{all-append}
 
 -- ---- refusals
 
@@ -122,10 +121,9 @@ module _ (start : Opening) (number shards : ℕ) (rooms : ItemId → Bool) (cont
   stands_after b r stands = subst (λ acts. ContentsStandsFor number shards (after_acts contents acts) (b ++ r ∷ []) []) (all_acts r) (row_stands number shards contents b [] r stands)
 
 -- a book within limits that is not full is so with one more row
-pub limits_next : (b : Book) (r : Row) → IsWithinLimits b → length b < 16000000 → HasStars r → IsWithinLimits (b ++ r ∷ [])
-limits_next b r limits not_full stars = record {
+pub limits_next : (b : Book) (r : Row) → IsWithinLimits b → length b < 16000000 → IsWithinLimits (b ++ r ∷ [])
+limits_next b r limits not_full = record {
   few = omega (arith, not_full, length-append b (r ∷ []));
-  stars = all-append HasStars b (r ∷ []) limits.stars (stars, tt);
 }
 
 -- ---- answers

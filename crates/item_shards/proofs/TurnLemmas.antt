@@ -35,7 +35,7 @@ module _ (P : Contents → Act → Type 0) (nothing : (contents : Contents) → 
   padded_in_turn : (contents : Contents) (acts : List Act) → InTurn contents acts → InTurn contents (padded acts)
   padded_in_turn contents [] h = (nothing contents, (nothing contents, tt))
   padded_in_turn contents (act ∷ []) h = (h.0, (nothing (after_act contents act), tt))
-  padded_in_turn contents (act ∷ other ∷ acts) h = h
+  padded_in_turn contents (act ∷ other ∷ acts) h = (h.0, (h.1.0, tt))
 
   module _ (number shards : ℕ) (hot : List Object) (contents : Contents) where
     -- it holds of an act if that is done on the shard

@@ -1,5 +1,6 @@
 -- A contents: objects by their values, and what acts and merges do to it.
-use Rattle.std.specs.Prelude.{ℕ, ℤ, ◌+◌, List, fold, if◌then◌else◌, is_some, Option, Some, None}
+use Rattle.std.specs.Prelude.{ℕ, ◌+◌, List, fold, if◌then◌else◌, is_some, Option, Some, None}
+use Rattle.auction_rows.specs.declared.numbers.Stars.{Stars}
 use Rattle.auction_rows.specs.declared.ids.ItemEntry.{ItemEntry}
 use Rattle.auction_rows.specs.declared.ids.BidEntry.{BidEntry}
 use Rattle.auction_rows.specs.declared.requests.Facts.{Facts}
@@ -50,7 +51,7 @@ abbrev pub bought_of : ℕ → Value → Value
 bought_of quantity value = record value { bought = value.bought + quantity }
 
 -- a user has one comment more
-abbrev pub comment_about : ℤ → Value → Value
+abbrev pub comment_about : Stars → Value → Value
 comment_about stars value = record value { comments = with_comment value.comments stars }
 
 -- a category has one item more

@@ -7,7 +7,7 @@ use Rattle.auction_rows.specs.Book.{Book}
 use Rattle.auction_rows.specs.History.{GoOn, IsBook}
 use Rattle.item_shards.specs.declared.serial.SerialAuction.{SerialAuction}
 use Rattle.item_shards.specs.Counting.{stored_by, worker_of}
-use Rattle.item_shards.specs.Limits.{IsWithinLimits, HasStars}
+use Rattle.item_shards.specs.Limits.{IsWithinLimits}
 use Rattle.item_shards.specs.ShardContents.{opening, StandsFor}
 
 -- the users and categories of the auction
@@ -45,8 +45,6 @@ pub record CanStore (auction : SerialAuction) (row : Row) : Type 0 where
   pub not_full : IsNotFull book
   -- the row goes on the book
   pub goes_on : GoOn (opening_of auction) book (row ∷ [])
-  -- the row's stars are from -5 to 5
-  pub stars : HasStars row
   -- the row's worker is one of 16
   pub worker : worker_of row < MOST_WORKERS
 

@@ -1,6 +1,5 @@
 //! What the values of a book's objects are, and which books requests leave.
 ghost use Rattle.std.specs.Prelude.{◌≡◌, ◌≤◌, ◌<◌, ◌*◌, ℕ, List, [], ◌∷◌, ◌++◌, All, map, length, unwrap_or, unsigned_abs};
-ghost use Rattle.std.specs.List.{AllByRecursion};
 ghost use Rattle.auction_rows.specs.declared.ids.ItemId.{ItemId};
 ghost use Rattle.auction_rows.specs.declared.ids.Object.{Object};
 ghost use Rattle.auction_rows.specs.declared.ids.Object.TheVariants.{Item, User, Category};
@@ -19,7 +18,7 @@ ghost use Rattle.item_shards.specs.Values.{value, blank, stock, stock_in, left_i
 ghost use Rattle.item_shards.specs.Contents.{after_acts};
 ghost use Rattle.item_shards.specs.Writing.{writes_of};
 ghost use Rattle.item_shards.specs.Views.{item_view, bids_view, category_reply, user_reply};
-ghost use Rattle.item_shards.specs.Limits.{IsWithinLimits, GivesStars, HasStars};
+ghost use Rattle.item_shards.specs.Limits.{IsWithinLimits};
 
 use auction_rows::{MOST_ROWS, MOST_WORKERS};
 /// Of the empty book nothing is known, and one row more changes the values of objects as its acts do.
@@ -51,14 +50,14 @@ pub fn counts_of_books()
     ensures bids { (book : Book) (id : ItemId) → (value book (Item id)).bids.bids ≤ length book }
     ensures comments { (book : Book) (user : ℕ) →
         (value book (User user)).comments.comments ≤ length book }
-    ensures ratings { (book : Book) (user : ℕ) → AllByRecursion HasStars book →
+    ensures ratings { (book : Book) (user : ℕ) →
         unsigned_abs (value book (User user)).comments.rating ≤ 5 * length book }
 {}
 
 /// A book within limits that is not full is within limits after one more request.
 pub fn limits_of_books()
     ensures { (opening : Opening) (book : Book) (worker : ℕ) (request : Request) →
-        IsWithinLimits book → length book < MOST_ROWS → GivesStars request →
+        IsWithinLimits book → length book < MOST_ROWS →
         IsWithinLimits (next opening book worker request) }
 {}
 

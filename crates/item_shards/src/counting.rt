@@ -1,6 +1,5 @@
 //! How many stores of each kind a worker has.
 ghost use Rattle.std.specs.Prelude.{◌≡◌};
-ghost use Rattle.item_shards.specs.Limits.{HasStars};
 
 use auction_rows::Row;
 
@@ -27,14 +26,5 @@ impl StoreCounts {
             Row::Comment(_) => self.comments += 1,
             Row::Buy(_) => self.buys += 1,
         }
-    }
-}
-
-// A row's stars are from -5 to 5. Their type keeps this, and says it at a call of `value`.
-pub(crate) fn row_has_stars(row: &Row)
-    ensures { HasStars row.now }
-{
-    if let Row::Comment(row) = row {
-        let _known = row.stars.value();
     }
 }

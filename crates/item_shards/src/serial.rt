@@ -4,7 +4,7 @@ ghost use Rattle.auction_rows.specs.declared.ids.Object.{Object as Thing};
 ghost use Rattle.item_shards.specs.ShardContents.{LiesIn};
 
 use crate::answering::refusal_with;
-use crate::counting::{StoreCounts, row_has_stars};
+use crate::counting::StoreCounts;
 use crate::shard::Shard;
 use auction_rows::{
     BidId, BuyId, CommentId, ItemId, MOST_WORKERS, Opening, Refusal, Reply, Request, Row, item_of,
@@ -75,7 +75,6 @@ impl SerialAuction {
         ensures opening { opening_of self.new ≡ opening_of self.old }
     {
         for row in rows {
-            row_has_stars(row);
             self.store(row)?;
         }
         Ok(())
@@ -169,7 +168,6 @@ impl SerialAuction {
         let reply = self.reply_to(worker, *request);
         let answered = &reply;
         if let Some(row) = row_of(worker, *request, *answered) {
-            row_has_stars(&row);
             self.store(&row)?;
         }
         Ok(reply)

@@ -1,7 +1,8 @@
 -- The text of requests, as records that can be read.
-use Rattle.std.specs.Prelude.{ℕ, ℤ, List, ◌++◌, codes, decimal}
+use Rattle.std.specs.Prelude.{ℕ, List, ◌++◌, codes, decimal}
 use Rattle.std.specs.Fmt.{signed_decimal}
 use Rattle.auction_rows.specs.declared.ids.ItemId.{ItemId}
+use Rattle.auction_rows.specs.declared.numbers.Stars.{Stars}
 use Rattle.auction_rows.specs.declared.requests.Facts.{Facts}
 use Rattle.auction_rows.specs.declared.requests.Request.{Request}
 use Rattle.auction_rows.specs.declared.requests.Request.TheVariants.{StoreItem, StoreBid, StoreComment, BuyNow, ViewItem, ViewBids, ViewCategory, ViewUser}
@@ -22,10 +23,10 @@ bid_text bidder item amount time =
     labelled (codes ",bid,") bidder ++ labelled_id (codes ",") item.worker item.serial
     ++ labelled (codes ",") amount ++ labelled (codes ",") time
 
-abbrev pub comment_text : ℕ → ℕ → ItemId → ℤ → List ℕ
+abbrev pub comment_text : ℕ → ℕ → ItemId → Stars → List ℕ
 comment_text author about item stars =
     labelled (codes ",comment,") author ++ labelled (codes ",") about
-    ++ labelled_id (codes ",") item.worker item.serial ++ codes "," ++ signed_decimal stars
+    ++ labelled_id (codes ",") item.worker item.serial ++ codes "," ++ signed_decimal stars.value
 
 abbrev pub buy_text : ℕ → ItemId → ℕ → ℕ → List ℕ
 buy_text buyer item quantity time =

@@ -65,5 +65,5 @@ module _ (opening : Opening) (shards : List Shard) (counters : List Counters) (c
     opened = λ s below. subst (λ n. IsOpened n s (state_at (map state_of shards) s)) (sym (same ∙ len)) (opened_of_blank opening count s (state_at (map state_of shards) s) (blank s (here s below)));
     opening_is = λ s below. (blank s (here s below)).opening_is;
     limits = λ w below. subst IsWithinLimit (nothing w) (record { stored = omega arith; commits = omega arith });
-    of_a_book = λ none. none [] tt tt tt blank_stands;
+    of_a_book = λ none. none [] tt tt blank_stands;
   }

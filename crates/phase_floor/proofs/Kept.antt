@@ -1,6 +1,5 @@
 -- What is kept between phases is kept by a phase that closes.
 use Rattle.std.proofs.Common.{◌≡◌, ℕ, zero, suc, ◌<◌, ◌≤◌, ◌==◌, Bool, true, false, cond, List, [], ◌∷◌, map, length, refl, sym, ap, ◌∙◌, subst, arith, unsigned_abs}
-use Rattle.std.specs.List.{AllByRecursion}
 use Rattle.std.proofs.lemmas.Bool.{eqb-true}
 use Rattle.std.proofs.lemmas.Int.{ints}
 use Rattle.std.proofs.lemmas.List.{length-map}
@@ -13,7 +12,6 @@ use Rattle.auction_rows.specs.Book.{Book}
 use Rattle.auction_rows.specs.History.{book_after}
 use Rattle.auction_rows.specs.Requests.{shard_of}
 use Rattle.item_shards.specs.declared.shard.Shard.{Shard}
-use Rattle.item_shards.specs.Limits.{GivesStars, HasStars}
 use Rattle.item_shards.specs.ShardContents.{kept}
 use Rattle.item_shards.specs.Values.{Value, blank, value}
 use Rattle.item_shards.proofs.CountLemmas.{bids_at_most, comments_at_most, rating_at_most}
@@ -22,7 +20,7 @@ use Rattle.phase_permits.specs.declared.counters.Counters.{Counters}
 use Rattle.phase_permits.specs.Workers.{WorkerState}
 use Rattle.closing_laws.specs.Phases.{HasClosed, receipt_at, counters_of}
 use Rattle.closing_laws.specs.Standing.{StandFor, AreOfWorkers, counters_at}
-use Rattle.closing_laws.proofs.CommitLemmas.{book_left, stores_few, stars_go_on, workers_go_on}
+use Rattle.closing_laws.proofs.CommitLemmas.{book_left, stores_few, workers_go_on}
 use Rattle.phase_floor.specs.Closings.{AreReceiptsOf, phase_of}
 use Rattle.phase_floor.specs.Floors.{FloorState, IsOpen}
 use Rattle.phase_floor.specs.Resuming.{AreReady}
@@ -49,18 +47,18 @@ module _ (opening : Opening) (shards : List Shard) (counters : List Counters) (r
 
   -- what holds of blank values and of those of a book for which they stand holds of theirs
   module _ (s : ℕ) (below : s < length (map state_of shards)) (object : Object) (measure : Value → ℕ) (most : ℕ) (none : measure blank ≤ most)
-      (some : (book : Book) → AllByRecursion HasStars book → length book ≤ 16000000 → measure (value book object) ≤ most) where
+      (some : (book : Book) → length book ≤ 16000000 → measure (value book object) ≤ most) where
     abbrev state : ShardState
     state = state_at (map state_of shards) s
 
-    over : most < measure (state.contents object) → (book : Book) → AllByRecursion HasStars book → AreOfWorkers (length counters) book → StandFor (map state_of shards) counters book [] → ⊥
-    over more book stars own holds = at (shard_of object state.shards == state.number) refl where
+    over : most < measure (state.contents object) → (book : Book) → AreOfWorkers (length counters) book → StandFor (map state_of shards) counters book [] → ⊥
+    over more book own holds = at (shard_of object state.shards == state.number) refl where
       at : (b : Bool) → (shard_of object state.shards == state.number) ≡ b → ⊥
       at true here =
           let lies : shard_of object (length (map state_of shards)) ≡ s =
           ap (shard_of object) (sym (ready.numbered s below).1) ∙ eqb-true (shard_of object state.shards) state.number here ∙ (ready.numbered s below).0 in
           let is : measure (state.contents object) ≡ measure (value book object) = ap measure (holds.shards s below object lies refl) in
-          let low = some book stars (size book own holds) in
+          let low = some book (size book own holds) in
           omega (arith, is, low, more)
       at false apart =
           let same : length (map state_of shards) ≡ length shards = simp length-map in
@@ -69,14 +67,14 @@ module _ (opening : Opening) (shards : List Shard) (counters : List Counters) (r
 
     measured : measure (state.contents object) ≤ most
     measured =
-        let not_over : ¬ (most < measure (state.contents object)) = λ more. of_a_book (λ book is stars own holds. over more book stars own holds) in
+        let not_over : ¬ (most < measure (state.contents object)) = λ more. of_a_book (λ book is own holds. over more book own holds) in
         omega (arith, not_over)
 
   within : (s : ℕ) → s < length (map state_of shards) → IsWithin (state_at (map state_of shards) s)
   within s below = record {
-    bids = λ id. let m = measured s below (Item id) (λ v. v.bids.bids) 16000000 (omega arith) (λ book stars small. let most = bids_at_most book id in omega (arith, most, small)) in omega (arith, m);
-    comments = λ user. let m = measured s below (User user) (λ v. v.comments.comments) 16000000 (omega arith) (λ book stars small. let most = comments_at_most book user in omega (arith, most, small)) in omega (arith, m);
-    ratings = λ user. let m = measured s below (User user) (λ v. unsigned_abs v.comments.rating) 80000000 (omega (arith, ints)) (λ book stars small. let most = rating_at_most book user stars in omega (arith, most, small)) in omega (arith, m);
+    bids = λ id. let m = measured s below (Item id) (λ v. v.bids.bids) 16000000 (omega arith) (λ book small. let most = bids_at_most book id in omega (arith, most, small)) in omega (arith, m);
+    comments = λ user. let m = measured s below (User user) (λ v. v.comments.comments) 16000000 (omega arith) (λ book small. let most = comments_at_most book user in omega (arith, most, small)) in omega (arith, m);
+    ratings = λ user. let m = measured s below (User user) (λ v. unsigned_abs v.comments.rating) 80000000 (omega (arith, ints)) (λ book small. let most = rating_at_most book user in omega (arith, most, small)) in omega (arith, m);
   }
 
   pub are_opened : AreOpened (map state_of shards)
@@ -89,8 +87,7 @@ module _ (opening : Opening) (shards : List Shard) (counters : List Counters) (r
 
 module _ (opening : List ShardState) (workers : ℕ) (floor : FloorState) (is_open : IsOpen opening workers floor) (receipts : List WorkerState) (are : AreReceiptsOf floor receipts)
     (given : List ShardState) (entries : List Entry) (closed : HasClosed (phase_of opening floor receipts given entries))
-    (limit : (w : ℕ) → w < length receipts → (counters_of (receipt_at receipts w)).commits ≤ 1000000)
-    (stars : AllByRecursion (λ entry. GivesStars entry.request) entries) where
+    (limit : (w : ℕ) → w < length receipts → (counters_of (receipt_at receipts w)).commits ≤ 1000000) where
   -- the counters of a worker after the phase
   pub counted : (w : ℕ) → w < length receipts → counters_of (receipt_at receipts w) ≡ counters_at (map counters_of receipts) w
   counted w below = sym (get_or-map counters_of receipts w _)
@@ -109,9 +106,8 @@ module _ (opening : List ShardState) (workers : ℕ) (floor : FloorState) (is_op
   module _ (shards : List Shard) (as_many : length (map state_of shards) ≡ length opening) (ready : AreReady floor.opening (map state_of shards))
       (stand : (book : Book) → StandFor opening floor.counters book [] → StandFor (map state_of shards) (map counters_of receipts) (book_after floor.opening book entries) []) where
     of_a_book_after : AreOfABook floor.opening (map state_of shards) (map counters_of receipts)
-    of_a_book_after = λ none. is_open.kept.of_a_book (λ book is stars_are own holds.
+    of_a_book_after = λ none. is_open.kept.of_a_book (λ book is own holds.
         none (book_after floor.opening book entries) (book_left (phase_of opening floor receipts given entries) closed book holds is)
-        (stars_go_on (phase_of opening floor receipts given entries) closed book holds stars_are stars)
         (subst (λ n. AreOfWorkers n (book_after floor.opening book entries)) (sym many) (workers_go_on (phase_of opening floor receipts given entries) closed book holds own))
         (stand book holds))
 

@@ -8,7 +8,6 @@ use Rattle.auction_rows.specs.declared.rows.Entry.{Entry}
 use Rattle.auction_rows.specs.History.{book_after}
 use Rattle.item_shards.specs.declared.shard.Shard.{Shard}
 use Rattle.item_shards.specs.declared.slices.Slice.{Slice}
-use Rattle.item_shards.specs.Limits.{GivesStars}
 use Rattle.shard_boxes.specs.Closed.{AreClosed}
 use Rattle.shard_boxes.specs.Keys.{KeyState}
 use Rattle.shard_boxes.specs.States.{ShardState, state_of}
@@ -66,12 +65,12 @@ module _ (opening : List ShardState) (workers : ℕ) (floor : FloorState) (is_op
   }
 
 module _ (opening : List ShardState) (workers : ℕ) (floor : FloorState) (is_open : IsOpen opening workers floor) (receipts : List WorkerState) (are : AreReceiptsOf floor receipts)
-    (all : AllByRecursion (IsFinished (length opening)) receipts) (entries : List Entry) (stars : AllByRecursion (λ entry. GivesStars entry.request) entries) (shards : List Shard)
+    (all : AllByRecursion (IsFinished (length opening)) receipts) (entries : List Entry) (shards : List Shard)
     (e : HasReconciled opening floor receipts (map state_of shards) entries) (start : Opening) (counters : List Counters) (start_is : start ≡ floor.opening) (counters_are : counters ≡ map counters_of receipts) where
   pub kept_left : IsKept start (map state_of shards) counters
   kept_left =
       let states = map state_of shards in
-      let kept = kept_after opening workers floor is_open receipts are e.given entries e.closed (λ w below. (finished opening workers floor is_open receipts are all w below).limit) stars shards
+      let kept = kept_after opening workers floor is_open receipts are e.given entries e.closed (λ w below. (finished opening workers floor is_open receipts are all w below).limit) shards
       (as_many opening workers floor is_open receipts are e.given entries e.closed e.order e.each states e.states_are)
       (ready opening workers floor is_open receipts are e.given entries e.closed e.order e.each states e.states_are)
       (stand_after opening workers floor is_open receipts are e.given entries e.closed e.order e.each states e.states_are) in
@@ -86,7 +85,7 @@ module _ (opening : List ShardState) (workers : ℕ) (floor : FloorState) (is_op
     lawful = reconciled_lawful opening floor receipts (map state_of shards) entries e;
     commits = λ w below.
         ap (λ (cs : List Counters). (counters_at cs w).commits) counters_are
-        ∙ sym (ap (λ (cs : Counters). cs.commits) (counted opening workers floor is_open receipts are e.given entries e.closed (λ v low. (finished opening workers floor is_open receipts are all v low).limit) stars w below))
+        ∙ sym (ap (λ (cs : Counters). cs.commits) (counted opening workers floor is_open receipts are e.given entries e.closed (λ v low. (finished opening workers floor is_open receipts are all v low).limit) w below))
         ∙ commits_grow (phase_of opening floor receipts e.given entries) e.closed w below;
     replays = λ book holds. entries_replay (phase_of opening floor receipts e.given entries) e.closed book holds;
     stands = λ book holds. subst (λ (cs : List Counters). StandFor (map state_of shards) cs (book_after floor.opening book entries) []) (sym counters_are)

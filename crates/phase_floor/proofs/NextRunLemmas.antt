@@ -38,7 +38,7 @@ module _ (counters : List Counters) where
 
   of_a_book_next : (opening : Opening) (states : List ShardState) → AreOfABook opening states counters → AreOfABook opening states new
   of_a_book_next opening states of_a_book = λ none.
-      of_a_book (λ book is stars own holds. none book is stars (subst (λ n. AreOfWorkers n book) (sym many) own) (stand_next states book holds))
+      of_a_book (λ book is own holds. none book is (subst (λ n. AreOfWorkers n book) (sym many) own) (stand_next states book holds))
 
   pub kept_next : (opening : Opening) (states : List ShardState) → IsKept opening states counters → IsKept opening states new
   kept_next opening states kept = record {

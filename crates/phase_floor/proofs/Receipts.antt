@@ -48,7 +48,7 @@ still_receipt floor w old new was boxes worker opening phase begun stocks = reco
 module _ (opening : List ShardState) (floor : FloorState) (w : ℕ) (old new : WorkerState) (was : IsReceipt floor w old) (request : Request) (index : ℕ) where
   pub committed : (answer : Reply) → HasCommitted opening (with_try old) new request index answer → IsReceipt floor w new
   committed answer h =
-      still_receipt floor w old new was h.boxes h.owner (ap (λ (d : WorkerState). d.opening) h.worker) (ap (λ (d : WorkerState). d.journal.phase) h.worker) (ap (λ (d : WorkerState). d.begun) h.worker)
+      still_receipt floor w old new was h.transacted.put.boxes h.transacted.put.worker (ap (λ (d : WorkerState). d.opening) h.worker) (ap (λ (d : WorkerState). d.journal.phase) h.worker) (ap (λ (d : WorkerState). d.begun) h.worker)
       (ap (λ (d : WorkerState). stocks_of d.slices) h.worker ∙ stocks-acts old.slices (writes_if (row_of old.journal.worker request answer)))
 
   pub dealt : (done : Done) → HasDealtWith opening (with_try old) new request index done → IsReceipt floor w new

@@ -6,7 +6,6 @@ use Rattle.auction_rows.specs.declared.numbers.Opening.{Opening}
 use Rattle.auction_rows.specs.Book.{Book, worker_of}
 use Rattle.auction_rows.specs.History.{IsBook}
 use Rattle.item_shards.specs.declared.shard.Shard.{Shard}
-use Rattle.item_shards.specs.Limits.{IsWithinLimits}
 use Rattle.item_shards.specs.OpeningRows.{rows_by}
 use Rattle.shard_boxes.specs.States.{state_of}
 use Rattle.phase_permits.specs.declared.counters.Counters.{Counters}
@@ -33,13 +32,13 @@ module _ (opening : Opening) (book : Book) (shards : List Shard) (counters : Lis
     counts = λ w low. let is = sym (each w (omega (arith, low, many))) in subst (CountsOf book w) is (record { items = refl; bids = refl; comments = refl; buys = refl });
   }
 
-  pub kept_of : IsBook opening book → IsWithinLimits book → ((w : ℕ) → w < 16 → rows_by book w ≤ 1000000) → AreReady opening (map state_of shards)
+  pub kept_of : IsBook opening book → ((w : ℕ) → w < 16 → rows_by book w ≤ 1000000) → AreReady opening (map state_of shards)
       → (0 < workers) × (workers ≤ 16) → (0 < length shards) × (length shards ≤ 64) → IsKept opening (map state_of shards) counters
-  kept_of is limits few ready hands some =
+  kept_of is few ready hands some =
       let same : length (map state_of shards) ≡ length shards = simp length-map in
       let within : AreWithinLimit counters = λ w low. let at = each w (omega (arith, low, many)) in
       subst IsWithinLimit (sym at) (record { stored = stored_few book w; commits = few w (omega (arith, low, many, hands)) }) in
-      let of_a_book : AreOfABook opening (map state_of shards) counters = λ none. none book is limits.stars (subst (λ n. AreOfWorkers n book) (sym many) own) stand_for in
+      let of_a_book : AreOfABook opening (map state_of shards) counters = λ none. none book is (subst (λ n. AreOfWorkers n book) (sym many) own) stand_for in
       let most : length counters ≤ 16 = omega (arith, many, hands) in record {
         some_shards = omega (arith, same, some);
         few_shards = omega (arith, same, some);

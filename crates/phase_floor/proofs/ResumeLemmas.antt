@@ -1,6 +1,5 @@
 -- A book that is counted and written row by row.
 use Rattle.std.proofs.Common.{◌≡◌, ℕ, zero, suc, ◌+◌, ◌<◌, ◌≤◌, ◌==◌, Bool, true, false, cond, List, [], ◌∷◌, ◌++◌, length, set, take, refl, sym, ap, ◌∙◌, arith, eq-eqb}
-use Rattle.std.specs.List.{AllByRecursion}
 use Rattle.std.proofs.lemmas.Bool.{eqb-true, false≢true}
 use Rattle.std.proofs.lemmas.List.{get_or-set_same, get_or-set_other, length-take-le}
 use Rattle.std.proofs.lemmas.List.Sums.{sum_by-append, count_by-le-length}
@@ -9,7 +8,7 @@ use Rattle.auction_rows.specs.declared.rows.Row.TheVariants as row
 use Rattle.auction_rows.specs.Book.{Book}
 use Rattle.item_shards.specs.declared.counting.StoreCounts.{StoreCounts}
 use Rattle.item_shards.specs.Counting.{worker_of, stored_by, counted}
-use Rattle.item_shards.specs.Limits.{HasStars, IsWithinLimits}
+use Rattle.item_shards.specs.Limits.{IsWithinLimits}
 use Rattle.item_shards.specs.OpeningRows.{rows_by}
 use Rattle.item_shards.proofs.SerialLemmas.{stored_next, stored_few}
 use Rattle.phase_permits.specs.declared.counters.Counters.{Counters}
@@ -69,13 +68,8 @@ module _ (b : Book) (r : Row) (old : List Counters) (workers : ℕ) (len : lengt
 pub below_front : (rows : Book) (i : ℕ) → i < length rows → length rows ≤ 16000000 → length (take i rows) < 16000000
 below_front rows i low few = let part = length-take-le i rows (omega (arith, low)) in omega (arith, part, low, few)
 
-all_front : (P : Row → Type 0) (rows : Book) (i : ℕ) → AllByRecursion P rows → AllByRecursion P (take i rows)
-all_front P rows zero h = tt
-all_front P [] (suc i) h = tt
-all_front P (r ∷ rows) (suc i) h = (h.0, all_front P rows i h.1)
-
 pub front_within : (rows : Book) (i : ℕ) → IsWithinLimits rows → IsWithinLimits (take i rows)
-front_within rows i limits = record { few = at i rows limits.few; stars = all_front HasStars rows i limits.stars } where
+front_within rows i limits = record { few = at i rows limits.few } where
   at : (n : ℕ) (rs : Book) → length rs ≤ 16000000 → length (take n rs) ≤ 16000000
   at n rs few = let most = shorter n rs in omega (arith, most, few) where
     shorter : (n : ℕ) (rs : Book) → length (take n rs) ≤ length rs

@@ -36,4 +36,4 @@ module _ (opening : Opening) (states : List ShardState) (counters : List Counter
 
   -- a stored item's serial is below its worker's count
   pub stored_before : (id : ItemId) → IsSome (stock (value_on states (Item id))) → id.worker < length counters → id.serial < (counters_at counters id.worker).items
-  stored_before id some below = lt_of_not-le (λ from. kept.of_a_book (λ book is stars own holds. no_later id some below from book is holds))
+  stored_before id some below = lt_of_not-le (λ from. kept.of_a_book (λ book is own holds. no_later id some below from book is holds))

@@ -8,7 +8,6 @@ use Rattle.auction_rows.specs.declared.numbers.Opening.{Opening}
 use Rattle.auction_rows.specs.Book.{Book, worker_of}
 use Rattle.auction_rows.specs.History.{IsBook}
 use Rattle.item_shards.specs.declared.shard.Shard.{Shard}
-use Rattle.item_shards.specs.Limits.{HasStars}
 use Rattle.item_shards.specs.Values.{stock}
 use Rattle.shard_boxes.specs.States.{ShardState, state_of, AreOpened}
 use Rattle.phase_permits.specs.declared.counters.Counters.{Counters}
@@ -70,8 +69,8 @@ AreWithinLimit counters = (w : ℕ) → w < length counters → IsWithinLimit (c
 -- and holds if they stand for such a book, holds here.
 abbrev pub AreOfABook : Opening → List ShardState → List Counters → Type 0
 AreOfABook opening states counters =
-    ¬ ((book : Book) → IsBook opening book → AllByRecursion HasStars book →
-    AreOfWorkers (length counters) book → StandFor states counters book [] → ⊥)
+    ¬ ((book : Book) → IsBook opening book → AreOfWorkers (length counters) book →
+    StandFor states counters book [] → ⊥)
 
 -- what is kept between phases: 1 to 64 shards with which a phase may open, 1 to 16 workers within
 -- limits, and that they are of a book

@@ -1,6 +1,7 @@
 -- The reply to a store: it is the answer by what was seen and by the counters.
-use Rattle.std.proofs.Common.{◌≡◌, ℕ, suc, max, Bool, true, false, cond, List, Option, Some, None, MatchOption, option_map, option_and_then, unwrap_or, refl, sym, ap, subst, ◌∙◌, arith}
-use Rattle.std.specs.Prelude.{nat_lt, if◌then◌else◌}
+use Rattle.std.proofs.Common.{◌≡◌, ℕ, suc, max, Bool, true, false, cond, List, Option, Some, None, Result, Ok, Err, MatchOption, option_map, option_and_then, unwrap_or, refl, sym, ap, subst, ◌∙◌, arith}
+use Rattle.std.specs.Prelude.{◌≤◌, ◌↔◌, IsNone, IfNone, IfSome, IsErrAnd}
+use Rattle.std.specs.Result.{result_ok}
 use Rattle.std.specs.Option.{option_or}
 use Rattle.std.proofs.lemmas.Bool.{true≢false}
 use Rattle.std.proofs.lemmas.Option.{same_Some}
@@ -18,9 +19,11 @@ use Rattle.auction_rows.specs.Footprint.{is_hot}
 use Rattle.auction_rows.specs.Refusals.{number_refusal, item_refusal}
 use Rattle.auction_rows.specs.Replies.{row_of}
 use Rattle.auction_rows.specs.Requests.{item_of, is_view}
-use Rattle.item_shards.specs.CommitNumbers.{last_number, next_number}
+use Rattle.item_shards.specs.CommitNumbers.{last_number}
 use Rattle.item_shards.specs.Writing.{writes_if}
 use Rattle.phase_permits.specs.declared.counters.Counters.{Counters}
+use Rattle.phase_permits.specs.declared.fault.PermitFault.{PermitFault}
+use Rattle.phase_permits.specs.declared.fault.PermitFault.TheVariants.{Memory, NumberFull}
 use Rattle.phase_permits.specs.declared.homes.Home.{Home}
 use Rattle.phase_permits.specs.declared.homes.Home.TheVariants as home
 use Rattle.phase_permits.specs.declared.homes.Homes.{Homes}
@@ -28,7 +31,7 @@ use Rattle.phase_permits.specs.declared.read_set.ReadSet.{ReadSet}
 use Rattle.phase_permits.specs.declared.slices.Hot.{Hot}
 use Rattle.phase_permits.specs.Deeds.{IsReplyBy}
 use Rattle.phase_permits.specs.Homes.{IsHomeOf, AreHomesOf, HasHomes, IsWrittenAt}
-use Rattle.phase_permits.specs.Performing.{HasStoredSome}
+use Rattle.phase_permits.specs.Performing.{HasStoredOrIsFull, HasStoredSome}
 use Rattle.phase_permits.specs.Slicing.{objects_of, stocks_of, stock_of, after_acts}
 use Rattle.phase_permits.specs.Takens.{shard_at}
 use Rattle.phase_permits.specs.Txns.{refusal_by, refusal_seen, reason_seen, stock_seen, is_put_off, Answers, IsAnswered, IsOwn}
@@ -36,15 +39,8 @@ use Rattle.phase_permits.specs.Workers.{WorkerState, setting_of, txn_of, hot_txn
 use Rattle.phase_permits.proofs.HomeLemmas.{same_objects_of}
 
 -- the number after a clock, where no shard is taken
-chosen : (b : Bool) (m n : ℕ) → Some n ≡ (if b then Some (suc m) else None) → n ≡ suc m
-chosen true m n is = same_Some n (suc m) is
-chosen false m n is = absurd (cc)
-
-pub next_is : (a found n : ℕ) → Some n ≡ next_number a found → n ≡ suc (max a found)
-next_is a found n is = chosen (nat_lt (max a found) last_number) (max a found) n is
-
-pub next_of_own : (a n : ℕ) → Some n ≡ next_number a 0 → n ≡ suc a
-next_of_own a n is = let number = next_is a 0 n is in omega arith
+next_of_own : (a n : ℕ) → n ≡ suc (max a 0) → n ≡ suc a
+next_of_own a n is = omega (arith, is)
 
 -- an id in a reply to a store is one of the worker
 own_answer : (counters : Counters) (worker : ℕ) (request : Request) (reply : Reply) → Answers counters worker request reply → is_view request ≡ false → IsOwn worker reply
@@ -154,33 +150,62 @@ either_reason true first by_item reason is = is
 either_reason false first by_item reason is = ap (λ one. option_or one by_item) is
 
 pub refusal_stored : (w new : WorkerState) (number index : ℕ) (request : Request) (reason : Refusal) (found : ReadSet) → number_refusal w.opening request ≡ Some reason → is_put_off (objects_of w.slices) request ≡ false
-    → Some number ≡ next_number w.clock 0 → found ≡ nothing → new ≡ with_entry w number index request (Refused reason) found → HasStoredSome w new request index
-refusal_stored w new number index request reason found refused goes next none is = (
-  Refused reason,
-  record {
-    worker =
-        is
-        ∙ (λ i. with_entry w (next_of_own w.clock number next i) index request (Refused reason) (none i))
-        ∙ (λ i. record (with_entry w (suc w.clock) index request (Refused reason) nothing) { slices = after_acts w.slices (writes_if (sym (no_row w.journal.worker request reason) i)) });
-    answered = λ shards.
-        let z = setting_of w shards in
-        let txn = hot_txn w request index (Refused reason) in
-        let seen = option_and_then (stock_seen z txn) (item_of request) in
-        let by_item = item_refusal request (option_map (λ s. s.0) seen) (unwrap_or (option_map (λ s. s.1) seen) 0) in
-        record {
-          answered = subst (λ reasons. MatchOption reasons (Answers w.counters w.journal.worker request (Refused reason)) (λ why. Refused reason ≡ Refused why))
-              (sym (either_reason (is_view request) (number_refusal w.opening request) by_item reason refused)) refl;
-          not_put_off = ap (λ objects. is_put_off objects request) (same_objects_of w.slices) ∙ goes;
-        };
-  },
+    → number ≡ suc (max w.clock 0) → number ≤ last_number → found ≡ nothing → new ≡ with_entry w number index request (Refused reason) found → HasStoredOrIsFull w new request index (Ok tt)
+refusal_stored w new number index request reason found refused goes next within none is = (
+  omega (arith, next, within),
+  (
+    Refused reason,
+    record {
+      worker =
+          is
+          ∙ (λ i. with_entry w (next_of_own w.clock number next i) index request (Refused reason) (none i))
+          ∙ (λ i. record (with_entry w (suc w.clock) index request (Refused reason) nothing) { slices = after_acts w.slices (writes_if (sym (no_row w.journal.worker request reason) i)) });
+      answered = λ shards.
+          let z = setting_of w shards in
+          let txn = hot_txn w request index (Refused reason) in
+          let seen = option_and_then (stock_seen z txn) (item_of request) in
+          let by_item = item_refusal request (option_map (λ s. s.0) seen) (unwrap_or (option_map (λ s. s.1) seen) 0) in
+          record {
+            answered = subst (λ reasons. MatchOption reasons (Answers w.counters w.journal.worker request (Refused reason)) (λ why. Refused reason ≡ Refused why))
+                (sym (either_reason (is_view request) (number_refusal w.opening request) by_item reason refused)) refl;
+            not_put_off = ap (λ objects. is_put_off objects request) (same_objects_of w.slices) ∙ goes;
+          };
+    },
+  ),
 )
 
 pub hot_stored : (w new : WorkerState) (number index : ℕ) (request : Request) (reply : Reply) (found : ReadSet) → ((shards : ℕ) → IsAnswered (setting_of w shards) w.counters (hot_txn w request index reply))
-    → Some number ≡ next_number w.clock 0 → found ≡ nothing → new ≡ after_commit w number index request reply found → HasStoredSome w new request index
-hot_stored w new number index request reply found answered next none is = (
-  reply,
-  record {
-    worker = is ∙ (λ i. after_commit w (next_of_own w.clock number next i) index request reply (none i));
-    answered = answered;
-  },
+    → number ≡ suc (max w.clock 0) → number ≤ last_number → found ≡ nothing → new ≡ after_commit w number index request reply found → HasStoredOrIsFull w new request index (Ok tt)
+hot_stored w new number index request reply found answered next within none is = (
+  omega (arith, next, within),
+  (
+    reply,
+    record {
+      worker = is ∙ (λ i. after_commit w (next_of_own w.clock number next i) index request reply (none i));
+      answered = answered;
+    },
+  ),
 )
+
+-- where there is no number nothing was stored
+pub full_stored : (w : WorkerState) (request : Request) (index : ℕ) (result : Result Unit PermitFault) (fault : PermitFault) → IsErrAnd result (λ f. f ≡ fault) → fault ≡ NumberFull → last_number ≤ max w.clock 0
+    → HasStoredOrIsFull w w request index result
+full_stored w request index (Ok done) fault err is full = absurd err
+full_stored w request index (Err f) fault err is full = subst (λ g. HasStoredOrIsFull w w request index (Err g)) (sym (err ∙ is)) (omega (arith, full), refl)
+
+-- what became of it, as an option
+module _ (old new : WorkerState) (request : Request) (index : ℕ) where
+  pub none_if_full : (result : Result Unit PermitFault) → HasStoredOrIsFull old new request index result → (IsNone (result_ok result) ↔ (last_number ≤ old.clock))
+  none_if_full (Ok done) its = let below = its.0 in ((λ none. absurd (true≢false none)), (λ full. absurd (omega (arith, full, below))))
+  none_if_full (Err Memory) its = absurd its
+  none_if_full (Err NumberFull) its = ((λ none. its.0), (λ full. refl))
+
+  pub same_if_none : (result : Result Unit PermitFault) → HasStoredOrIsFull old new request index result → IfNone (result_ok result) (new ≡ old)
+  same_if_none (Ok done) its = tt
+  same_if_none (Err Memory) its = absurd its
+  same_if_none (Err NumberFull) its = its.1
+
+  pub stored_if_some : (result : Result Unit PermitFault) → HasStoredOrIsFull old new request index result → IfSome (result_ok result) (λ _. HasStoredSome old new request index)
+  stored_if_some (Ok done) its = its.1
+  stored_if_some (Err Memory) its = absurd its
+  stored_if_some (Err NumberFull) its = tt

@@ -1,10 +1,10 @@
 -- What each kind of store does is good on a shard that it took, by what it was answered.
 use Rattle.std.proofs.Common.{◌≡◌, ℕ, List, Option, Some, None, MatchOption, option_map, refl, subst}
-use Rattle.std.specs.Prelude.{ℤ}
 use Rattle.auction_rows.specs.declared.ids.BidEntry.{BidEntry}
 use Rattle.auction_rows.specs.declared.ids.BidId.{BidId}
 use Rattle.auction_rows.specs.declared.ids.BuyId.{BuyId}
 use Rattle.auction_rows.specs.declared.ids.ItemId.{ItemId}
+use Rattle.auction_rows.specs.declared.numbers.Stars.{Stars}
 use Rattle.auction_rows.specs.declared.replies.Refusal.{Refusal}
 use Rattle.auction_rows.specs.declared.replies.Reply.{Reply}
 use Rattle.auction_rows.specs.declared.replies.Reply.TheVariants.{BidStored, Bought, Refused}
@@ -13,11 +13,8 @@ use Rattle.auction_rows.specs.declared.requests.Request.{Request}
 use Rattle.auction_rows.specs.declared.requests.Request.TheVariants.{StoreBid, StoreComment, BuyNow}
 use Rattle.item_shards.specs.declared.acts.Act.TheVariants.{Bid, Comment, Buy, Look}
 use Rattle.item_shards.specs.declared.acts.Shown.TheVariants as shown
-use Rattle.item_shards.specs.Limits.{AreStars}
 use Rattle.shard_boxes.specs.Helds.{HeldState}
-use Rattle.shard_boxes.specs.States.{ShardState}
-use Rattle.phase_permits.specs.declared.homes.Homes.{Homes}
-use Rattle.phase_permits.specs.Begun.{IsAnsweredOn}
+use Rattle.phase_permits.specs.Begun.{IsAnsweredOn, Step}
 use Rattle.phase_permits.specs.Deeds.{AreGoodOn}
 use Rattle.phase_permits.specs.Takens.{shard_at}
 use Rattle.phase_permits.specs.Workers.{WorkerState}
@@ -34,41 +31,41 @@ no_bid id reason is = absurd (cc)
 no_buy : (id : BuyId) (reason : Refusal) → Bought id ≡ Refused reason → ⊥
 no_buy id reason is = absurd (cc)
 
-module _ {opening : List ShardState} {workers : ℕ} {w : WorkerState} {homes : Homes} {seen : Option (Facts × ℕ)} {held : HeldState} (request : Request) (reply : Reply) (its : IsAnsweredOn opening workers w request homes seen reply held) where
-  at : (r : Request) (p : Reply) → request ≡ r → reply ≡ p → IsAnsweredOn opening workers w r homes seen p held
-  at r p is told = subst (λ q. IsAnsweredOn opening workers w r homes seen q held) told (subst (λ q. IsAnsweredOn opening workers w q homes seen reply held) is its)
+module _ {step : Step} {w : WorkerState} {seen : Option (Facts × ℕ)} {held : HeldState} (request : Request) (reply : Reply) (its : IsAnsweredOn step w request seen reply held) where
+  at : (r : Request) (p : Reply) → request ≡ r → reply ≡ p → IsAnsweredOn step w r seen p held
+  at r p is told = subst (λ q. IsAnsweredOn step w r seen q held) told (subst (λ q. IsAnsweredOn step w q seen reply held) is its)
 
   pub bid_arm : (bidder : ℕ) (item : ItemId) (amount time : ℕ) (id : BidId) (entry : BidEntry) → request ≡ StoreBid bidder item amount time → reply ≡ BidStored id
-      → AreGoodOn (shard_at homes.item) (shard_at homes.item) (Look (shown.Left item seen)) (Bid item entry) held
+      → AreGoodOn (shard_at step.homes.item) (shard_at step.homes.item) (Look (shown.Left item seen)) (Bid item entry) held
   bid_arm bidder item amount time id entry is told =
       let on = at (StoreBid bidder item amount time) (BidStored id) is told in
-      bid_good opening workers w.key held w.slices w.opening on.taken on.opened on.below bidder item amount time entry seen homes.item on.homes_are.0 (on.found item refl) (free _ _ (BidStored id) (no_bid id) on.answered)
+      bid_good step.opening step.workers w.key held w.slices w.opening on.taken on.opened on.below bidder item amount time entry seen step.homes.item on.homes_are.0 (on.found item refl) (free _ _ (BidStored id) (no_bid id) on.answered)
 
   pub buy_arm : (buyer : ℕ) (item : ItemId) (quantity time : ℕ) (id : BuyId) → request ≡ BuyNow buyer item quantity time → reply ≡ Bought id
-      → AreGoodOn (shard_at homes.item) (shard_at homes.item) (Look (shown.Left item seen)) (Buy item quantity) held
+      → AreGoodOn (shard_at step.homes.item) (shard_at step.homes.item) (Look (shown.Left item seen)) (Buy item quantity) held
   buy_arm buyer item quantity time id is told =
       let on = at (BuyNow buyer item quantity time) (Bought id) is told in
-      buy_good opening workers w.key held w.slices w.opening on.taken on.opened on.below buyer item quantity time seen homes.item on.homes_are.0 (on.found item refl) (free _ _ (Bought id) (no_buy id) on.answered)
+      buy_good step.opening step.workers w.key held w.slices w.opening on.taken on.opened on.below buyer item quantity time seen step.homes.item on.homes_are.0 (on.found item refl) (free _ _ (Bought id) (no_buy id) on.answered)
 
-  pub comment_arm : (author about : ℕ) (item : ItemId) (stars : ℤ) → request ≡ StoreComment author about item stars → AreStars stars
-      → AreGoodOn (shard_at homes.item) (shard_at homes.other) (Look (shown.Facts item (option_map (λ s. s.0) seen))) (Comment about stars) held
-  comment_arm author about item stars is are =
+  pub comment_arm : (author about : ℕ) (item : ItemId) (stars : Stars) → request ≡ StoreComment author about item stars
+      → AreGoodOn (shard_at step.homes.item) (shard_at step.homes.other) (Look (shown.Facts item (option_map (λ s. s.0) seen))) (Comment about stars) held
+  comment_arm author about item stars is =
       let on = at (StoreComment author about item stars) reply is refl in
-      comment_good opening workers w.key held w.slices w.opening on.taken on.opened on.below author about item stars seen homes.item homes.other on.homes_are.1 are (on.found item refl) on.allowed
+      comment_good step.opening step.workers w.key held w.slices w.opening on.taken on.opened on.below author about item stars seen step.homes.item step.homes.other on.homes_are.1 (on.found item refl) on.allowed
 
   -- and so is the look of one that is refused
-  pub bid_looks : (bidder : ℕ) (item : ItemId) (amount time : ℕ) → request ≡ StoreBid bidder item amount time → AreGoodOn (shard_at homes.item) (shard_at homes.item) (Look (shown.Left item seen)) (Look shown.Nothing) held
+  pub bid_looks : (bidder : ℕ) (item : ItemId) (amount time : ℕ) → request ≡ StoreBid bidder item amount time → AreGoodOn (shard_at step.homes.item) (shard_at step.homes.item) (Look (shown.Left item seen)) (Look shown.Nothing) held
   bid_looks bidder item amount time is =
       let on = at (StoreBid bidder item amount time) reply is refl in
-      look_good opening workers w.key held w.slices w.opening on.taken on.opened on.below item seen (shard_at homes.item) (shard_at homes.item) (on.found item refl)
+      look_good held item seen (shard_at step.homes.item) (shard_at step.homes.item) (on.found item refl)
 
-  pub buy_looks : (buyer : ℕ) (item : ItemId) (quantity time : ℕ) → request ≡ BuyNow buyer item quantity time → AreGoodOn (shard_at homes.item) (shard_at homes.item) (Look (shown.Left item seen)) (Look shown.Nothing) held
+  pub buy_looks : (buyer : ℕ) (item : ItemId) (quantity time : ℕ) → request ≡ BuyNow buyer item quantity time → AreGoodOn (shard_at step.homes.item) (shard_at step.homes.item) (Look (shown.Left item seen)) (Look shown.Nothing) held
   buy_looks buyer item quantity time is =
       let on = at (BuyNow buyer item quantity time) reply is refl in
-      look_good opening workers w.key held w.slices w.opening on.taken on.opened on.below item seen (shard_at homes.item) (shard_at homes.item) (on.found item refl)
+      look_good held item seen (shard_at step.homes.item) (shard_at step.homes.item) (on.found item refl)
 
-  pub comment_looks : (author about : ℕ) (item : ItemId) (stars : ℤ) → request ≡ StoreComment author about item stars
-      → AreGoodOn (shard_at homes.item) (shard_at homes.other) (Look (shown.Facts item (option_map (λ s. s.0) seen))) (Look shown.Nothing) held
+  pub comment_looks : (author about : ℕ) (item : ItemId) (stars : Stars) → request ≡ StoreComment author about item stars
+      → AreGoodOn (shard_at step.homes.item) (shard_at step.homes.other) (Look (shown.Facts item (option_map (λ s. s.0) seen))) (Look shown.Nothing) held
   comment_looks author about item stars is =
       let on = at (StoreComment author about item stars) reply is refl in
-      refused_comment_good opening workers w.key held w.slices w.opening on.taken on.opened on.below item seen (shard_at homes.item) (shard_at homes.other) (on.found item refl)
+      refused_comment_good held item seen (shard_at step.homes.item) (shard_at step.homes.other) (on.found item refl)

@@ -1,8 +1,9 @@
 -- A transaction that has begun: what it does on its shards can be done there, and when it is done that is a commit.
-use Rattle.std.proofs.Common.{◌≡◌, ℕ, ◌<◌, Bool, true, false, cond, List, [], ◌∷◌, length, Option, Some, None, MatchOption, refl, sym, ap, subst, ◌∙◌, arith}
+use Rattle.std.proofs.Common.{◌≡◌, ℕ, suc, max, ◌<◌, Bool, true, false, cond, List, [], ◌∷◌, length, Option, Some, None, MatchOption, refl, sym, ap, subst, ◌∙◌, arith}
 use Rattle.std.specs.Option.{option_or}
 use Rattle.std.specs.List.{AllByRecursion}
 use Rattle.std.proofs.lemmas.Bool.{true≢false}
+use Rattle.phase_laws.specs.Numbers.{greatest_by}
 use Rattle.auction_rows.specs.declared.ids.ItemId.{ItemId}
 use Rattle.auction_rows.specs.declared.ids.Object.{Object}
 use Rattle.auction_rows.specs.declared.ids.Object.TheVariants.{Item}
@@ -18,7 +19,7 @@ use Rattle.auction_rows.specs.Requests.{item_of, is_view}
 use Rattle.item_shards.specs.ShardContents.{HasRoom, clock, contents}
 use Rattle.item_shards.specs.Values.{stock}
 use Rattle.shard_boxes.specs.Helds.{HeldState}
-use Rattle.shard_boxes.specs.Keys.{BoxId, KeyState}
+use Rattle.shard_boxes.specs.Keys.{KeyState}
 use Rattle.shard_boxes.specs.States.{ShardState}
 use Rattle.phase_permits.specs.declared.deeds.Deeds.{Deeds}
 use Rattle.phase_permits.specs.declared.fault.PermitFault.TheVariants.{Memory}
@@ -27,14 +28,15 @@ use Rattle.phase_permits.specs.declared.homes.Home.TheVariants as home
 use Rattle.phase_permits.specs.declared.homes.Homes.{Homes}
 use Rattle.phase_permits.specs.declared.read_set.ReadSet.{ReadSet}
 use Rattle.phase_permits.specs.declared.slices.Hot.{Hot}
+use Rattle.phase_permits.specs.declared.taken.Begun.{Begun}
 use Rattle.phase_permits.specs.declared.taken.Taken.{Taken}
-use Rattle.phase_permits.specs.Begun.{HasBegun, HasFirst, HasRoomFor, IsAnsweredOn, IsSeen}
-use Rattle.phase_permits.specs.Deeds.{IsReplyBy, IsNextIf, AreDeedsOf, AreGoodOn, acts_for, clocks_of, first_dealt, second_dealt, footprint_on}
+use Rattle.phase_permits.specs.Begun.{Step, HasBegun, HasFirst, HasRoomFor, IsAnsweredOn, IsSeen}
+use Rattle.phase_permits.specs.Deeds.{IsReplyBy, IsNextIf, AreDeedsOf, AreGoodOn, acts_for, clocks_of, deal_of, footprint_on}
 use Rattle.phase_permits.specs.Homes.{IsHomeOf}
-use Rattle.phase_permits.specs.Pairs.{IsAsTaken}
 use Rattle.phase_permits.specs.Performing.{HasCommitted, HasFailed, HaveOpening, StoresItem}
 use Rattle.phase_permits.specs.Slicing.{objects_of, stocks_of, stock_of}
-use Rattle.phase_permits.specs.Takens.{shard_at, footprint_of, held_in, numbers_of, is_one_of, dealt, line_among, CanBeDoneOnAll, AreBack, HasPutAll}
+use Rattle.phase_permits.specs.Putting.{written_acts, HasPutAll, IsAsTaken}
+use Rattle.phase_permits.specs.Takens.{shard_at, footprint_of, held_in, numbers_of, is_one_of, dealt, line_among, CanBeDoneOnAll, AreBack}
 use Rattle.phase_permits.specs.Txns.{Answers, IsAnswered, refusal_by}
 use Rattle.phase_permits.specs.Workers.{WorkerState, IsLawful, setting_of, next_item, txn_of, after_commit}
 use Rattle.phase_permits.proofs.AnswerLemmas.{in_setting, item_home, store_answered}
@@ -85,19 +87,19 @@ cold_shard hots shards item (home.Slice place) at cold = absurd (true≢false (s
 cold_shard hots shards item (home.Shard shard) at cold = (shard, refl)
 
 -- so it lies in the first shard that was taken
-pub item_first : {N : Type 0} {workers : ℕ} {boxes : List BoxId} (opening : List ShardState) (w : WorkerState) (key : KeyState) (request : Request) (homes : Homes) (took : Taken N) (number : ℕ)
-    → HasBegun opening workers boxes key w request homes took number → IsLawful w → HasFirst w request took
-item_first {N} {workers} {boxes} opening w key (StoreItem facts time) homes took number begun lawful stores =
+pub item_first : {N : Type 0} (step : Step) (w : WorkerState) (request : Request) (b : Begun N) → HasBegun step w request b → IsLawful w → HasFirst w request b.taken
+item_first step w (StoreItem facts time) b begun lawful stores =
+    let homes = step.homes in
     let at = begun.homes_are.0 in
-    let shard = cold_shard w.slices (length opening) (next_item w) homes.item at (next_cold w (is_hot (objects_of w.slices) (Item (next_item w))) refl lawful) in
-    first_has opening workers w.key w.slices took homes.item homes.other (next_item w) shard.0 at shard.1 begun.taken.numbers begun.taken.taken
-item_first opening w key (StoreBid bidder item amount time) homes took number begun lawful stores = absurd stores
-item_first opening w key (StoreComment author about item stars) homes took number begun lawful stores = absurd stores
-item_first opening w key (BuyNow buyer item quantity time) homes took number begun lawful stores = absurd stores
-item_first opening w key (ViewItem item) homes took number begun lawful stores = absurd stores
-item_first opening w key (ViewBids item) homes took number begun lawful stores = absurd stores
-item_first opening w key (ViewCategory category) homes took number begun lawful stores = absurd stores
-item_first opening w key (ViewUser user) homes took number begun lawful stores = absurd stores
+    let shard = cold_shard w.slices (length step.opening) (next_item w) homes.item at (next_cold w (is_hot (objects_of w.slices) (Item (next_item w))) refl lawful) in
+    first_has step.opening step.workers w.key w.slices b.taken homes.item homes.other (next_item w) shard.0 at shard.1 begun.taken.numbers begun.taken.taken
+item_first step w (StoreBid bidder item amount time) b begun lawful stores = absurd stores
+item_first step w (StoreComment author about item stars) b begun lawful stores = absurd stores
+item_first step w (BuyNow buyer item quantity time) b begun lawful stores = absurd stores
+item_first step w (ViewItem item) b begun lawful stores = absurd stores
+item_first step w (ViewBids item) b begun lawful stores = absurd stores
+item_first step w (ViewCategory category) b begun lawful stores = absurd stores
+item_first step w (ViewUser user) b begun lawful stores = absurd stores
 
 -- what was seen of an item, hot or not
 seen_by_home : (hots : List (Object × Hot)) (shards : ℕ) (item : ItemId) (h : Home) (seen found : Option (Facts × ℕ)) → IsHomeOf hots shards (Item item) h → (shard_at h ≡ None → seen ≡ stock_of (stocks_of hots) (Item item)) → found ≡ seen
@@ -106,14 +108,28 @@ seen_by_home hots shards item home.Nowhere seen found at fixed same = absurd at
 seen_by_home hots shards item (home.Slice place) seen found at fixed same = fixed refl ∙ sym (ap (λ b. cond b (stock_of (stocks_of hots) (Item item)) found) (in_setting hots (Item item) at.1))
 seen_by_home hots shards item (home.Shard shard) seen found at fixed same = sym same ∙ sym (ap (λ b. cond b (stock_of (stocks_of hots) (Item item)) found) (in_setting hots (Item item) at.1))
 
-module _ {N : Type 0} {workers : ℕ} {boxes : List BoxId} (opening : List ShardState) (w : WorkerState) (key : KeyState) (request : Request) (homes : Homes) (took : Taken N) (number : ℕ)
-    (begun : HasBegun opening workers boxes key w request homes took number) where
+module _ {N : Type 0} (step : Step) (w : WorkerState) (request : Request) (b : Begun N) (begun : HasBegun step w request b) where
+  abbrev opening : List ShardState
+  opening = step.opening
+
+  abbrev key : KeyState
+  key = step.key
+
+  abbrev homes : Homes
+  homes = step.homes
+
+  abbrev took : Taken N
+  took = b.taken
+
+  abbrev number : ℕ
+  number = b.number
+
   -- what was done on its shards, and put back, is a commit
   pub begun_commits : (new : WorkerState) (index : ℕ) (reply : Reply) (seen : Option (Facts × ℕ)) (deeds : Deeds) (found : ReadSet) → footprint_on deeds ≡ footprint_of homes
       → AreDeedsOf w.slices (length opening) (acts_for w.journal.worker seen request reply) deeds → found ≡ record { stock = seen; clocks = clocks_of took }
       → IsAnswered (setting_of w (length opening)) w.counters (txn_of w number request index reply found)
       → HasPutAll opening w.key new.key (is_one_of (numbers_of (held_in took)))
-      (line_among number index (held_in took) (dealt took (first_dealt deeds.first deeds.second (shard_at deeds.home) (shard_at deeds.other)) (second_dealt deeds.first deeds.second (shard_at deeds.home) (shard_at deeds.other))))
+      (line_among number index (held_in took) (dealt took (written_acts (deal_of deeds number index))))
       → new ≡ record (after_commit w number index request reply found) { key = new.key } → HasCommitted opening (record w { key = key }) new request index reply
   begun_commits new index reply seen deeds found foot owed found_is answered put committed =
       store_commits opening (record w { key = key }) new w.key request homes took begun.taken begun.asked index number reply seen deeds found foot owed begun.allowed
@@ -122,7 +138,7 @@ module _ {N : Type 0} {workers : ℕ} {boxes : List BoxId} (opening : List Shard
   -- and where memory was refused, and they went back as they were, it failed
   pub begun_fails : (new : WorkerState) → AreBack w.key new.key → StoresItem request → new ≡ record w { key = new.key } → HasFailed opening (record w { key = key }) new request Memory
   begun_fails new put stores same =
-      let numbered = begun.numbered in
+      let numbered : number ≡ suc (max w.clock (greatest_by (λ (h : HeldState). clock h.shard) (held_in took))) = begun.numbered in
       let within = begun.within in
       store_fails opening (record w { key = key }) new w.key request homes took begun.taken begun.asked put Memory same begun.goes (omega (arith, numbered, within), stores, begun.allowed)
 
@@ -134,10 +150,10 @@ module _ {N : Type 0} {workers : ℕ} {boxes : List BoxId} (opening : List Shard
         (λ item needs. seen_by_home w.slices (length opening) item homes.item seen found.stock (item_home w (length opening) request homes item begun.homes_are needs) (is_seen.fixed item needs) (ap (λ (f : ReadSet). f.stock) found_is))
 
     abbrev Grounds : Reply → HeldState → Type 0
-    Grounds reply held = IsAnsweredOn opening workers w request homes seen reply held
+    Grounds reply held = IsAnsweredOn step w request seen reply held
 
     -- what is known of it on each shard that it took
-    on_each : (reply : Reply) → IsReplyBy w seen request reply → HaveOpening opening w.opening → (held : List HeldState) → AllByRecursion (IsAsTaken opening workers w.key) held
+    on_each : (reply : Reply) → IsReplyBy w seen request reply → HaveOpening opening w.opening → (held : List HeldState) → AllByRecursion (IsAsTaken opening step.workers w.key) held
         → AllByRecursion (λ (h : HeldState). clock h.shard < number) held
         → ((item : ItemId) → item_of request ≡ Some item → AllByRecursion (λ (h : HeldState). shard_at homes.item ≡ Some h.number → seen ≡ stock (contents h.shard (Item item))) held)
         → (StoresItem request → AllByRecursion (λ (h : HeldState). shard_at homes.item ≡ Some h.number → HasRoom h.shard (next_item w)) held) → AllByRecursion (Grounds reply) held
@@ -164,7 +180,7 @@ module _ {N : Type 0} {workers : ℕ} {boxes : List BoxId} (opening : List Shard
 
     pub begun_can : (reply : Reply) (deeds : Deeds) → footprint_on deeds ≡ footprint_of homes → HasRoomFor w request took → IsReplyBy w seen request reply → HaveOpening opening w.opening
         → ((held : HeldState) → Grounds reply held → AreGoodOn (shard_at deeds.home) (shard_at deeds.other) deeds.first deeds.second held)
-        → CanBeDoneOnAll number (held_in took) (dealt took (first_dealt deeds.first deeds.second (shard_at deeds.home) (shard_at deeds.other)) (second_dealt deeds.first deeds.second (shard_at deeds.home) (shard_at deeds.other)))
+        → CanBeDoneOnAll number (held_in took) (dealt took (written_acts (deal_of deeds number 0)))
     begun_can reply deeds foot room by opened good =
         let later = clocks_below took w.clock number begun.numbered in
         can_deal number took deeds.first deeds.second (shard_at deeds.home) (shard_at deeds.other) (begun.taken.numbers ∙ sym foot) later

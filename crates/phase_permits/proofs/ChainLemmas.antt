@@ -16,6 +16,7 @@ use Rattle.item_shards.specs.Writing.{padded, done_on, acts_owed}
 use Rattle.shard_boxes.specs.declared.line.Line.{Line}
 use Rattle.shard_boxes.specs.Helds.{HeldState}
 use Rattle.shard_boxes.specs.Keys.{KeyState}
+use Rattle.shard_boxes.specs.Lines.{first_two}
 use Rattle.shard_boxes.specs.States.{ShardState}
 use Rattle.phase_permits.specs.declared.deeds.Deeds.{Deeds}
 use Rattle.phase_permits.specs.declared.fault.PermitFault.{PermitFault}
@@ -23,15 +24,14 @@ use Rattle.phase_permits.specs.declared.fault.PermitFault.TheVariants.{Memory, N
 use Rattle.phase_permits.specs.declared.homes.Homes.{Homes}
 use Rattle.phase_permits.specs.declared.read_set.ReadSet.{ReadSet}
 use Rattle.phase_permits.specs.declared.taken.Taken.{Taken}
-use Rattle.phase_permits.specs.Deeds.{first_dealt, second_dealt, acts_among, clocks_of, acts_for, AreDeedsOf, footprint_on}
-use Rattle.phase_permits.specs.Pairs.{IsAsTaken}
+use Rattle.phase_permits.specs.Deeds.{first_dealt, second_dealt, clocks_of, acts_for, AreDeedsOf, footprint_on}
 use Rattle.phase_permits.specs.Performing.{HasCommitted, HasFailed, IsCause, StoresItem, asks, shards_asked, greatest_seen}
-use Rattle.phase_permits.specs.Putting.{clock_seen}
+use Rattle.phase_permits.specs.Putting.{clock_seen, HasPutAll, IsAsTaken}
 use Rattle.phase_permits.specs.Slicing.{objects_of}
-use Rattle.phase_permits.specs.Takens.{shard_at, footprint_of, held_in, numbers_of, is_one_of, dealt, line_among, HasTakenAll, AreBack, HasPutAll}
+use Rattle.phase_permits.specs.Takens.{shard_at, footprint_of, held_in, numbers_of, is_one_of, dealt, line_among, HasTakenAll, AreBack}
 use Rattle.phase_permits.specs.Txns.{Setting, Txn, hot_in, takes, line_on, greatest_clock, clock_found, clock_in, is_put_off, IsAnswered}
 use Rattle.phase_permits.specs.Workers.{WorkerState, setting_of, next_item, txn_of, after_commit}
-use Rattle.phase_permits.proofs.DealLemmas.{dealt_on, line_is, greatest_same, greatest_taken}
+use Rattle.phase_permits.proofs.DealLemmas.{acts_among, dealt_on, line_is, greatest_same, greatest_taken}
 use Rattle.phase_permits.proofs.HomeLemmas.{same_objects_of}
 use Rattle.phase_permits.proofs.WholeLemmas.{taken_and_put, lines_stay, others_stay, clock_was, whole_commits}
 
@@ -64,7 +64,7 @@ module _ {N : Type 0} {workers : ℕ} (opening : List ShardState) (old new : Wor
     second = second_dealt deeds.first deeds.second (shard_at deeds.home) (shard_at deeds.other)
 
     abbrev lines : ℕ → Line
-    lines = line_among number index (held_in took) (dealt took first second)
+    lines = line_among number index (held_in took) (dealt took (first ∷ second ∷ []))
 
     takes_is : (t : ℕ) → takes z t txn ≡ is_one_of (footprint_of homes) t
     takes_is t =
@@ -72,7 +72,7 @@ module _ {N : Type 0} {workers : ℕ} (opening : List ShardState) (old new : Wor
         (if is_some (number_refusal old.opening request) then [] else filter (λ object. not (is_hot (hot_in z) object)) objects))) needs
         ∙ asked t
 
-    acts_are : (t : ℕ) → is_one_of (footprint_of homes) t ≡ true → acts_among (held_in took) (dealt took first second) t ≡ acts_owed old.opening t (length opening) (hot_in z) found.stock txn.0
+    acts_are : (t : ℕ) → is_one_of (footprint_of homes) t ≡ true → acts_among (held_in took) (dealt took (first ∷ second ∷ [])) t ≡ acts_owed old.opening t (length opening) (hot_in z) found.stock txn.0
     acts_are t here =
         dealt_on took deeds.first deeds.second deeds.home deeds.other (its.numbers ∙ sym foot) t (sym (is_held t) ∙ here)
         ∙ sym (owed t)
@@ -82,7 +82,7 @@ module _ {N : Type 0} {workers : ℕ} (opening : List ShardState) (old new : Wor
     owes : (t : ℕ) → is_one_of (footprint_of homes) t ≡ true → lines t ≡ line_on z t txn
     owes t here =
         line_is took number index first second t (sym (is_held t) ∙ here)
-        ∙ (λ i. record { number = number; before = clock_in (sym (ap (λ (f : ReadSet). f.clocks) found_is) i) t; index = index; acts = acts_are t here i })
+        ∙ (λ i. record { number = number; before = clock_in (sym (ap (λ (f : ReadSet). f.clocks) found_is) i) t; index = index; acts = first_two (acts_are t here i) })
 
     greatest_is : greatest_clock z txn ≡ greatest
     greatest_is =

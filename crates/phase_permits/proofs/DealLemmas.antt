@@ -8,12 +8,14 @@ use Rattle.item_shards.specs.declared.acts.Act.{Act}
 use Rattle.item_shards.specs.ShardContents.{clock}
 use Rattle.item_shards.specs.Writing.{padded}
 use Rattle.shard_boxes.specs.Helds.{HeldState}
+use Rattle.shard_boxes.specs.Lines.{first_two}
 use Rattle.phase_permits.specs.declared.homes.Home.{Home}
 use Rattle.phase_permits.specs.declared.homes.Home.TheVariants as home
 use Rattle.phase_permits.specs.declared.taken.Taken.{Taken}
 use Rattle.phase_permits.specs.declared.taken.Taken.TheVariants as taken
-use Rattle.phase_permits.specs.Deeds.{is_at, deeds_on, first_dealt, second_dealt, acts_among, clocks_of}
-use Rattle.phase_permits.specs.Takens.{shard_at, each_once, held_in, numbers_of, is_one_of, alone, dealt, no_line, line_among}
+use Rattle.phase_permits.specs.Deeds.{is_at, deeds_on, first_dealt, second_dealt, clocks_of}
+use Rattle.phase_permits.specs.Putting.{alone_in}
+use Rattle.phase_permits.specs.Takens.{shard_at, each_once, held_in, numbers_of, is_one_of, dealt, no_line, line_among}
 use Rattle.phase_permits.specs.Txns.{clock_in}
 
 -- whether a shard is that of an object, if it lies in one
@@ -66,13 +68,13 @@ one_dealt n t x y (Some s) (Some u) is here = go (eqb_tells s u)
 
 -- two
 two_dealt : (n m t : ℕ) (x y : Act) (a b : Option ℕ) → n ∷ m ∷ [] ≡ each_once a b → ((n == t) || ((m == t) || false)) ≡ true
-    → cond (n == t) (alone (first_dealt x y a b)) (cond (m == t) (alone (second_dealt x y a b)) []) ≡ chosen x y (at a t) (at b t)
+    → cond (n == t) (alone_in (first_dealt x y a b)) (cond (m == t) (alone_in (second_dealt x y a b)) []) ≡ chosen x y (at a t) (at b t)
 two_dealt n m t x y None None is here = absurd (cc)
 two_dealt n m t x y (Some s) None is here = let long = ap how_many is in absurd (omega (arith, long))
 two_dealt n m t x y None (Some u) is here = let long = ap how_many (is ∙ other_once u) in absurd (omega (arith, long))
 two_dealt n m t x y (Some s) (Some u) is here = go (eqb_tells s u)
   where
-    go : (((s == u) ≡ true) × (s ≡ u)) ⊎ (((s == u) ≡ false) × (s ≢ u)) → cond (n == t) (alone x) (cond (m == t) (alone y) []) ≡ chosen x y (s == t) (u == t)
+    go : (((s == u) ≡ true) × (s ≡ u)) ⊎ (((s == u) ≡ false) × (s ≢ u)) → cond (n == t) (alone_in x) (cond (m == t) (alone_in y) []) ≡ chosen x y (s == t) (u == t)
     go (inl h) = let long = ap how_many (is ∙ ap (λ c. cond c (s ∷ []) (s ∷ u ∷ [])) h.0) in absurd (omega (arith, long))
     go (inr h) = by (eqb_tells n t)
       where
@@ -85,19 +87,25 @@ two_dealt n m t x y (Some s) (Some u) is here = go (eqb_tells s u)
         m_is : m ≡ u
         m_is = ap second_in both
 
-        by : (((n == t) ≡ true) × (n ≡ t)) ⊎ (((n == t) ≡ false) × (n ≢ t)) → cond (n == t) (alone x) (cond (m == t) (alone y) []) ≡ chosen x y (s == t) (u == t)
+        by : (((n == t) ≡ true) × (n ≡ t)) ⊎ (((n == t) ≡ false) × (n ≢ t)) → cond (n == t) (alone_in x) (cond (m == t) (alone_in y) []) ≡ chosen x y (s == t) (u == t)
         by (inl at_n) =
             let on_s : (s == t) ≡ true = ap (λ k. k == t) (sym n_is) ∙ at_n.0 in
             let off_u : (u == t) ≡ false = ne_eqb u t (λ e. h.1 (sym n_is ∙ at_n.1 ∙ sym e)) in
-            ap (λ c. cond c (alone x) (cond (m == t) (alone y) [])) at_n.0 ∙ (λ i. chosen x y (sym on_s i) (sym off_u i))
+            ap (λ c. cond c (alone_in x) (cond (m == t) (alone_in y) [])) at_n.0 ∙ (λ i. chosen x y (sym on_s i) (sym off_u i))
         by (inr off_n) =
             let on_m : (m == t) ≡ true = one_is (m == t) (ap (λ c. c || ((m == t) || false)) (sym off_n.0) ∙ here) in
             let off_s : (s == t) ≡ false = ap (λ k. k == t) (sym n_is) ∙ off_n.0 in
             let on_u : (u == t) ≡ true = ap (λ k. k == t) (sym m_is) ∙ on_m in
-            (λ i. cond (off_n.0 i) (alone x) (cond (on_m i) (alone y) [])) ∙ (λ i. chosen x y (sym off_s i) (sym on_u i))
+            (λ i. cond (off_n.0 i) (alone_in x) (cond (on_m i) (alone_in y) [])) ∙ (λ i. chosen x y (sym off_s i) (sym on_u i))
+
+-- the acts that are dealt to the shard of this number
+abbrev pub acts_among : List HeldState → List (List Act) → ℕ → List Act
+acts_among [] acts t = []
+acts_among (h ∷ held) [] t = []
+acts_among (h ∷ held) (a ∷ acts) t = cond (h.number == t) a (acts_among held acts t)
 
 dealt_at : {N : Type 0} (took : Taken N) (x y : Act) (a b : Option ℕ) → numbers_of (held_in took) ≡ each_once a b → (t : ℕ) → is_one_of (numbers_of (held_in took)) t ≡ true
-    → acts_among (held_in took) (dealt took (first_dealt x y a b) (second_dealt x y a b)) t ≡ chosen x y (at a t) (at b t)
+    → acts_among (held_in took) (dealt took (first_dealt x y a b ∷ second_dealt x y a b ∷ [])) t ≡ chosen x y (at a t) (at b t)
 dealt_at taken.Nothing x y a b is t here = absurd (false≢true here)
 dealt_at (taken.One one) x y a b is t here =
     let on = one_is (one.number == t) here in
@@ -106,28 +114,28 @@ dealt_at (taken.Two one other) x y a b is t here = two_dealt one.number other.nu
 
 -- what is dealt to a shard is what is done there
 pub dealt_on : {N : Type 0} (took : Taken N) (x y : Act) (h k : Home) → numbers_of (held_in took) ≡ each_once (shard_at h) (shard_at k) → (t : ℕ) → is_one_of (numbers_of (held_in took)) t ≡ true
-    → acts_among (held_in took) (dealt took (first_dealt x y (shard_at h) (shard_at k)) (second_dealt x y (shard_at h) (shard_at k))) t ≡ deeds_on x y h k t
+    → acts_among (held_in took) (dealt took (first_dealt x y (shard_at h) (shard_at k) ∷ second_dealt x y (shard_at h) (shard_at k) ∷ [])) t ≡ deeds_on x y h k t
 dealt_on took x y h k is t here = dealt_at took x y (shard_at h) (shard_at k) is t here ∙ (λ i. chosen x y (sym (at_home h t) i) (sym (at_home k t) i))
 
 -- and its line says so, with the clock that was found
 two_lines : (b c : Bool) (number index before after : ℕ) (x y : List Act) → (b || (c || false)) ≡ true
-    → cond b (record { number = number; before = before; index = index; acts = x }) (cond c (record { number = number; before = after; index = index; acts = y }) no_line)
-    ≡ record { number = number; before = cond b before (cond c after 0); index = index; acts = cond b x (cond c y []) }
+    → cond b (record { number = number; before = before; index = index; acts = first_two x }) (cond c (record { number = number; before = after; index = index; acts = first_two y }) no_line)
+    ≡ record { number = number; before = cond b before (cond c after 0); index = index; acts = first_two (cond b x (cond c y [])) }
 two_lines true c number index before after x y here = refl
 two_lines false true number index before after x y here = refl
 two_lines false false number index before after x y here = absurd (false≢true here)
 
 one_line : (b : Bool) (number index before : ℕ) (x : List Act) → b ≡ true
-    → cond b (record { number = number; before = before; index = index; acts = x }) no_line ≡ record { number = number; before = cond b before 0; index = index; acts = cond b x [] }
+    → cond b (record { number = number; before = before; index = index; acts = first_two x }) no_line ≡ record { number = number; before = cond b before 0; index = index; acts = first_two (cond b x []) }
 one_line true number index before x here = refl
 one_line false number index before x here = absurd (false≢true here)
 
 pub line_is : {N : Type 0} (took : Taken N) (number index : ℕ) (x y : Act) (t : ℕ) → is_one_of (numbers_of (held_in took)) t ≡ true
-    → line_among number index (held_in took) (dealt took x y) t
-    ≡ record { number = number; before = clock_in (clocks_of took) t; index = index; acts = acts_among (held_in took) (dealt took x y) t }
+    → line_among number index (held_in took) (dealt took (x ∷ y ∷ [])) t
+    ≡ record { number = number; before = clock_in (clocks_of took) t; index = index; acts = first_two (acts_among (held_in took) (dealt took (x ∷ y ∷ [])) t) }
 line_is taken.Nothing number index x y t here = absurd (false≢true here)
 line_is (taken.One one) number index x y t here = one_line (one.number == t) number index (clock one.shard) (x ∷ y ∷ []) (one_is (one.number == t) here)
-line_is (taken.Two one other) number index x y t here = two_lines (one.number == t) (other.number == t) number index (clock one.shard) (clock other.shard) (alone x) (alone y) here
+line_is (taken.Two one other) number index x y t here = two_lines (one.number == t) (other.number == t) number index (clock one.shard) (clock other.shard) (alone_in x) (alone_in y) here
 
 -- the greatest over numbers is that over any others that are the same ones
 le_in : (f : ℕ → ℕ) (ns : List ℕ) (t : ℕ) → list_any (λ s. s == t) ns ≡ true → f t ≤ greatest_by f ns

@@ -1,6 +1,6 @@
 -- A request that takes no shard: performed it is a commit, and at the end of numbers it failed.
-use Rattle.std.proofs.Common.{◌≡◌, ℕ, suc, ◌<◌, ◌≤◌, ◌==◌, not, Bool, true, false, cond, if◌then◌else◌, List, [], ◌∷◌, length, map, filter, Option, Some, None, is_some, refl, sym, ap, subst, ◌∙◌, ◌↔◌, arith}
-use Rattle.std.specs.Prelude.{IsNone, IfNone, IfSome, ok_or}
+use Rattle.std.proofs.Common.{◌≡◌, ℕ, suc, ◌<◌, ◌≤◌, ◌==◌, not, Bool, true, false, cond, if◌then◌else◌, List, [], ◌∷◌, length, map, filter, Option, Some, None, Result, Ok, Err, is_some, refl, sym, ap, subst, ◌∙◌, ◌↔◌, arith}
+use Rattle.std.specs.Prelude.{IsNone, IfSome}
 use Rattle.std.specs.List.{AllByRecursion, list_any}
 use Rattle.std.proofs.Math.Nat.{lt_of_not-le}
 use Rattle.std.proofs.lemmas.Bool.{false≢true, true≢false}
@@ -16,12 +16,14 @@ use Rattle.auction_rows.specs.Requests.{shard_of}
 use Rattle.item_shards.specs.CommitNumbers.{last_number}
 use Rattle.shard_boxes.specs.Keys.{KeyState}
 use Rattle.shard_boxes.specs.States.{ShardState}
-use Rattle.phase_permits.specs.declared.fault.PermitFault.TheVariants.{NumberFull}
+use Rattle.phase_permits.specs.declared.fault.PermitFault.{PermitFault}
+use Rattle.phase_permits.specs.declared.fault.PermitFault.TheVariants.{Memory, NumberFull}
 use Rattle.phase_permits.specs.declared.homes.Homes.{Homes}
 use Rattle.phase_permits.specs.Homes.{IsHotStore}
-use Rattle.phase_permits.specs.Performing.{HasCommitted, HasCommittedSome, HasFailed, HasPerformed, HasStored, HasStoredSome, asks}
+use Rattle.phase_permits.specs.Performing.{HasCommitted, HasCommittedSome, HasFailed, HasPerformed, HasStored, HasStoredOrIsFull, HasStoredSome, asks}
 use Rattle.phase_permits.specs.Slicing.{objects_of, stocks_of}
-use Rattle.phase_permits.specs.Takens.{shard_at, each_once, footprint_of, is_one_of, no_line, HasPutAll}
+use Rattle.phase_permits.specs.Putting.{HasPutAll}
+use Rattle.phase_permits.specs.Takens.{shard_at, each_once, footprint_of, is_one_of, no_line}
 use Rattle.phase_permits.specs.Txns.{clock_found, hot_in, takes, greatest_clock, is_put_off}
 use Rattle.phase_permits.specs.Workers.{WorkerState, IsIdle, setting_of, hot_txn, nothing, after_commit}
 use Rattle.phase_permits.proofs.AnswerLemmas.{in_setting}
@@ -67,14 +69,12 @@ module _ (opening : List ShardState) (old new : WorkerState) (request : Request)
         cause = omega (arith, full);
       }
 
-  had_number : (IsNone {T = Unit} (Some tt) ↔ (last_number ≤ old.clock)) → old.clock < last_number
-  had_number none = lt_of_not-le (λ full. true≢false (none.1 full))
-
   -- what comes of it
-  pub stored_performed : (done : Option Unit) → (IsNone done ↔ (last_number ≤ old.clock)) → IfNone done (new ≡ old) → IfSome done (λ _. HasStoredSome old new request index)
-      → ((answer : Reply) → HasStored old new request index answer → Untaken answer) → is_put_off (objects_of old.slices) request ≡ false → HasPerformed opening old new request index (ok_or done NumberFull)
-  stored_performed None none unchanged stored untaken goes = full_fails unchanged (none.0 refl) goes
-  stored_performed (Some done) none unchanged stored untaken goes = (stored.0, stored_commits stored.0 stored.1 (had_number none) (untaken stored.0 stored.1))
+  pub stored_performed : (result : Result Unit PermitFault) → HasStoredOrIsFull old new request index result
+      → ((answer : Reply) → HasStored old new request index answer → Untaken answer) → is_put_off (objects_of old.slices) request ≡ false → HasPerformed opening old new request index result
+  stored_performed (Ok done) stored untaken goes = (stored.1.0, stored_commits stored.1.0 stored.1.1 stored.0 (untaken stored.1.0 stored.1.1))
+  stored_performed (Err Memory) stored untaken goes = absurd stored
+  stored_performed (Err NumberFull) stored untaken goes = full_fails stored.1 stored.0 goes
 
 -- a request that the opening refuses takes none
 pub refused_untaken : (w : WorkerState) (shards index : ℕ) (request : Request) (reason : Refusal) (answer : Reply) → number_refusal w.opening request ≡ Some reason → (t : ℕ) → takes (setting_of w shards) t (hot_txn w request index answer) ≡ false
@@ -118,4 +118,4 @@ pub hot_commits : (opening : List ShardState) (old new : WorkerState) (request :
     → IfSome done (λ _. HasStoredSome old new request index) → HasCommittedSome opening old new request index
 hot_commits opening old new request index idle hot None none some stored = absurd (false≢true some)
 hot_commits opening old new request index idle hot (Some done) none some stored =
-    (stored.0, stored_commits opening old new request index idle stored.0 stored.1 (had_number opening old new request index idle none) (hot_store_untaken old (length opening) index request stored.0 hot))
+    (stored.0, stored_commits opening old new request index idle stored.0 stored.1 (lt_of_not-le (λ full. true≢false (none.1 full))) (hot_store_untaken old (length opening) index request stored.0 hot))

@@ -14,18 +14,18 @@ use Rattle.item_shards.specs.CommitNumbers.{last_number}
 use Rattle.item_shards.specs.ShardContents.{HasRoom, LiesIn, clock, contents}
 use Rattle.item_shards.specs.Values.{stock}
 use Rattle.shard_boxes.specs.Helds.{HeldState}
-use Rattle.shard_boxes.specs.Keys.{BoxId, KeyState, seen_at}
+use Rattle.shard_boxes.specs.Keys.{KeyState, seen_at}
 use Rattle.shard_boxes.specs.Lines.{IsHistory}
 use Rattle.shard_boxes.specs.States.{ShardState, state_of}
 use Rattle.phase_permits.specs.declared.homes.Home.{Home}
-use Rattle.phase_permits.specs.declared.homes.Homes.{Homes}
 use Rattle.phase_permits.specs.declared.slices.Hot.{Hot}
+use Rattle.phase_permits.specs.declared.taken.Begun.{Begun}
 use Rattle.phase_permits.specs.declared.taken.Taken.{Taken}
 use Rattle.phase_permits.specs.declared.taken.Taken.TheVariants as taken
-use Rattle.phase_permits.specs.Begun.{HasBegun, FirstHas, FirstHasRoom, states_in}
+use Rattle.phase_permits.specs.Begun.{HasBegun, Step, FirstHas, FirstHasRoom, states_in}
 use Rattle.phase_permits.specs.Deeds.{stock_on}
 use Rattle.phase_permits.specs.Homes.{IsHomeOf}
-use Rattle.phase_permits.specs.Pairs.{IsAsTaken}
+use Rattle.phase_permits.specs.Putting.{IsAsTaken}
 use Rattle.phase_permits.specs.Takens.{shard_at, each_once, held_in, numbers_of, is_one_of, AreApart}
 use Rattle.phase_permits.specs.Workers.{WorkerState}
 use Rattle.phase_permits.proofs.DealLemmas.{first_in, apart_of}
@@ -122,11 +122,13 @@ known_of_numbers seats [] all = tt
 known_of_numbers seats (h ∷ held) all = (all.0, known_of_numbers seats held all.1)
 
 -- a transaction that made room has begun as before
-pub begun_before : {N : Type 0} {opening : List ShardState} {workers : ℕ} {boxes : List BoxId} {key : KeyState} {w : WorkerState} {request : Request} {homes : Homes} (took now : Taken N) (number after : ℕ)
-    → states_in now ≡ states_in took → after ≡ number → HasBegun opening workers boxes key w request homes took number → HasBegun opening workers boxes key w request homes now after
-begun_before {N} {opening} {workers} {boxes} {key} {w} {request} {homes} took now number after same number_is begun =
+pub begun_before : {N : Type 0} {step : Step} {w : WorkerState} {request : Request} (before after : Begun N)
+    → states_in after.taken ≡ states_in before.taken → after.number ≡ before.number → HasBegun step w request before → HasBegun step w request after
+begun_before {N} {step} {w} {request} before after same number_is begun =
+    let took = before.taken in
+    let now = after.taken in
     let numbers = numbers_before took now same in
-    let all = taken_before opening workers w.key took now same begun.taken.taken in
+    let all = taken_before step.opening step.workers w.key took now same begun.taken.taken in
     record {
       allowed = begun.allowed;
       goes = begun.goes;

@@ -1,6 +1,6 @@
 -- What a store does can be done on the shards in which its objects lie, as they were taken.
 use Rattle.std.proofs.Common.{◌≡◌, ℕ, ◌-◌, ◌<◌, Bool, true, false, cond, List, length, Option, Some, None, IsSome, option_map, refl, sym, ap, subst, ◌∙◌, arith}
-use Rattle.std.specs.Prelude.{ℤ, nat_le, nat_lt}
+use Rattle.std.specs.Prelude.{nat_le, nat_lt}
 use Rattle.std.specs.Option.{option_or}
 use Rattle.std.proofs.lemmas.Bool.{or_parts, leb-false, ltb-false}
 use Rattle.std.proofs.lemmas.Option.{same_Some}
@@ -9,6 +9,7 @@ use Rattle.auction_rows.specs.declared.ids.ItemId.{ItemId}
 use Rattle.auction_rows.specs.declared.ids.Object.{Object}
 use Rattle.auction_rows.specs.declared.ids.Object.TheVariants.{Item, User}
 use Rattle.auction_rows.specs.declared.numbers.Opening.{Opening}
+use Rattle.auction_rows.specs.declared.numbers.Stars.{Stars}
 use Rattle.auction_rows.specs.declared.replies.Refusal.{Refusal}
 use Rattle.auction_rows.specs.declared.replies.Refusal.TheVariants.{NoSuchItem, Closed, NotEnough}
 use Rattle.auction_rows.specs.declared.requests.Facts.{Facts}
@@ -19,7 +20,6 @@ use Rattle.auction_rows.proofs.RefusalLemmas.{in_range}
 use Rattle.item_shards.specs.declared.acts.Act.TheVariants.{Bid, Comment, Buy, Look}
 use Rattle.item_shards.specs.declared.acts.Shown.TheVariants as shown
 use Rattle.item_shards.specs.CommitNumbers.{last_number}
-use Rattle.item_shards.specs.Limits.{AreStars}
 use Rattle.item_shards.specs.ShardContents.{LiesIn, clock, contents, opening as opening_of}
 use Rattle.item_shards.specs.Values.{Value, HasLeft, stock}
 use Rattle.shard_boxes.specs.Helds.{HeldState}
@@ -31,7 +31,7 @@ use Rattle.phase_permits.specs.declared.homes.Home.TheVariants as home
 use Rattle.phase_permits.specs.declared.slices.Hot.{Hot}
 use Rattle.phase_permits.specs.Deeds.{AreGoodOn, IsGood}
 use Rattle.phase_permits.specs.Homes.{IsHomeOf}
-use Rattle.phase_permits.specs.Pairs.{IsAsTaken}
+use Rattle.phase_permits.specs.Putting.{IsAsTaken}
 use Rattle.phase_permits.specs.Performing.{HaveOpening}
 use Rattle.phase_permits.specs.Takens.{shard_at}
 use Rattle.phase_permits.specs.Txns.{refusal_by}
@@ -63,7 +63,7 @@ left_to_buy start buyer item quantity time value (Some facts) known free = recor
   enough = ltb-false (facts.quantity - value.bought) quantity (enough_if (nat_le facts.closes time) (nat_lt (facts.quantity - value.bought) quantity) (second_none (number_refusal start (BuyNow buyer item quantity time)) _ free));
 }
 
-about_known : (start : Opening) (author about : ℕ) (item : ItemId) (stars : ℤ) → number_refusal start (StoreComment author about item stars) ≡ None → about < start.users
+about_known : (start : Opening) (author about : ℕ) (item : ItemId) (stars : Stars) → number_refusal start (StoreComment author about item stars) ≡ None → about < start.users
 about_known start author about item stars allowed =
     let none = in_range start (StoreComment author about item stars) allowed in
     leb-false start.users about (or_parts (nat_le start.users about) false (or_parts (nat_le start.users author) _ none.0).1).0
@@ -74,6 +74,23 @@ home_number hots shards n object home.Nowhere at is = absurd at
 home_number hots shards n object (home.Slice place) at is = absurd (cc)
 home_number hots shards n object (home.Shard s) at is = sym (same_Some s n is) ∙ at.0
 
+-- what only looks
+module _ (held : HeldState) where
+  pub look_good : (item : ItemId) (seen : Option (Facts × ℕ)) (a b : Option ℕ) → (a ≡ Some held.number → seen ≡ stock (contents held.shard (Item item)))
+      → AreGoodOn a b (Look (shown.Left item seen)) (Look shown.Nothing) held
+  look_good item seen a b seen_is = record { first = λ is. (tt, seen_is is); second = λ is. (tt, tt); after = λ is also. (tt, tt) }
+
+  facts_of_stock : (value : Value) (facts : Option Facts) → option_map (λ (s : Facts × ℕ). s.0) (option_map (λ f. (f, f.quantity - value.bought)) facts) ≡ facts
+  facts_of_stock value None = refl
+  facts_of_stock value (Some facts) = refl
+
+  pub refused_comment_good : (item : ItemId) (seen : Option (Facts × ℕ)) (a b : Option ℕ) → (a ≡ Some held.number → seen ≡ stock (contents held.shard (Item item)))
+      → AreGoodOn a b (Look (shown.Facts item (option_map (λ s. s.0) seen))) (Look shown.Nothing) held
+  refused_comment_good item seen a b seen_is =
+      let value = contents held.shard (Item item) in
+      record { first = λ is. (tt, ap (option_map (λ s. s.0)) (seen_is is) ∙ facts_of_stock value value.facts); second = λ is. (tt, tt); after = λ is also. (tt, tt) }
+
+-- what writes
 module _ (opening : List ShardState) (workers : ℕ) (key : KeyState) (held : HeldState) (hots : List (Object × Hot)) (start : Opening)
     (its : IsAsTaken opening workers key held) (openings : HaveOpening opening start) (below : clock held.shard < last_number) where
   lies : (object : Object) (h : Home) → IsHomeOf hots (length opening) object h → shard_at h ≡ Some held.number → LiesIn held.shard object
@@ -113,22 +130,13 @@ module _ (opening : List ShardState) (workers : ℕ) (key : KeyState) (held : He
       ) in
       record { first = λ is. (tt, seen_is is); second = writes; after = λ is also. writes also }
 
-  -- a look alone, where a bid or a purchase is refused
-  pub look_good : (item : ItemId) (seen : Option (Facts × ℕ)) (a b : Option ℕ) → (a ≡ Some held.number → seen ≡ stock (contents held.shard (Item item)))
-      → AreGoodOn a b (Look (shown.Left item seen)) (Look shown.Nothing) held
-  look_good item seen a b seen_is = record { first = λ is. (tt, seen_is is); second = λ is. (tt, tt); after = λ is also. (tt, tt) }
-
-  facts_of_stock : (value : Value) (facts : Option Facts) → option_map (λ (s : Facts × ℕ). s.0) (option_map (λ f. (f, f.quantity - value.bought)) facts) ≡ facts
-  facts_of_stock value None = refl
-  facts_of_stock value (Some facts) = refl
-
   -- a comment
-  pub comment_good : (author about : ℕ) (item : ItemId) (stars : ℤ) (seen : Option (Facts × ℕ)) (h k : Home) → IsHomeOf hots (length opening) (User about) k → AreStars stars
+  pub comment_good : (author about : ℕ) (item : ItemId) (stars : Stars) (seen : Option (Facts × ℕ)) (h k : Home) → IsHomeOf hots (length opening) (User about) k
       → (shard_at h ≡ Some held.number → seen ≡ stock (contents held.shard (Item item))) → number_refusal start (StoreComment author about item stars) ≡ None
       → AreGoodOn (shard_at h) (shard_at k) (Look (shown.Facts item (option_map (λ s. s.0) seen))) (Comment about stars) held
-  comment_good author about item stars seen h k at are seen_is allowed =
+  comment_good author about item stars seen h k at seen_is allowed =
       let value = contents held.shard (Item item) in
-      let fits = (two_fit (state_of held.shard) (Comment about stars) (Look shown.Nothing) its.within below are tt).0 in
+      let fits = (two_fit (state_of held.shard) (Comment about stars) (Look shown.Nothing) its.within below).0 in
       let writes : shard_at k ≡ Some held.number → IsGood held.shard (contents held.shard) (Comment about stars) = λ is. (
         (
           lies (User about) k at is,
@@ -138,10 +146,4 @@ module _ (opening : List ShardState) (workers : ℕ) (key : KeyState) (held : He
         ),
         tt,
       ) in
-      record { first = λ is. (tt, ap (option_map (λ s. s.0)) (seen_is is) ∙ facts_of_stock value value.facts); second = writes; after = λ is also. writes also }
-
-  pub refused_comment_good : (item : ItemId) (seen : Option (Facts × ℕ)) (a b : Option ℕ) → (a ≡ Some held.number → seen ≡ stock (contents held.shard (Item item)))
-      → AreGoodOn a b (Look (shown.Facts item (option_map (λ s. s.0) seen))) (Look shown.Nothing) held
-  refused_comment_good item seen a b seen_is =
-      let value = contents held.shard (Item item) in
-      record { first = λ is. (tt, ap (option_map (λ s. s.0)) (seen_is is) ∙ facts_of_stock value value.facts); second = λ is. (tt, tt); after = λ is also. (tt, tt) }
+      record { first = λ is. (tt, ap (option_map (λ s. s.0)) (seen_is is) ∙ facts_of_stock held value value.facts); second = writes; after = λ is also. writes also }

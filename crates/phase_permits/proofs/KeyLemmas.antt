@@ -9,10 +9,9 @@ use Rattle.shard_boxes.specs.Helds.{HeldState}
 use Rattle.shard_boxes.specs.Lines.{StartsWith}
 use Rattle.shard_boxes.specs.States.{ShardState}
 use Rattle.shard_boxes.proofs.SeatLemmas.{seat-same, seat-other, taking-same, taking-other, putting-same, putting-other, length-with_seat}
-use Rattle.phase_permits.specs.Takens.{HasPutAll}
 use Rattle.phase_permits.specs.Workers.{IsIdle}
-use Rattle.phase_permits.specs.Putting.{KeepsSeen, HasPut, IsPutWith}
-use Rattle.phase_permits.specs.Pairs.{HoldsBoth, HasSameLines, LeavesOthers, HasPutBoth, HasPutTwo}
+use Rattle.phase_permits.specs.Putting.{KeepsSeen, HasPut, IsPutWith, HasPutAll, HasSameLines}
+use Rattle.phase_permits.proofs.Pairs.{HoldsBoth, LeavesOthers, HasPutBoth, HasPutTwo}
 
 -- what a key has seen goes on where it stays, from step to step, with a take and with a put
 pub seen_still : (key : KeyState) → KeepsSeen key key

@@ -15,6 +15,8 @@ pub mod KeyLemmas
 pub mod LastLemmas
 pub mod LawfulLemmas
 pub mod LookLemmas
+pub mod NumberLemmas
+pub mod Pairs
 pub mod PermitLemmas
 pub mod Places
 pub mod PutAllLemmas

@@ -68,18 +68,19 @@ commit_explained opening old new request index answer done is =
     let z = setting_of old shards in
     let txn = txn_of old done.number request index answer done.found in
     let work = work_of old in
-    let kept = commit_keeps z old.key.worker work txn is.work (record { own = is.worker; numbered = done.numbered; answered = done.answered }) in
+    let put = done.transacted.put in
+    let kept = commit_keeps z old.key.worker work txn is.work (record { own = is.worker; numbered = done.transacted.numbered; answered = done.transacted.answered }) in
     let d = sym done.worker in
-    let same : with_txn z work txn ≡ work_of new = λ i. record (work_of (d i)) { lines = λ t. sym (done.lines t) i } in
+    let same : with_txn z work txn ≡ work_of new = λ i. record (work_of (d i)) { lines = λ t. sym (put.lines t) i } in
     let stays : z ≡ setting_of new shards = λ i. record {
       opening = (d i).opening;
       shards = shards;
       stocks = sym (ap (λ (w : WorkerState). stocks_of w.slices) done.worker ∙ stocks-acts old.slices (writes_if (row_of old.journal.worker request answer))) i;
     } in
     record {
-      worker = ap (λ (w : WorkerState). w.journal.worker) done.worker ∙ is.worker ∙ sym done.owner;
-      idle = done.idle;
-      work = subst (λ (n : ℕ). IsWorkOf (setting_of new shards) n (work_of new)) (sym done.owner)
+      worker = ap (λ (w : WorkerState). w.journal.worker) done.worker ∙ is.worker ∙ sym put.worker;
+      idle = put.idle;
+      work = subst (λ (n : ℕ). IsWorkOf (setting_of new shards) n (work_of new)) (sym put.worker)
           (subst (λ (setting : Setting). IsWorkOf setting old.key.worker (work_of new)) stays (subst (λ (did : Work). IsWorkOf z old.key.worker did) same kept));
     }
 

@@ -9,9 +9,9 @@ use Rattle.shard_boxes.specs.Helds.{HeldState}
 use Rattle.shard_boxes.specs.Keys.{BoxId, KeyState, SeatState, seat_at, put_seat, putting, lines_at, holds_at, seen_at}
 use Rattle.shard_boxes.specs.States.{ShardState}
 use Rattle.shard_boxes.proofs.SeatLemmas.{putting-same, putting-other, length-with_seat}
-use Rattle.phase_permits.specs.Pairs.{HoldsBoth, HasPutTwo}
-use Rattle.phase_permits.specs.Putting.{HasPut, IsPutWith, line_of}
-use Rattle.phase_permits.specs.Takens.{is_one_of, no_line, line_among, AreHeldAll, AreBack, HasPutAll}
+use Rattle.phase_permits.proofs.Pairs.{HoldsBoth, HasPutTwo}
+use Rattle.phase_permits.specs.Putting.{HasPut, IsPutWith, line_of, HasPutAll}
+use Rattle.phase_permits.specs.Takens.{is_one_of, no_line, line_among, AreHeldAll, AreBack}
 use Rattle.phase_permits.proofs.KeyLemmas.{seen_still, seen_put, seen_back, both_put, seen_both, lines_back, two_put, both_put_all}
 
 abbrev Tells : ℕ → ℕ → Type 0

@@ -1,6 +1,5 @@
 -- A commit's reply is the model's, whichever request it is of.
 use Rattle.std.proofs.Common.{◌≡◌, ℕ, ◌-◌, ◌==◌, Bool, true, false, not, cond, List, [], ◌∷◌, ◌++◌, length, map, filter, Option, Some, None, is_some, MatchOption, Result, Ok, Err, option_map, option_and_then, unwrap_or, refl, sym, ap, subst, ◌∙◌, arith, take, length-append}
-use Rattle.std.specs.Prelude.{ℤ}
 use Rattle.std.specs.List.{list_any}
 use Rattle.std.specs.Option.{option_or}
 use Rattle.std.proofs.Math.Seq.{take-append_seam}
@@ -9,6 +8,7 @@ use Rattle.auction_rows.specs.declared.ids.ItemId.{ItemId}
 use Rattle.auction_rows.specs.declared.ids.Object.{Object}
 use Rattle.auction_rows.specs.declared.ids.Object.TheVariants.{Item, User, Category}
 use Rattle.auction_rows.specs.declared.numbers.Opening.{Opening}
+use Rattle.auction_rows.specs.declared.numbers.Stars.{Stars}
 use Rattle.auction_rows.specs.declared.replies.Refusal.{Refusal}
 use Rattle.auction_rows.specs.declared.replies.Reply.{Reply}
 use Rattle.auction_rows.specs.declared.replies.Reply.TheVariants.{ItemStored, BidStored, CommentStored, Bought, ItemSeen, BidsSeen, CategorySeen, UserSeen, Refused}
@@ -34,7 +34,7 @@ use Rattle.item_shards.specs.Writing.{looks_of, writes_if}
 use Rattle.item_shards.proofs.AnswerLemmas.{item_reply, bids_reply, category_reply_is, user_reply_is, stock_is}
 use Rattle.shard_boxes.specs.declared.line.Line.{Line}
 use Rattle.shard_boxes.specs.Keys.{KeyState, no_seat, seat_at, seen_at}
-use Rattle.shard_boxes.specs.Lines.{after, AreTrueOf}
+use Rattle.shard_boxes.specs.Lines.{acts_in, after, AreTrueOf}
 use Rattle.shard_boxes.specs.States.{ShardState, state_at}
 use Rattle.phase_permits.specs.declared.counters.Counters.{Counters}
 use Rattle.phase_permits.specs.declared.read_set.ReadSet.{ReadSet}
@@ -80,7 +80,7 @@ viewed_by A None given theirs is same = same refl
 viewed_by A (Some reason) given theirs is same = is
 
 -- what is refused of a comment does not depend on what is left
-comment_by_facts : (author about : ℕ) (item : ItemId) (stars : ℤ) (facts : Option Facts) (m n : ℕ)
+comment_by_facts : (author about : ℕ) (item : ItemId) (stars : Stars) (facts : Option Facts) (m n : ℕ)
     → item_refusal (StoreComment author about item stars) facts m ≡ item_refusal (StoreComment author about item stars) facts n
 comment_by_facts author about item stars None m n = refl
 comment_by_facts author about item stars (Some facts) m n = refl
@@ -213,7 +213,7 @@ module _ (z : Setting) (taken : ℕ → Contents) (book : Book) (fixed : HasFixe
         (ap (λ n. Bought (record { worker = worker; serial = n })) (sym counts.buys))
         (λ accepted. ap (refused_with request) (stock_right txn item [] (writes_if (row_of_entry txn.0)) accepted refl refl saw stood))
 
-    comment_right : (author about : ℕ) (item : ItemId) (stars : ℤ) → IsRightFor (StoreComment author about item stars)
+    comment_right : (author about : ℕ) (item : ItemId) (stars : Stars) → IsRightFor (StoreComment author about item stars)
     comment_right author about item stars given saw stood is =
         let request = StoreComment author about item stars in
         let txn = txn_with request given in
@@ -290,11 +290,11 @@ pub commit_right : (opening : List ShardState) (old new : WorkerState) (request 
 commit_right opening old new request index given done book stood has counts =
     let z = setting_of old (length opening) in
     let txn = txn_of old done.number request index given done.found in
-    let found_is : (shard : ℕ) (took : takes z shard txn ≡ true) → without_last (seen_at new.key shard) ≡ (done.puts shard took).found =
-    λ shard took. ap without_last (done.puts shard took).seen ∙ pushed_back (done.puts shard took).found (new.key.worker, line_on z shard txn) in
+    let found_is : (shard : ℕ) (took : takes z shard txn ≡ true) → without_last (seen_at new.key shard) ≡ (done.transacted.put.puts shard took).found =
+    λ shard took. ap without_last (done.transacted.put.puts shard took).seen ∙ pushed_back (done.transacted.put.puts shard took).found (new.key.worker, line_on z shard txn) in
     txn_right z (λ shard. (after (state_at opening shard) (without_last (seen_at new.key shard))).contents) old.counters txn
-    (λ shard took. subst (λ (found : List (ℕ × Line)). AreTrueOf (after (state_at opening shard) found).contents (line_on z shard txn).acts) (sym (found_is shard took)) (done.puts shard took).follows.looks)
-    done.answered book
+    (λ shard took. subst (λ (found : List (ℕ × Line)). AreTrueOf (after (state_at opening shard) found).contents (acts_in (line_on z shard txn).acts)) (sym (found_is shard took)) (done.transacted.put.puts shard took).follows.looks)
+    done.transacted.answered book
     (λ shard took. subst (λ (found : List (ℕ × Line)). ContentsStandsFor shard (length opening) (after (state_at opening shard) found).contents book (hot_in z)) (sym (found_is shard took)) (stood shard took))
     has counts
 
@@ -308,7 +308,7 @@ pub commit_leaves : (opening : List ShardState) (old new : WorkerState) (request
     → (let z = setting_of old (length opening) in footprint z.opening z.shards (hot_in z) (txn_of old done.number request index given done.found).0 ≡ [])
     → new.key ≡ old.key
 commit_leaves opening old new request index given done empty =
-    same_key old.key new.key done.boxes done.owner done.seats (λ shard. done.others shard (ap (list_any (λ taken. taken == shard)) empty))
+    same_key old.key new.key done.transacted.put.boxes done.transacted.put.worker done.transacted.put.seats (λ shard. done.transacted.put.others shard (ap (list_any (λ taken. taken == shard)) empty))
 
 pub failure_leaves : (opening : List ShardState) (old new : WorkerState) (request : Request) (fault : PermitFault) → HasFailed opening old new request fault
     → shards_asked (length opening) old request ≡ [] → new.key ≡ old.key
@@ -338,5 +338,5 @@ took_asked w shards number index (ViewUser user) given found is = refl
 pub leaves_untouched : (opening : List ShardState) (old new : WorkerState) (request : Request) (index : ℕ) (result : Result Unit PermitFault) → HasPerformed opening old new request index result
     → IsUntouched (length opening) old new request
 leaves_untouched opening old new request index (Ok done) (given, committed) none =
-    commit_leaves opening old new request index given committed (took_asked old (length opening) committed.number index request given committed.found committed.answered ∙ none)
+    commit_leaves opening old new request index given committed (took_asked old (length opening) committed.number index request given committed.found committed.transacted.answered ∙ none)
 leaves_untouched opening old new request index (Err fault) failed none = failure_leaves opening old new request fault failed none

@@ -1,12 +1,12 @@
 -- What a store does to the slices of its worker.
 use Rattle.std.proofs.Common.{◌≡◌, ℕ, ◌==◌, Bool, true, false, cond, List, [], ◌∷◌, refl, sym, ap, subst, ◌∙◌}
-use Rattle.std.specs.Prelude.{ℤ}
 use Rattle.std.proofs.lemmas.Bool.{eq-eqb, or_parts}
 use Rattle.auction_rows.specs.declared.ids.BidId.{BidId}
 use Rattle.auction_rows.specs.declared.ids.CommentId.{CommentId}
 use Rattle.auction_rows.specs.declared.ids.ItemId.{ItemId}
 use Rattle.auction_rows.specs.declared.ids.Object.{Object}
 use Rattle.auction_rows.specs.declared.ids.Object.TheVariants.{Item, User, Category}
+use Rattle.auction_rows.specs.declared.numbers.Stars.{Stars}
 use Rattle.auction_rows.specs.declared.replies.StoreReply.{StoreReply}
 use Rattle.auction_rows.specs.declared.replies.StoreReply.TheVariants as store
 use Rattle.auction_rows.specs.declared.requests.Facts.{Facts}
@@ -58,7 +58,7 @@ module _ (hots new : List (Object × Hot)) (worker : ℕ) (request : Request) (r
       is ∙ sym (ap (λ b. after_acts hots (writes_if (row_if b (row.Bid (record { id = id; item = item; bidder = bidder; amount = amount; time = time }))))) (eq-eqb id.worker worker (subst (λ r. IsOwn worker (reply_of r)) told own)))
       ∙ (λ i. after_acts hots (writes_if (row_of worker (sym asked i) (reply_of (sym told i)))))
 
-  pub comment_written : (author about : ℕ) (item : ItemId) (stars : ℤ) (id : CommentId) → request ≡ StoreComment author about item stars → reply ≡ store.CommentStored id
+  pub comment_written : (author about : ℕ) (item : ItemId) (stars : Stars) (id : CommentId) → request ≡ StoreComment author about item stars → reply ≡ store.CommentStored id
       → new ≡ changed (User about) (comment_about stars) hots → new ≡ Written
   comment_written author about item stars id asked told is =
       is ∙ sym (ap (λ b. after_acts hots (writes_if (row_if b (row.Comment (record { id = id; author = author; about = about; item = item; stars = stars }))))) (eq-eqb id.worker worker (subst (λ r. IsOwn worker (reply_of r)) told own)))
@@ -80,7 +80,7 @@ no_bid hots worker bidder item amount time (store.CommentStored id) none = refl
 no_bid hots worker bidder item amount time (store.Bought id) none = refl
 no_bid hots worker bidder item amount time (store.Refused reason) none = refl
 
-no_comment : (hots : List (Object × Hot)) (worker author about : ℕ) (item : ItemId) (stars : ℤ) (reply : StoreReply) → ((id : CommentId) → reply ≡ store.CommentStored id → ⊥)
+no_comment : (hots : List (Object × Hot)) (worker author about : ℕ) (item : ItemId) (stars : Stars) (reply : StoreReply) → ((id : CommentId) → reply ≡ store.CommentStored id → ⊥)
     → hots ≡ after_acts hots (writes_if (row_of worker (StoreComment author about item stars) (reply_of reply)))
 no_comment hots worker author about item stars (store.ItemStored id) none = refl
 no_comment hots worker author about item stars (store.BidStored id) none = refl
@@ -98,7 +98,7 @@ module _ (hots : List (Object × Hot)) (worker : ℕ) (request : Request) (reply
   pub bid_unwritten : (bidder : ℕ) (item : ItemId) (amount time : ℕ) → request ≡ StoreBid bidder item amount time → ((id : BidId) → reply ≡ store.BidStored id → ⊥) → Unwritten
   bid_unwritten bidder item amount time asked none = no_bid hots worker bidder item amount time reply none ∙ ap (λ r. after_acts hots (writes_if (row_of worker r (reply_of reply)))) (sym asked)
 
-  pub comment_unwritten : (author about : ℕ) (item : ItemId) (stars : ℤ) → request ≡ StoreComment author about item stars → ((id : CommentId) → reply ≡ store.CommentStored id → ⊥) → Unwritten
+  pub comment_unwritten : (author about : ℕ) (item : ItemId) (stars : Stars) → request ≡ StoreComment author about item stars → ((id : CommentId) → reply ≡ store.CommentStored id → ⊥) → Unwritten
   comment_unwritten author about item stars asked none = no_comment hots worker author about item stars reply none ∙ ap (λ r. after_acts hots (writes_if (row_of worker r (reply_of reply)))) (sym asked)
 
 -- nor where the request is no store that is splittable
@@ -108,7 +108,7 @@ buy_unwritten hots false r = refl
 
 pub unwritten : (hots : List (Object × Hot)) (worker : ℕ) (request : Request) (reply : StoreReply) → ((facts : Facts) (time : ℕ) → request ≡ StoreItem facts time → ⊥)
     → ((bidder : ℕ) (item : ItemId) (amount time : ℕ) → request ≡ StoreBid bidder item amount time → ⊥)
-    → ((author about : ℕ) (item : ItemId) (stars : ℤ) → request ≡ StoreComment author about item stars → ⊥)
+    → ((author about : ℕ) (item : ItemId) (stars : Stars) → request ≡ StoreComment author about item stars → ⊥)
     → hots ≡ after_acts hots (writes_if (row_of worker request (reply_of reply)))
 unwritten hots worker (StoreItem facts time) reply a b c = absurd (a facts time refl)
 unwritten hots worker (StoreBid bidder item amount time) reply a b c = absurd (b bidder item amount time refl)

@@ -6,7 +6,7 @@ use Rattle.shard_boxes.specs.Keys.{KeyState, seat_at}
 use Rattle.shard_boxes.specs.States.{ShardState}
 use Rattle.phase_permits.specs.declared.fault.PermitFault.{PermitFault}
 use Rattle.phase_permits.specs.declared.fault.PermitFault.TheVariants.{Memory, NumberFull}
-use Rattle.phase_permits.specs.Pairs.{HasSameLines}
+use Rattle.phase_permits.specs.Putting.{HasSameLines}
 use Rattle.phase_permits.specs.Performing.{HasFailed, HasFailedFirst, IsCause}
 use Rattle.phase_permits.specs.Workers.{WorkerState, IsIdle, with_first_called}
 

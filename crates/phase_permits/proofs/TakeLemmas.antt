@@ -5,9 +5,8 @@ use Rattle.shard_boxes.specs.Keys.{KeyState, SeatState, seat_at, seen_at, holds_
 use Rattle.shard_boxes.specs.Lines.{IsHistory, StartsWith}
 use Rattle.shard_boxes.specs.States.{ShardState, state_of}
 use Rattle.shard_boxes.proofs.SeatLemmas.{taking-same, taking-other, length-with_seat}
-use Rattle.phase_permits.specs.Pairs.{HoldsBoth, LeavesOthers, HasTakenBoth}
+use Rattle.phase_permits.proofs.Pairs.{HoldsBoth, LeavesOthers, HasTakenBoth, HasTaken}
 use Rattle.phase_permits.specs.Workers.{IsIdle}
-use Rattle.phase_permits.specs.Taking.{HasTaken}
 use Rattle.phase_permits.proofs.KeyLemmas.{same_lines, others_as}
 
 pub has_taken : (opening : List ShardState) (workers : ℕ) (key taken_key : KeyState) (shard : ℕ) (held : HeldState) → length key.seats ≡ length opening → shard < length opening → taken_key ≡ taking key shard (seen_at taken_key shard)

@@ -10,9 +10,8 @@ use Rattle.shard_boxes.specs.Lines.{IsHistory, StartsWith}
 use Rattle.shard_boxes.specs.States.{ShardState, state_of}
 use Rattle.shard_boxes.proofs.SeatLemmas.{taking-other, length-with_seat}
 use Rattle.phase_permits.specs.declared.homes.Homes.{Homes}
-use Rattle.phase_permits.specs.Pairs.{HasTakenBoth}
+use Rattle.phase_permits.proofs.Pairs.{HasTakenBoth, HasTaken}
 use Rattle.phase_permits.specs.Workers.{IsIdle}
-use Rattle.phase_permits.specs.Taking.{HasTaken}
 use Rattle.phase_permits.specs.Takens.{shard_at, each_once, footprint_of, is_one_of, HasTakenAll}
 use Rattle.phase_permits.proofs.KeyLemmas.{seen_taken, lines_taken}
 use Rattle.phase_permits.proofs.TakeLemmas.{has_taken, both_taken, both_turned}

@@ -14,7 +14,7 @@ use Rattle.auction_rows.specs.Requests.{is_view}
 use Rattle.item_shards.specs.declared.acts.Act.TheVariants.{Look}
 use Rattle.item_shards.specs.declared.acts.Shown.TheVariants as shown
 use Rattle.item_shards.specs.Writing.{padded, done_on}
-use Rattle.shard_boxes.specs.Keys.{BoxId, KeyState}
+use Rattle.shard_boxes.specs.Keys.{KeyState}
 use Rattle.shard_boxes.specs.States.{ShardState}
 use Rattle.phase_permits.specs.declared.counters.Counters.{Counters}
 use Rattle.phase_permits.specs.declared.deeds.Deeds.{Deeds}
@@ -23,13 +23,15 @@ use Rattle.phase_permits.specs.declared.homes.Home.TheVariants as home
 use Rattle.phase_permits.specs.declared.homes.Homes.{Homes}
 use Rattle.phase_permits.specs.declared.read_set.ReadSet.{ReadSet}
 use Rattle.phase_permits.specs.declared.slices.Hot.{Hot}
+use Rattle.phase_permits.specs.declared.taken.Begun.{Begun}
 use Rattle.phase_permits.specs.declared.taken.Taken.{Taken}
-use Rattle.phase_permits.specs.Begun.{HasBegun, viewed}
+use Rattle.phase_permits.specs.Begun.{Step, HasBegun, viewed}
 use Rattle.phase_permits.specs.Deeds.{AreDeedsOf, acts_for, clocks_of, first_dealt, second_dealt}
 use Rattle.phase_permits.specs.Homes.{IsHomeOf, AreHomesOf}
 use Rattle.phase_permits.specs.Performing.{HasCommittedSome}
 use Rattle.phase_permits.specs.Slicing.{objects_of}
-use Rattle.phase_permits.specs.Takens.{shard_at, each_once, footprint_of, held_in, numbers_of, is_one_of, dealt, line_among, HasPutAll}
+use Rattle.phase_permits.specs.Putting.{HasPutAll}
+use Rattle.phase_permits.specs.Takens.{shard_at, each_once, footprint_of, held_in, numbers_of, is_one_of, dealt, line_among}
 use Rattle.phase_permits.specs.Txns.{Answers, IsAnswered, is_put_off, reason_seen, refusal_seen}
 use Rattle.phase_permits.specs.Workers.{WorkerState, setting_of, txn_of, with_entry, after_commit}
 use Rattle.phase_permits.proofs.BegunLemmas.{begun_commits}
@@ -99,8 +101,22 @@ view_entered w number index (ViewBids item) reply found view = refl
 view_entered w number index (ViewCategory category) reply found view = refl
 view_entered w number index (ViewUser user) reply found view = refl
 
-module _ {N : Type 0} {workers : ℕ} {boxes : List BoxId} (opening : List ShardState) (w : WorkerState) (key : KeyState) (request : Request) (homes : Homes) (took : Taken N) (number : ℕ)
-    (begun : HasBegun opening workers boxes key w request homes took number) (view : is_view request ≡ true) where
+module _ {N : Type 0} (step : Step) (w : WorkerState) (request : Request) (b : Begun N) (begun : HasBegun step w request b) (view : is_view request ≡ true) where
+  abbrev opening : List ShardState
+  opening = step.opening
+
+  abbrev key : KeyState
+  key = step.key
+
+  abbrev homes : Homes
+  homes = step.homes
+
+  abbrev took : Taken N
+  took = b.taken
+
+  abbrev number : ℕ
+  number = b.number
+
   abbrev object : Object
   object = (shows_one request view).0
 
@@ -136,13 +152,13 @@ module _ {N : Type 0} {workers : ℕ} {boxes : List BoxId} (opening : List Shard
 
   pub view_commits : (new : WorkerState) (index : ℕ) (reply : Reply) (o : Object) (found : ReadSet) → viewed request ≡ Some o → ((counters : Counters) (worker : ℕ) → Answers counters worker request reply)
       → found ≡ record { stock = None; clocks = clocks_of took }
-      → HasPutAll opening w.key new.key (is_one_of (numbers_of (held_in took))) (line_among number index (held_in took) (dealt took (Look (shown.Reply o reply)) (Look shown.Nothing)))
+      → HasPutAll opening w.key new.key (is_one_of (numbers_of (held_in took))) (line_among number index (held_in took) (dealt took (Look (shown.Reply o reply) ∷ Look shown.Nothing ∷ [])))
       → new ≡ record (after_commit w number index request reply found) { key = new.key } → HasCommittedSome opening (record w { key = key }) new request index
   view_commits new index reply o found shows answers found_is put committed =
       let look = Look (shown.Reply o reply) in
       let deeds : Deeds = record { first = look; second = Look shown.Nothing; home = h; other = home.Nowhere } in
-      let lines = λ (a : Option ℕ). line_among number index (held_in took) (dealt took (first_dealt look (Look shown.Nothing) a None) (second_dealt look (Look shown.Nothing) a None)) in (
+      let lines = λ (a : Option ℕ). line_among number index (held_in took) (dealt took (first_dealt look (Look shown.Nothing) a None ∷ second_dealt look (Look shown.Nothing) a None ∷ [])) in (
         reply,
-        begun_commits opening w key request homes took number begun new index reply None deeds found (ap (λ a. each_once a None) its_shard.1 ∙ sym (its_home.1.only n its_shard.1)) (view_owed reply o shows) found_is
+        begun_commits step w request b begun new index reply None deeds found (ap (λ a. each_once a None) its_shard.1 ∙ sym (its_home.1.only n its_shard.1)) (view_owed reply o shows) found_is
             (view_answered index reply found answers) (subst (λ a. HasPutAll opening w.key new.key (is_one_of (numbers_of (held_in took))) (lines a)) (sym its_shard.1) put) committed,
       )

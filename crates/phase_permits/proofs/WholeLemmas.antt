@@ -14,9 +14,8 @@ use Rattle.phase_permits.specs.declared.read_set.ReadSet.{ReadSet}
 use Rattle.phase_permits.specs.Txns.{takes, line_on, greatest_clock, IsAnswered}
 use Rattle.phase_permits.specs.Performing.{HasCommitted}
 use Rattle.phase_permits.specs.Workers.{WorkerState, setting_of, txn_of, after_commit}
-use Rattle.phase_permits.specs.Pairs.{HasSameLines, IsAsTaken}
-use Rattle.phase_permits.specs.Putting.{HasPut, clock_seen}
-use Rattle.phase_permits.specs.Takens.{is_one_of, numbers_of, HasTakenAll, AreBack, HasPutAll}
+use Rattle.phase_permits.specs.Putting.{HasPut, clock_seen, HasPutAll, HasSameLines, IsAsTaken}
+use Rattle.phase_permits.specs.Takens.{is_one_of, numbers_of, HasTakenAll, AreBack}
 use Rattle.phase_permits.proofs.KeyLemmas.{seen_on, starts_on}
 
 -- taken, and put back with lines
@@ -84,16 +83,20 @@ module _ (opening : List ShardState) (old new : WorkerState) (request : Request)
     whole_commits numbered within = record {
       number = number;
       found = found;
-      numbered = numbered;
-      within = within;
+      transacted = record {
+        numbered = numbered;
+        within = within;
+        put = record {
+          lines = λ t. lines_are t (is_one_of shards t) refl;
+          puts = λ t took. let is = sym (footprint t) ∙ took in subst (λ (l : Line). HasPut opening old.key new.key t l) (owes t is) (put.puts t is);
+          others = λ t left. put.others t (sym (footprint t) ∙ left);
+          seen = put.seen;
+          idle = put.idle;
+          worker = put.worker;
+          boxes = put.boxes;
+          seats = put.seats;
+        };
+        answered = answered;
+      };
       worker = committed;
-      lines = λ t. lines_are t (is_one_of shards t) refl;
-      puts = λ t took. let is = sym (footprint t) ∙ took in subst (λ (l : Line). HasPut opening old.key new.key t l) (owes t is) (put.puts t is);
-      others = λ t left. put.others t (sym (footprint t) ∙ left);
-      seen = put.seen;
-      idle = put.idle;
-      owner = put.worker;
-      boxes = put.boxes;
-      seats = put.seats;
-      answered = answered;
     }

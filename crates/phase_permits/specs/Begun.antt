@@ -1,6 +1,5 @@
 -- A transaction that has taken its shards, and what its request is answered by.
 use Rattle.std.specs.Prelude.{◌≡◌, ℕ, suc, max, ◌<◌, ◌≤◌, false, List, ◌∷◌, [], Option, None, Some, length, ⊤}
-use Rattle.phase_laws.specs.Numbers.{greatest_by}
 use Rattle.auction_rows.specs.declared.ids.ItemId.{ItemId}
 use Rattle.auction_rows.specs.declared.ids.Object.{Object}
 use Rattle.auction_rows.specs.declared.ids.Object.TheVariants.{Item, User, Category}
@@ -17,43 +16,69 @@ use Rattle.item_shards.specs.Values.{stock}
 use Rattle.shard_boxes.specs.Helds.{HeldState}
 use Rattle.shard_boxes.specs.Keys.{BoxId, KeyState}
 use Rattle.shard_boxes.specs.States.{ShardState, state_of}
+use Rattle.phase_permits.specs.declared.deeds.Deeds.{Deeds}
 use Rattle.phase_permits.specs.declared.homes.Homes.{Homes}
+use Rattle.phase_permits.specs.declared.taken.Begun.{Begun}
 use Rattle.phase_permits.specs.declared.taken.Taken.{Taken}
 use Rattle.phase_permits.specs.declared.taken.Taken.TheVariants as taken
-use Rattle.phase_permits.specs.Deeds.{IsReplyBy, IsNextIf, stock_on}
+use Rattle.phase_permits.specs.Deeds.{IsReplyBy, IsNextIf, AreDeedsOf, AreGoodOn, acts_for, footprint_on, stock_on}
 use Rattle.phase_permits.specs.Homes.{AreHomesOf}
-use Rattle.phase_permits.specs.Pairs.{IsAsTaken}
+use Rattle.phase_permits.specs.Putting.{IsAsTaken}
 use Rattle.phase_permits.specs.Performing.{HaveOpening, StoresItem, asks}
 use Rattle.phase_permits.specs.Slicing.{objects_of, stocks_of, stock_of}
-use Rattle.phase_permits.specs.Takens.{shard_at, footprint_of, held_in, is_one_of, HasTakenAll, AreHeldAll}
-use Rattle.phase_permits.specs.Txns.{is_put_off}
+use Rattle.phase_permits.specs.Takens.{shard_at, footprint_of, greatest_held, held_in, is_one_of, HasTakenAll, AreHeldAll}
+use Rattle.phase_permits.specs.Txns.{IsOwn, is_put_off}
 use Rattle.phase_permits.specs.Workers.{WorkerState, next_item}
 
--- A worker, whose key was this one, has taken the shards of a request's footprint, and there is a number after its clock and theirs.
-pub record HasBegun {N : Type 0} (opening : List ShardState) (workers : ℕ) (boxes : List BoxId) (key : KeyState) (w : WorkerState) (request : Request) (homes : Homes) (took : Taken N) (number : ℕ) : Type 0 where
+-- What a transaction goes by: its phase, its worker's key, and where its objects are.
+pub record Step : Type 0 where
+  -- the shards as the phase began, how many workers there are, and the boxes
+  pub opening : List ShardState
+  pub workers : ℕ
+  pub boxes : List BoxId
+  -- the worker's key before it took a shard
+  pub key : KeyState
+  -- where the objects of its request are
+  pub homes : Homes
+
+abbrev pub step_of : List ShardState → ℕ → List BoxId → KeyState → Homes → Step
+step_of opening workers boxes key homes =
+    record { opening = opening; workers = workers; boxes = boxes; key = key; homes = homes }
+
+-- A worker has taken the shards of a request's footprint, and there is a number after its clock and
+-- theirs.
+pub record HasBegun {N : Type 0} (step : Step) (w : WorkerState) (request : Request)
+    (begun : Begun N) : Type 0 where
   -- the request is one that the opening does not refuse, and not put off
   pub allowed : number_refusal w.opening request ≡ None
   pub goes : is_put_off (objects_of w.slices) request ≡ false
   -- its objects have these homes, and the shards among them are its footprint
-  pub homes_are : AreHomesOf w (length opening) request homes
-  pub asked : (t : ℕ) → asks (length opening) w request t ≡ is_one_of (footprint_of homes) t
+  pub homes_are : AreHomesOf w (length step.opening) request step.homes
+  pub asked : (t : ℕ) →
+      asks (length step.opening) w request t ≡ is_one_of (footprint_of step.homes) t
   -- the shards were taken, and can go back
-  pub taken : HasTakenAll opening workers key w.key (footprint_of homes) (held_in took)
-  pub held : AreHeldAll opening workers boxes w.key (held_in took)
+  pub taken : HasTakenAll step.opening step.workers step.key w.key
+      (footprint_of step.homes) (held_in begun.taken)
+  pub held : AreHeldAll step.opening step.workers step.boxes w.key (held_in begun.taken)
   -- the number is 1 + the greatest clock
-  pub numbered : number ≡ suc (max w.clock (greatest_by (λ (h : HeldState). clock h.shard) (held_in took)))
-  pub within : number ≤ last_number
+  pub numbered : begun.number ≡ suc (max w.clock (greatest_held (held_in begun.taken)))
+  pub within : begun.number ≤ last_number
 
--- what a store saw of the item that it needs: of a hot one what is fixed, of another one what the first shard has
-pub record IsSeen {N : Type 0} (w : WorkerState) (request : Request) (homes : Homes) (took : Taken N) (seen : Option (Facts × ℕ)) : Type 0 where
-  pub fixed : (item : ItemId) → item_of request ≡ Some item → shard_at homes.item ≡ None → seen ≡ stock_of (stocks_of w.slices) (Item item)
-  pub found : (item : ItemId) (t : ℕ) → item_of request ≡ Some item → shard_at homes.item ≡ Some t → seen ≡ stock_on took item
+-- what a store saw of the item that it needs: of a hot one what is fixed, of another one what the
+-- first shard has
+pub record IsSeen {N : Type 0} (w : WorkerState) (request : Request) (homes : Homes)
+    (took : Taken N) (seen : Option (Facts × ℕ)) : Type 0 where
+  pub fixed : (item : ItemId) → item_of request ≡ Some item → shard_at homes.item ≡ None →
+      seen ≡ stock_of (stocks_of w.slices) (Item item)
+  pub found : (item : ItemId) (t : ℕ) → item_of request ≡ Some item → shard_at homes.item ≡ Some t →
+      seen ≡ stock_on took item
 
 -- the shards that were taken, but for the rooms that they have
 abbrev pub states_in : {N : Type 0} → Taken N → List (ℕ × ShardState)
 states_in taken.Nothing = []
 states_in (taken.One one) = (one.number, state_of one.shard) ∷ []
-states_in (taken.Two item other) = (item.number, state_of item.shard) ∷ (other.number, state_of other.shard) ∷ []
+states_in (taken.Two item other) =
+    (item.number, state_of item.shard) ∷ (other.number, state_of other.shard) ∷ []
 
 -- an item lies in the first shard that was taken
 abbrev pub FirstHas : {N : Type 0} → Taken N → ItemId → Type 0
@@ -61,34 +86,61 @@ FirstHas taken.Nothing item = ⊤
 FirstHas (taken.One one) item = LiesIn one.shard (Item item)
 FirstHas (taken.Two one other) item = LiesIn one.shard (Item item)
 
--- and has room there
+-- the first shard that was taken has room for an item
 abbrev pub FirstHasRoom : {N : Type 0} → Taken N → ItemId → Type 0
 FirstHasRoom taken.Nothing item = ⊤
 FirstHasRoom (taken.One one) item = HasRoom one.shard item
 FirstHasRoom (taken.Two one other) item = HasRoom one.shard item
 
--- the item that a store adds lies in the first shard, and has room there
+-- the item that a store adds lies in the first shard that was taken
 abbrev pub HasFirst : {N : Type 0} → WorkerState → Request → Taken N → Type 0
 HasFirst w request took = StoresItem request → FirstHas took (next_item w)
 
+-- the first shard that was taken has room for the item that a store adds
 abbrev pub HasRoomFor : {N : Type 0} → WorkerState → Request → Taken N → Type 0
 HasRoomFor w request took = StoresItem request → FirstHasRoom took (next_item w)
 
 -- What is known of a store whose reply is this one, on a shard that it took.
-pub record IsAnsweredOn (opening : List ShardState) (workers : ℕ) (w : WorkerState) (request : Request) (homes : Homes) (seen : Option (Facts × ℕ)) (reply : Reply) (held : HeldState) : Type 0 where
-  -- the shard is as it was taken, of an auction with the worker's users and categories, and its clock is not at the end of numbers
-  pub taken : IsAsTaken opening workers w.key held
-  pub opened : HaveOpening opening w.opening
+pub record IsAnsweredOn (step : Step) (w : WorkerState) (request : Request)
+    (seen : Option (Facts × ℕ)) (reply : Reply) (held : HeldState) : Type 0 where
+  -- the shard is as it was taken, of an auction with the worker's users and categories, and its
+  -- clock is not at the end of numbers
+  pub taken : IsAsTaken step.opening step.workers w.key held
+  pub opened : HaveOpening step.opening w.opening
   pub below : clock held.shard < last_number
   -- the request's objects have these homes, and the opening does not refuse it
-  pub homes_are : AreHomesOf w (length opening) request homes
+  pub homes_are : AreHomesOf w (length step.opening) request step.homes
   pub allowed : number_refusal w.opening request ≡ None
-  -- the reply is by what was seen
+  -- the reply is by what was seen, and an item that it stores is the worker's next
   pub answered : IsReplyBy w seen request reply
   pub next : IsNextIf w reply
-  -- and what was seen is what the shard has of the item, where that lies there; so has it room for a new one
-  pub found : (item : ItemId) → item_of request ≡ Some item → shard_at homes.item ≡ Some held.number → seen ≡ stock (contents held.shard (Item item))
-  pub room : StoresItem request → shard_at homes.item ≡ Some held.number → HasRoom held.shard (next_item w)
+  -- what was seen is what the shard has of the item, if that lies there
+  pub found : (item : ItemId) → item_of request ≡ Some item →
+      shard_at step.homes.item ≡ Some held.number → seen ≡ stock (contents held.shard (Item item))
+  -- the shard has room for a new item, if that lies there
+  pub room : StoresItem request →
+      shard_at step.homes.item ≡ Some held.number → HasRoom held.shard (next_item w)
+
+-- on each shard two acts are what a store with this reply owes there, which saw this of its item
+abbrev pub AreOwedBy : Request → Reply → Option (Facts × ℕ) → Homes → Deeds → Type 0
+AreOwedBy request reply seen homes deeds =
+    (w : WorkerState) (shards : ℕ) → AreHomesOf w shards request homes →
+    IsOwn w.journal.worker reply → IsNextIf w reply →
+    AreDeedsOf w.slices shards (acts_for w.journal.worker seen request reply) deeds
+
+-- two acts can be done on each shard that was taken for a store with this reply
+abbrev pub AreGoodFor : Request → Reply → Option (Facts × ℕ) → Homes → Deeds → Type 0
+AreGoodFor request reply seen homes deeds =
+    (opening : List ShardState) (workers : ℕ) (boxes : List BoxId) (key : KeyState)
+    (w : WorkerState) (held : HeldState) →
+    IsAnsweredOn (step_of opening workers boxes key homes) w request seen reply held →
+    AreGoodOn (shard_at deeds.home) (shard_at deeds.other) deeds.first deeds.second held
+
+-- the homes of two acts are the footprint of a request whose objects have these homes
+abbrev pub HaveFootprint : Request → Homes → Deeds → Type 0
+HaveFootprint request homes deeds =
+    (w : WorkerState) (shards : ℕ) → AreHomesOf w shards request homes →
+    footprint_on deeds ≡ footprint_of homes
 
 -- the object that a view shows
 abbrev pub viewed : Request → Option Object
@@ -106,7 +158,7 @@ pub record CanView (shard : Shard) (request : Request) : Type 0 where
   pub here : (object : Object) → viewed request ≡ Some object → LiesIn shard object
   pub allowed : number_refusal (opening_of shard) request ≡ None
 
--- one shard was taken, which can
+-- one shard was taken, and can show what a view asks for
 abbrev pub IsOnOne : {N : Type 0} → Request → Taken N → Type 0
 IsOnOne request taken.Nothing = ⊥
 IsOnOne request (taken.One one) = CanView one.shard request

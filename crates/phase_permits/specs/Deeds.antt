@@ -24,7 +24,7 @@ use Rattle.item_shards.specs.Looking.{IsTrueAct}
 use Rattle.item_shards.specs.Values.{stock}
 use Rattle.phase_permits.specs.declared.homes.Home.{Home}
 use Rattle.phase_permits.specs.declared.homes.Home.TheVariants as home
-use Rattle.phase_permits.specs.declared.taken.Deal.{Deal}
+use Rattle.phase_permits.specs.declared.putting.Written.{Written}
 use Rattle.phase_permits.specs.declared.taken.Taken.{Taken}
 use Rattle.phase_permits.specs.declared.taken.Taken.TheVariants as taken
 use Rattle.phase_permits.specs.Slicing.{objects_of}
@@ -39,7 +39,9 @@ is_at (home.Shard shard) t = shard == t
 
 -- of two acts, whose objects have these homes, those on a shard
 abbrev pub deeds_on : Act → Act → Home → Home → ℕ → List Act
-deeds_on x y h k t = padded (if is_at h t then (x ∷ (if is_at k t then y ∷ [] else [])) else (if is_at k t then y ∷ [] else []))
+deeds_on x y h k t =
+    let more = if is_at k t then y ∷ [] else [] in
+    padded (if is_at h t then x ∷ more else more)
 
 -- what the shards that were taken have of an item: the first one has it
 abbrev pub stock_on : {N : Type 0} → Taken N → ItemId → Option (Facts × ℕ)
@@ -47,9 +49,12 @@ stock_on taken.Nothing item = None
 stock_on (taken.One one) item = stock (contents one.shard (Item item))
 stock_on (taken.Two one other) item = stock (contents one.shard (Item item))
 
--- the reply to a store, by what was seen of its item: the first reason to refuse it, or the worker's next id of the kind
+-- the reply to a store, by what was seen of its item: the first reason to refuse it, or the
+-- worker's next id of the kind
 abbrev pub IsReplyBy : WorkerState → Option (Facts × ℕ) → Request → Reply → Type 0
-IsReplyBy w seen request reply = MatchOption (refusal_by w.opening seen request) (Answers w.counters w.journal.worker request reply) (λ reason. reply ≡ Refused reason)
+IsReplyBy w seen request reply =
+    MatchOption (refusal_by w.opening seen request)
+    (Answers w.counters w.journal.worker request reply) (λ reason. reply ≡ Refused reason)
 
 -- of two acts, whose objects lie in these shards or in none, the one that is done first
 abbrev pub first_dealt : Act → Act → Option ℕ → Option ℕ → Act
@@ -57,42 +62,45 @@ first_dealt x y (Some a) b = x
 first_dealt x y None (Some b) = y
 first_dealt x y None None = Look shown.Nothing
 
--- and the one that is done second
+-- of two acts, whose objects lie in these shards or in none, the one that is done second
 abbrev pub second_dealt : Act → Act → Option ℕ → Option ℕ → Act
 second_dealt x y (Some a) (Some b) = y
 second_dealt x y (Some a) None = Look shown.Nothing
 second_dealt x y None b = Look shown.Nothing
 
--- so two acts are dealt, at the number of a commit, of the request of this index
-abbrev pub deal_of : Deeds → ℕ → ℕ → Deal
-deal_of deeds number index = record {
-  number = number;
-  index = index;
-  first = first_dealt deeds.first deeds.second (shard_at deeds.home) (shard_at deeds.other);
-  second = second_dealt deeds.first deeds.second (shard_at deeds.home) (shard_at deeds.other);
-}
-
--- the acts that are dealt to the shard of this number
-abbrev pub acts_among : List HeldState → List (List Act) → ℕ → List Act
-acts_among [] acts t = []
-acts_among (h ∷ held) [] t = []
-acts_among (h ∷ held) (a ∷ acts) t = if h.number == t then a else acts_among held acts t
+-- two acts as they are written, at the number of a commit, of the request of this index
+abbrev pub deal_of : Deeds → ℕ → ℕ → Written
+deal_of deeds number index =
+    let a = shard_at deeds.home in
+    let b = shard_at deeds.other in
+    record {
+      number = number;
+      index = index;
+      first = first_dealt deeds.first deeds.second a b;
+      second = second_dealt deeds.first deeds.second a b;
+    }
 
 -- the clocks that were found on the shards that were taken
 abbrev pub clocks_of : {N : Type 0} → Taken N → List (Option (ℕ × ℕ))
 clocks_of taken.Nothing = None ∷ None ∷ []
 clocks_of (taken.One one) = Some (one.number, clock one.shard) ∷ None ∷ []
-clocks_of (taken.Two one other) = Some (one.number, clock one.shard) ∷ Some (other.number, clock other.shard) ∷ []
+clocks_of (taken.Two one other) =
+    Some (one.number, clock one.shard) ∷ Some (other.number, clock other.shard) ∷ []
 
--- what a worker's request does, whatever the homes of its objects: its look, and what writes its row
+-- what a worker's request does, whatever the homes of its objects: its look, and what writes its
+-- row
 abbrev pub acts_for : ℕ → Option (Facts × ℕ) → Request → Reply → List Act
-acts_for worker seen request reply = looks_of seen reply request ++ writes_if (row_of worker request reply)
+acts_for worker seen request reply =
+    looks_of seen reply request ++ writes_if (row_of worker request reply)
 
 -- the acts of a request on each shard are those of its deeds there
 abbrev pub AreDeedsOf : List (Object × Hot) → ℕ → List Act → Deeds → Type 0
-AreDeedsOf hots shards acts deeds = (t : ℕ) → padded (done_on t shards (objects_of hots) acts) ≡ deeds_on deeds.first deeds.second deeds.home deeds.other t
+AreDeedsOf hots shards acts deeds =
+    (t : ℕ) →
+    padded (done_on t shards (objects_of hots) acts)
+    ≡ deeds_on deeds.first deeds.second deeds.home deeds.other t
 
--- two acts whose objects' homes are on shards among these
+-- the shards among the homes of two acts
 abbrev pub footprint_on : Deeds → List ℕ
 footprint_on deeds = each_once (shard_at deeds.home) (shard_at deeds.other)
 
@@ -110,11 +118,15 @@ IsNextIf w (Refused reason) = ⊤
 
 -- an act can be done on a shard that has come to these contents, and is no false look
 abbrev pub IsGood : Shard → Contents → Act → Type 0
-IsGood shard now act = CanActOn (opening_of shard) (shard_number shard) (shard_count shard) (rooms shard) now act × IsTrueAct now act
+IsGood shard now act =
+    CanActOn (opening_of shard) (shard_number shard) (shard_count shard) (rooms shard) now act
+    × IsTrueAct now act
 
--- two acts, whose objects lie in these shards or in none, are good on the shard that is held, where it is theirs
+-- two acts, whose objects lie in these shards or in none, are good on the shard that is held, where
+-- it is theirs
 pub record AreGoodOn (a b : Option ℕ) (x y : Act) (held : HeldState) : Type 0 where
   pub first : a ≡ Some held.number → IsGood held.shard (contents held.shard) x
   pub second : b ≡ Some held.number → IsGood held.shard (contents held.shard) y
-  -- the second one after the first one too
-  pub after : a ≡ Some held.number → b ≡ Some held.number → IsGood held.shard (after_act (contents held.shard) x) y
+  -- where both are, the second one is good after the first one
+  pub after : a ≡ Some held.number → b ≡ Some held.number →
+      IsGood held.shard (after_act (contents held.shard) x) y

@@ -4,8 +4,6 @@ pub mod Txns
 pub mod Works
 pub mod Workers
 pub mod Putting
-pub mod Pairs
-pub mod Taking
 pub mod Takens
 pub mod Performing
 pub mod Homes

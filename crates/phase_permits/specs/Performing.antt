@@ -10,79 +10,105 @@ use Rattle.auction_rows.specs.declared.rows.Entry.{Entry}
 use Rattle.auction_rows.specs.Footprint.{footprint, takes_shard}
 use Rattle.auction_rows.specs.Refusals.{number_refusal}
 use Rattle.item_shards.specs.CommitNumbers.{last_number}
-use Rattle.shard_boxes.specs.Keys.{KeyState, seat_at, lines_at}
+use Rattle.shard_boxes.specs.Keys.{BoxId, KeyState, seat_at}
 use Rattle.shard_boxes.specs.States.{ShardState, state_at}
 use Rattle.phase_permits.specs.declared.fault.Done.{Done}
 use Rattle.phase_permits.specs.declared.fault.Done.TheVariants.{Committed, Stashed}
 use Rattle.phase_permits.specs.declared.fault.PermitFault.{PermitFault}
 use Rattle.phase_permits.specs.declared.fault.PermitFault.TheVariants.{Memory, NumberFull}
 use Rattle.phase_permits.specs.declared.read_set.ReadSet.{ReadSet}
-use Rattle.phase_permits.specs.Pairs.{HasSameLines}
-use Rattle.phase_permits.specs.Putting.{KeepsSeen, HasPut, clock_seen}
+use Rattle.phase_permits.specs.Putting.{HasPutAll, clock_seen, HasSameLines}
 use Rattle.phase_permits.specs.Slicing.{objects_of}
-use Rattle.phase_permits.specs.Txns.{hot_in, takes, line_on, greatest_clock, is_put_off, IsAnswered}
+use Rattle.phase_permits.specs.Txns.{Setting, Txn, hot_in, number_of, takes, line_on, greatest_clock, is_put_off, IsAnswered}
 use Rattle.phase_permits.specs.Workers.{WorkerState, setting_of, next_entry, next_item, txn_of, hot_txn, nothing, after_commit, after_putting_off, with_first_called, IsIdle}
 
 -- the shards of a phase are those of an auction with as many users and categories
 abbrev pub HaveOpening : List ShardState → Opening → Type 0
 HaveOpening opening start = (s : ℕ) → s < length opening → (state_at opening s).opening ≡ start
 
--- A request of the quota is committed with this reply: its number is 1 + the greatest of the worker's clock and the clocks found, each shard of the
--- footprint was taken and put back with the entry's line, and no other one was taken.
-pub record HasCommitted (opening : List ShardState) (old new : WorkerState) (request : Request) (index : ℕ) (answer : Reply) : Type 0 where
+-- With this a worker can perform a request of its quota, which is not put off.
+pub record CanTransact (opening : List ShardState) (boxes : List BoxId) (w : WorkerState)
+    (request : Request) : Type 0 where
+  -- its key is for these boxes, and holds no shard
+  pub of : w.key.boxes ≡ boxes
+  pub idle : IsIdle w.key
+  -- the shards are of an auction with its users and categories
+  pub opened : HaveOpening opening w.opening
+  -- the request is not put off
+  pub goes : is_put_off (objects_of w.slices) request ≡ false
+  -- one of the quota is left
+  pub left : 0 < w.left
+
+-- A worker has done a transaction over the shards of its footprint.
+pub record HasTransacted (z : Setting) (txn : Txn) (opening : List ShardState)
+    (old new : WorkerState) : Type 0 where
+  -- its number is 1 + the greatest of the worker's clock and the clocks found
+  pub numbered : number_of txn ≡ suc (max old.clock (greatest_clock z txn))
+  pub within : number_of txn ≤ last_number
+  -- each shard of the footprint was taken and put back with the line owed there, and no other one
+  pub put : HasPutAll opening old.key new.key (λ s. takes z s txn) (λ s. line_on z s txn)
+  -- its reply is the answer by what it saw and by the counters
+  pub answered : IsAnswered z old.counters txn
+
+-- A request of the quota is committed with this reply.
+pub record HasCommitted (opening : List ShardState) (old new : WorkerState) (request : Request)
+    (index : ℕ) (answer : Reply) : Type 0 where
   -- its number, and what its transaction found
   pub number : ℕ
   pub found : ReadSet
-  pub numbered : number ≡ suc (max old.clock (greatest_clock (setting_of old (length opening)) (txn_of old number request index answer found)))
-  pub within : number ≤ last_number
-  -- one of the quota is used, the journal gains the entry, and the slices of what it writes have its operation
+  pub transacted : HasTransacted (setting_of old (length opening))
+      (txn_of old number request index answer found) opening old new
+  -- one of the quota is used, the journal gains the entry, and the slice of what it writes the
+  -- operation
   pub worker : new ≡ record (after_commit old number index request answer found) { key = new.key }
-  -- the key has its line on each shard that it took
-  pub lines : (shard : ℕ) → let z = setting_of old (length opening) in let txn = txn_of old number request index answer found in
-      lines_at new.key shard ≡ (if takes z shard txn then lines_at old.key shard ++ line_on z shard txn ∷ [] else lines_at old.key shard)
-  -- each of these was taken as some list of lines left it, and put back with that line
-  pub puts : (shard : ℕ) → let z = setting_of old (length opening) in let txn = txn_of old number request index answer found in
-      takes z shard txn ≡ true → HasPut opening old.key new.key shard (line_on z shard txn)
-  -- no other seat of the key has changed
-  pub others : (shard : ℕ) → let z = setting_of old (length opening) in let txn = txn_of old number request index answer found in
-      takes z shard txn ≡ false → seat_at new.key shard ≡ seat_at old.key shard
-  -- what the key has seen of each shard goes on, it holds none, and it is the same worker's key to the same boxes
-  pub seen : KeepsSeen old.key new.key
-  pub idle : IsIdle new.key
-  pub owner : new.key.worker ≡ old.key.worker
-  pub boxes : new.key.boxes ≡ old.key.boxes
-  pub seats : length new.key.seats ≡ length old.key.seats
-  -- the reply is the answer by what was seen and by the counters
-  pub answered : IsAnswered (setting_of old (length opening)) old.counters (txn_of old number request index answer found)
 
--- with some reply
+-- a request of the quota is committed with some reply
 abbrev pub HasCommittedSome : List ShardState → WorkerState → WorkerState → Request → ℕ → Type 0
-HasCommittedSome opening old new request index = (answer : Reply) × HasCommitted opening old new request index answer
+HasCommittedSome opening old new request index =
+    (answer : Reply) × HasCommitted opening old new request index answer
 
--- A commit with an empty footprint, of a store on hot objects alone or of a request that the opening refuses, however many shards there are: its
--- number is 1 + the clock, the slice of what it writes has its operation, and its reply is the answer by what is fixed and by the counters.
-pub record HasStored (old new : WorkerState) (request : Request) (index : ℕ) (answer : Reply) : Type 0 where
+-- A commit with an empty footprint, of a store on hot objects alone or of a request that the
+-- opening refuses, however many shards there are: its number is 1 + the clock, the slice of what it
+-- writes has its operation, and its reply is the answer by what is fixed and by the counters.
+pub record HasStored (old new : WorkerState) (request : Request) (index : ℕ)
+    (answer : Reply) : Type 0 where
   pub worker : new ≡ after_commit old (suc old.clock) index request answer nothing
-  pub answered : (shards : ℕ) → IsAnswered (setting_of old shards) old.counters (hot_txn old request index answer)
+  pub answered : (shards : ℕ) →
+      IsAnswered (setting_of old shards) old.counters (hot_txn old request index answer)
 
--- with some reply
+-- a request that takes no shard is committed with some reply
 abbrev pub HasStoredSome : WorkerState → WorkerState → Request → ℕ → Type 0
 HasStoredSome old new request index = (answer : Reply) × HasStored old new request index answer
 
--- the entry of a request, of which the objects are looked at alone: an item to be stored has the worker's next id
+-- What became of a request that takes no shard: it was committed, or the clock is at the end of
+-- numbers, and nothing has changed.
+abbrev pub HasStoredOrIsFull : WorkerState → WorkerState → Request → ℕ → Result Unit PermitFault →
+    Type 0
+HasStoredOrIsFull old new request index (Ok done) =
+    (old.clock < last_number) × HasStoredSome old new request index
+HasStoredOrIsFull old new request index (Err Memory) = ⊥
+HasStoredOrIsFull old new request index (Err NumberFull) = (last_number ≤ old.clock) × (new ≡ old)
+
+-- the entry of a request, of which the objects are looked at alone: an item to be stored has the
+-- worker's next id
 abbrev pub entry_asked : WorkerState → Request → Entry
 entry_asked w request = next_entry w 0 0 request (ItemStored (next_item w))
 
--- the footprint of a request in a phase with so many shards, and whether it has a shard
+-- the footprint of a request in a phase with so many shards
 abbrev pub shards_asked : ℕ → WorkerState → Request → List ℕ
-shards_asked shards w request = footprint w.opening shards (hot_in (setting_of w shards)) (entry_asked w request)
+shards_asked shards w request =
+    footprint w.opening shards (hot_in (setting_of w shards)) (entry_asked w request)
 
+-- whether a shard is in the footprint of a request
 abbrev pub asks : ℕ → WorkerState → Request → ℕ → Bool
-asks shards w request shard = takes_shard w.opening shards (hot_in (setting_of w shards)) (entry_asked w request) shard
+asks shards w request shard =
+    takes_shard w.opening shards (hot_in (setting_of w shards)) (entry_asked w request) shard
 
--- the greatest of the worker's clock and of those that the key has last seen on the shards of a request's footprint
+-- the greatest of the worker's clock and of those that the key has last seen on the shards of a
+-- request's footprint
 abbrev pub greatest_seen : List ShardState → WorkerState → KeyState → Request → ℕ
-greatest_seen opening w key request = max w.clock (greatest_by (clock_seen opening key) (shards_asked (length opening) w request))
+greatest_seen opening w key request =
+    max w.clock (greatest_by (clock_seen opening key) (shards_asked (length opening) w request))
 
 -- whether a request stores an item
 abbrev pub StoresItem : Request → Type 0
@@ -95,25 +121,33 @@ StoresItem (ViewBids item) = ⊥
 StoresItem (ViewCategory category) = ⊥
 StoresItem (ViewUser user) = ⊥
 
--- NumberFull exactly where the greatest clock is at the end of numbers, and Memory of an accepted store of an item alone
+-- NumberFull exactly where the greatest clock is at the end of numbers, and Memory of an accepted
+-- store of an item alone
 abbrev pub IsCause : List ShardState → WorkerState → KeyState → Request → PermitFault → Type 0
-IsCause opening w key request Memory = (greatest_seen opening w key request < last_number) × StoresItem request × (number_refusal w.opening request ≡ None)
+IsCause opening w key request Memory =
+    (greatest_seen opening w key request < last_number) × StoresItem request
+    × (number_refusal w.opening request ≡ None)
 IsCause opening w key request NumberFull = last_number ≤ greatest_seen opening w key request
 
--- The request was not performed, for its cause, and was not to be put off: nothing has changed but what the key has seen of the shards of the footprint.
-pub record HasFailed (opening : List ShardState) (old new : WorkerState) (request : Request) (fault : PermitFault) : Type 0 where
+-- The request was not performed, for its cause, and was not to be put off: nothing has changed but
+-- what the key has seen of the shards of the footprint.
+pub record HasFailed (opening : List ShardState) (old new : WorkerState) (request : Request)
+    (fault : PermitFault) : Type 0 where
   -- all but the key is as before
   pub worker : new ≡ record old { key = new.key }
-  -- so are the key's lines, and what it has seen goes on
+  -- the key's lines are as before, and what it has seen goes on
   pub lines : HasSameLines old.key new.key
-  pub others : (shard : ℕ) → asks (length opening) old request shard ≡ false → seat_at new.key shard ≡ seat_at old.key shard
+  pub others : (shard : ℕ) → asks (length opening) old request shard ≡ false →
+      seat_at new.key shard ≡ seat_at old.key shard
   pub idle : IsIdle new.key
   pub not_put_off : is_put_off (objects_of old.slices) request ≡ false
   pub cause : IsCause opening old new.key request fault
 
 -- what became of a request that is not put off
-abbrev pub HasPerformed : List ShardState → WorkerState → WorkerState → Request → ℕ → Result Unit PermitFault → Type 0
-HasPerformed opening old new request index (Ok done) = HasCommittedSome opening old new request index
+abbrev pub HasPerformed : List ShardState → WorkerState → WorkerState → Request → ℕ →
+    Result Unit PermitFault → Type 0
+HasPerformed opening old new request index (Ok done) =
+    HasCommittedSome opening old new request index
 HasPerformed opening old new request index (Err fault) = HasFailed opening old new request fault
 
 -- The request waits for the next joined phase.
@@ -125,10 +159,11 @@ pub record HasPutOff (old new : WorkerState) (request : Request) (index : ℕ) :
 
 -- what a split permit did with a request
 abbrev pub HasDealtWith : List ShardState → WorkerState → WorkerState → Request → ℕ → Done → Type 0
-HasDealtWith opening old new request index (Committed reply) = HasCommitted opening old new request index reply
+HasDealtWith opening old new request index (Committed reply) =
+    HasCommitted opening old new request index reply
 HasDealtWith opening old new request index Stashed = HasPutOff old new request index
 
--- the same, where the reply is left in the journal
+-- what a split permit did with a request whose reply is left in the journal
 abbrev pub HasDealt : List ShardState → WorkerState → WorkerState → Request → ℕ → Bool → Type 0
 HasDealt opening old new request index true = HasCommittedSome opening old new request index
 HasDealt opening old new request index false = HasPutOff old new request index
@@ -138,19 +173,21 @@ abbrev pub IsUntouched : ℕ → WorkerState → WorkerState → Request → Typ
 IsUntouched shards old new request = shards_asked shards old request ≡ [] → new.key ≡ old.key
 
 -- the first stashed request was committed as one of the quota, into which it was called
-pub record HasPerformedFirst (opening : List ShardState) (old new : WorkerState) (answer : Reply) : Type 0 where
+pub record HasPerformedFirst (opening : List ShardState) (old new : WorkerState)
+    (answer : Reply) : Type 0 where
   pub index : ℕ
   pub request : Request
   pub first : slice_get old.stash.requests 0 ≡ Some (index, request)
   pub committed : HasCommitted opening (with_first_called old) new request index answer
 
--- or was not performed, for its cause: it waits as before
-pub record HasFailedFirst (opening : List ShardState) (old new : WorkerState) (fault : PermitFault) : Type 0 where
+-- the first stashed request was not performed, for its cause: it waits as before
+pub record HasFailedFirst (opening : List ShardState) (old new : WorkerState)
+    (fault : PermitFault) : Type 0 where
   pub index : ℕ
   pub request : Request
   pub first : slice_get old.stash.requests 0 ≡ Some (index, request)
   pub failed : HasFailed opening old new request fault
 
--- with some reply
+-- the first stashed request was committed with some reply
 abbrev pub HasPerformedFirstSome : List ShardState → WorkerState → WorkerState → Type 0
 HasPerformedFirstSome opening old new = (answer : Reply) × HasPerformedFirst opening old new answer

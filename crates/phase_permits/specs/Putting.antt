@@ -1,15 +1,19 @@
 -- A shard that is put back with a line, and what a key has seen of it.
-use Rattle.std.specs.Prelude.{◌≡◌, ℕ, ◌<◌, ◌≤◌, true, List, [], ◌∷◌, ◌++◌, Some}
+use Rattle.std.specs.Prelude.{◌≡◌, ℕ, ◌<◌, ◌≤◌, if◌then◌else◌, Bool, true, false, List, [], ◌∷◌, ◌++◌, length, Some}
 use Rattle.item_shards.specs.CommitNumbers.{last_number}
 use Rattle.item_shards.specs.declared.acts.Act.{Act}
+use Rattle.item_shards.specs.declared.acts.Act.TheVariants.{Look}
+use Rattle.item_shards.specs.declared.acts.Shown.TheVariants as shown
 use Rattle.item_shards.specs.declared.shard.Shard.{Shard}
 pub use Rattle.item_shards.specs.Acting.{CanDo}
 use Rattle.item_shards.specs.ShardContents.{clock}
 use Rattle.shard_boxes.specs.declared.line.Line.{Line}
 use Rattle.shard_boxes.specs.Helds.{HeldState, taken_at}
-use Rattle.shard_boxes.specs.Keys.{KeyState, seen_at, holds_at, putting}
-use Rattle.shard_boxes.specs.Lines.{after, MayFollow, StartsWith}
+use Rattle.shard_boxes.specs.Keys.{KeyState, seat_at, seen_at, lines_at, holds_at, putting}
+use Rattle.shard_boxes.specs.Lines.{first_two, after, IsHistory, MayFollow, StartsWith}
 use Rattle.shard_boxes.specs.States.{ShardState, state_at, state_of}
+use Rattle.phase_permits.specs.declared.putting.Written.{Written}
+use Rattle.phase_permits.specs.Workers.{IsIdle}
 
 -- the clock of a shard as the key has last seen it
 abbrev pub clock_seen : List ShardState → KeyState → ℕ → ℕ
@@ -19,20 +23,31 @@ clock_seen opening key shard = (taken_at opening key shard).clock
 abbrev pub KeepsSeen : KeyState → KeyState → Type 0
 KeepsSeen old new = (shard : ℕ) → StartsWith (seen_at new shard) (seen_at old shard)
 
+-- the two acts of what is written
+abbrev pub written_acts : Written → List Act
+written_acts written = written.first ∷ written.second ∷ []
+
+-- one act, and a look at nothing
+abbrev pub alone_in : Act → List Act
+alone_in act = act ∷ Look shown.Nothing ∷ []
+
 -- the line of these acts on a shard as it was taken
 abbrev pub line_of : ℕ → ℕ → List Act → Shard → Line
-line_of number index acts taken = record { number = number; before = clock taken; index = index; acts = acts }
+line_of number index acts taken =
+    record { number = number; before = clock taken; index = index; acts = first_two acts }
 
--- A shard was taken as this list left it, which goes on from what the key had seen of it, and put back with the line, which may
--- follow it.
-pub record HasPut (opening : List ShardState) (old new : KeyState) (shard : ℕ) (line : Line) : Type 0 where
+-- A shard was taken as this list left it, which goes on from what the key had seen of it, and put
+-- back with the line, which may follow it.
+pub record HasPut (opening : List ShardState) (old new : KeyState) (shard : ℕ)
+    (line : Line) : Type 0 where
   pub found : List (ℕ × Line)
   pub later : StartsWith found (seen_at old shard)
   pub seen : seen_at new shard ≡ found ++ (new.worker, line) ∷ []
   pub follows : MayFollow (after (state_at opening shard) found) line
 
 -- a shard that can go back with a line at this number
-pub record IsHeldFor (opening : List ShardState) (key : KeyState) (held : HeldState) (number : ℕ) : Type 0 where
+pub record IsHeldFor (opening : List ShardState) (key : KeyState) (held : HeldState)
+    (number : ℕ) : Type 0 where
   -- the key holds it
   pub holder : holds_at key held.number ≡ true
   -- it is as it was taken
@@ -43,6 +58,35 @@ pub record IsHeldFor (opening : List ShardState) (key : KeyState) (held : HeldSt
   pub within : number ≤ last_number
 
 -- A shard that the key holds was put back with the line, which may follow it as it was taken.
-pub record IsPutWith (opening : List ShardState) (old new : KeyState) (held : HeldState) (line : Line) : Type 0 where
+pub record IsPutWith (opening : List ShardState) (old new : KeyState) (held : HeldState)
+    (line : Line) : Type 0 where
   pub put : new ≡ putting old held.number (Some line)
   pub follows : MayFollow (taken_at opening old held.number) line
+
+-- a shard as the key took it
+abbrev pub IsAsTaken : List ShardState → ℕ → KeyState → HeldState → Type 0
+IsAsTaken opening workers key held =
+    IsHistory opening workers held.number (seen_at key held.number) (state_of held.shard)
+
+-- the key is for the same boxes and of the same worker, with as many seats, no line was put by it,
+-- and what it has seen goes on
+pub record HasSameLines (old new : KeyState) : Type 0 where
+  pub boxes : new.boxes ≡ old.boxes
+  pub worker : new.worker ≡ old.worker
+  pub seats : length new.seats ≡ length old.seats
+  pub lines : (shard : ℕ) → lines_at new shard ≡ lines_at old shard
+  pub seen : KeepsSeen old new
+
+-- The shards that were taken were put back, each with the line that it was owed, and no other one
+-- was taken.
+pub record HasPutAll (opening : List ShardState) (old new : KeyState) (took : ℕ → Bool)
+    (owed : ℕ → Line) : Type 0 where
+  pub lines : (t : ℕ) →
+      lines_at new t ≡ (if took t then lines_at old t ++ owed t ∷ [] else lines_at old t)
+  pub puts : (t : ℕ) → took t ≡ true → HasPut opening old new t (owed t)
+  pub others : (t : ℕ) → took t ≡ false → seat_at new t ≡ seat_at old t
+  pub seen : KeepsSeen old new
+  pub idle : IsIdle new
+  pub worker : new.worker ≡ old.worker
+  pub boxes : new.boxes ≡ old.boxes
+  pub seats : length new.seats ≡ length old.seats

@@ -11,7 +11,7 @@ use Rattle.auction_rows.specs.Footprint.{is_hot}
 use Rattle.item_shards.specs.Contents.{Contents}
 use Rattle.item_shards.specs.Values.{stock_in}
 use Rattle.item_shards.specs.Standing.{ContentsStandsFor}
-use Rattle.shard_boxes.specs.Lines.{after, AreTrueOf}
+use Rattle.shard_boxes.specs.Lines.{acts_in, after, AreTrueOf}
 use Rattle.shard_boxes.specs.States.{ShardState, state_at}
 use Rattle.phase_permits.specs.Txns.{Setting, Txn, hot_in, takes, line_on}
 use Rattle.phase_permits.specs.declared.counters.Counters.{Counters}
@@ -29,28 +29,39 @@ pub record CountsOf (book : Book) (worker : ℕ) (counters : Counters) : Type 0 
 
 -- the hot items have in the book the facts and the number left that are fixed of them
 abbrev pub AreStocksIn : List (Object × Option (Facts × ℕ)) → Book → Type 0
-AreStocksIn stocks book = (item : ItemId) → is_hot (objects_of stocks) (Item item) ≡ true → stock_in book item ≡ stock_of stocks (Item item)
+AreStocksIn stocks book =
+    (item : ItemId) → is_hot (objects_of stocks) (Item item) ≡ true →
+    stock_in book item ≡ stock_of stocks (Item item)
 
 -- so it is with those that the permit holds
 abbrev pub HasStocks : Book → List (Object × Hot) → Type 0
 HasStocks book hots = AreStocksIn (stocks_of hots) book
 
--- the looks of the lines that a transaction owes are true of the shards that it took, as it took them
+-- the looks of the lines that a transaction owes are true of the shards that it took, as it took
+-- them
 abbrev pub SawTrue : Setting → (ℕ → Contents) → Txn → Type 0
-SawTrue z taken txn = (shard : ℕ) → takes z shard txn ≡ true → AreTrueOf (taken shard) (line_on z shard txn).acts
+SawTrue z taken txn =
+    (shard : ℕ) → takes z shard txn ≡ true
+    → AreTrueOf (taken shard) (acts_in (line_on z shard txn).acts)
 
 -- the shards that a transaction took stood for a book, but for the hot objects
 abbrev pub StoodFor : Setting → (ℕ → Contents) → Book → Txn → Type 0
-StoodFor z taken book txn = (shard : ℕ) → takes z shard txn ≡ true → ContentsStandsFor shard z.shards (taken shard) book (hot_in z)
+StoodFor z taken book txn =
+    (shard : ℕ) → takes z shard txn ≡ true →
+    ContentsStandsFor shard z.shards (taken shard) book (hot_in z)
 
 -- the hot items have in a book the facts and the number left that are fixed of them
 abbrev pub HasFixed : Setting → Book → Type 0
 HasFixed z book = AreStocksIn z.stocks book
 
 -- the shards that a commit took stood for a book as it took them, but for the hot objects
-abbrev pub StoodAsTaken : (opening : List ShardState) (old new : WorkerState) (request : Request) (index : ℕ) (answer : Reply) →
+abbrev pub StoodAsTaken : (opening : List ShardState) (old new : WorkerState) (request : Request)
+    (index : ℕ) (answer : Reply) →
     HasCommitted opening old new request index answer → Book → Type 0
 StoodAsTaken opening old new request index answer done book =
-    let z = setting_of old (length opening) in let txn = txn_of old done.number request index answer done.found in
+    let z = setting_of old (length opening) in
+    let txn = txn_of old done.number request index answer done.found in
     (shard : ℕ) (took : takes z shard txn ≡ true) →
-    ContentsStandsFor shard (length opening) (after (state_at opening shard) (done.puts shard took).found).contents book (hot_in z)
+    let found = (done.transacted.put.puts shard took).found in
+    ContentsStandsFor shard (length opening) (after (state_at opening shard) found).contents
+    book (hot_in z)

@@ -1,23 +1,21 @@
 -- The shards that a transaction takes, each once.
 use Rattle.std.specs.Prelude.{◌≡◌, ℕ, ◌<◌, ◌==◌, if◌then◌else◌, Bool, true, false, List, [], ◌∷◌, ◌++◌, map, length, Option, Some, None, ⊤}
 use Rattle.std.specs.List.{AllByRecursion, list_any}
+use Rattle.phase_laws.specs.Numbers.{greatest_by}
 use Rattle.item_shards.specs.declared.acts.Act.{Act}
-use Rattle.item_shards.specs.declared.acts.Act.TheVariants.{Look}
-use Rattle.item_shards.specs.declared.acts.Shown.TheVariants as shown
 use Rattle.item_shards.specs.ShardContents.{clock, contents}
 use Rattle.shard_boxes.specs.declared.line.Line.{Line}
 use Rattle.shard_boxes.specs.Helds.{HeldState}
-use Rattle.shard_boxes.specs.Keys.{BoxId, KeyState, seat_at, lines_at, seen_at, holds_at}
-use Rattle.shard_boxes.specs.Lines.{AreTrueOf}
+use Rattle.shard_boxes.specs.Keys.{BoxId, KeyState, seat_at, seen_at, holds_at}
+use Rattle.shard_boxes.specs.Lines.{first_two, AreTrueOf}
 use Rattle.shard_boxes.specs.States.{ShardState}
 use Rattle.phase_permits.specs.declared.homes.Home.{Home}
 use Rattle.phase_permits.specs.declared.homes.Home.TheVariants as home
 use Rattle.phase_permits.specs.declared.homes.Homes.{Homes}
 use Rattle.phase_permits.specs.declared.taken.Taken.{Taken}
 use Rattle.phase_permits.specs.declared.taken.Taken.TheVariants as taken
-use Rattle.phase_permits.specs.Pairs.{IsAsTaken, HasSameLines}
 use Rattle.phase_permits.specs.Workers.{IsIdle}
-use Rattle.phase_permits.specs.Putting.{CanDo, KeepsSeen, HasPut, line_of}
+use Rattle.phase_permits.specs.Putting.{CanDo, alone_in, line_of, HasSameLines, IsAsTaken}
 
 -- the shard of an object, where it lies in one
 abbrev pub shard_at : Home → Option ℕ
@@ -42,12 +40,22 @@ held_in taken.Nothing = []
 held_in (taken.One one) = one ∷ []
 held_in (taken.Two item other) = item ∷ other ∷ []
 
+-- the greatest of their clocks, 0 where there is none
+abbrev pub greatest_held : List HeldState → ℕ
+greatest_held held = greatest_by (λ h. clock h.shard) held
+
 -- whether a shard is one of these
 abbrev pub is_one_of : List ℕ → ℕ → Bool
 is_one_of shards t = list_any (λ s. s == t) shards
 
+-- a key for these boxes, which holds no shard
+pub record IsReady (boxes : List BoxId) (key : KeyState) : Type 0 where
+  pub boxes_are : key.boxes ≡ boxes
+  pub idle : IsIdle key
+
 -- The key has taken these shards, each once, and holds no other.
-pub record HasTakenAll (opening : List ShardState) (workers : ℕ) (old new : KeyState) (shards : List ℕ) (held : List HeldState) : Type 0 where
+pub record HasTakenAll (opening : List ShardState) (workers : ℕ) (old new : KeyState)
+    (shards : List ℕ) (held : List HeldState) : Type 0 where
   -- what is held are these shards
   pub numbers : map (λ h. h.number) held ≡ shards
   -- each is as the key took it
@@ -69,7 +77,8 @@ abbrev pub numbers_of : List HeldState → List ℕ
 numbers_of held = map (λ h. h.number) held
 
 -- Shards that the key holds, and no other, each as it was taken: they can go back to these boxes.
-pub record AreHeldAll (opening : List ShardState) (workers : ℕ) (boxes : List BoxId) (key : KeyState) (held : List HeldState) : Type 0 where
+pub record AreHeldAll (opening : List ShardState) (workers : ℕ) (boxes : List BoxId)
+    (key : KeyState) (held : List HeldState) : Type 0 where
   -- the key is for these boxes
   pub boxes_are : key.boxes ≡ boxes
   -- each stands once
@@ -88,34 +97,21 @@ pub record AreBack (old new : KeyState) : Type 0 where
   pub others : (t : ℕ) → holds_at old t ≡ false → seat_at new t ≡ seat_at old t
   pub idle : IsIdle new
 
--- The shards that were taken were put back, each with the line that it was owed, and no other one was taken.
-pub record HasPutAll (opening : List ShardState) (old new : KeyState) (took : ℕ → Bool) (owed : ℕ → Line) : Type 0 where
-  pub lines : (t : ℕ) → lines_at new t ≡ (if took t then lines_at old t ++ owed t ∷ [] else lines_at old t)
-  pub puts : (t : ℕ) → took t ≡ true → HasPut opening old new t (owed t)
-  pub others : (t : ℕ) → took t ≡ false → seat_at new t ≡ seat_at old t
-  pub seen : KeepsSeen old new
-  pub idle : IsIdle new
-  pub worker : new.worker ≡ old.worker
-  pub boxes : new.boxes ≡ old.boxes
-  pub seats : length new.seats ≡ length old.seats
-
 abbrev pub no_line : Line
-no_line = record { number = 0; before = 0; index = 0; acts = [] }
+no_line = record { number = 0; before = 0; index = 0; acts = first_two [] }
 
 -- the line of its acts on each of some shards
 abbrev pub line_among : ℕ → ℕ → List HeldState → List (List Act) → ℕ → Line
 line_among number index [] acts t = no_line
 line_among number index (h ∷ held) [] t = no_line
-line_among number index (h ∷ held) (a ∷ acts) t = if h.number == t then line_of number index a h.shard else line_among number index held acts t
+line_among number index (h ∷ held) (a ∷ acts) t =
+    if h.number == t then line_of number index a h.shard else line_among number index held acts t
 
--- two acts on shards: both on the one, or one on each of two
-abbrev pub alone : Act → List Act
-alone act = act ∷ Look shown.Nothing ∷ []
-
-abbrev pub dealt : {N : Type 0} → Taken N → Act → Act → List (List Act)
-dealt taken.Nothing first second = []
-dealt (taken.One one) first second = (first ∷ second ∷ []) ∷ []
-dealt (taken.Two item other) first second = alone first ∷ alone second ∷ []
+-- two acts on the shards that were taken: both on the one, or one on each of two
+abbrev pub dealt : {N : Type 0} → Taken N → List Act → List (List Act)
+dealt taken.Nothing acts = []
+dealt (taken.One one) acts = acts ∷ []
+dealt (taken.Two item other) acts = map alone_in acts
 
 -- these acts can be done on a shard at a number, and look at what is there
 pub record CanBeDoneOn (number : ℕ) (held : HeldState) (acts : List Act) : Type 0 where
@@ -123,8 +119,9 @@ pub record CanBeDoneOn (number : ℕ) (held : HeldState) (acts : List Act) : Typ
   pub can : CanDo held.shard acts
   pub looks : AreTrueOf (contents held.shard) acts
 
--- so it is with each of some shards
+-- these acts can be done on each of some shards
 abbrev pub CanBeDoneOnAll : ℕ → List HeldState → List (List Act) → Type 0
 CanBeDoneOnAll number [] acts = ⊤
 CanBeDoneOnAll number (h ∷ held) [] = ⊥
-CanBeDoneOnAll number (h ∷ held) (a ∷ acts) = CanBeDoneOn number h a × CanBeDoneOnAll number held acts
+CanBeDoneOnAll number (h ∷ held) (a ∷ acts) =
+    CanBeDoneOn number h a × CanBeDoneOnAll number held acts

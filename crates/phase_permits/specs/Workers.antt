@@ -22,7 +22,7 @@ use Rattle.phase_permits.specs.Stashes.{StashState, without_first}
 use Rattle.phase_permits.specs.Txns.{Setting, Txn, counted}
 use Rattle.phase_permits.specs.Works.{Work, IsWorkOf}
 
--- its right to take shards, and what no other worker touches
+-- a worker in a phase: its right to take shards, and what no other worker touches
 pub record WorkerState : Type 0 where
   -- its right to take shards
   pub key : KeyState
@@ -55,11 +55,11 @@ setting_of w shards = record { opening = w.opening; shards = shards; stocks = st
 abbrev pub IsHot : WorkerState → Object → Type 0
 IsHot w object = is_hot (objects_of w.slices) object ≡ true
 
--- the id of its next item
+-- the id of a worker's next item
 abbrev pub next_item : WorkerState → ItemId
 next_item w = record { worker = w.journal.worker; serial = w.counters.items }
 
--- its next entry
+-- a worker's next entry
 abbrev pub next_entry : WorkerState → ℕ → ℕ → Request → Reply → Entry
 next_entry w number index request reply = commit_in w.journal number index request reply
 
@@ -86,21 +86,26 @@ pub record AreCounted (counters : Counters) : Type 0 where
   pub comments : counters.comments ≤ counters.commits
   pub buys : counters.buys ≤ counters.commits
 
--- there is room for what is left and what waits, in the journal and in the counters, and the clock has not gone back
+-- there is room for what is left and what waits, in the journal and in the counters, and the clock
+-- has not gone back
 pub record HasRoom (w : WorkerState) : Type 0 where
   pub counted : AreCounted w.counters
   pub limit : w.counters.commits + length w.stash.requests + w.left ≤ MOST_OF_A_WORKER
   pub room : length w.journal.entries + length w.stash.requests + w.left ≤ w.journal.room
   pub latest : last_by entry_number 0 w.journal.entries ≤ w.clock
 
--- there is room in the stash for what is left of the quota, where something is hot: elsewhere nothing is put off
+-- there is room in the stash for what is left of the quota, where something is hot: elsewhere
+-- nothing is put off
 abbrev pub HasStashRoom : List (Object × Hot) → ℕ → ℕ → Type 0
 HasStashRoom [] left room = ⊤
 HasStashRoom (hot ∷ more) left room = left ≤ room
 
--- no hot item is one that the worker has still to store: of its own the serials are less than its count of items
+-- no hot item is one that the worker has still to store: of its own the serials are less than its
+-- count of items
 abbrev pub AreStored : ℕ → Counters → List (Object × Hot) → Type 0
-AreStored worker counters hots = (item : ItemId) → is_hot (objects_of hots) (Item item) ≡ true → item.worker ≡ worker → item.serial < counters.items
+AreStored worker counters hots =
+    (item : ItemId) → is_hot (objects_of hots) (Item item) ≡ true → item.worker ≡ worker →
+    item.serial < counters.items
 
 -- What is true of every worker, also while it holds shards.
 pub record IsLawful (w : WorkerState) : Type 0 where
@@ -121,24 +126,28 @@ with_entry w number index request reply found = record w {
   txns = w.txns ++ (next_entry w number index request reply, found) ∷ [];
 }
 
--- and with the operation that its slices get
+-- the worker after a commit of the quota: its key is as the puts left it
 abbrev pub after_commit : WorkerState → ℕ → ℕ → Request → Reply → ReadSet → WorkerState
-after_commit w number index request reply found = record (with_entry w number index request reply found) {
-  slices = after_acts w.slices (writes_if (row_of w.journal.worker request reply));
-}
+after_commit w number index request reply found =
+    record (with_entry w number index request reply found) {
+      slices = after_acts w.slices (writes_if (row_of w.journal.worker request reply));
+    }
 
--- after a request of the quota was put off
+-- the worker after a request of the quota was put off
 abbrev pub after_putting_off : WorkerState → ℕ → Request → WorkerState
 after_putting_off w index request = record w {
-  stash = record w.stash { requests = w.stash.requests ++ (index, request) ∷ []; room = w.stash.room - 1 };
+  stash = record w.stash {
+    requests = w.stash.requests ++ (index, request) ∷ [];
+    room = w.stash.room - 1;
+  };
   left = w.left - 1;
 }
 
--- after the first request of the stash was called into the quota
+-- the worker after the first request of the stash was called into the quota
 abbrev pub with_first_called : WorkerState → WorkerState
 with_first_called w = record w { stash = without_first w.stash; left = w.left + 1 }
 
--- with one try more
+-- the worker after one try more
 abbrev pub with_try : WorkerState → WorkerState
 with_try w = record w { tries = w.tries + 1 }
 
@@ -159,15 +168,16 @@ work_of w = record {
   txns = w.txns;
 }
 
--- A worker between two requests, in a phase with so many shards: its journal is its key's worker's, the key holds no shard, and all that it has done is
--- explained by one list of transactions.
+-- A worker between two requests, in a phase with so many shards: its journal is its key's worker's,
+-- the key holds no shard, and all that it has done is explained by one list of transactions.
 pub record IsExplained (shards : ℕ) (w : WorkerState) : Type 0 where
   pub worker : w.journal.worker ≡ w.key.worker
   pub idle : IsIdle w.key
   pub work : IsWorkOf (setting_of w shards) w.key.worker (work_of w)
 
 -- a worker as a phase begins
-abbrev pub new_worker : KeyState → Opening → Counters → JournalView → StashState → List (Object × Hot) → ℕ → ℕ → WorkerState
+abbrev pub new_worker : KeyState → Opening → Counters → JournalView → StashState →
+    List (Object × Hot) → ℕ → ℕ → WorkerState
 new_worker key opening counters journal stash slices quota clock = record {
   key = key;
   opening = opening;
@@ -206,9 +216,9 @@ pub record CanStart (w : WorkerState) : Type 0 where
   pub identities : w.slices ≡ slices_of (stocks_of w.slices) []
   -- the journal has room for what waits and for the quota
   pub room : length w.stash.requests + w.left ≤ w.journal.room
-  -- so has the stash for the quota, where something is hot
+  -- the stash has room for the quota, where something is hot
   pub stash_room : HasStashRoom w.slices w.left w.stash.room
-  -- and so have the counters, which count no more stores of a kind than commits
+  -- the counters have room for both, and count no more stores of a kind than commits
   pub limit : w.counters.commits + length w.stash.requests + w.left ≤ MOST_OF_A_WORKER
   pub counted : AreCounted w.counters
   -- no hot item is one that it has still to store

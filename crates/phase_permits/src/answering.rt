@@ -21,7 +21,8 @@ impl<N: PhaseName> Worker<N> {
     ghost use Rattle.phase_permits.specs.Takens.{shard_at};
     ghost use Rattle.phase_permits.specs.Txns.{Answers};
 
-    /// What a store sees of the item that it needs: of a hot one what is fixed, of another one what its shard has.
+    /// What a store sees of the item that it needs: of a hot one what is fixed, of another one what
+    /// its shard has.
     #[inline(always)]
     pub(crate) fn seen(
         &self,
@@ -29,10 +30,13 @@ impl<N: PhaseName> Worker<N> {
         request: &Request,
         homes: &Homes,
     ) -> Option<(Facts, u32)>
-        requires there { (item : ItemIdValue) → (t : ℕ) → item_of request.now ≡ Some item → shard_at homes.now.item ≡ Some t → FirstHas taken.now item }
-        ensures fixed { (object : ObjectValue) → (shards : ℕ) → IsHomeOf self.now.slices shards object homes.now.item → shard_at homes.now.item ≡ None
+        requires there { (item : ItemIdValue) → (t : ℕ) → item_of request.now ≡ Some item →
+            shard_at homes.now.item ≡ Some t → FirstHas taken.now item }
+        ensures fixed { (object : ObjectValue) → (shards : ℕ) →
+            IsHomeOf self.now.slices shards object homes.now.item → shard_at homes.now.item ≡ None
             → result ≡ stock_of (stocks_of self.now.slices) object }
-        ensures found { (item : ItemIdValue) → (t : ℕ) → item_of request.now ≡ Some item → shard_at homes.now.item ≡ Some t → result ≡ stock_on taken.now item }
+        ensures found { (item : ItemIdValue) → (t : ℕ) → item_of request.now ≡ Some item →
+            shard_at homes.now.item ≡ Some t → result ≡ stock_on taken.now item }
     {
         match (homes.item, item_of(*request)) {
             (Home::Shard(_), Some(item)) => stock_in(taken, item),
@@ -43,7 +47,9 @@ impl<N: PhaseName> Worker<N> {
     /// What is fixed of an item with this home, where that is hot.
     #[inline(always)]
     pub(crate) fn fixed(&self, home: Home) -> Option<(Facts, u32)>
-        ensures { (object : ObjectValue) → (shards : ℕ) → IsHomeOf self.now.slices shards object home → shard_at home ≡ None → result ≡ stock_of (stocks_of self.now.slices) object }
+        ensures { (object : ObjectValue) → (shards : ℕ) →
+            IsHomeOf self.now.slices shards object home → shard_at home ≡ None →
+            result ≡ stock_of (stocks_of self.now.slices) object }
     {
         if let Home::Slice(place) = home {
             self.slices.stock_at(place)
@@ -52,8 +58,8 @@ impl<N: PhaseName> Worker<N> {
         }
     }
 
-    /// The reply to a store that the opening does not refuse: the first reason of its item to refuse it, by what was
-    /// seen of that, or else the worker's next id of the kind.
+    /// The reply to a store that the opening does not refuse: the first reason of its item to
+    /// refuse it, by what was seen of that, or else the worker's next id of the kind.
     #[inline(always)]
     pub(crate) fn reply(&self, seen: &Option<(Facts, u32)>, request: &Request) -> StoreReply
         requires allowed { number_refusal self.now.opening request.now ≡ None }

@@ -4,8 +4,8 @@ ghost use Rattle.std.specs.Prelude.{◌≡◌, ◌<◌};
 use auction_rows::{MOST_OF_A_WORKER, Reply, StoreReply};
 use worker_journals::{Answer, Told};
 
-/// How many items, bids, comments and purchases a worker has had accepted over the whole run, and how many
-/// requests it has committed: each at most 1,000,000.
+/// How many items, bids, comments and purchases a worker has had accepted over the whole run, and
+/// how many requests it has committed: each at most 1,000,000.
 #[derive(Clone, Copy, PartialEq, Eq, Debug, Default)]
 pub struct Counters {
     pub items: u32,

@@ -1,18 +1,12 @@
 //! What a request does on the shards that it takes.
-ghost use Rattle.std.specs.Prelude.{◌≡◌, ℕ, List, false, option_map};
+ghost use Rattle.std.specs.Prelude.{◌≡◌, false, option_map};
 ghost use Rattle.auction_rows.specs.Requests.{is_view};
 ghost use Rattle.auction_rows.specs.StoreReplies.{reply_of};
-ghost use Rattle.shard_boxes.specs.Helds.{HeldState};
-ghost use Rattle.shard_boxes.specs.States.{ShardState};
-ghost use Rattle.phase_permits.specs.Begun.{IsAnsweredOn};
-ghost use Rattle.phase_permits.specs.Deeds.{AreGoodOn, deal_of, acts_for, footprint_on, AreDeedsOf, IsNextIf};
-ghost use Rattle.phase_permits.specs.Homes.{AreHomesOf};
-ghost use Rattle.phase_permits.specs.Takens.{footprint_of, shard_at};
-ghost use Rattle.phase_permits.specs.Txns.{IsOwn};
-ghost use Rattle.phase_permits.specs.Workers.{WorkerState};
+ghost use Rattle.phase_permits.specs.Begun.{AreGoodFor, AreOwedBy, HaveFootprint};
+ghost use Rattle.phase_permits.specs.Deeds.{deal_of};
 
 use crate::homes::{Home, Homes};
-use crate::taken::Deal;
+use crate::putting::Written;
 use auction_rows::{BidEntry, Facts, ItemEntry, Request, StoreReply};
 use ghost_log::Ghost;
 use item_shards::{Act, Shown};
@@ -27,7 +21,8 @@ pub(crate) struct Deeds {
 }
 
 impl Deeds {
-    /// Those of a store with this reply, by what it saw of its item, where its objects have these homes.
+    /// Those of a store with this reply, by what it saw of its item, where its objects have these
+    /// homes.
     #[inline(always)]
     pub(crate) fn of(
         request: &Request,
@@ -36,11 +31,9 @@ impl Deeds {
         homes: &Homes,
     ) -> Deeds
         requires store { is_view request.now ≡ false }
-        ensures owed { (w : WorkerState) → (shards : ℕ) → AreHomesOf w shards request.now homes.now → IsOwn w.journal.worker (reply_of reply) → IsNextIf w (reply_of reply)
-            → AreDeedsOf w.slices shards (acts_for w.journal.worker seen.now request.now (reply_of reply)) result }
-        ensures good { (opening : List ShardState) → (workers : ℕ) → (w : WorkerState) → (held : HeldState) → IsAnsweredOn opening workers w request.now homes.now seen.now (reply_of reply) held
-            → AreGoodOn (shard_at result.home) (shard_at result.other) result.first result.second held }
-        ensures footprint { (w : WorkerState) → (shards : ℕ) → AreHomesOf w shards request.now homes.now → footprint_on result ≡ footprint_of homes.now }
+        ensures owed { AreOwedBy request.now (reply_of reply) seen.now homes.now result }
+        ensures good { AreGoodFor request.now (reply_of reply) seen.now homes.now result }
+        ensures footprint { HaveFootprint request.now homes.now result }
     {
         let home = homes.item;
         let other = homes.other;
@@ -98,8 +91,6 @@ impl Deeds {
                 stars,
                 ..
             } => {
-                // From -5 to 5.
-                let _known = stars.value();
                 let first = Act::Look(Shown::Facts(item, Ghost::of(&facts_in(seen))));
                 let second = if let StoreReply::CommentStored(_) = reply {
                     Act::Comment(about, stars)
@@ -131,10 +122,10 @@ impl Deeds {
         }
     }
 
-    /// The two acts as they are dealt to the shards: both on the one that holds what they are about, or one on each
-    /// of two.
+    /// The two acts as they are dealt to the shards: both on the one that holds what they are
+    /// about, or one on each of two.
     #[inline(always)]
-    pub(crate) fn deal(self, number: u64, index: u32) -> Deal
+    pub(crate) fn deal(self, number: u64, index: u32) -> Written
         ensures { result ≡ deal_of self number index }
     {
         let Deeds {
@@ -150,7 +141,7 @@ impl Deeds {
             (None, Some(_)) => (second, nothing),
             (None, None) => (nothing, Act::Look(Shown::Nothing)),
         };
-        Deal {
+        Written {
             number,
             index,
             first,

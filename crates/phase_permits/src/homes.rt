@@ -61,16 +61,17 @@ impl<N: PhaseName> Worker<N> {
     ghost use Rattle.phase_permits.specs.Takens.{footprint_of, is_one_of};
     ghost use Rattle.phase_permits.specs.Txns.{is_put_off};
 
-    /// Where the objects are of a request that the opening does not refuse and that is not put off, in a phase with
-    /// so many shards: the shards among them are its footprint. What it views and the item that it buys are not hot,
-    /// since it is not put off, nor is the item that it stores.
+    /// Where the objects are of a request that the opening does not refuse and that is not put off,
+    /// in a phase with so many shards: the shards among them are its footprint. What it views and
+    /// the item that it buys are not hot, since it is not put off, nor is the item that it stores.
     #[inline(always)]
     pub(crate) fn homes(&self, request: &Request, shards: u32) -> Homes
         requires some { 0 < shards }
         requires allowed { number_refusal self.now.opening request.now ≡ None }
         requires goes { is_put_off (objects_of self.now.slices) request.now ≡ false }
         ensures homes { AreHomesOf self.now shards request.now result }
-        ensures footprint { (t : ℕ) → asks shards self.now request.now t ≡ is_one_of (footprint_of result) t }
+        ensures footprint { (t : ℕ) →
+            asks shards self.now request.now t ≡ is_one_of (footprint_of result) t }
         ensures known { AllByRecursion (λ s. s < shards) (footprint_of result) }
     {
         match *request {
@@ -126,7 +127,8 @@ impl<N: PhaseName> Worker<N> {
 #[inline(always)]
 fn cold(object: Object, shards: u32) -> Home
     requires some { 0 < shards }
-    ensures home { (hots : List (ObjectValue × Hot)) → is_hot (objects_of hots) object ≡ false → IsHomeOf hots shards object result }
+    ensures home { (hots : List (ObjectValue × Hot)) → is_hot (objects_of hots) object ≡ false →
+        IsHomeOf hots shards object result }
     ensures item { AllByRecursion (λ s. s < shards) (each_once (shard_at result) None) }
     ensures other { AllByRecursion (λ s. s < shards) (each_once None (shard_at result)) }
 {

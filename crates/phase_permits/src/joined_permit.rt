@@ -5,7 +5,7 @@ use crate::counters::Counters;
 use crate::fault::PermitFault;
 use crate::slices::Slices;
 use crate::stash::Stash;
-use crate::worker::Worker;
+use crate::worker::{Start, Worker};
 use auction_rows::{MOST_OF_A_WORKER, MOST_TRIES, Object, Opening, Reply, Request};
 use shard_boxes::{Boxes, Key, PhaseName};
 use std::marker::Model;
@@ -64,12 +64,22 @@ impl<N: PhaseName> JoinedPermit<N> {
     {
         let slices = Slices::none(stash.alloc());
         JoinedPermit {
-            worker: Worker::new(key, opening, counters, journal, stash, slices, quota, clock),
+            worker: Worker::new(Start {
+                key,
+                opening,
+                counters,
+                journal,
+                stash,
+                slices,
+                quota,
+                clock,
+            }),
         }
     }
 
-    /// Performs a request of the quota and commits it with its reply. After a fault nothing has changed but `tries` and
-    /// what the key has seen of the request's shards. It takes memory only for a new item.
+    /// Performs a request of the quota and commits it with its reply. After a fault nothing has
+    /// changed but `tries` and what the key has seen of the request's shards. It takes memory only
+    /// for a new item.
     pub fn perform<R: Wait>(
         &mut self,
         rt: &R,
@@ -83,7 +93,8 @@ impl<N: PhaseName> JoinedPermit<N> {
         requires tries { self.old.tries < MOST_TRIES }
         ensures committed { IfOk result (λ reply.
             HasCommitted N.opening (with_try self.old) self.new request.now index reply) }
-        ensures failed { IfErr result (HasFailed N.opening (with_try self.old) self.new request.now) }
+        ensures failed { IfErr result
+            (HasFailed N.opening (with_try self.old) self.new request.now) }
     {
         self.commit(rt, boxes, request, index)?;
         Ok(self.last_reply())
@@ -107,9 +118,9 @@ impl<N: PhaseName> JoinedPermit<N> {
         self.worker.transact(rt, boxes, request, index)
     }
 
-    /// Performs the first stashed request, which uses none of the quota: None exactly where there is none. After a fault
-    /// it is still the first, and nothing has changed but `tries` and what the key has seen of the request's shards. It
-    /// takes memory only for a new item.
+    /// Performs the first stashed request, which uses none of the quota: None exactly where there
+    /// is none. After a fault it is still the first, and nothing has changed but `tries` and what
+    /// the key has seen of the request's shards. It takes memory only for a new item.
     pub fn perform_stashed<R: Wait>(
         &mut self,
         rt: &R,
@@ -131,15 +142,16 @@ impl<N: PhaseName> JoinedPermit<N> {
         }
     }
 
-    /// Performs the first stashed request, as `perform_stashed` does: false exactly where there is none. Its reply is
-    /// left in the journal.
+    /// Performs the first stashed request, as `perform_stashed` does: false exactly where there is
+    /// none. Its reply is left in the journal.
     pub fn commit_stashed<R: Wait>(&mut self, rt: &R, boxes: &Boxes<N>) -> Result<bool, PermitFault>
         requires of { self.old.key.boxes ≡ boxes.now }
         requires opening { HaveOpening N.opening self.old.opening }
         requires tries { self.old.tries < MOST_TRIES }
         ensures none { IfOk result (λ some. some ≡ false → self.old.stash.requests ≡ []) }
         ensures unchanged { IfOk result (λ some. some ≡ false → self.new ≡ with_try self.old) }
-        ensures performed { IfOk result (λ some. some ≡ true → HasPerformedFirstSome N.opening (with_try self.old) self.new) }
+        ensures performed { IfOk result (λ some. some ≡ true →
+            HasPerformedFirstSome N.opening (with_try self.old) self.new) }
         ensures failed { IfErr result (HasFailedFirst N.opening (with_try self.old) self.new) }
     {
         let Some((index, request)) = self.worker.call_first() else {

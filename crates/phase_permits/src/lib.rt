@@ -1,5 +1,5 @@
-//! What one worker does in one phase: its permit to perform requests, the transactions over the shards that these need,
-//! and the receipt that it leaves.
+//! What one worker does in one phase: its permit to perform requests, the transactions over the
+//! shards that these need, and the receipt that it leaves.
 #![tactic(auto)]
 
 mod answering;

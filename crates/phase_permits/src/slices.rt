@@ -44,8 +44,6 @@ impl Operation for Stars {
     ghost applied = { comment_about };
 
     fn apply_to(self, slice: &mut Slice) {
-        // From -5 to 5, so that the rating fits.
-        let _known = self.value();
         if let Slice::User(comments) = slice {
             comments.apply(self);
         }
@@ -64,8 +62,8 @@ impl Operation for ItemEntry {
     }
 }
 
-/// What a worker holds of a hot object: of an item its facts and how many are left, which are fixed while it is
-/// split, and the slice.
+/// What a worker holds of a hot object: of an item its facts and how many are left, which are fixed
+/// while it is split, and the slice.
 #[derive(Drop)]
 pub struct Hot {
     pub stock: Option<(Facts, u32)>,
@@ -92,12 +90,13 @@ impl Hot {
 // How many guesses of a place there are.
 const GUESSES: u32 = 64;
 
-/// A worker's slices of the hot objects of a split phase, in the order handed in. Contracts see the list of the
-/// objects with what is held of each.
+/// A worker's slices of the hot objects of a split phase, in the order handed in. Contracts see the
+/// list of the objects with what is held of each.
 #[derive(Drop)]
 pub struct Slices {
     hot: IndexMap<Object, Hot>,
-    // Where an object may be: whoever asks looks at the object that is there, so nothing relies on it.
+    // Where an object may be: whoever asks looks at the object that is there, so nothing relies on
+    // it.
     guesses: [u8; 64],
 }
 
@@ -137,8 +136,8 @@ impl Slices {
         }
     }
 
-    /// An identity slice of each of these objects, none of which is named twice; an item comes with its facts and
-    /// how many are left.
+    /// An identity slice of each of these objects, none of which is named twice; an item comes with
+    /// its facts and how many are left.
     pub fn new(alloc: Global, hot: &[(Object, Option<(Facts, u32)>)]) -> Result<Slices, AllocError>
         requires distinct { IsDistinct same_object (objects_of hot.now) }
         requires stocked { AllByRecursion IsStocked hot.now }
@@ -160,7 +159,8 @@ impl Slices {
 
     /// Takes out the last object with its slice: None exactly where none is left.
     pub fn pop(&mut self) -> Option<(Object, Slice)>
-        ensures last { IfSome result (λ pair. slices_in self.old ≡ slices_in self.new ++ pair ∷ []) }
+        ensures last { IfSome result (λ pair.
+            slices_in self.old ≡ slices_in self.new ++ pair ∷ []) }
         ensures rest { self.new ≡ take (length self.old - 1) self.old }
         ensures none { IsNone result ↔ (self.old ≡ []) }
     {
@@ -198,7 +198,8 @@ impl Slices {
     /// What is fixed of the object at a place: of an item its facts, and how many are left.
     #[inline(always)]
     pub(crate) fn stock_at(&self, place: usize) -> Option<(Facts, u32)>
-        ensures { (object : Object) → IsAt self.now place object → result ≡ stock_of (stocks_of self.now) object }
+        ensures { (object : Object) → IsAt self.now place object →
+            result ≡ stock_of (stocks_of self.now) object }
     {
         match self.hot.get_index(place) {
             Some((_, hot)) => hot.stock,
@@ -210,31 +211,36 @@ impl Slices {
     #[inline(always)]
     pub(crate) fn apply<O: Operation>(&mut self, place: usize, operation: O)
         requires { AreFew MOST_OF_A_WORKER self.old }
-        ensures { (object : Object) → IsAt self.old place object → self.new ≡ changed object (O.applied operation) self.old }
+        ensures { (object : Object) → IsAt self.old place object →
+            self.new ≡ changed object (O.applied operation) self.old }
     {
         if let Some(hot) = self.hot.get_index_mut(place) {
             operation.apply_to(&mut hot.slice);
         }
     }
 
-    // Applies an operation to the slice of an object with this home, where the object is hot and the slice of the
-    // operation's kind.
+    // Applies an operation to the slice of an object with this home, where the object is hot and
+    // the slice of the operation's kind.
     #[inline(always)]
     fn apply_at<O: Operation>(&mut self, home: Home, operation: O)
         requires { AreFew MOST_OF_A_WORKER self.old }
-        ensures { (object : Object) → (shards : ℕ) → IsHomeOf self.old shards object home → self.new ≡ changed object (O.applied operation) self.old }
+        ensures { (object : Object) → (shards : ℕ) → IsHomeOf self.old shards object home →
+            self.new ≡ changed object (O.applied operation) self.old }
     {
         if let Home::Slice(place) = home {
             self.apply(place, operation);
         }
     }
 
-    /// Applies what a store writes to the slice of its object, where it is accepted and that is hot.
+    /// Applies what a store writes to the slice of its object, where it is accepted and that is
+    /// hot.
     #[inline(always)]
     pub(crate) fn store(&mut self, request: &Request, reply: StoreReply, homes: &Homes)
         requires few { AreFew MOST_OF_A_WORKER self.old }
         requires home { IsWrittenAt self.old request.now homes.now }
-        ensures written { (worker : ℕ) → IsOwn worker (reply_of reply) → self.new ≡ after_acts self.old (writes_if (row_of worker request.now (reply_of reply))) }
+        ensures written { (worker : ℕ) → IsOwn worker (reply_of reply) →
+            self.new
+            ≡ after_acts self.old (writes_if (row_of worker request.now (reply_of reply))) }
         ensures few { (n : ℕ) → AreFew n self.old → AreFew (n + 1) self.new }
     {
         match *request {
@@ -263,8 +269,6 @@ impl Slices {
             }
             Request::StoreComment { stars, .. } => {
                 if let StoreReply::CommentStored(_) = reply {
-                    // From -5 to 5.
-                    let _known = stars.value();
                     self.apply_at(homes.other, stars);
                 }
             }

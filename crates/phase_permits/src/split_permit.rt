@@ -6,7 +6,7 @@ use crate::counters::Counters;
 use crate::fault::{Done, PermitFault};
 use crate::slices::Slices;
 use crate::stash::Stash;
-use crate::worker::Worker;
+use crate::worker::{Start, Worker};
 use auction_rows::{ItemId, MOST_OF_A_WORKER, MOST_TRIES, Object, Opening, Reply, Request, Stars};
 use shard_boxes::{Boxes, Key, PhaseName};
 use std::marker::Model;
@@ -29,7 +29,8 @@ impl<N: PhaseName> Model for SplitPermit<N> {
     ghost invariant = { λ p. IsExplained (length N.opening) p.worker };
 }
 
-/// What a finished split permit leaves: its journal, its slices, its stash, its key and its counters.
+/// What a finished split permit leaves: its journal, its slices, its stash, its key and its
+/// counters.
 #[derive(Drop)]
 pub struct SplitReceipt<N: PhaseName> {
     worker: Worker<N>,
@@ -72,12 +73,21 @@ impl<N: PhaseName> SplitPermit<N> {
         ensures { result ≡ new_worker key opening counters journal stash slices quota clock }
     {
         SplitPermit {
-            worker: Worker::new(key, opening, counters, journal, stash, slices, quota, clock),
+            worker: Worker::new(Start {
+                key,
+                opening,
+                counters,
+                journal,
+                stash,
+                slices,
+                quota,
+                clock,
+            }),
         }
     }
 
-    /// A bid on a hot item: None exactly where the worker's clock is at the end of numbers, and then nothing has
-    /// changed. It takes no shard and no memory.
+    /// A bid on a hot item: None exactly where the worker's clock is at the end of numbers, and
+    /// then nothing has changed. It takes no shard and no memory.
     pub fn bid_hot(
         &mut self,
         bidder: u32,
@@ -91,7 +101,8 @@ impl<N: PhaseName> SplitPermit<N> {
         ensures none { IsNone result ↔ (last_number ≤ self.old.clock) }
         ensures unchanged { IfNone result (self.new ≡ self.old) }
         ensures committed { IfSome result (λ reply.
-            HasCommitted N.opening self.old self.new (StoreBid bidder item amount time) index reply) }
+            HasCommitted N.opening self.old self.new
+            (StoreBid bidder item amount time) index reply) }
         ensures key { self.new.key ≡ self.old.key }
     {
         let request = Request::StoreBid {
@@ -104,8 +115,9 @@ impl<N: PhaseName> SplitPermit<N> {
         Some(self.last_reply())
     }
 
-    /// A comment about a hot user on the occasion of a hot item: None exactly where the worker's clock is at the end
-    /// of numbers, and then nothing has changed. It takes no shard and no memory.
+    /// A comment about a hot user on the occasion of a hot item: None exactly where the worker's
+    /// clock is at the end of numbers, and then nothing has changed. It takes no shard and no
+    /// memory.
     pub fn comment_hot(
         &mut self,
         author: u32,
@@ -120,7 +132,8 @@ impl<N: PhaseName> SplitPermit<N> {
         ensures none { IsNone result ↔ (last_number ≤ self.old.clock) }
         ensures unchanged { IfNone result (self.new ≡ self.old) }
         ensures committed { IfSome result (λ reply.
-            HasCommitted N.opening self.old self.new (StoreComment author about item stars) index reply) }
+            HasCommitted N.opening self.old self.new
+            (StoreComment author about item stars) index reply) }
         ensures key { self.new.key ≡ self.old.key }
     {
         let request = Request::StoreComment {
@@ -133,10 +146,10 @@ impl<N: PhaseName> SplitPermit<N> {
         Some(self.last_reply())
     }
 
-    /// Performs a request of the quota. It is put off where it can't be split and touches a hot object: then it uses
-    /// no number. Else it is committed, at 1 + the greatest of the worker's clock and those of the shards that it
-    /// takes, which are those of its objects that are not hot. After a fault all but the tries and what the key has
-    /// seen is as before.
+    /// Performs a request of the quota. It is put off where it can't be split and touches a hot
+    /// object: then it uses no number. Else it is committed, at 1 + the greatest of the worker's
+    /// clock and those of the shards that it takes, which are those of its objects that are not
+    /// hot. After a fault all but the tries and what the key has seen is as before.
     pub fn perform<R: Wait>(
         &mut self,
         rt: &R,
@@ -148,9 +161,12 @@ impl<N: PhaseName> SplitPermit<N> {
         requires opening { HaveOpening N.opening self.old.opening }
         requires left { 0 < self.old.left }
         requires tries { self.old.tries < MOST_TRIES }
-        ensures dealt { IfOk result (HasDealtWith N.opening (with_try self.old) self.new request.now index) }
-        ensures stashed { (result ≡ Ok Stashed) ↔ (is_put_off (objects_of self.old.slices) request.now ≡ true) }
-        ensures failed { IfErr result (HasFailed N.opening (with_try self.old) self.new request.now) }
+        ensures dealt { IfOk result
+            (HasDealtWith N.opening (with_try self.old) self.new request.now index) }
+        ensures stashed { (result ≡ Ok Stashed)
+            ↔ (is_put_off (objects_of self.old.slices) request.now ≡ true) }
+        ensures failed { IfErr result
+            (HasFailed N.opening (with_try self.old) self.new request.now) }
         ensures untouched { IsUntouched (length N.opening) self.old self.new request.now }
     {
         if self.commit(rt, boxes, request, index)? {
@@ -160,7 +176,8 @@ impl<N: PhaseName> SplitPermit<N> {
         }
     }
 
-    /// Performs a request of the quota, as `perform` does: false where it is put off. Its reply is left in the journal.
+    /// Performs a request of the quota, as `perform` does: false where it is put off. Its reply is
+    /// left in the journal.
     pub fn commit<R: Wait>(
         &mut self,
         rt: &R,
@@ -172,9 +189,12 @@ impl<N: PhaseName> SplitPermit<N> {
         requires opening { HaveOpening N.opening self.old.opening }
         requires left { 0 < self.old.left }
         requires tries { self.old.tries < MOST_TRIES }
-        ensures dealt { IfOk result (HasDealt N.opening (with_try self.old) self.new request.now index) }
-        ensures stashed { (result ≡ Ok false) ↔ (is_put_off (objects_of self.old.slices) request.now ≡ true) }
-        ensures failed { IfErr result (HasFailed N.opening (with_try self.old) self.new request.now) }
+        ensures dealt { IfOk result
+            (HasDealt N.opening (with_try self.old) self.new request.now index) }
+        ensures stashed { (result ≡ Ok false)
+            ↔ (is_put_off (objects_of self.old.slices) request.now ≡ true) }
+        ensures failed { IfErr result
+            (HasFailed N.opening (with_try self.old) self.new request.now) }
         ensures untouched { IsUntouched (length N.opening) self.old self.new request.now }
     {
         self.worker.count_try();
@@ -235,7 +255,8 @@ impl<N: PhaseName> SplitReceipt<N> {
     ghost use Rattle.phase_permits.specs.Slicing.{AreFew};
     ghost use Rattle.phase_permits.specs.Workers.{IsExplained};
 
-    /// The journal, the slices, the stash, the key and the counters, which are explained by its transactions.
+    /// The journal, the slices, the stash, the key and the counters, which are explained by its
+    /// transactions.
     pub fn parts(self) -> (Journal, Slices, Stash, Key<N>, Counters)
         ensures journal { result.0 ≡ self.journal }
         ensures slices { result.1 ≡ self.slices }

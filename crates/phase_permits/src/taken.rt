@@ -1,13 +1,11 @@
 //! The shards that a transaction takes.
 ghost use Rattle.std.specs.Prelude.{◌≡◌, ◌<◌, ◌≤◌, length, IfOk};
 ghost use Rattle.std.specs.List.{AllByRecursion};
-ghost use Rattle.phase_laws.specs.Numbers.{greatest_by};
 ghost use Rattle.item_shards.specs.CommitNumbers.{last_number};
-ghost use Rattle.item_shards.specs.ShardContents.{clock};
 ghost use Rattle.phase_permits.specs.Begun.{states_in, FirstHas, FirstHasRoom};
 ghost use Rattle.phase_permits.specs.Deeds.{clocks_of, stock_on};
-ghost use Rattle.phase_permits.specs.Taking.{IsReady};
-ghost use Rattle.phase_permits.specs.Takens.{footprint_of, held_in, numbers_of, is_one_of, dealt, line_among, HasTakenAll, AreHeldAll, AreBack, HasPutAll, CanBeDoneOnAll};
+ghost use Rattle.phase_permits.specs.Putting.{HasPutAll, written_acts};
+ghost use Rattle.phase_permits.specs.Takens.{footprint_of, greatest_held, held_in, numbers_of, is_one_of, dealt, line_among, HasTakenAll, AreHeldAll, AreBack, CanBeDoneOnAll, IsReady};
 
 use crate::homes::Homes;
 use crate::putting::{Written, put_with_line};
@@ -33,15 +31,6 @@ pub(crate) struct Begun<N: PhaseName> {
     pub(crate) number: u64,
 }
 
-/// What a transaction does on its shards, at its number: two acts, both on the one shard or one on each of two.
-#[derive(Drop)]
-pub(crate) struct Deal {
-    pub(crate) number: u64,
-    pub(crate) index: u32,
-    pub(crate) first: Act,
-    pub(crate) second: Act,
-}
-
 /// Takes the shards of a footprint, in ascending order, each once.
 #[inline(always)]
 pub(crate) fn take_all<N: PhaseName, R: Wait>(
@@ -50,9 +39,10 @@ pub(crate) fn take_all<N: PhaseName, R: Wait>(
     key: &mut Key<N>,
     homes: &Homes,
 ) -> Taken<N>
-    requires ready { IsReady N.opening boxes.now key.old }
+    requires ready { IsReady boxes.now key.old }
     requires known { AllByRecursion (λ s. s < length N.opening) (footprint_of homes.now) }
-    ensures { HasTakenAll N.opening N.workers key.old key.new (footprint_of homes.now) (held_in result) }
+    ensures { HasTakenAll N.opening N.workers key.old key.new
+        (footprint_of homes.now) (held_in result) }
 {
     match (homes.item.shard(), homes.other.shard()) {
         (None, None) => Taken::Nothing,
@@ -75,7 +65,7 @@ pub(crate) fn take_all<N: PhaseName, R: Wait>(
 /// The greatest of the shards' clocks, 0 where none is taken.
 #[inline(always)]
 pub(crate) fn clock_of<N: PhaseName>(taken: &Taken<N>) -> u64
-    ensures { result ≡ greatest_by (λ h. clock h.shard) (held_in taken.now) }
+    ensures { result ≡ greatest_held (held_in taken.now) }
 {
     match taken {
         Taken::Nothing => 0,
@@ -99,7 +89,8 @@ pub(crate) fn clocks_of<N: PhaseName>(taken: &Taken<N>) -> [Option<(u32, u64)>; 
     }
 }
 
-/// What the shards have of an item that lies in the first of them: its facts and how many are left, where it is stored.
+/// What the shards have of an item that lies in the first of them: its facts and how many are left,
+/// where it is stored.
 #[inline(always)]
 pub(crate) fn stock_in<N: PhaseName>(taken: &Taken<N>, item: ItemId) -> Option<(Facts, u32)>
     requires { FirstHas taken.now item }
@@ -145,68 +136,46 @@ pub(crate) fn put_back<N: PhaseName, R: Wait>(
     }
 }
 
-/// Does two acts on the shards, at a number after their clocks, and puts them back with their lines.
+/// Does two acts on the shards, both on the one or one on each of two, at a number after their
+/// clocks, and puts them back with their lines.
 #[inline(always)]
 pub(crate) fn put_all<N: PhaseName, R: Wait>(
     rt: &R,
     boxes: &Boxes<N>,
     key: &mut Key<N>,
     taken: Taken<N>,
-    deal: Deal,
+    written: Written,
 )
     requires held { AreHeldAll N.opening N.workers boxes.now key.old (held_in taken) }
-    requires within { deal.number ≤ last_number }
-    requires can { CanBeDoneOnAll deal.number (held_in taken) (dealt taken deal.first deal.second) }
+    requires within { written.number ≤ last_number }
+    requires can { CanBeDoneOnAll written.number (held_in taken) (dealt taken (written_acts written)) }
     ensures { HasPutAll N.opening key.old key.new (is_one_of (numbers_of (held_in taken)))
-        (line_among deal.number deal.index (held_in taken) (dealt taken deal.first deal.second)) }
+        (line_among written.number written.index (held_in taken) (dealt taken (written_acts written))) }
 {
-    let Deal {
-        number,
-        index,
-        first,
-        second,
-    } = deal;
     match taken {
         Taken::Nothing => {}
-        Taken::One(one) => {
-            let acts = [first, second];
-            put_with_line(
-                rt,
-                boxes,
-                key,
-                one,
-                &Written {
-                    number,
-                    index,
-                    acts,
-                },
-            );
-        }
+        Taken::One(one) => put_with_line(rt, boxes, key, one, written),
         Taken::Two(item, other) => {
-            let acts = [first, Act::Look(Shown::Nothing)];
-            put_with_line(
-                rt,
-                boxes,
-                key,
-                item,
-                &Written {
-                    number,
-                    index,
-                    acts,
-                },
-            );
-            let acts = [second, Act::Look(Shown::Nothing)];
-            put_with_line(
-                rt,
-                boxes,
-                key,
-                other,
-                &Written {
-                    number,
-                    index,
-                    acts,
-                },
-            );
+            let Written {
+                number,
+                index,
+                first,
+                second,
+            } = written;
+            let on_item = Written {
+                number,
+                index,
+                first,
+                second: Act::Look(Shown::Nothing),
+            };
+            put_with_line(rt, boxes, key, item, on_item);
+            let on_other = Written {
+                number,
+                index,
+                first: second,
+                second: Act::Look(Shown::Nothing),
+            };
+            put_with_line(rt, boxes, key, other, on_other);
         }
     }
 }

@@ -1,5 +1,5 @@
 //! What a worker does with a request that is not put off.
-ghost use Rattle.std.specs.Prelude.{◌≡◌, ◌<◌, ◌≤◌, ◌↔◌, ℕ, None, Some, IsNone, IfNone, IfSome, IfOk, IfErr, false, true, length};
+ghost use Rattle.std.specs.Prelude.{◌≡◌, ◌<◌, ◌≤◌, ◌↔◌, ℕ, suc, max, None, Some, IsNone, IfNone, IfSome, IfOk, IfErr, false, true, length};
 ghost use Rattle.std.specs.List.{AllByRecursion};
 ghost use Rattle.auction_rows.specs.Refusals.{number_refusal};
 ghost use Rattle.auction_rows.specs.Requests.{is_view};
@@ -11,9 +11,10 @@ ghost use Rattle.phase_permits.specs.declared.fault.PermitFault.TheVariants.{Num
 use crate::deeds::Deeds;
 use crate::fault::PermitFault;
 use crate::homes::Homes;
+use crate::putting::Written;
 use crate::read_set::ReadSet;
-use crate::store::Store;
-use crate::taken::{Begun, Deal, clock_of, clocks_of, make_room, put_all, put_back, take_all};
+use crate::store::{Call, Store};
+use crate::taken::{Begun, clock_of, clocks_of, make_room, put_all, put_back, take_all};
 use crate::viewing::view_on;
 use crate::worker::Worker;
 use auction_rows::{Refusal, Request, StoreReply, is_view, number_refusal};
@@ -26,18 +27,16 @@ use worker_journals::{Answer, Told};
 
 impl<N: PhaseName> Worker<N> {
     ghost use Rattle.phase_permits.specs.declared.homes.Homes.{Homes as HomesValue};
-    ghost use Rattle.phase_permits.specs.Begun.{HasBegun, HasFirst, HasRoomFor, IsSeen, states_in};
+    ghost use Rattle.phase_permits.specs.Begun.{step_of, HasBegun, HasFirst, HasRoomFor, IsSeen, states_in};
     ghost use Rattle.phase_permits.specs.Deeds.{IsReplyBy};
     ghost use Rattle.phase_permits.specs.Homes.{AreHomesOf, HasHomes, IsHotStore};
-    ghost use Rattle.phase_permits.specs.Performing.{asks, HasCommitted, HasCommittedSome, HasFailed, HasPerformed, HasStoredSome, HaveOpening, StoresItem};
+    ghost use Rattle.phase_permits.specs.Performing.{asks, CanTransact, HasCommitted, HasCommittedSome, HasFailed, HasPerformed, HasStoredOrIsFull, HasStoredSome, HaveOpening, StoresItem};
     ghost use Rattle.phase_permits.specs.Slicing.{objects_of};
-    ghost use Rattle.phase_permits.specs.Taking.{IsReady};
-    ghost use Rattle.phase_permits.specs.Takens.{footprint_of, is_one_of, shard_at};
+    ghost use Rattle.phase_permits.specs.Takens.{footprint_of, is_one_of, shard_at, IsReady};
     ghost use Rattle.phase_permits.specs.Txns.{is_put_off};
-    ghost use Rattle.phase_permits.specs.Workers.{IsIdle};
 
-    /// Performs a request of the quota that is not put off. After a fault nothing has changed but what the key has
-    /// seen of the shards of its footprint.
+    /// Performs a request of the quota that is not put off. After a fault nothing has changed but
+    /// what the key has seen of the shards of its footprint.
     pub(crate) fn transact<R: Wait>(
         &mut self,
         rt: &R,
@@ -45,35 +44,25 @@ impl<N: PhaseName> Worker<N> {
         request: &Request,
         index: u32,
     ) -> Result<(), PermitFault>
-        requires of { self.old.key.boxes ≡ boxes.now }
-        requires idle { IsIdle self.old.key }
-        requires opened { HaveOpening N.opening self.old.opening }
-        requires goes { is_put_off (objects_of self.old.slices) request.now ≡ false }
-        requires left { 0 < self.old.left }
+        requires { CanTransact N.opening boxes.now self.old request.now }
         ensures { HasPerformed N.opening self.old self.new request.now index result }
     {
-        // One of the phase's workers.
-        let _worker = self.key.worker();
+        let call = Call { request, index };
 
         // A request that the opening refuses takes no shard, nor does a store on hot objects alone.
         if let Some(reason) = number_refusal(self.opening, *request) {
-            return self
-                .refuse(request, reason, index)
-                .ok_or(PermitFault::NumberFull);
+            return self.refuse(call, reason);
         }
         let homes = self.homes(request, boxes.shards());
         if homes.are_in_no_shard() {
-            return self
-                .store_hot(request, &homes, index)
-                .ok_or(PermitFault::NumberFull);
+            return self.store_hot(call, &homes);
         }
 
-        // The shards of the footprint are taken, in ascending order, each once, before anything is read.
-        let Some(mut begun) = self.begin(rt, boxes, request, &homes) else {
-            return Err(PermitFault::NumberFull);
-        };
+        // The shards of the footprint are taken, in ascending order, each once, before anything is
+        // read.
+        let mut begun = self.begin(rt, boxes, request, &homes)?;
         if is_view(*request) {
-            self.show(rt, boxes, begun, request, index);
+            self.show(rt, boxes, begun, call);
             return Ok(());
         }
         if self.prepare(&mut begun, request).is_err() {
@@ -86,8 +75,7 @@ impl<N: PhaseName> Worker<N> {
         let seen = self.seen(&begun.taken, request, &homes);
         let reply = self.reply(&seen, request);
         let store = Store {
-            request,
-            index,
+            call,
             homes: &homes,
             seen: &seen,
             reply,
@@ -96,8 +84,8 @@ impl<N: PhaseName> Worker<N> {
         Ok(())
     }
 
-    /// Performs a store on hot objects alone: None exactly where the clock is at the end of numbers, and then nothing
-    /// has changed. It takes no shard and no memory.
+    /// Performs a store on hot objects alone: None exactly where the clock is at the end of
+    /// numbers, and then nothing has changed. It takes no shard and no memory.
     pub(crate) fn perform_hot(&mut self, request: &Request, index: u32) -> Option<()>
         requires hot { IsHotStore self.old.slices request.now }
         requires left { 0 < self.old.left }
@@ -105,65 +93,62 @@ impl<N: PhaseName> Worker<N> {
         ensures unchanged { IfNone result (self.new ≡ self.old) }
         ensures stored { IfSome result (λ done. HasStoredSome self.old self.new request.now index) }
     {
+        let call = Call { request, index };
         match number_refusal(self.opening, *request) {
-            Some(reason) => self.refuse(request, reason, index),
+            Some(reason) => self.refuse(call, reason).ok(),
             None => {
+                // None of its objects lies in a shard, so it is the same for any number of shards.
                 let homes = self.homes(request, 1);
-                self.store_hot(request, &homes, index)
+                self.store_hot(call, &homes).ok()
             }
         }
     }
 
-    /// Commits a request that the opening refuses: None exactly where the clock is at the end of numbers, and then
-    /// nothing has changed. It takes no shard and no memory.
+    /// Commits a request that the opening refuses. It takes no shard and no memory.
     #[inline(always)]
-    pub(crate) fn refuse(&mut self, request: &Request, reason: Refusal, index: u32) -> Option<()>
-        requires refused { number_refusal self.old.opening request.now ≡ Some reason }
-        requires goes { is_put_off (objects_of self.old.slices) request.now ≡ false }
+    pub(crate) fn refuse(&mut self, call: Call<'_>, reason: Refusal) -> Result<(), PermitFault>
+        requires refused { number_refusal self.old.opening call.request.now ≡ Some reason }
+        requires goes { is_put_off (objects_of self.old.slices) call.request.now ≡ false }
         requires left { 0 < self.old.left }
-        ensures none { IsNone result ↔ (last_number ≤ self.old.clock) }
-        ensures unchanged { IfNone result (self.new ≡ self.old) }
-        ensures stored { IfSome result (λ done. HasStoredSome self.old self.new request.now index) }
+        ensures { HasStoredOrIsFull self.old self.new
+            call.entry.request.now call.entry.index result }
     {
-        let number = next_number(self.clock, 0)?;
+        let number = number_after(self.clock, 0)?;
         let answer = Answer {
             told: Told::Store(StoreReply::Refused(reason)),
         };
-        self.commit(number, index, request, &answer, &ReadSet::nothing());
-        Some(())
+        self.commit(number, call, &answer, &ReadSet::nothing());
+        Ok(())
     }
 
-    /// Performs a store on objects with these homes, of which none is in a shard, that the opening does not refuse:
-    /// None exactly where the clock is at the end of numbers, and then nothing has changed. It takes no shard and no
-    /// memory.
+    /// Performs a store on objects with these homes, of which none is in a shard, that the opening
+    /// does not refuse. It takes no shard and no memory.
     #[inline(always)]
-    pub(crate) fn store_hot(&mut self, request: &Request, homes: &Homes, index: u32) -> Option<()>
-        requires allowed { number_refusal self.old.opening request.now ≡ None }
-        requires store { is_view request.now ≡ false }
-        requires goes { is_put_off (objects_of self.old.slices) request.now ≡ false }
-        requires homes { HasHomes self.old request.now homes.now }
+    pub(crate) fn store_hot(&mut self, call: Call<'_>, homes: &Homes) -> Result<(), PermitFault>
+        requires allowed { number_refusal self.old.opening call.request.now ≡ None }
+        requires store { is_view call.request.now ≡ false }
+        requires goes { is_put_off (objects_of self.old.slices) call.request.now ≡ false }
+        requires homes { HasHomes self.old call.request.now homes.now }
         requires hot { shard_at homes.now.item ≡ None }
         requires left { 0 < self.old.left }
-        ensures none { IsNone result ↔ (last_number ≤ self.old.clock) }
-        ensures unchanged { IfNone result (self.new ≡ self.old) }
-        ensures stored { IfSome result (λ done. HasStoredSome self.old self.new request.now index) }
+        ensures { HasStoredOrIsFull self.old self.new
+            call.entry.request.now call.entry.index result }
     {
-        let number = next_number(self.clock, 0)?;
+        let number = number_after(self.clock, 0)?;
         let seen = self.fixed(homes.item);
-        let reply = self.reply(&seen, request);
+        let reply = self.reply(&seen, call.request);
         let store = Store {
-            request,
-            index,
+            call,
             homes,
             seen: &seen,
             reply,
         };
         self.commit_store(number, &store, &ReadSet::nothing());
-        Some(())
+        Ok(())
     }
 
-    // Takes the shards of a footprint, with the number after the worker's clock and theirs: None exactly where that
-    // is past the end of numbers, and then they went back as they were.
+    // Takes the shards of a footprint, with the number after the worker's clock and theirs. If
+    // there is none, they went back as they were.
     #[inline(always)]
     fn begin<R: Wait>(
         &mut self,
@@ -171,25 +156,26 @@ impl<N: PhaseName> Worker<N> {
         boxes: &Boxes<N>,
         request: &Request,
         homes: &Homes,
-    ) -> Option<Begun<N>>
-        requires ready { IsReady N.opening boxes.now self.old.key }
+    ) -> Result<Begun<N>, PermitFault>
+        requires ready { IsReady boxes.now self.old.key }
         requires allowed { number_refusal self.old.opening request.now ≡ None }
         requires goes { is_put_off (objects_of self.old.slices) request.now ≡ false }
         requires homes { AreHomesOf self.old (length N.opening) request.now homes.now }
-        requires asked { (t : ℕ) → asks (length N.opening) self.old request.now t ≡ is_one_of (footprint_of homes.now) t }
+        requires asked { (t : ℕ) →
+            asks (length N.opening) self.old request.now t ≡ is_one_of (footprint_of homes.now) t }
         requires known { AllByRecursion (λ s. s < length N.opening) (footprint_of homes.now) }
         ensures worker { self.new ≡ record self.old { key = self.new.key } }
-        ensures begun { IfSome result (λ begun.
-            HasBegun N.opening N.workers boxes.now self.old.key self.new request.now homes.now begun.taken begun.number) }
-        ensures full { IfNone result (HasFailed N.opening self.old self.new request.now NumberFull) }
+        ensures begun { IfOk result (HasBegun
+            (step_of N.opening N.workers boxes.now self.old.key homes.now) self.new request.now) }
+        ensures full { IfErr result (HasFailed N.opening self.old self.new request.now) }
     {
         let taken = take_all(rt, boxes, &mut self.key, homes);
         let before = clock_of(&taken);
-        match next_number(self.clock, before) {
-            Some(number) => Some(Begun { taken, number }),
-            None => {
+        match number_after(self.clock, before) {
+            Ok(number) => Ok(Begun { taken, number }),
+            Err(fault) => {
                 put_back(rt, boxes, &mut self.key, taken);
-                None
+                Err(fault)
             }
         }
     }
@@ -209,60 +195,78 @@ impl<N: PhaseName> Worker<N> {
         }
     }
 
-    // Performs a view over its one shard, which shows what is viewed: apart, as no other request has room for a whole reply.
+    // Performs a view over its one shard, which shows what is viewed: apart, as no other request
+    // has room for a whole reply.
     #[inline(never)]
-    fn show<R: Wait>(
-        &mut self,
-        rt: &R,
-        boxes: &Boxes<N>,
-        begun: Begun<N>,
-        request: &Request,
-        index: u32,
-    )
-        requires view { is_view request.now ≡ true }
+    fn show<R: Wait>(&mut self, rt: &R, boxes: &Boxes<N>, begun: Begun<N>, call: Call<'_>)
+        requires view { is_view call.request.now ≡ true }
         requires opened { HaveOpening N.opening self.old.opening }
-        requires begun { (homes : HomesValue) × (key : KeyState) × HasBegun N.opening N.workers boxes.now key self.old request.now homes begun.taken begun.number }
+        requires begun { (homes : HomesValue) × (key : KeyState) × HasBegun
+            (step_of N.opening N.workers boxes.now key homes) self.old call.request.now begun }
         requires left { 0 < self.old.left }
-        ensures { (homes : HomesValue) → (key : KeyState) → HasBegun N.opening N.workers boxes.now key self.old request.now homes begun.taken begun.number
-            → HasCommittedSome N.opening (record self.old { key = key }) self.new request.now index }
+        ensures { (homes : HomesValue) → (key : KeyState) → HasBegun
+            (step_of N.opening N.workers boxes.now key homes) self.old
+            call.entry.request.now begun →
+            HasCommittedSome N.opening (record self.old { key = key }) self.new
+            call.entry.request.now call.entry.index }
     {
         let Begun { taken, number } = begun;
         let found = ReadSet {
             stock: Ghost::of(&None),
             clocks: clocks_of(&taken),
         };
-        let (object, reply) = view_on(&taken, request);
-        let deal = Deal {
+        let (object, reply) = view_on(&taken, call.request);
+        let look = Act::Look(Shown::Reply(object, Ghost::of(&reply)));
+        let written = Written {
             number,
-            index,
-            first: Act::Look(Shown::Reply(object, Ghost::of(&reply))),
+            index: call.index,
+            first: look,
             second: Act::Look(Shown::Nothing),
         };
-        put_all(rt, boxes, &mut self.key, taken, deal);
-        self.commit(number, index, request, &Answer::of(&reply), &found);
+        put_all(rt, boxes, &mut self.key, taken, written);
+        self.commit(number, call, &Answer::of(&reply), &found);
     }
 
-    // Does what a store does on the shards that were taken, puts them back with their lines, and commits it.
+    // Does what a store does on the shards that were taken, puts them back with their lines, and
+    // commits it.
     #[inline(always)]
     fn put_store<R: Wait>(&mut self, rt: &R, boxes: &Boxes<N>, begun: Begun<N>, store: &Store<'_>)
-        requires store { is_view store.now.request.now ≡ false }
+        requires store { is_view store.now.call.request.now ≡ false }
         requires opened { HaveOpening N.opening self.old.opening }
-        requires begun { (key : KeyState) × HasBegun N.opening N.workers boxes.now key self.old store.now.request.now store.now.homes.now begun.taken begun.number }
-        requires seen { IsSeen self.old store.now.request.now store.now.homes.now begun.taken store.now.seen.now }
-        requires room { HasRoomFor self.old store.now.request.now begun.taken }
-        requires answered { IsReplyBy self.old store.now.seen.now store.now.request.now (reply_of store.now.reply) }
+        requires begun { (key : KeyState) × HasBegun
+            (step_of N.opening N.workers boxes.now key store.now.homes.now)
+            self.old store.now.call.request.now begun }
+        requires seen { IsSeen self.old store.now.call.request.now
+            store.now.homes.now begun.taken store.now.seen.now }
+        requires room { HasRoomFor self.old store.now.call.request.now begun.taken }
+        requires answered { IsReplyBy self.old store.now.seen.now
+            store.now.call.request.now (reply_of store.now.reply) }
         requires left { 0 < self.old.left }
-        ensures { (key : KeyState) → HasBegun N.opening N.workers boxes.now key self.old store.now.request.now store.now.homes.now begun.taken begun.number
-            → HasCommitted N.opening (record self.old { key = key }) self.new store.now.request.now store.now.index (reply_of store.now.reply) }
+        ensures { (key : KeyState) → HasBegun
+            (step_of N.opening N.workers boxes.now key store.now.homes.now)
+            self.old store.now.call.request.now begun →
+            HasCommitted N.opening (record self.old { key = key }) self.new
+            store.now.call.request.now store.now.call.index (reply_of store.now.reply) }
     {
         let Begun { taken, number } = begun;
         let found = ReadSet {
             stock: Ghost::of(store.seen),
             clocks: clocks_of(&taken),
         };
-        let deeds = Deeds::of(store.request, store.reply, store.seen, store.homes);
-        let deal = deeds.deal(number, store.index);
+        let deeds = Deeds::of(store.call.request, store.reply, store.seen, store.homes);
+        let deal = deeds.deal(number, store.call.index);
         put_all(rt, boxes, &mut self.key, taken, deal);
         self.commit_store(number, store, &found);
     }
+}
+
+// The number after two clocks, if there is one.
+#[inline(always)]
+fn number_after(own: u64, found: u64) -> Result<u64, PermitFault>
+    ensures number { IfOk result (λ number. number ≡ suc (max own found)) }
+    ensures within { IfOk result (λ number. number ≤ last_number) }
+    ensures fault { IfErr result (λ fault. fault ≡ NumberFull) }
+    ensures full { IfErr result (λ _. last_number ≤ max own found) }
+{
+    next_number(own, found).ok_or(PermitFault::NumberFull)
 }

@@ -24,9 +24,12 @@ pub(crate) fn view_on<N: PhaseName>(taken: &Taken<N>, request: &Request) -> (Obj
     requires view { is_view request.now ≡ true }
     requires one { IsOnOne request.now taken.now }
     ensures viewed { viewed request.now ≡ Some result.0 }
-    ensures looks { (seen : Option (FactsValue × ℕ)) → looks_of seen result.1 request.now ≡ Look (shown.Reply result.0 result.1) ∷ [] }
-    ensures answers { (counters : CountersValue) → (worker : ℕ) → Answers counters worker request.now result.1 }
-    ensures shown { AllByRecursion (λ h. IsTrueOf (contents h.shard) (shown.Reply result.0 result.1)) (held_in taken.now) }
+    ensures looks { (seen : Option (FactsValue × ℕ)) →
+        looks_of seen result.1 request.now ≡ Look (shown.Reply result.0 result.1) ∷ [] }
+    ensures answers { (counters : CountersValue) → (worker : ℕ) →
+        Answers counters worker request.now result.1 }
+    ensures shown { AllByRecursion
+        (λ h. IsTrueOf (contents h.shard) (shown.Reply result.0 result.1)) (held_in taken.now) }
 {
     match taken {
         Taken::One(one) => view(one.shard(), request),
@@ -39,8 +42,10 @@ fn view(shard: &Shard, request: &Request) -> (Object, Reply)
     requires view { is_view request.now ≡ true }
     requires can { CanView shard.now request.now }
     ensures viewed { viewed request.now ≡ Some result.0 }
-    ensures looks { (seen : Option (FactsValue × ℕ)) → looks_of seen result.1 request.now ≡ Look (shown.Reply result.0 result.1) ∷ [] }
-    ensures answers { (counters : CountersValue) → (worker : ℕ) → Answers counters worker request.now result.1 }
+    ensures looks { (seen : Option (FactsValue × ℕ)) →
+        looks_of seen result.1 request.now ≡ Look (shown.Reply result.0 result.1) ∷ [] }
+    ensures answers { (counters : CountersValue) → (worker : ℕ) →
+        Answers counters worker request.now result.1 }
     ensures shown { IsTrueOf (contents shard.now) (shown.Reply result.0 result.1) }
 {
     match *request {

@@ -7,15 +7,16 @@ use crate::counters::Counters;
 use crate::read_set::ReadSet;
 use crate::slices::Slices;
 use crate::stash::Stash;
-use crate::store::Store;
+use crate::store::{Call, Store};
 use auction_rows::{Entry, ItemId, MOST_TRIES, Object, Opening, Reply, Request};
 use ghost_log::Log;
 use shard_boxes::{Key, PhaseName};
 use std::marker::Model;
 use worker_journals::{Answer, Journal, Told};
 
-/// What a worker has in a phase: its right to take shards, and what no other worker touches: its counters, its
-/// journal, its stash, its slices of what is split, the requests of its quota that are left, and its clock.
+/// What a worker has in a phase: its right to take shards, and what no other worker touches: its
+/// counters, its journal, its stash, its slices of what is split, the requests of its quota that
+/// are left, and its clock.
 #[derive(Drop)]
 pub(crate) struct Worker<N: PhaseName> {
     pub(crate) key: Key<N>,
@@ -30,6 +31,18 @@ pub(crate) struct Worker<N: PhaseName> {
     // What it began with, and its transactions: for proofs alone.
     pub(crate) begun: Log<Counters, u64>,
     pub(crate) txns: Log<Entry, ReadSet>,
+}
+
+/// What a worker starts a phase with.
+pub(crate) struct Start<N: PhaseName> {
+    pub(crate) key: Key<N>,
+    pub(crate) opening: Opening,
+    pub(crate) counters: Counters,
+    pub(crate) journal: Journal,
+    pub(crate) stash: Stash,
+    pub(crate) slices: Slices,
+    pub(crate) quota: u32,
+    pub(crate) clock: u64,
 }
 
 impl<N: PhaseName> Model for Worker<N> {
@@ -74,19 +87,22 @@ impl<N: PhaseName> Worker<N> {
     ghost use Rattle.phase_permits.specs.Workers.{CanStart, IsLawful, new_worker, next_item, last_reply, with_try, after_putting_off, with_first_called, with_entry, after_commit};
 
     /// A worker as a phase begins. It takes no memory.
-    pub(crate) fn new(
-        key: Key<N>,
-        opening: Opening,
-        counters: Counters,
-        journal: Journal,
-        stash: Stash,
-        slices: Slices,
-        quota: u32,
-        clock: u64,
-    ) -> Worker<N>
-        requires { CanStart (new_worker key opening counters journal stash slices quota clock) }
-        ensures { result ≡ new_worker key opening counters journal stash slices quota clock }
+    pub(crate) fn new(start: Start<N>) -> Worker<N>
+        requires { CanStart (new_worker start.key start.opening start.counters start.journal
+            start.stash start.slices start.quota start.clock) }
+        ensures { result ≡ new_worker start.key start.opening start.counters start.journal
+            start.stash start.slices start.quota start.clock }
     {
+        let Start {
+            key,
+            opening,
+            counters,
+            journal,
+            stash,
+            slices,
+            quota,
+            clock,
+        } = start;
         Worker {
             key,
             opening,
@@ -131,7 +147,8 @@ impl<N: PhaseName> Worker<N> {
         self.slices.place_of(object).is_some()
     }
 
-    /// Whether a request waits for the next joined phase: it can't be split, and touches a hot object.
+    /// Whether a request waits for the next joined phase: it can't be split, and touches a hot
+    /// object.
     #[inline(always)]
     pub(crate) fn is_put_off(&self, request: &Request) -> bool
         ensures { result ≡ is_put_off (objects_of self.now.slices) request.now }
@@ -158,8 +175,8 @@ impl<N: PhaseName> Worker<N> {
         self.stash.push(index, *request);
     }
 
-    /// Calls the first stashed request into the quota, where nothing is hot: None exactly where there is none, and
-    /// then nothing has changed. It takes no memory.
+    /// Calls the first stashed request into the quota, where nothing is hot: None exactly where
+    /// there is none, and then nothing has changed. It takes no memory.
     pub(crate) fn call_first(&mut self) -> Option<(u32, Request)>
         requires joined { self.old.slices ≡ [] }
         ensures first { result ≡ slice_get self.old.stash.requests 0 }
@@ -173,7 +190,8 @@ impl<N: PhaseName> Worker<N> {
         Some(first)
     }
 
-    /// Puts the request that was last called into the quota back in front of the stash. It takes no memory.
+    /// Puts the request that was last called into the quota back in front of the stash. It takes no
+    /// memory.
     pub(crate) fn call_off(&mut self)
         requires joined { self.old.slices ≡ [] }
         requires called { 0 < length self.old.stash.done }
@@ -185,21 +203,23 @@ impl<N: PhaseName> Worker<N> {
         self.stash.recall();
     }
 
-    /// Commits a request of the quota, but for its slices, at a number after the clock. It takes no memory.
+    /// Commits a request of the quota, but for its slices, at a number after the clock. It takes no
+    /// memory.
     #[inline(always)]
     pub(crate) fn commit(
         &mut self,
         number: u64,
-        index: u32,
-        request: &Request,
+        call: Call<'_>,
         reply: &Answer<'_>,
         found: &ReadSet,
     )
         requires left { 0 < self.old.left }
         requires after { self.old.clock < number }
-        ensures entry { self.new ≡ with_entry self.old number index request.now reply.now found.now }
+        ensures entry { self.new
+            ≡ with_entry self.old number call.entry.index call.entry.request.now reply.now found.now }
         ensures few { AreFew self.old.counters.commits self.new.slices }
     {
+        let Call { request, index } = call;
         self.left -= 1;
         self.counters.count(reply);
         // For proofs alone, as the transactions are.
@@ -216,21 +236,23 @@ impl<N: PhaseName> Worker<N> {
         self.clock = number;
     }
 
-    /// Commits a store of the quota, at a number after the clock: the slice of what it writes has its operation,
-    /// where that is hot. It takes no memory.
+    /// Commits a store of the quota, at a number after the clock: the slice of what it writes has
+    /// its operation, where that is hot. It takes no memory.
     #[inline(always)]
     pub(crate) fn commit_store(&mut self, number: u64, store: &Store<'_>, found: &ReadSet)
         requires left { 0 < self.old.left }
         requires after { self.old.clock < number }
-        requires home { IsWrittenAt self.old.slices store.now.request.now store.now.homes.now }
+        requires home { IsWrittenAt self.old.slices store.now.call.request.now store.now.homes.now }
         requires own { IsOwn self.old.journal.worker (reply_of store.now.reply) }
-        ensures { self.new ≡ after_commit self.old number store.now.index store.now.request.now (reply_of store.now.reply) found.now }
+        ensures { self.new ≡ after_commit self.old number store.now.call.index
+            store.now.call.request.now (reply_of store.now.reply) found.now }
     {
         let answer = Answer {
             told: Told::Store(store.reply),
         };
-        self.commit(number, store.index, store.request, &answer, found);
-        self.slices.store(store.request, store.reply, store.homes);
+        self.commit(number, store.call, &answer, found);
+        let request = store.call.request;
+        self.slices.store(request, store.reply, store.homes);
     }
 
     /// The reply of its last commit in this phase.

@@ -56,8 +56,8 @@ AreOfPhaseIn journal = AllByRecursion (λ e. e.phase ≡ journal.phase) journal.
 module _ (opening : List ShardState) (old new : WorkerState) (request : Request) (index : ℕ) where
   pub commit_same : (answer : Reply) → HasCommitted opening old new request index answer → IsSamePermit old new
   commit_same answer h = record {
-    boxes = h.boxes;
-    worker = h.owner;
+    boxes = h.transacted.put.boxes;
+    worker = h.transacted.put.worker;
     opening = ap (λ (d : WorkerState). d.opening) h.worker;
     begun = ap (λ (d : WorkerState). d.begun) h.worker;
     phase = ap (λ (d : WorkerState). d.journal.phase) h.worker;
@@ -140,7 +140,7 @@ all_kept hot (call ∷ calls) none = at (is_put_off hot call.1) none (λ fewer. 
 pub dealt_next : (opening : List ShardState) (old new : WorkerState) (request : Request) (index : ℕ) (kept : Bool) →
     HasDealt opening (with_try old) new request index kept → HasDealtWithNext (index, request) old new
 dealt_next opening old new request index true (answer, h) =
-    let goes : is_put_off (hot_for old) request ≡ false = ap (λ hot. is_put_off hot request) (sym (same_objects_of old.slices)) ∙ h.answered.not_put_off in record {
+    let goes : is_put_off (hot_for old) request ≡ false = ap (λ hot. is_put_off hot request) (sym (same_objects_of old.slices)) ∙ h.transacted.answered.not_put_off in record {
       same = dealt_same opening old new request index true (answer, h);
       calls = commit_calls opening (with_try old) new request index answer h ∙ ap (λ cs. committed old ++ cs) (sym (one_kept (hot_for old) (index, request) goes));
       stash = ap (λ (d : WorkerState). d.stash.requests) h.worker ∙ sym (append-nil (stashed old)) ∙ ap (λ cs. stashed old ++ cs) (sym (none_off (hot_for old) (index, request) goes));
@@ -226,7 +226,7 @@ first_performed opening old new true empty same done =
     let first = (done refl).1 in
     let tried_once : new.tries ≡ old.tries + 1 = ap (λ (d : WorkerState). d.tries) first.committed.worker in
     let one_more : new.left ≡ old.left + 1 - 1 = ap (λ (d : WorkerState). d.left) first.committed.worker in
-    let goes : is_put_off (hot_for old) first.request ≡ false = ap (λ hot. is_put_off hot first.request) (sym (same_objects_of old.slices)) ∙ first.committed.answered.not_put_off in record {
+    let goes : is_put_off (hot_for old) first.request ≡ false = ap (λ hot. is_put_off hot first.request) (sym (same_objects_of old.slices)) ∙ first.committed.transacted.answered.not_put_off in record {
       same = first_same opening old new true same done;
       goes = ap (put_off (hot_for old)) (first_one (stashed old) (first.index, first.request) first.first) ∙ none_off (hot_for old) (first.index, first.request) goes;
       calls = commit_calls opening (with_first_called (with_try old)) new first.request first.index (done refl).0 first.committed

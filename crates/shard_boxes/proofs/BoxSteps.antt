@@ -12,7 +12,6 @@ use Rattle.shard_boxes.specs.declared.line.Line.{Line}
 use Rattle.shard_boxes.specs.declared.rule.View.{View}
 use Rattle.shard_boxes.specs.States.{ShardState, state_of, state_at, IsOpened}
 use Rattle.shard_boxes.specs.Lines.{after, lines_of}
-use Rattle.shard_boxes.specs.Limits.{IsWellFormedIfAny}
 use Rattle.shard_boxes.specs.Keys.{added, entries}
 use Rattle.shard_boxes.specs.Helds.{MayPut}
 use Rattle.shard_boxes.specs.Rule.{IsKept, Speaks, HasParts, BoxState, Fits, IsIn, IsOut, BoxRule, maker, opened, TakenBy, with_first, put, head_of, tail_of}
@@ -233,9 +232,9 @@ put_parts v line list before list_is speaks parts (suc i) below =
     ∙ sym (lines_of-append (v.first + suc i) before (entries v.first line)) ∙ ap (lines_of (v.first + suc i)) (sym list_is)
 
 -- a put: the holder gives the shard back, after the line of its first worker, if there is one
-pub puts : (opening : List ShardState) (workers n pass : ℕ) (v : View) (x : Shard) (line : Option Line) → v.holds ≡ true → IsWellFormedIfAny line
+pub puts : (opening : List ShardState) (workers n pass : ℕ) (v : View) (x : Shard) (line : Option Line) → v.holds ≡ true
     → MayPut (after (state_at opening v.number) v.seen) (state_of x) line → Pushes (BoxRule opening workers) n pass v x (λ w. w ≡ put v line)
-puts opening workers n pass v x line holds_now well may items views room h at =
+puts opening workers n pass v x line holds_now may items views room h at =
     let w : View = put v line in
     let mine = h.fits pass v at in
     let held = mine.holder holds_now in
@@ -248,7 +247,7 @@ puts opening workers n pass v x line holds_now well may items views room h at =
     let number_is : v.number ≡ h.box.number = mine.number speaks in
     let first_known : v.first < workers = (let known = mine.known in omega arith) in
     let may_put = subst (λ (y : ℕ × List (ℕ × Line)). MayPut (after (state_at opening y.0) y.1) (state_of x) line) (λ i. (number_is i, held.current i)) may in
-    let kept = kept_put opening workers h.box.number v.first h.box.list line (state_of x) h.kept first_known well may_put in
+    let kept = kept_put opening workers h.box.number v.first h.box.list line (state_of x) h.kept first_known may_put in
     let own_long : length w.own ≡ length v.own = length-with_first v.own (added line) in
     let seat_first : h.box.seat (v.first + 0) ≡ pass = mine.seats 0 speaks in
     let parts : HasParts w list = put_parts v line list h.box.list refl speaks mine.parts in (

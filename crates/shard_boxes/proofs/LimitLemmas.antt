@@ -1,24 +1,22 @@
 -- How far acts raise counts and ratings.
-use Rattle.std.proofs.Common.{◌≡◌, ℕ, ◌+◌, ◌*◌, ◌<◌, ◌≤◌, ◌^◌, ℤ, ◌+ℤ◌, FitsSigned, Bool, true, false, cond, List, [], ◌∷◌, length, arith, unsigned_abs}
+use Rattle.std.proofs.Common.{◌≡◌, ℕ, ◌+◌, ◌*◌, ◌<◌, ◌≤◌, ◌^◌, ℤ, ◌+ℤ◌, FitsSigned, Bool, true, false, cond, [], ◌∷◌, arith, unsigned_abs}
 use Rattle.std.specs.Int.{w64}
-use Rattle.std.specs.List.{AllByRecursion}
 use Rattle.std.proofs.lemmas.Int.{ints, fits_signed_from_abs}
 use Rattle.phase_laws.specs.Replay.{SawInTurn}
 use Rattle.auction_rows.specs.declared.ids.ItemId.{ItemId}
 use Rattle.auction_rows.specs.declared.ids.Object.{Object}
 use Rattle.auction_rows.specs.declared.ids.Object.TheVariants.{Item, User, Category}
+use Rattle.auction_rows.specs.declared.numbers.Stars.{Stars}
 use Rattle.auction_rows.specs.Requests.{same_object}
 use Rattle.item_shards.specs.declared.acts.Act.{Act}
 use Rattle.item_shards.specs.declared.acts.Act.TheVariants.{AddItem, ListItem, Bid, Comment, Buy, Look}
 use Rattle.item_shards.specs.CommitNumbers.{last_number}
-use Rattle.item_shards.specs.Limits.{AreStars}
 use Rattle.item_shards.specs.Values.{Value}
 use Rattle.item_shards.specs.Contents.{Contents, changed, with_facts, bid_on, bought_of, comment_about, item_listed, after_act, after_acts}
 use Rattle.shard_boxes.specs.declared.line.Line.{Line}
 use Rattle.shard_boxes.specs.States.{ShardState, IsWithin}
 use Rattle.shard_boxes.specs.Lines.{after_line}
-use Rattle.shard_boxes.specs.GivenStars.{ActGivesStars}
-use Rattle.shard_boxes.specs.Limits.{SumsFit, IsWellFormed}
+use Rattle.shard_boxes.specs.Limits.{SumsFit}
 
 -- counts of at most n, and ratings of at most r away from 0
 record WithinBy (n r : ℕ) (contents : Contents) : Type 0 where
@@ -57,54 +55,51 @@ weaken n m r q contents a b h = record {
   ratings = λ user. omega (arith, h.ratings user, b);
 }
 
-further : (z stars : ℤ) → AreStars stars → unsigned_abs (z +ℤ stars) ≤ unsigned_abs z + 5
-further z stars are = omega (arith, ints)
+further : (z : ℤ) (stars : Stars) → unsigned_abs (z +ℤ stars.value) ≤ unsigned_abs z + 5
+further z stars = omega (arith, ints, stars.at_least, stars.at_most)
 
-act_within : (act : Act) (contents : Contents) (n r : ℕ) → ActGivesStars act → WithinBy n r contents → WithinBy (n + 1) (r + 5) (after_act contents act)
-act_within (AddItem id facts) contents n r are h = changed_within (Item id) (with_facts facts) contents n r (record { bids = λ v. omega arith; comments = λ v. omega arith; rating = λ v. omega arith }) h
-act_within (ListItem category entry) contents n r are h = changed_within (Category category) (item_listed entry) contents n r (record { bids = λ v. omega arith; comments = λ v. omega arith; rating = λ v. omega arith }) h
-act_within (Bid id entry) contents n r are h = changed_within (Item id) (bid_on entry) contents n r (record { bids = λ v. omega arith; comments = λ v. omega arith; rating = λ v. omega arith }) h
-act_within (Comment user stars) contents n r are h = changed_within (User user) (comment_about stars) contents n r (record { bids = λ v. omega arith; comments = λ v. omega arith; rating = λ v. further v.comments.rating stars are }) h
-act_within (Buy id quantity) contents n r are h = changed_within (Item id) (bought_of quantity) contents n r (record { bids = λ v. omega arith; comments = λ v. omega arith; rating = λ v. omega arith }) h
-act_within (Look shown) contents n r are h = weaken n (n + 1) r (r + 5) contents (omega arith) (omega arith) h
+act_within : (act : Act) (contents : Contents) (n r : ℕ) → WithinBy n r contents → WithinBy (n + 1) (r + 5) (after_act contents act)
+act_within (AddItem id facts) contents n r h = changed_within (Item id) (with_facts facts) contents n r (record { bids = λ v. omega arith; comments = λ v. omega arith; rating = λ v. omega arith }) h
+act_within (ListItem category entry) contents n r h = changed_within (Category category) (item_listed entry) contents n r (record { bids = λ v. omega arith; comments = λ v. omega arith; rating = λ v. omega arith }) h
+act_within (Bid id entry) contents n r h = changed_within (Item id) (bid_on entry) contents n r (record { bids = λ v. omega arith; comments = λ v. omega arith; rating = λ v. omega arith }) h
+act_within (Comment user stars) contents n r h = changed_within (User user) (comment_about stars) contents n r (record { bids = λ v. omega arith; comments = λ v. omega arith; rating = λ v. further v.comments.rating stars }) h
+act_within (Buy id quantity) contents n r h = changed_within (Item id) (bought_of quantity) contents n r (record { bids = λ v. omega arith; comments = λ v. omega arith; rating = λ v. omega arith }) h
+act_within (Look shown) contents n r h = weaken n (n + 1) r (r + 5) contents (omega arith) (omega arith) h
 
-two_within : (acts : List Act) (contents : Contents) (n r : ℕ) → length acts ≡ 2 → AllByRecursion ActGivesStars acts → WithinBy n r contents → WithinBy (n + 1 + 1) (r + 5 + 5) (after_acts contents acts)
-two_within [] contents n r two stars h = absurd (omega arith)
-two_within (a ∷ []) contents n r two stars h = absurd (omega arith)
-two_within (a ∷ b ∷ []) contents n r two stars h = act_within b (after_act contents a) (n + 1) (r + 5) stars.1.0 (act_within a contents n r stars.0 h)
-two_within (a ∷ b ∷ c ∷ rest) contents n r two stars h = absurd (omega arith)
+two_within : (first second : Act) (contents : Contents) (n r : ℕ) → WithinBy n r contents → WithinBy (n + 1 + 1) (r + 5 + 5) (after_acts contents (first ∷ second ∷ []))
+two_within first second contents n r h = act_within second (after_act contents first) (n + 1) (r + 5) (act_within first contents n r h)
 
 -- the limits go with the clock, which each line raises
-pub line_within : (state : ShardState) (line : Line) → IsWithin state → state.clock < line.number → IsWellFormed line → IsWithin (after_line state line)
-line_within state line h later well =
+pub line_within : (state : ShardState) (line : Line) → IsWithin state → state.clock < line.number → IsWithin (after_line state line)
+line_within state line h later =
     let n : ℕ = 16000000 + 2 * state.clock in
     let r : ℕ = 80000000 + 10 * state.clock in
-    let after = two_within line.acts state.contents n r well.two well.stars (record { bids = h.bids; comments = h.comments; ratings = h.ratings }) in
+    let after = two_within line.acts.first line.acts.second state.contents n r (record { bids = h.bids; comments = h.comments; ratings = h.ratings }) in
     record {
       bids = λ id. omega (arith, after.bids id, later);
       comments = λ user. omega (arith, after.comments user, later);
       ratings = λ user. omega (arith, after.ratings user, later);
     }
 
-rating_fits : (z stars : ℤ) (r : ℕ) → unsigned_abs z ≤ r → r + 5 < 2 ^ 63 → AreStars stars → FitsSigned w64 (z +ℤ stars)
-rating_fits z stars r le small are = fits_signed_from_abs w64 (z +ℤ stars) (omega (arith, further z stars are, le, small))
+rating_fits : (z : ℤ) (stars : Stars) (r : ℕ) → unsigned_abs z ≤ r → r + 5 < 2 ^ 63 → FitsSigned w64 (z +ℤ stars.value)
+rating_fits z stars r le small = fits_signed_from_abs w64 (z +ℤ stars.value) (omega (arith, further z stars, le, small))
 
-act_fits : (act : Act) (contents : Contents) (n r : ℕ) → WithinBy n r contents → ActGivesStars act → n + 1 < 2 ^ 64 → r + 5 < 2 ^ 63 → SumsFit contents act
-act_fits (AddItem id facts) contents n r h are a b = tt
-act_fits (ListItem category entry) contents n r h are a b = tt
-act_fits (Bid id entry) contents n r h are a b = omega (arith, h.bids id, a)
-act_fits (Comment user stars) contents n r h are a b =
-    (rating_fits (contents (User user)).comments.rating stars r (h.ratings user) b are, omega (arith, h.comments user, a))
-act_fits (Buy id quantity) contents n r h are a b = tt
-act_fits (Look shown) contents n r h are a b = tt
+act_fits : (act : Act) (contents : Contents) (n r : ℕ) → WithinBy n r contents → n + 1 < 2 ^ 64 → r + 5 < 2 ^ 63 → SumsFit contents act
+act_fits (AddItem id facts) contents n r h a b = tt
+act_fits (ListItem category entry) contents n r h a b = tt
+act_fits (Bid id entry) contents n r h a b = omega (arith, h.bids id, a)
+act_fits (Comment user stars) contents n r h a b =
+    (rating_fits (contents (User user)).comments.rating stars r (h.ratings user) b, omega (arith, h.comments user, a))
+act_fits (Buy id quantity) contents n r h a b = tt
+act_fits (Look shown) contents n r h a b = tt
 
-pub two_fit : (state : ShardState) (first second : Act) → IsWithin state → state.clock < last_number → ActGivesStars first → ActGivesStars second
+pub two_fit : (state : ShardState) (first second : Act) → IsWithin state → state.clock < last_number
     → SawInTurn SumsFit after_act state.contents (first ∷ second ∷ [])
-two_fit state first second h below are are' =
+two_fit state first second h below =
     let n : ℕ = 16000000 + 2 * state.clock in
     let r : ℕ = 80000000 + 10 * state.clock in
     let now : WithinBy n r state.contents = record { bids = h.bids; comments = h.comments; ratings = h.ratings } in
-    let then : WithinBy (n + 1) (r + 5) (after_act state.contents first) = act_within first state.contents n r are now in (
-      act_fits first state.contents n r now are (omega (arith, below)) (omega (arith, below)),
-      (act_fits second (after_act state.contents first) (n + 1) (r + 5) then are' (omega (arith, below)) (omega (arith, below)), tt),
+    let then : WithinBy (n + 1) (r + 5) (after_act state.contents first) = act_within first state.contents n r now in (
+      act_fits first state.contents n r now (omega (arith, below)) (omega (arith, below)),
+      (act_fits second (after_act state.contents first) (n + 1) (r + 5) then (omega (arith, below)) (omega (arith, below)), tt),
     )

@@ -8,8 +8,7 @@ use Rattle.phase_laws.specs.Order.{IsAscendingByNumber, part}
 use Rattle.phase_laws.specs.Replay.{SawInTurn}
 use Rattle.shard_boxes.specs.declared.line.Line.{Line}
 use Rattle.shard_boxes.specs.States.{ShardState, state_at, IsWithin}
-use Rattle.shard_boxes.specs.Lines.{after_line, after, lines_of, AreTrueOf, MayFollow, IsHistory}
-use Rattle.shard_boxes.specs.Limits.{IsWellFormedIfAny}
+use Rattle.shard_boxes.specs.Lines.{acts_in, after_line, after, lines_of, AreTrueOf, MayFollow, IsHistory}
 use Rattle.shard_boxes.specs.Keys.{added, entries}
 use Rattle.shard_boxes.specs.Helds.{MayPut}
 use Rattle.shard_boxes.specs.Rule.{IsLawful, IsKept}
@@ -24,19 +23,19 @@ IsLawful-push workers o [] e h below may = (below, may, tt)
 IsLawful-push workers o (d ∷ lines) e h below may = (h.0, h.1, IsLawful-push workers (after_line o d.1) lines e h.2 below may)
 
 -- the list after a put
-pub kept_put : (opening : List ShardState) (workers number worker : ℕ) (lines : List (ℕ × Line)) (line : Option Line) (now : ShardState) → IsKept opening workers number lines → worker < workers → IsWellFormedIfAny line
+pub kept_put : (opening : List ShardState) (workers number worker : ℕ) (lines : List (ℕ × Line)) (line : Option Line) (now : ShardState) → IsKept opening workers number lines → worker < workers
     → MayPut (after (state_at opening number) lines) now line → IsKept opening workers number (lines ++ entries worker line) × (now ≡ after (state_at opening number) (lines ++ entries worker line))
-kept_put opening workers number worker lines None now h below well may =
+kept_put opening workers number worker lines None now h below may =
     let none = sym (append-nil lines) in
     (subst (IsKept opening workers number) none h, may ∙ ap (after (state_at opening number)) none)
-kept_put opening workers number worker lines (Some line) now h below well may =
+kept_put opening workers number worker lines (Some line) now h below may =
     let o = state_at opening number in
     let grown = after-push o lines (worker, line) in (
       record {
         known = h.known;
         opened = h.opened;
         lawful = IsLawful-push workers o lines (worker, line) h.lawful below may.0;
-        within = subst IsWithin (sym grown) (line_within (after o lines) line h.within may.0.later well);
+        within = subst IsWithin (sym grown) (line_within (after o lines) line h.within may.0.later);
       },
       may.1 ∙ sym grown,
     )
@@ -71,7 +70,7 @@ linked_of workers o [] h = tt
 linked_of workers o (e ∷ lines) h = (h.1.found, linked_of workers (after_line o e.1) lines h.2)
 
 looks_of : (workers : ℕ) (o : ShardState) (lines : List (ℕ × Line)) → IsLawful workers o lines
-    → SawInTurn (λ (found : ShardState) (e : ℕ × Line). AreTrueOf found.contents e.1.acts) (λ found e. after_line found e.1) o lines
+    → SawInTurn (λ (found : ShardState) (e : ℕ × Line). AreTrueOf found.contents (acts_in e.1.acts)) (λ found e. after_line found e.1) o lines
 looks_of workers o [] h = tt
 looks_of workers o (e ∷ lines) h = (h.1.looks, looks_of workers (after_line o e.1) lines h.2)
 

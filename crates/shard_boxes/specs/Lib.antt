@@ -1,6 +1,5 @@
 pub mod States
 pub mod Lines
-pub mod GivenStars
 pub mod Limits
 pub mod Rule
 pub mod Passes

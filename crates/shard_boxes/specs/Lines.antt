@@ -7,14 +7,24 @@ use Rattle.phase_laws.specs.Replay.{SawInTurn}
 use Rattle.item_shards.specs.declared.acts.Act.{Act}
 use Rattle.item_shards.specs.Looking.{IsTrueAct}
 use Rattle.item_shards.specs.Contents.{Contents, after_act, after_acts}
+use Rattle.item_shards.specs.Writing.{first_act, second_act}
+use Rattle.shard_boxes.specs.declared.acts.Acts.{Acts}
 use Rattle.shard_boxes.specs.declared.line.Line.{Line}
 use Rattle.shard_boxes.specs.States.{ShardState, state_at, IsWithin}
+
+-- the two acts of a line, in order
+abbrev pub acts_in : Acts → List Act
+acts_in acts = acts.first ∷ acts.second ∷ []
+
+-- the first two of some acts, with looks at nothing in the places that are left
+abbrev pub first_two : List Act → Acts
+first_two acts = record { first = first_act acts; second = second_act acts }
 
 -- the shard after a line: its acts are done, and its number is the clock
 abbrev pub after_line : ShardState → Line → ShardState
 after_line state line = record state {
   clock = line.number;
-  contents = after_acts state.contents line.acts;
+  contents = after_acts state.contents (acts_in line.acts);
 }
 
 -- the worker who put the line
@@ -53,7 +63,7 @@ pub record MayFollow (state : ShardState) (line : Line) : Type 0 where
   -- the line's number is greater than the clock
   pub later : state.clock < line.number
   -- the line's looks show what the shard has
-  pub looks : AreTrueOf state.contents line.acts
+  pub looks : AreTrueOf state.contents (acts_in line.acts)
 
 -- the number of a line that was put
 abbrev pub number_put : ℕ × Line → ℕ
@@ -65,7 +75,7 @@ before_put entry = (line_put entry).before
 
 -- the looks of a line that was put are true of the shard as the line found it
 abbrev pub LooksTrue : ShardState → ℕ × Line → Type 0
-LooksTrue found entry = AreTrueOf found.contents (line_put entry).acts
+LooksTrue found entry = AreTrueOf found.contents (acts_in (line_put entry).acts)
 
 -- the shard of this number is the one with which the phase opened, after these lines
 pub record IsHistory (opening : List ShardState) (workers number : ℕ) (lines : List (ℕ × Line))

@@ -7,7 +7,7 @@ ghost use Rattle.shard_boxes.specs.Helds.{taken_at, MayPut};
 
 use crate::held::Held;
 use crate::key::Key;
-use crate::line::{Line, is_well_formed};
+use crate::line::Line;
 use crate::phase::PhaseName;
 use crate::place::Place;
 use item_shards::Shard;
@@ -53,6 +53,7 @@ impl<N: PhaseName> Boxes<N> {
         requires of { key.old.boxes ≡ self.now }
         requires known { s < length N.opening }
         requires rising { HoldsNoneFrom key.old s }
+        ensures seats { length key.old.seats ≡ length N.opening }
         ensures key { key.new ≡ taking key.old s (seen_at key.new s) }
         ensures holds { holds_at key.new s ≡ true }
         ensures number { result.number ≡ s }
@@ -73,7 +74,6 @@ impl<N: PhaseName> Boxes<N> {
         requires may { MayPut (taken_at N.opening key.old held.number) (state_of held.shard) line }
         ensures { key.new ≡ putting key.old held.number line }
     {
-        is_well_formed(&line);
         let (number, shard) = held.open();
         let s = number as usize;
         key.put(rt, &self.places[s], s, shard, &line);

@@ -1,8 +1,7 @@
 //! A worker's right to take the shards of a phase.
 ghost use Rattle.std.specs.Prelude.{◌≡◌, ◌<◌, ◌∷◌, [], ℕ, true, false, length};
 ghost use Rattle.shard_boxes.specs.States.{state_of};
-ghost use Rattle.shard_boxes.specs.Lines.{lines_of, StartsWith, IsHistory};
-ghost use Rattle.shard_boxes.specs.Limits.{IsWellFormedIfAny};
+ghost use Rattle.shard_boxes.specs.Lines.{lines_of, StartsWith, IsHistory, after};
 ghost use Rattle.shard_boxes.specs.Keys.{taking, putting, lines_at, seen_at, holds_at};
 ghost use Rattle.shard_boxes.specs.Helds.{taken_at, MayPut};
 ghost use Rattle.shard_boxes.specs.Passes.{LeaveState};
@@ -54,6 +53,7 @@ impl<N: PhaseName> Key<N> {
     pub(crate) fn take<R: Wait>(&mut self, rt: &R, place: &Place<N>, s: usize) -> Shard
         requires known { s < length N.opening }
         requires place { IsPlaceAt self.old.boxes s place.now }
+        ensures seats { length self.old.seats ≡ length N.opening }
         ensures key { self.new ≡ taking self.old s (seen_at self.new s) }
         ensures holds { holds_at self.new s ≡ true }
         ensures history { IsHistory N.opening N.workers s (seen_at self.new s) (state_of result) }
@@ -77,7 +77,6 @@ impl<N: PhaseName> Key<N> {
         requires known { s < length N.opening }
         requires place { IsPlaceAt self.old.boxes s place.now }
         requires holds { holds_at self.old s ≡ true }
-        requires stars { IsWellFormedIfAny line.now }
         requires may { MayPut (taken_at N.opening self.old s) (state_of shard) line.now }
         ensures { self.new ≡ putting self.old s line.now }
     {

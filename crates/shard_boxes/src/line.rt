@@ -1,6 +1,4 @@
 //! What one transaction did on one shard.
-ghost use Rattle.shard_boxes.specs.Limits.{IsWellFormedIfAny};
-
 use crate::acts::Acts;
 use std::marker::Brand;
 
@@ -30,14 +28,4 @@ impl LineName for Brand {
     ghost use Rattle.std.specs.Prelude.{None};
 
     ghost line = { None };
-}
-
-// A line has two acts, and their stars are from -5 to 5. The types keep this, and say it here.
-#[inline(always)]
-pub(crate) fn is_well_formed(line: &Option<Line>)
-    ensures { IsWellFormedIfAny line.now }
-{
-    if let Some(line) = line {
-        line.acts.are_well_formed();
-    }
 }

@@ -3,7 +3,6 @@ ghost use Rattle.std.specs.Prelude.{◌≡◌, ◌<◌, true, false, length, IfO
 ghost use Rattle.crossbeam_queue.specs.Passes.{view, IsPassOf};
 ghost use Rattle.shard_boxes.specs.States.{state_of, state_at, AreOpened};
 ghost use Rattle.shard_boxes.specs.Lines.{after};
-ghost use Rattle.shard_boxes.specs.Limits.{IsWellFormedIfAny};
 ghost use Rattle.shard_boxes.specs.Helds.{MayPut};
 ghost use Rattle.shard_boxes.specs.Leaves.{CanOpen, CanUnite};
 ghost use Rattle.shard_boxes.specs.Rule.{Speaks, TakenBy, maker, opened, put, first_of, rest_of, joined};
@@ -100,7 +99,6 @@ impl<N: PhaseName> Place<N> {
         requires place { leave.old.place ≡ self.now }
         requires line { _line.now ≡ L.line }
         requires holds { leave.old.knows.holds ≡ true }
-        requires stars { IsWellFormedIfAny L.line }
         requires may { MayPut
             (after (state_at N.opening leave.old.knows.number) leave.old.knows.seen)
             (state_of shard) L.line }

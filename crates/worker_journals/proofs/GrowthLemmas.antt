@@ -11,7 +11,6 @@ use Rattle.auction_rows.specs.declared.replies.ItemShown.{ItemShown}
 use Rattle.auction_rows.specs.declared.replies.Reply.{Reply}
 use Rattle.auction_rows.specs.declared.replies.Reply.TheVariants.{BidsSeen, CategorySeen}
 use Rattle.auction_rows.specs.declared.rows.Entry.{Entry}
-use Rattle.auction_rows.specs.Stars.{GivesStars}
 use Rattle.worker_journals.specs.declared.heads.Head.{Head}
 use Rattle.worker_journals.specs.declared.heads.ShortRequest.{ShortRequest}
 use Rattle.worker_journals.specs.declared.heads.ShortRequest.TheVariants as ask
@@ -118,9 +117,9 @@ module _ (phase worker : ℕ) (sides : SideLists) (request : Request) (reply : R
         ap (seen phase worker (length (heads ++ head ∷ []) + after.left)) entries_after
         ∙ ap (λ n. seen phase worker n (map (entry_from phase worker sides) heads ++ said ∷ [])) room_after
 
-    pub kept_after : ComesAfter (map (entry_from phase worker sides) heads) head.number → GivesStars request → IsKept phase worker (heads ++ head ∷ []) capacity after
-    kept_after comes given = record {
-      lawful = subst IsLawful (sym shown_after) (lawful_after (shown phase worker heads sides) _ kept.lawful (refl, refl) comes given);
+    pub kept_after : ComesAfter (map (entry_from phase worker sides) heads) head.number → IsKept phase worker (heads ++ head ∷ []) capacity after
+    kept_after comes = record {
+      lawful = subst IsLawful (sym shown_after) (lawful_after (shown phase worker heads sides) _ kept.lawful (refl, refl) comes);
       within = all_push (HasHead after) heads head (all-weaker (HasHead sides) (HasHead after) (λ h has. (head_stays h has).0) heads kept.within) (asked.within, answered.within);
       room = omega (arith, kept.room, length-append heads (head ∷ []));
     }
@@ -144,11 +143,11 @@ module _ (phase worker : ℕ) (heads new : List Head) (capacity capacity' : ℕ)
       ∙ shown_after phase worker sides request reply heads head capacity kept some asked' answered'
       ∙ ap (λ j. with_commit j head.number head.index request reply) is
 
-  pub pushed_kept : (journal : JournalView) → shown phase worker heads sides ≡ journal → ComesAfter journal.entries head.number → GivesStars request →
+  pub pushed_kept : (journal : JournalView) → shown phase worker heads sides ≡ journal → ComesAfter journal.entries head.number →
       IsKept phase worker new capacity' sides'
-  pushed_kept journal is comes given =
+  pushed_kept journal is comes =
       let after = subst (λ (j : JournalView). ComesAfter j.entries head.number) (sym is) comes in
-      let here = kept_after phase worker sides request reply heads head capacity kept some asked' answered' after given in
+      let here = kept_after phase worker sides request reply heads head capacity kept some asked' answered' after in
       subst (λ hs. IsKept phase worker hs capacity' sides') (sym pushed)
       (subst (λ n. IsKept phase worker (heads ++ head ∷ []) n sides') (sym same)
       (subst (λ s. IsKept phase worker (heads ++ head ∷ []) capacity s) (sym grown) here))
@@ -172,7 +171,7 @@ module _ (phase worker : ℕ) (heads new : List Head) (sides sides' : SideLists)
   pub closed_kept : (capacity capacity' : ℕ) → IsKept phase worker heads capacity sides → length new ≤ capacity' → IsKept phase worker new capacity' sides'
   closed_kept capacity capacity' kept fits =
       let here : IsKept phase worker heads capacity' (record sides { left = 0 }) = record {
-        lawful = record { own = kept.lawful.own; ascending = kept.lawful.ascending; stars = kept.lawful.stars };
+        lawful = record { own = kept.lawful.own; ascending = kept.lawful.ascending };
         within = kept.within;
         room = omega (arith, fits, ap length same);
       } in

@@ -39,7 +39,7 @@ closed_by_worker (journal ∷ journals) up = (closed_later journal.worker journa
 closed_lawful : (journals : List JournalView) → AllByRecursion IsLawful journals → AllByRecursion IsLawful (map closed_journal journals)
 closed_lawful [] lawful = tt
 closed_lawful (journal ∷ journals) lawful =
-    (record { own = lawful.0.own; ascending = lawful.0.ascending; stars = lawful.0.stars }, closed_lawful journals lawful.1)
+    (record { own = lawful.0.own; ascending = lawful.0.ascending }, closed_lawful journals lawful.1)
 
 closed_phase : (journals : List JournalView) → ArePhase journals → ArePhase (map closed_journal journals)
 closed_phase journals phase = record {

@@ -8,7 +8,6 @@ use Rattle.std.proofs.lemmas.List.{length-map, length-replicate, length-set, len
 use Rattle.std.proofs.lemmas.Option.{slice_get-map, slice_get_within}
 use Rattle.phase_laws.specs.Order.{IsOrderedBy}
 use Rattle.auction_rows.specs.declared.rows.Entry.{Entry}
-use Rattle.auction_rows.specs.Stars.{GivesStars}
 use Rattle.worker_journals.specs.Journals.{JournalView, entry_number, IsOf, IsLawful}
 use Rattle.worker_journals.specs.Merged.{merged, AreByWorker}
 use Rattle.worker_journals.specs.Places.{left_of, number_at, first_number, IsLeast, IsLeastOf, AreMerging}
@@ -47,7 +46,6 @@ left_lawful (journal ∷ journals) (place ∷ places) lawful = (
   record {
     own = all_drop (IsOf journal.phase journal.worker) place journal.entries lawful.0.own;
     ascending = ordered_drop (λ (x y : Entry). x.number < y.number) place journal.entries lawful.0.ascending;
-    stars = all_drop (λ (e : Entry). GivesStars e.request) place journal.entries lawful.0.stars;
   },
   left_lawful journals places lawful.1,
 )

@@ -6,7 +6,6 @@ use Rattle.phase_laws.specs.Numbers.{last_by}
 use Rattle.auction_rows.specs.declared.requests.Request.{Request}
 use Rattle.auction_rows.specs.declared.replies.Reply.{Reply}
 use Rattle.auction_rows.specs.declared.rows.Entry.{Entry}
-use Rattle.auction_rows.specs.Stars.{GivesStars}
 
 -- what a journal shows
 pub record JournalView : Type 0 where
@@ -80,5 +79,3 @@ pub record IsLawful (journal : JournalView) : Type 0 where
   pub own : AllByRecursion (IsOf journal.phase journal.worker) journal.entries
   -- the entries ascend in number
   pub ascending : IsAscendingByNumber entry_number journal.entries
-  -- the stars that they give are from -5 to 5
-  pub stars : AllByRecursion (λ entry. GivesStars entry.request) journal.entries

@@ -35,8 +35,7 @@ impl<'a> EntryRef<'a> {
         ensures entry { slice_get journal.now.entries place ≡ Some result }
         ensures next { place + 1 < 2 ^ 64 }
     {
-        // A journal's length fits.
-        let _fits = journal.len();
+        journal.keeps_law();
         EntryRef { journal, place }
     }
 
@@ -45,7 +44,7 @@ impl<'a> EntryRef<'a> {
         ensures { result ≡ self.now.phase }
     {
         // A lawful journal is of one phase and one worker.
-        let _lawful = self.journal.len();
+        self.journal.keeps_law();
         self.journal.phase()
     }
 
@@ -61,7 +60,7 @@ impl<'a> EntryRef<'a> {
         ensures { result ≡ self.now.worker }
     {
         // A lawful journal is of one phase and one worker.
-        let _lawful = self.journal.len();
+        self.journal.keeps_law();
         self.journal.worker()
     }
 

@@ -72,6 +72,14 @@ impl History {
         self.len
     }
 
+    /// The history has as many entries as a `usize` counts. The call does nothing.
+    #[inline(always)]
+    pub fn fits(&self)
+        ensures { length self.now.entries < 2 ^ 64 }
+    {
+        self.len();
+    }
+
     /// Whether the history has no entry.
     pub fn is_empty(&self) -> bool
         ensures { result ≡ (length self.now.entries == 0) }

@@ -100,6 +100,15 @@ impl Journal {
         self.heads.len()
     }
 
+    // What the type keeps: the entries are lawful, and can be counted. The call does nothing.
+    #[inline(always)]
+    pub(crate) fn keeps_law(&self)
+        ensures lawful { IsLawful self.now }
+        ensures fits { length self.now.entries < 2 ^ 64 }
+    {
+        self.len();
+    }
+
     /// Whether the journal has no entry.
     pub fn is_empty(&self) -> bool
         ensures { result ≡ (length self.now.entries == 0) }

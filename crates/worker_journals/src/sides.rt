@@ -1,6 +1,5 @@
 //! What a journal keeps beside its heads.
 ghost use Rattle.std.specs.Prelude.{◌≡◌, ◌+◌, ◌<◌, ◌≤◌, ◌++◌, ◌∷◌, [], length, take, drop, option_to_list, vec_len, vec_capacity, IfOk};
-ghost use Rattle.auction_rows.specs.Stars.{GivesStars};
 ghost use Rattle.worker_journals.specs.Sides.{HasRoom, SaysReply, SaysRequest, facts_in, shown_in, item_reply};
 
 use crate::answer::{Answer, Told};
@@ -93,7 +92,6 @@ impl Sides {
         requires { 0 < self.old.left }
         ensures kept { self.new ≡ with_commit_of self.old request.now reply.now }
         ensures request { SaysRequest self.new.facts result.0 request.now }
-        ensures stars { GivesStars request.now }
         ensures reply { SaysReplyWith self.new result.1 reply.now }
     {
         let short_request = keep_request(&mut self.facts, request);
@@ -254,7 +252,6 @@ fn keep_request(all: &mut Vec<Facts>, request: &Request) -> ShortRequest
     ensures kept { all.new.items ≡ all.old.items ++ facts_in request.now }
     ensures capacity { vec_capacity all.new ≡ vec_capacity all.old }
     ensures says { SaysRequest all.new.items result request.now }
-    ensures stars { GivesStars request.now }
 {
     match *request {
         Request::StoreItem { facts, time } => ShortRequest::StoreItem(keep_one(all, facts), time),
@@ -269,11 +266,7 @@ fn keep_request(all: &mut Vec<Facts>, request: &Request) -> ShortRequest
             about,
             item,
             stars,
-        } => {
-            // From -5 to 5.
-            let _known = stars.value();
-            ShortRequest::StoreComment(author, about, item, stars)
-        }
+        } => ShortRequest::StoreComment(author, about, item, stars),
         Request::BuyNow {
             buyer,
             item,

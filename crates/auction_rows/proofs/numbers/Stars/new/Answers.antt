@@ -1,10 +1,6 @@
-use Rattle.std.proofs.Common.{arith, refl}
-use Rattle.std.proofs.lemmas.Int.{ints}
+use Rattle.std.proofs.Common.{rules}
+use Rattle.auction_rows.proofs.StarsLemmas.{stars_found}
 use Rattle.auction_rows.proofs.numbers.Stars.new.Goals as goal
 
-pub invariant_of-result : goal.invariant_of-result
-invariant_of-result c = (omega (arith, ints), omega (arith, ints))
-
-pub returns-then-value-le5-clause-variant : goal.returns-then-value-le5-clause-variant
-returns-then-value-le5-clause-variant c =
-    (λ _. (omega (arith, ints), omega (arith, ints)), λ _. refl)
+pub returns-then-value-le5-clause-exact : goal.returns-then-value-le5-clause-exact
+returns-then-value-le5-clause-exact c = stars_found _ c.args.value (search rules)

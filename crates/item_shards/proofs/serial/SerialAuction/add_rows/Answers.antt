@@ -21,7 +21,6 @@ store-requires c =
       holds = c.loop-row.invariant.holds book c.requires.holds c.requires.follow;
       not_full = front_not_full book rows i within c.requires.follow.few;
       goes_on = subst (λ (start : Opening). GoOn start (book ++ take i rows) (r ∷ [])) (sym c.loop-row.invariant.opening_is) (next_goes_on book rows i r within c.row-item.is (opening_of c.args.self.now) c.requires.follow.is_book);
-      stars = c.row_has_stars.ensures;
       worker = subst (λ (row : Row). worker_of row < 16) (sym c.row-item.is) (All-get_or (λ row. worker_of row < 16) rows i r within c.requires.follow.workers);
     }
 

@@ -6,5 +6,5 @@ pub returns-clause-book : goal.returns-clause-book
 returns-clause-book c = record {
   records = c.in_ok-new.ensures.stands [];
   counts = none_stored;
-  limits = record { few = omega arith; stars = tt };
+  limits = record { few = omega arith };
 }

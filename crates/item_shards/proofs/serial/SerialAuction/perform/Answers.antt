@@ -21,7 +21,6 @@ store-requires c =
       holds = c.requires.room.holds;
       not_full = c.requires.room.not_full;
       goes_on = goes_on start b w request c.in-Some.row is;
-      stars = c.row_has_stars.ensures;
       worker = subst (λ v. v < 16) (sym (worker_of_added start b w request c.in-Some.row is)) c.requires.worker;
     }
 

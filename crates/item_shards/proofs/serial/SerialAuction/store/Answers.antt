@@ -21,7 +21,7 @@ write-requires-clause-can c = λ rooms room.
     let start = opening_of c.args.self.now in
     let b = c.requires.book in
     let r = c.args.row.now in
-    let limits = subst IsWithinLimits (sym (after_own start b r c.requires.goes_on)) (limits_next b r c.requires.holds.limits c.requires.not_full c.requires.stars) in
+    let limits = subst IsWithinLimits (sym (after_own start b r c.requires.goes_on)) (limits_next b r c.requires.holds.limits c.requires.not_full) in
     writes_can_be_done start shard.parts.value.number shard.parts.value.shards rooms (contents shard) c.args.self.now.has_all b r c.requires.holds.records c.requires.goes_on limits room
 
 pub returns-in_err-write-clause-refused : goal.returns-in_err-write-clause-refused
@@ -51,5 +51,5 @@ returns-clause-stored c = λ b holds not_full.
       counts = λ w within.
           (λ i. slice_get (set old (c.worker-worker.ensures i) ((c.count.ensures ∙ ap (λ v. counted r (get_or old v none)) c.worker-worker.ensures) i)) w)
           ∙ counts_next b r old none holds.counts c.requires.worker w within;
-      limits = limits_next b r holds.limits not_full c.requires.stars;
+      limits = limits_next b r holds.limits not_full;
     }

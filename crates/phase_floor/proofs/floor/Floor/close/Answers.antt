@@ -5,7 +5,7 @@ use Rattle.shard_boxes.specs.Keys.{BoxId, KeyState}
 use Rattle.shard_boxes.specs.States.{state_of}
 use Rattle.worker_journals.specs.Histories.{HistoryView}
 use Rattle.worker_journals.specs.Merged.{AreByWorker, added}
-use Rattle.worker_journals.proofs.AddedLemmas.{added_front, last_merged, added_stars}
+use Rattle.worker_journals.proofs.AddedLemmas.{added_front, last_merged}
 use Rattle.closing_laws.specs.Phases.{journal_of}
 use Rattle.phase_floor.specs.Closings.{at_start}
 use Rattle.phase_floor.specs.Floors.{FloorState, IsOpen}
@@ -58,7 +58,7 @@ invariant_of-state g c =
     let opening = g.N.PhaseName.opening in let workers = g.N.PhaseName.workers in let receipts = map g.T.Receipt.shows c.args.receipts.items in
     let e = c.in_ok-journals.ensures in let h = c.in_ok-add_phase.ensures in let parts = c.in_ok-journals.field-0 in
     let is_open = subst (IsOpen opening workers) c.self.view_is c.self.invariant in
-    kept_left opening workers c.args.self is_open receipts c.requires e.finished (added c.args.history.now.entries c.add_phase.new.self.entries) (added_stars c.args.history.now c.add_phase.new.self parts.journals.items h.added h.lawful)
+    kept_left opening workers c.args.self is_open receipts c.requires e.finished (added c.args.history.now.entries c.add_phase.new.self.entries)
     c.reset_clocks.new.shards.items (reconciled opening workers c.args.self is_open receipts c.requires e.finished (map state_of c.close-shards.result.items) c.args.history.now c.add_phase.new.self parts.journals.items parts.stashes.items parts.keys.items parts.counters.items parts.slices.items e.parts h.added h.lawful c.close-shards.ensures (map state_of c.reset_clocks.new.shards.items) (c.reset_clocks.ensures ∙ ap (map at_start) c.merge_all.ensures))
     c.self.inside.opening parts.counters.items (ap (λ (f : FloorState). f.opening) c.self.view_is) e.parts.counters_are
 
@@ -75,7 +75,7 @@ returns-clause-leaves g c =
     let opening = g.N.PhaseName.opening in let workers = g.N.PhaseName.workers in let receipts = map g.T.Receipt.shows c.args.receipts.items in
     let e = c.in_ok-journals.ensures in let h = c.in_ok-add_phase.ensures in let parts = c.in_ok-journals.field-0 in
     let is_open = subst (IsOpen opening workers) c.self.view_is c.self.invariant in
-    leaves opening workers c.args.self is_open receipts c.requires e.finished (added c.args.history.now.entries c.add_phase.new.self.entries) (added_stars c.args.history.now c.add_phase.new.self parts.journals.items h.added h.lawful)
+    leaves opening workers c.args.self is_open receipts c.requires e.finished (added c.args.history.now.entries c.add_phase.new.self.entries)
     c.reset_clocks.new.shards.items (reconciled opening workers c.args.self is_open receipts c.requires e.finished (map state_of c.close-shards.result.items) c.args.history.now c.add_phase.new.self parts.journals.items parts.stashes.items parts.keys.items parts.counters.items parts.slices.items e.parts h.added h.lawful c.close-shards.ensures (map state_of c.reset_clocks.new.shards.items) (c.reset_clocks.ensures ∙ ap (map at_start) c.merge_all.ensures))
     c.self.inside.opening parts.counters.items (ap (λ (f : FloorState). f.opening) c.self.view_is) e.parts.counters_are
     (c.self.inside.phase + 1) parts.stashes.items (ap (λ (f : FloorState). f.phase + 1) c.self.view_is) e.parts.stashes_are

@@ -23,7 +23,7 @@ returns-clause-stands c = λ book stands.
 
 pub returns-clause-of_a_book : goal.returns-clause-of_a_book
 returns-clause-of_a_book c = λ none.
-    c.self.invariant.of_a_book (λ book is_book stars own stands. subst HasNoBook (sym c.self.view_is) none book (record {
+    c.self.invariant.of_a_book (λ book is_book own stands. subst HasNoBook (sym c.self.view_is) none book (record {
       is_book = is_book;
       own = All-from_recursion (λ row. worker_of row < length c.self.inside.counters.items) book own;
       stands = stands;

@@ -27,7 +27,7 @@ invariant_of-result c =
     let stand = subst (λ b. ShardsStandFor (map state_of shards.items) b []) same c.in_ok-shards.ensures.stand in
     let ready = subst (λ o. AreReady o (map state_of shards.items)) (c.opening.ensures ∙ sym c.opening-2.ensures) c.in_ok-shards.ensures.ready in
     kept_of c.opening-2.result rows shards.items counters.items c.args.workers c.in_ok-counters.ensures.len each own stand
-    (subst (λ o. IsBook o rows) (sym c.opening-2.ensures) c.rows-rows.ensures.book) c.rows-rows.ensures.limits c.rows-rows.ensures.few ready c.requires.workers
+    (subst (λ o. IsBook o rows) (sym c.opening-2.ensures) c.rows-rows.ensures.book) c.rows-rows.ensures.few ready c.requires.workers
     (omega (arith, c.in_ok-shards.ensures.len, c.requires.shards), omega (arith, c.in_ok-shards.ensures.len, c.requires.shards))
 
 pub returns-clause-book : goal.returns-clause-book

@@ -3,7 +3,6 @@ use Rattle.auction_rows.specs.StoreReplies.{reply_of}
 use Rattle.item_shards.specs.declared.acts.Act.{Act}
 use Rattle.item_shards.specs.declared.acts.Act.TheVariants.{Look}
 use Rattle.item_shards.specs.declared.acts.Shown.TheVariants as shown
-use Rattle.item_shards.specs.Limits.{AreStars}
 use Rattle.phase_permits.specs.Deeds.{AreGoodOn}
 use Rattle.phase_permits.specs.Takens.{shard_at}
 use Rattle.phase_permits.proofs.ArmLemmas.{bid_arm, bid_looks, buy_arm, buy_looks, comment_arm, comment_looks}
@@ -11,7 +10,7 @@ use Rattle.phase_permits.proofs.deeds.Deeds.of.Goals as goal
 use Rattle.phase_permits.proofs.deeds.Deeds.of.Goals.{in-BidStored, in_default-reply-2, in-CommentStored, in_default-reply-3, in-Bought, in_default-reply-4}
 
 pub returns-after-reply-2-clause-good : goal.returns-after-reply-2-clause-good
-returns-after-reply-2-clause-good c opening workers w held its =
+returns-after-reply-2-clause-good c opening workers boxes key w held its =
     let a = shard_at c.args.homes.now.item in
     let reply = reply_of c.args.reply in
     subst (λ seen. AreGoodOn a a (Look (shown.Left c.in-StoreBid.item seen)) c.match-reply-2.second held) (sym c.of.ensures)
@@ -23,7 +22,7 @@ returns-after-reply-2-clause-good c opening workers w held its =
     ])
 
 pub returns-after-reply-3-clause-good : goal.returns-after-reply-3-clause-good
-returns-after-reply-3-clause-good c opening workers w held its =
+returns-after-reply-3-clause-good c opening workers boxes key w held its =
     let a = shard_at c.args.homes.now.item in
     let b = shard_at c.args.homes.now.other in
     let reply = reply_of c.args.reply in
@@ -32,12 +31,12 @@ returns-after-reply-3-clause-good c opening workers w held its =
     subst (λ shown_facts. AreGoodOn a b (Look (shown.Facts of.item shown_facts)) c.match-reply-3.second held) (sym (c.of-in-StoreComment.ensures ∙ c.facts_in.ensures))
     (elim c.match-reply-3.branch [
       | in-CommentStored v ↦ subst (λ (act : Act). AreGoodOn a b (Look (shown.Facts of.item facts)) act held) (sym v.second-is)
-          (comment_arm c.args.request.now reply its of.author of.about of.item of.stars of.is (subst AreStars c.value-known.ensures.value (c.value-known.ensures.low, c.value-known.ensures.high)))
+          (comment_arm c.args.request.now reply its of.author of.about of.item of.stars of.is)
       | in_default-reply-3 v ↦ subst (λ (act : Act). AreGoodOn a b (Look (shown.Facts of.item facts)) act held) (sym v.second-is) (comment_looks c.args.request.now reply its of.author of.about of.item of.stars of.is)
     ])
 
 pub returns-after-reply-4-clause-good : goal.returns-after-reply-4-clause-good
-returns-after-reply-4-clause-good c opening workers w held its =
+returns-after-reply-4-clause-good c opening workers boxes key w held its =
     let a = shard_at c.args.homes.now.item in
     let reply = reply_of c.args.reply in
     let of = c.in-BuyNow in

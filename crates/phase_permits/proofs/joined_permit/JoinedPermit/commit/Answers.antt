@@ -8,22 +8,17 @@ use Rattle.phase_permits.specs.Workers.{WorkerState, IsExplained, IsIdle, with_t
 use Rattle.phase_permits.proofs.PermitLemmas.{none_put_off, performed_explained, stays_joined, tried_explained}
 use Rattle.phase_permits.proofs.joined_permit.JoinedPermit.commit.Goals as goal
 
-pub transact-requires-clause-of : goal.transact-requires-clause-of
-transact-requires-clause-of g c = ap (λ (w : WorkerState). w.key.boxes) (c.count_try.ensures ∙ ap with_try c.self.view_is) ∙ c.requires.of
-
-pub transact-requires-clause-idle : goal.transact-requires-clause-idle
-transact-requires-clause-idle g c = subst (λ (w : WorkerState). IsIdle w.key) (sym c.count_try.ensures) c.self.invariant.1.idle
-
-pub transact-requires-clause-opened : goal.transact-requires-clause-opened
-transact-requires-clause-opened g c = subst (λ (w : WorkerState). HaveOpening g.N.PhaseName.opening w.opening) (sym (c.count_try.ensures ∙ ap with_try c.self.view_is)) c.requires.opening
-
-pub transact-requires-clause-goes : goal.transact-requires-clause-goes
-transact-requires-clause-goes g c =
+pub transact-requires : goal.transact-requires
+transact-requires g c =
+    let tried = c.count_try.ensures ∙ ap with_try c.self.view_is in
     let slices = ap (λ (w : WorkerState). w.slices) c.count_try.ensures ∙ c.self.invariant.0 in
-    subst (λ (hots : List (Object × Hot)). is_put_off (objects_of hots) c.args.request.now ≡ false) (sym slices) (none_put_off c.args.request.now)
-
-pub transact-requires-clause-left : goal.transact-requires-clause-left
-transact-requires-clause-left g c = subst (λ (w : WorkerState). 0 < w.left) (sym (c.count_try.ensures ∙ ap with_try c.self.view_is)) c.requires.left
+    record {
+      of = ap (λ (w : WorkerState). w.key.boxes) tried ∙ c.requires.of;
+      idle = subst (λ (w : WorkerState). IsIdle w.key) (sym c.count_try.ensures) c.self.invariant.1.idle;
+      opened = subst (λ (w : WorkerState). HaveOpening g.N.PhaseName.opening w.opening) (sym tried) c.requires.opening;
+      goes = subst (λ (hots : List (Object × Hot)). is_put_off (objects_of hots) c.args.request.now ≡ false) (sym slices) (none_put_off c.args.request.now);
+      left = subst (λ (w : WorkerState). 0 < w.left) (sym tried) c.requires.left;
+    }
 
 pub invariant_of-self : goal.invariant_of-self
 invariant_of-self g c =

@@ -23,7 +23,7 @@ invariant_of-self g c =
     } in
     let some : 0 < inside.left = subst (λ (s : WorkerState). 0 < s.left) (sym c.self.view_is) c.requires.left in
     let after : inside.clock < c.args.number = subst (λ (s : WorkerState). s.clock < c.args.number) (sym c.self.view_is) c.requires.after in
-    lawful_as w _ c.args.number c.args.index c.args.request.now c.args.reply.now c.args.found.now c.self.invariant some after c.count.ensures c.push_answer.ensures.pushed refl refl refl refl
+    lawful_as w _ c.args.number c.args.call.index c.args.call.request.now c.args.reply.now c.args.found.now c.self.invariant some after c.count.ensures c.push_answer.ensures.pushed refl refl refl refl
     (few_more inside.counters.commits (inside.counters.commits + 1) inside.slices (omega arith) c.self.invariant.few)
 
 pub returns-clause-few : goal.returns-clause-few

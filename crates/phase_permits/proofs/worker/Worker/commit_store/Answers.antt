@@ -26,5 +26,5 @@ invariant_of-self g c =
     let old = c.args.self.now in
     let commits = ap (λ (s : WorkerState). s.counters.commits) (c.self.view_is ∙ c.commit.ensures.entry) ∙ (counts_one old.counters (reply_of c.args.store.now.reply)).commits in
     let few = c.store.ensures.few old.counters.commits (subst (λ (s : WorkerState). AreFew old.counters.commits s.slices) (sym c.self.view_is) c.commit.ensures.few) in
-    lawful_sliced w c.store.new.self c.self.invariant (ap objects_of (c.store.ensures.written old.journal.worker c.requires.own) ∙ objects-acts inside.slices (writes_if (row_of old.journal.worker c.args.store.now.request.now (reply_of c.args.store.now.reply))))
+    lawful_sliced w c.store.new.self c.self.invariant (ap objects_of (c.store.ensures.written old.journal.worker c.requires.own) ∙ objects-acts inside.slices (writes_if (row_of old.journal.worker c.args.store.now.call.request.now (reply_of c.args.store.now.reply))))
     (subst (λ n. AreFew n c.store.new.self) (sym commits) few)

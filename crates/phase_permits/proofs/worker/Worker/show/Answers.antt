@@ -1,10 +1,12 @@
-use Rattle.std.proofs.Common.{◌≡◌, sym, ap, subst, ◌∙◌}
+use Rattle.std.proofs.Common.{◌≡◌, [], ◌∷◌, sym, ap, subst, ◌∙◌}
 use Rattle.auction_rows.specs.declared.replies.Reply.{Reply}
 use Rattle.item_shards.specs.declared.acts.Act.TheVariants.{Look}
 use Rattle.item_shards.specs.declared.acts.Shown.TheVariants as shown
 use Rattle.shard_boxes.specs.Keys.{KeyState}
 use Rattle.phase_permits.specs.declared.read_set.ReadSet.{ReadSet}
-use Rattle.phase_permits.specs.Takens.{held_in, numbers_of, is_one_of, dealt, line_among, HasPutAll}
+use Rattle.phase_permits.specs.Putting.{HasPutAll}
+use Rattle.phase_permits.specs.Begun.{step_of}
+use Rattle.phase_permits.specs.Takens.{held_in, numbers_of, is_one_of, dealt, line_among}
 use Rattle.phase_permits.specs.Workers.{WorkerState, with_entry}
 use Rattle.phase_permits.proofs.ViewLemmas.{view_commits, view_entered}
 use Rattle.phase_permits.proofs.worker.Worker.show.Goals as goal
@@ -13,7 +15,7 @@ pub returns : goal.returns
 returns g c homes key begun =
     let opening = g.N.PhaseName.opening in
     let w = c.args.self.now in
-    let request = c.args.request.now in
+    let request = c.args.call.request.now in
     let took = c.args.begun.taken in
     let number = c.args.begun.number in
     let object = c.view_on-object.result.0 in
@@ -21,11 +23,11 @@ returns g c homes key begun =
     let saw = c.view_on-object.ensures in
     let new = c.commit.new.self in
     let found : ReadSet = record { stock = c.of.result; clocks = c.clocks_of.result } in
-    let lines = λ (r : Reply). line_among number c.args.index (held_in took) (dealt took (Look (shown.Reply object r)) (Look shown.Nothing)) in
+    let lines = λ (r : Reply). line_among number c.args.call.index (held_in took) (dealt took (Look (shown.Reply object r) ∷ Look shown.Nothing ∷ [])) in
     let key_is : new.key ≡ c.put_all.new.key = ap (λ (s : WorkerState). s.key) c.commit.ensures.entry in
     let put = subst (λ r. HasPutAll opening c.self.inside.key c.put_all.new.key (is_one_of (numbers_of (held_in took))) (lines r)) c.of-2.ensures c.put_all.ensures in
-    view_commits opening w key request homes took number begun c.requires.view new c.args.index reply object found saw.viewed saw.answers (λ i. record { stock = c.of.ensures i; clocks = c.clocks_of.ensures i })
+    view_commits (step_of opening g.N.PhaseName.workers c.args.boxes.now key homes) w request c.args.begun begun c.requires.view new c.args.call.index reply object found saw.viewed saw.answers (λ i. record { stock = c.of.ensures i; clocks = c.clocks_of.ensures i })
     (subst (λ (k : KeyState). HasPutAll opening w.key k (is_one_of (numbers_of (held_in took))) (lines reply)) (sym key_is)
     (subst (λ (s : WorkerState). HasPutAll opening s.key c.put_all.new.key (is_one_of (numbers_of (held_in took))) (lines reply)) c.self.view_is put))
-    (c.commit.ensures.entry ∙ (λ i. record (with_entry (c.self.view_is i) number c.args.index request (c.of-3.ensures i) found) { key = sym key_is i })
-    ∙ (λ i. record (view_entered w number c.args.index request reply found c.requires.view i) { key = new.key }))
+    (c.commit.ensures.entry ∙ (λ i. record (with_entry (c.self.view_is i) number c.args.call.index request (c.of-3.ensures i) found) { key = sym key_is i })
+    ∙ (λ i. record (view_entered w number c.args.call.index request reply found c.requires.view i) { key = new.key }))

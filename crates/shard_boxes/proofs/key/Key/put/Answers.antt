@@ -30,9 +30,6 @@ put-requires-clause-holds g c =
     let seat = read inside.worker leaves c.args.s c.index_mut-leave.result.now c.args.self.now c.self.view_is below c.index_mut-leave.ensures.value in
     ap (λ (t : SeatState). t.holds) (sym seat) ∙ c.requires.holds
 
-pub put-requires-clause-stars : goal.put-requires-clause-stars
-put-requires-clause-stars g c = c.requires.stars
-
 pub put-requires-clause-may : goal.put-requires-clause-may
 put-requires-clause-may g c =
     let inside = c.self.inside in

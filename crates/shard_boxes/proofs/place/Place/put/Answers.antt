@@ -12,4 +12,4 @@ push_as-requires-clause-rule g c =
     let knows = sym (ap (λ (l : LeaveState). l.knows) c.leave.view_is) in
     let holds = ap (λ (v : View). v.holds) (sym knows) ∙ c.requires.holds in
     let may = subst (λ (v : View). MayPut (after (state_at g.N.PhaseName.opening v.number) v.seen) (state_of c.args.shard) g.L.LineName.line) knows c.requires.may in
-    (puts _ _ _ _ _ _ _ holds c.requires.stars may, learns_empty _ _ _ _ holds)
+    (puts _ _ _ _ _ _ _ holds may, learns_empty _ _ _ _ holds)

@@ -5,7 +5,7 @@ pub invariant_of-self : goal.invariant_of-self
 invariant_of-self c =
     let kept = c.keep-request.ensures in
     pushed_kept _ _ _ _ _ _ _ _ _ _ _ c.self.invariant (some_left _ _ _ _ _ c.self.view_is c.requires.room) c.push_reserved.ensures.items
-    c.push_reserved.ensures.capacity kept.kept kept.request kept.reply _ c.self.view_is c.requires.after kept.stars
+    c.push_reserved.ensures.capacity kept.kept kept.request kept.reply _ c.self.view_is c.requires.after
 
 pub returns : goal.returns
 returns c =

@@ -1,12 +1,12 @@
--- Two shards that a worker takes together.
+-- One shard, and two, that a worker takes and puts back.
 use Rattle.std.specs.Prelude.{◌≡◌, ◌≢◌, ◌==◌, ℕ, ◌<◌, true, false, if◌then◌else◌, List, ◌++◌, length, Option, Some}
 use Rattle.shard_boxes.specs.declared.line.Line.{Line}
 use Rattle.shard_boxes.specs.Helds.{HeldState}
-use Rattle.shard_boxes.specs.Keys.{KeyState, seat_at, lines_at, holds_at, seen_at, added}
-use Rattle.shard_boxes.specs.Lines.{IsHistory}
-use Rattle.shard_boxes.specs.States.{ShardState, state_of}
+use Rattle.shard_boxes.specs.Keys.{KeyState, seat_at, lines_at, holds_at, seen_at, added, taking}
+use Rattle.shard_boxes.specs.Lines.{StartsWith}
+use Rattle.shard_boxes.specs.States.{ShardState}
+use Rattle.phase_permits.specs.Putting.{HasPut, HasSameLines, IsAsTaken, KeepsSeen}
 use Rattle.phase_permits.specs.Workers.{IsIdle}
-use Rattle.phase_permits.specs.Putting.{KeepsSeen, HasPut}
 
 -- the key holds these two shards and no other
 pub record HoldsBoth (key : KeyState) (one other : ℕ) : Type 0 where
@@ -16,14 +16,6 @@ pub record HoldsBoth (key : KeyState) (one other : ℕ) : Type 0 where
   pub has_one : holds_at key one ≡ true
   pub has_other : holds_at key other ≡ true
   pub no_more : (shard : ℕ) → shard ≢ one → shard ≢ other → holds_at key shard ≡ false
-
--- the key is for the same boxes and of the same worker, with as many seats, no line was put by it, and what it has seen goes on
-pub record HasSameLines (old new : KeyState) : Type 0 where
-  pub boxes : new.boxes ≡ old.boxes
-  pub worker : new.worker ≡ old.worker
-  pub seats : length new.seats ≡ length old.seats
-  pub lines : (shard : ℕ) → lines_at new shard ≡ lines_at old shard
-  pub seen : KeepsSeen old new
 
 -- no seat of the key has changed but those of these two shards
 abbrev pub LeavesOthers : KeyState → KeyState → ℕ → ℕ → Type 0
@@ -47,10 +39,6 @@ pub record HasPutTwo (opening : List ShardState) (old new : KeyState) (one other
   pub put_first : HasPut opening old new one first
   pub put_second : HasPut opening old new other second
 
--- a shard as the key took it
-abbrev pub IsAsTaken : List ShardState → ℕ → KeyState → HeldState → Type 0
-IsAsTaken opening workers key held = IsHistory opening workers held.number (seen_at key held.number) (state_of held.shard)
-
 -- The key has taken two shards, and holds no other.
 pub record HasTakenBoth (opening : List ShardState) (workers : ℕ) (old new : KeyState) (one other : ℕ) (held : HeldState × HeldState) : Type 0 where
   pub same : HasSameLines old new
@@ -60,3 +48,17 @@ pub record HasTakenBoth (opening : List ShardState) (workers : ℕ) (old new : K
   pub holds : HoldsBoth new held.0.number held.1.number
   pub on_one : IsAsTaken opening workers new held.0
   pub on_other : IsAsTaken opening workers new held.1
+
+-- The key has taken the shard, for which it has a seat.
+pub record HasTaken (opening : List ShardState) (workers : ℕ) (old new : KeyState) (shard : ℕ) (held : HeldState) : Type 0 where
+  -- it has a seat for the shard
+  pub known : shard < length old.seats
+  -- it holds the shard now
+  pub key : new ≡ taking old shard (seen_at new shard)
+  -- what it has seen of the shard goes on
+  pub later : StartsWith (seen_at new shard) (seen_at old shard)
+  -- what is held is that shard
+  pub number : held.number ≡ shard
+  pub holds : holds_at new held.number ≡ true
+  -- it is as the lines that were seen left it
+  pub history : IsAsTaken opening workers new held
