@@ -129,16 +129,17 @@ begun_before {N} {step} {w} {request} before after same number_is begun =
     let now = after.taken in
     let numbers = numbers_before took now same in
     let all = taken_before step.opening step.workers w.key took now same begun.taken.taken in
+    let known = known_by_numbers (length w.key.seats) (held_in now) (subst (AllByRecursion (λ n. n < length w.key.seats)) (sym numbers) (known_of_numbers (length w.key.seats) (held_in took) begun.held.known)) in
     record {
       allowed = begun.allowed;
       goes = begun.goes;
       homes_are = begun.homes_are;
       asked = begun.asked;
-      taken = record { numbers = numbers ∙ begun.taken.numbers; taken = all; holds = begun.taken.holds; others = begun.taken.others; lines = begun.taken.lines };
+      taken = record { numbers = numbers ∙ begun.taken.numbers; known = known; taken = all; holds = begun.taken.holds; others = begun.taken.others; lines = begun.taken.lines };
       held = record {
         boxes_are = begun.held.boxes_are;
         apart = subst AreApart (sym numbers) begun.held.apart;
-        known = known_by_numbers (length w.key.seats) (held_in now) (subst (AllByRecursion (λ n. n < length w.key.seats)) (sym numbers) (known_of_numbers (length w.key.seats) (held_in took) begun.held.known));
+        known = known;
         holds = λ t. begun.held.holds t ∙ ap (λ list. is_one_of list t) (sym numbers);
         taken = all;
       };

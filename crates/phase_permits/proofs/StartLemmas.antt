@@ -20,7 +20,7 @@ start_lawful w can =
         room = omega (arith, none, room);
         latest = subst (λ (entries : List Entry). last_by entry_number 0 entries ≤ w.clock) (sym can.empty) (omega arith);
       };
-      few = few_more 0 w.counters.commits w.slices (omega arith) (subst (AreFew 0) (sym can.identities) (few_rows (stocks_of w.slices) [] tt));
+      few = few_more 0 w.counters.commits w.slices (omega arith) (subst (AreFew 0) (sym can.identities) (few_rows (stocks_of w.slices) []));
       stash_room = can.stash_room;
       stored = can.stored;
     }

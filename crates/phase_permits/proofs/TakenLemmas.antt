@@ -33,16 +33,23 @@ module _ (opening : List ShardState) (workers : ℕ) (key new : KeyState) (shard
   others_one t (inl h) left = absurd (true≢false (sym h.0 ∙ sym (or-false (shard == t)) ∙ left))
   others_one t (inr h) left = there t h.1
 
+  seats_one : length new.seats ≡ length key.seats
+  seats_one = ap (λ (j : KeyState). length j.seats) its.key ∙ length-with_seat key shard (record (seat_at key shard) { holds = true; seen = seen_at new shard })
+
+  known_one : held.number < length new.seats
+  known_one = subst (λ n. n < length new.seats) (sym its.number) (subst (λ n. shard < n) (sym seats_one) its.known)
+
   pub taken_one : HasTakenAll opening workers key new (shard ∷ []) (held ∷ [])
   taken_one = record {
     numbers = ap (λ n. n ∷ []) its.number;
+    known = (known_one, tt);
     taken = (its.history, tt);
     holds = λ t. holds_one t (eqb_tells shard t);
     others = λ t. others_one t (eqb_tells shard t);
     lines = record {
       boxes = ap (λ (j : KeyState). j.boxes) its.key;
       worker = ap (λ (j : KeyState). j.worker) its.key;
-      seats = ap (λ (j : KeyState). length j.seats) its.key ∙ length-with_seat key shard (record (seat_at key shard) { holds = true; seen = seen_at new shard });
+      seats = seats_one;
       lines = λ t. ap (λ j. lines_at j t) its.key ∙ lines_taken key shard (seen_at new shard) its.known t;
       seen = seen_taken key new shard (seen_at new shard) its.key its.known its.later;
     };
@@ -66,6 +73,7 @@ module _ (opening : List ShardState) (workers : ℕ) (key new : KeyState) (one o
   pub taken_two : HasTakenAll opening workers key new (one ∷ other ∷ []) (first ∷ second ∷ [])
   taken_two = record {
     numbers = λ i. its.one_is i ∷ its.other_is i ∷ [];
+    known = (its.holds.one_known, (its.holds.other_known, tt));
     taken = (its.on_one, (its.on_other, tt));
     holds = λ t. holds_two t (eqb_tells one t) (eqb_tells other t);
     others = λ t. others_two t (eqb_tells one t) (eqb_tells other t);

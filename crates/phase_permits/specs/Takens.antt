@@ -58,6 +58,8 @@ pub record HasTakenAll (opening : List ShardState) (workers : ℕ) (old new : Ke
     (shards : List ℕ) (held : List HeldState) : Type 0 where
   -- what is held are these shards
   pub numbers : map (λ h. h.number) held ≡ shards
+  -- the key has a seat for each
+  pub known : AllByRecursion (λ h. h.number < length new.seats) held
   -- each is as the key took it
   pub taken : AllByRecursion (IsAsTaken opening workers new) held
   -- the key holds them and no other

@@ -1,4 +1,4 @@
-use Rattle.std.proofs.Common.{Some, ◌≡◌, length, sym, ap, subst, ◌∙◌}
+use Rattle.std.proofs.Common.{Some, ◌≡◌, length, refl, sym, ap, subst, ◌∙◌}
 use Rattle.item_shards.specs.declared.shard.Shard.{Shard}
 use Rattle.item_shards.specs.Contents.{after_acts}
 use Rattle.item_shards.specs.ShardContents.{clock, contents, IsSameShard}
