@@ -124,7 +124,8 @@ impl From<TellFault> for Fault {
     }
 }
 
-/// The exit status of a fault: 1 for options, 2 for reading, 3 for opening and performing, 4 for writing, 5 for the log.
+/// The exit status of a fault: 1 for options, 2 for reading, 3 for opening and performing, 4 for
+/// writing, 5 for the log.
 pub fn status(fault: &Fault) -> u8
     ensures { result ≡ status fault.now }
 {

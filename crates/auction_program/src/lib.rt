@@ -1,4 +1,5 @@
-//! The program behind `main`: from its words and the bytes of rows and scripts to the bytes that it writes.
+//! The program behind `main`: from its words and the bytes of rows and scripts to the bytes that it
+//! writes.
 #![tactic(auto)]
 
 mod executing;

@@ -26,8 +26,8 @@ pub fn joined_rows(rows: Vec<Opened>, others: &[Opened]) -> Result<Vec<Opened>, 
     }
 }
 
-/// Opens an auction with the rows that a log has and those of an input, logs those that the log has not, and writes all, if the
-/// options ask for rows.
+/// Opens an auction with the rows that a log has and those of an input, logs those that the log has
+/// not, and writes all, if the options ask for rows.
 pub fn open<L: Log, W: Write>(
     alloc: Global,
     teller: &mut Teller<L, W>,

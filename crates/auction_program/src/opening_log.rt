@@ -71,8 +71,9 @@ fn open_file<R: Files<File = File>>(rt: &R, path: &str) -> Result<File, Fault> {
     Ok(file)
 }
 
-/// Opens the log at a path, which no other program may have open, reads its rows, and cuts off a last line that has no end. A log with
-/// a line that is no row, or a row that opens no auction, is left as it is.
+/// Opens the log at a path, which no other program may have open, reads its rows, and cuts off a
+/// last line that has no end. A log with a line that is no row, or a row that opens no auction, is
+/// left as it is.
 pub fn open_log<R: Files<File = File>>(
     rt: &R,
     alloc: Global,

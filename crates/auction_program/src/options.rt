@@ -16,7 +16,8 @@ use program_options::{
 };
 use std::alloc::{AllocError, Global};
 
-/// What the program is asked to do: how the auction is run, how many users and categories it has, and what is written.
+/// What the program is asked to do: how the auction is run, how many users and categories it has,
+/// and what is written.
 #[derive(Clone, Copy)]
 pub struct Options {
     /// How many workers there are, 1 to 16.
@@ -35,7 +36,8 @@ pub struct Options {
     pub users: u32,
     /// How many categories there are, at most 1,000,000.
     pub categories: u32,
-    /// How many requests are answered at a time at most, while more are to come: at most 1,000,000, and 0 where all are read first.
+    /// How many requests are answered at a time at most, while more are to come: at most 1,000,000,
+    /// and 0 where all are read first.
     pub live: u32,
     /// Whether the history is written in place of the replies.
     pub history: bool,
@@ -137,10 +139,10 @@ fn options_of(matches: &ArgMatches<'_>) -> Options
     }
 }
 
-/// The options that the words give, the first of which is the program's name. Where they say nothing else: one worker, 4 shards,
-/// phases of 64 requests, the threshold 8, 8 hot objects, 100 users, 10 categories, all
-/// requests are read first, there is no log, and the replies alone are written. Words that are refused, or that ask for help, are
-/// answered in `clap`'s words.
+/// The options that the words give, the first of which is the program's name. Where they say
+/// nothing else: one worker, 4 shards, phases of 64 requests, the threshold 8, 8 hot objects, 100
+/// users, 10 categories, all requests are read first, there is no log, and the replies alone are
+/// written. Words that are refused, or that ask for help, are answered in `clap`'s words.
 pub fn read_options(alloc: Global, words: &[String]) -> Result<Invocation, UsageFault>
     ensures given { IfOk result (λ asked. asked.options ≡ options_in (map string_bytes words.now)) }
     ensures log { IfOk result (λ asked. option_map string_bytes asked.log ≡ log_in (map string_bytes words.now)) }

@@ -91,7 +91,8 @@ fn part_text(
     Ok(text)
 }
 
-/// Logs the opening rows that the log has not, which are all but the first so many, and then writes all, if the options ask for rows.
+/// Logs the opening rows that the log has not, which are all but the first so many, and then writes
+/// all, if the options ask for rows.
 pub fn tell_opening<L: Log, W: Write>(
     alloc: Global,
     teller: &mut Teller<L, W>,

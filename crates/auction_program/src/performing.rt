@@ -51,8 +51,8 @@ fn told_of(outcome: Outcome, lines: Option<ReportLines>) -> Performed
     }
 }
 
-/// Performs the scripts from a book on. Where a report is asked for, its lines are read through a window that was told of
-/// all phases.
+/// Performs the scripts from a book on. Where a report is asked for, its lines are read through a
+/// window that was told of all phases.
 pub fn perform<R: Threads + Wait + Sync>(
     rt: &R,
     alloc: Global,

@@ -47,9 +47,9 @@ fn most_of_a_part(options: &Options) -> u32
     options.live
 }
 
-/// Opens an auction with the rows that a log has and those that the reader gives, and performs its scripts part by part: what is
-/// asked for of a part is written and flushed before more is read, and after its rows are logged. The first record with a fault
-/// ends it, after the parts before.
+/// Opens an auction with the rows that a log has and those that the reader gives, and performs its
+/// scripts part by part: what is asked for of a part is written and flushed before more is read,
+/// and after its rows are logged. The first record with a fault ends it, after the parts before.
 pub fn serve<R: Threads + Wait + Sync, I: Read + Drop, L: Log, W: Write>(
     rt: &R,
     alloc: Global,

@@ -33,8 +33,9 @@ impl Viewed {
     }
 }
 
-/// The replies to the views of all categories and users at the end of a run: those of the window where it shows all phases,
-/// else those of the state. Both are the book's, so that no caller sees which it got.
+/// The replies to the views of all categories and users at the end of a run: those of the window
+/// where it shows all phases, else those of the state. Both are the book's, so that no caller sees
+/// which it got.
 pub fn report_lines<J: WindowName>(
     alloc: Global,
     window: &mut Window<J>,

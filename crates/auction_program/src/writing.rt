@@ -13,8 +13,9 @@ use std::io::Write;
 use std::thread::Threads;
 use worker_journals::History;
 
-/// Writes what the options ask for of a run from these rows, and then its report, where they ask for it. Without lines a report
-/// is refused as memory was for them. After `Write` a prefix of both was written; after `Memory` nothing, or all but the report.
+/// Writes what the options ask for of a run from these rows, and then its report, where they ask
+/// for it. Without lines a report is refused as memory was for them. After `Write` a prefix of both
+/// was written; after `Memory` nothing, or all but the report.
 #[tactic(auto, using(crate::proofs::WrittenLemmas::part_of_first, crate::proofs::WrittenLemmas::part_of_added))]
 pub fn write_texts<R: Threads + Sync, W: Write>(
     rt: &R,

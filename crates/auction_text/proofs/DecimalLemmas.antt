@@ -106,7 +106,7 @@ digits_put bytes own part rest len n at has same within =
     ap (λ (i : ℕ). take (i + len) (take at bytes ++ (part ++ rest))) (sym (length-take-le at bytes within)) ∙ take-append-add (take at bytes) (part ++ rest) len
     ∙ ap (λ (l : List ℕ). take at bytes ++ l) (take-append-le len part rest (omega (arith, has.within, ap length same)) ∙ ap (take len) same ∙ has.digits)
 
--- the same of digits that were written so that they end at the twentieth byte, and the bytes behind them
+-- digits that were written so that they end at the twentieth byte, put down at a place with the bytes behind them
 pub digits_from : (bytes written part rest behind : List ℕ) (start n at k : ℕ) → start + length (decimal n) ≡ 20 → drop start written ≡ decimal n ++ behind
     → part ≡ take k (drop start written) → k ≡ 20 → length part ≡ 20 → at ≤ length bytes → take (at + 20 - start) (take at bytes ++ (part ++ rest)) ≡ take at bytes ++ decimal n
 digits_from bytes written part rest behind start n at k ends there is twenty long within =

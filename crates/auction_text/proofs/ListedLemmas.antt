@@ -11,7 +11,7 @@ pub one_listed : {X : Type 0} (f : X → List ℕ) (text word now more : List �
 one_listed f text word now more xs i x within here listed added =
     rw (take_more xs i x within, sym here, flat_map-append f (take i xs) (x ∷ []), append-nil (f x), added, listed, append_assoc, append_assoc) refl
 
--- the same where the next one is read
+-- a text to which a word and the first elements of a list were added, and the next one, read by its index
 pub read_listed : {X : Type 0} (f : X → List ℕ) (text word now more : List ℕ) (xs : List X) (i : ℕ) (d : X) → i < length xs
     → now ≡ text ++ (word ++ flat_map f (take i xs)) → more ≡ now ++ f (get_or xs i d) → more ≡ text ++ (word ++ flat_map f (take (i + 1) xs))
 read_listed f text word now more xs i d within = one_listed f text word now more xs i (get_or xs i d) within (get_or_default xs i d _ within)

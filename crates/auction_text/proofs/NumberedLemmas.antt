@@ -21,7 +21,7 @@ numbered_more line text xs i x within here =
     let next : line (0 + length (take i xs)) x ≡ line i x = ap (λ (n : ℕ). line n x) size in
     rw (take_more xs i x within, sym here, numbered_lines-append line 0 (take i xs) x, next, append_assoc) refl
 
--- the same where each element stands for another
+-- what stands before a list, each element of which stands for another, its first elements and the next one
 pub numbered_more-map : {X Y : Type 0} (line : ℕ → Y → List ℕ) (h : X → Y) (text : List ℕ) (xs : List X) (i : ℕ) (x : X) → i < length xs → x ≡ get_or xs i x
     → (text ++ numbered_lines line 0 (map h (take i xs))) ++ line i (h x) ≡ text ++ numbered_lines line 0 (map h (take (i + 1) xs))
 numbered_more-map line h text xs i x within here =

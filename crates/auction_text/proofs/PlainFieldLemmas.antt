@@ -124,7 +124,7 @@ item_of text from stop worker at serial next first second =
       is = item_of_parts xs ys worker serial first.digits first.is second.is;
     }
 
--- the same of a line's last field
+-- the item that a line's last field names, by its two numbers
 pub last_item_of : (text : List ℕ) (from worker at serial next : ℕ) → IsNumberTo text from 46 32 worker at → IsLastNumber text at 32 serial next
     → IsLastItem text from (record { worker = worker; serial = serial }) next
 last_item_of text from worker at serial next first second =

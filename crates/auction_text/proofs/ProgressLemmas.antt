@@ -31,7 +31,7 @@ reads_on_then a b c x y z first second = record {
   reads = λ workers bytes more read. second.reads workers bytes more (first.reads workers bytes more read);
 }
 
--- the same with more bytes behind
+-- what is read if there are more bytes behind
 pub reads_on_before : (old new : Progress) (x y tail : List ℕ) → ReadsOn old x new y → ReadsOn old (x ++ tail) new (y ++ tail)
 reads_on_before old new x y tail read = record {
   workers = read.workers;

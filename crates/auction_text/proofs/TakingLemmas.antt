@@ -105,7 +105,7 @@ takes_then a b c x y z first second = record {
   takes = λ workers all more up_to. second.takes workers all more (first.takes workers all more up_to);
 }
 
--- the same with more bytes behind
+-- what is taken if there are more bytes behind
 pub takes_before : (old new : Taken) (x y tail : List ℕ) → TakesOn old x new y → TakesOn old (x ++ tail) new (y ++ tail)
 takes_before old new x y tail taken = record {
   workers = taken.workers;

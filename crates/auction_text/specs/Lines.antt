@@ -73,7 +73,7 @@ pub record IsLastField (text : List ℕ) (from : ℕ) (next : ℕ) (field : List
   pub after : from < next
   pub within : next ≤ length text
 
--- The same of a field of digits that writes a number of so many bits.
+-- A field of digits up to a stop writes a number of so many bits.
 pub record IsNumberTo (text : List ℕ) (from : ℕ) (stop : ℕ) (bits : ℕ) (value : ℕ) (next : ℕ) : Type 0 where
   pub field : List ℕ
   pub there : IsFieldTo text from stop next field
@@ -86,7 +86,7 @@ pub record IsLastNumber (text : List ℕ) (from : ℕ) (bits : ℕ) (value : ℕ
   pub digits : list_all is_ascii_digit field ≡ true
   pub is : number bits field ≡ Some value
 
--- The same of a plain field that names an item.
+-- A plain field up to a stop names an item.
 pub record IsItemTo (text : List ℕ) (from : ℕ) (stop : ℕ) (item : ItemId) (next : ℕ) : Type 0 where
   pub field : List ℕ
   pub there : IsFieldTo text from stop next field

@@ -8,7 +8,7 @@ pub record Gone : Type 0 where
   pub phases : ℕ
   pub requests : ℕ → ℕ
 
--- the same as it is counted: the requests of each worker from 0 on, and none of the others
+-- What went before a part as it is counted: the requests of each worker from 0 on, and none of the others.
 pub record BeforeView : Type 0 where
   pub phases : ℕ
   pub requests : List ℕ

@@ -10,7 +10,7 @@ pub record Readable : Type 0 where
   pub said : List Record
   pub fault : Option ReadFault
 
--- the same, after records that say this
+-- what records say that come after others which say this
 abbrev pub after : List Record → Readable → Readable
 after said others = record { said = said ++ others.said; fault = others.fault }
 

@@ -22,7 +22,7 @@ pub record IsAtStart {R : Type 0} (rem : R → Option (List ℕ)) (bytes : List 
 abbrev pub nothing_asked : ℕ → Asked
 nothing_asked workers = record { rows = []; scripts = replicate workers [] }
 
--- the same with one more record: a row at the end of the rows, a request at the end of its worker's script
+-- what is asked with one more record: a row at the end of the rows, a request at the end of its worker's script
 abbrev pub with_record : Record → Asked → Asked
 with_record said asked =
     if said.is_row then record asked { rows = asked.rows ++ (as_row said ∷ []) }

@@ -29,7 +29,7 @@ pub record IsTaken (workers : ℕ) (all : Readable) (taken : Taken) (rest : List
   pub asked : AskFor workers said (asked_by taken.input)
   pub requests : taken.requests ≡ requests_in said
 
--- the same, where these bytes are left
+-- records are taken up to these bytes, which are left
 abbrev pub IsTakenUpTo : ℕ → Readable → Taken → List ℕ → Type 0
 IsTakenUpTo workers all taken left = IsTaken workers all taken (records default_config (unmarked taken.count left))
 
@@ -51,7 +51,7 @@ pub record TakesOn (old : Taken) (from : List ℕ) (new : Taken) (to : List ℕ)
   pub begun : KnowsBegun old → KnowsBegun new
   pub takes : (workers : ℕ) (all : Readable) (more : List ℕ) → IsTakenUpTo workers all old (from ++ more) → IsTakenUpTo workers all new (to ++ more)
 
--- The same of what a buffer of lines has left, if its reader tells its bytes.
+-- What was taken up to the bytes that a buffer of lines has left is now taken up to those of the next, if its reader tells its bytes.
 pub record TakesLines {R : Type 0} (remaining : R → Option (List ℕ)) (lines : LineBuffer R) (old : Taken) (next : LineBuffer R) (new : Taken) : Type 0 where
   pub workers : vec_len new.input.scripts ≡ vec_len old.input.scripts
   pub begun : KnowsBegun old → KnowsBegun new

@@ -33,7 +33,8 @@ impl Before {
         }
     }
 
-    /// The same with the requests of one part more: None if one count is past 64 bits, or there are too many workers.
+    /// What went before the next part, which these scripts add requests to: None if a count is past
+    /// 64 bits, or there are too many workers.
     pub fn with_scripts(&self, scripts: &[Vec<Request>]) -> Option<Before>
         ensures phases { IfSome result (λ next. next.phases ≡ self.now.phases) }
         ensures requests { IfSome result (λ next. (worker : ℕ) →
@@ -51,7 +52,7 @@ impl Before {
         })
     }
 
-    /// The same with so many phases more: None if their count is past 64 bits.
+    /// What went before after so many phases more: None if their count is past 64 bits.
     pub fn with_phases(self, count: usize) -> Option<Before>
         ensures phases { IfSome result (λ next. next.phases ≡ self.phases + count) }
         ensures requests { IfSome result (λ next. (worker : ℕ) →

@@ -1,5 +1,5 @@
-//! The texts of an auction: the rows and scripts that are read, and the replies, histories, rows and reports
-//! that are written.
+//! The texts of an auction: the rows and scripts that are read, and the replies, histories, rows
+//! and reports that are written.
 #![tactic(auto)]
 
 mod before;
@@ -39,6 +39,7 @@ pub use report::ReportLines;
 pub use row_lines::push_quoted;
 pub use scripts::{Input, MOST_RECORDS, read_scripts};
 pub use text::{push_labelled, push_labelled_id, push_number, push_text};
+pub use text_blocks::write_last;
 pub use text_laws::{moved_in_order, replies_in_order, rows_of_histories};
 pub use writing::{
     write_history, write_history_on, write_replies, write_replies_by_threads, write_replies_on,

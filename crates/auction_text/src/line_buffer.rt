@@ -11,7 +11,8 @@ use std::io::Read;
 // How many bytes are read at a time.
 const ROOM_TO_READ: usize = 65536;
 
-/// A reader, and what was read of it and not taken yet. As a reader it gives a line at a time, and so nothing of the next one.
+/// A reader, and what was read of it and not taken yet. As a reader it gives a line at a time, and
+/// so nothing of the next one.
 #[derive(Drop)]
 pub struct LineBuffer<R> {
     reader: R,

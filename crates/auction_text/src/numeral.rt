@@ -7,14 +7,16 @@ use std::marker::Model;
 /// The most digits of a number.
 pub const MOST_DIGITS: usize = 20;
 
-/// Puts a number's digits down at a place, and gives the place after them. What lies behind that is overwritten too.
+/// Puts a number's digits down at a place, and gives the place after them. What lies behind that is
+/// overwritten too.
 pub fn put_digits(bytes: &mut [u8], at: usize, number: u64) -> usize
     requires { at + MOST_DIGITS ≤ length bytes.old }
     ensures place { result ≡ at + length (decimal number) }
     ensures within { result ≤ at + MOST_DIGITS }
     ensures text { take result bytes.new ≡ take at bytes.old ++ decimal number }
 {
-    // The digits end in the middle, so that from the first one on there are as many bytes as the most digits.
+    // The digits end in the middle, so that from the first one on there are as many bytes as the
+    // most digits.
     let mut digits = [0; 2 * MOST_DIGITS];
     let start = write_digits(number, &mut digits, MOST_DIGITS);
     bytes[at..at + MOST_DIGITS].copy_from_slice(&digits[start..start + MOST_DIGITS]);
@@ -76,7 +78,7 @@ impl Numeral {
         true
     }
 
-    // The same of one that is not the next one, or ends in a zero.
+    // Turns it to a number that is not the next one, or that ends in a zero.
     #[inline(never)]
     fn turn_over(&mut self, number: u64)
         ensures { self.new ≡ number }
@@ -86,7 +88,8 @@ impl Numeral {
         }
     }
 
-    // Counts it up, where the number is the next one, the last digit is a nine and the one before it is none.
+    // Counts it up, where the number is the next one, the last digit is a nine and the one before
+    // it is none.
     fn carry_to(&mut self, number: u64) -> bool
         ensures { IsTrue result → self.new ≡ number }
     {
@@ -111,7 +114,8 @@ impl Numeral {
     }
 
     /// Puts its digits down at a place, as `put_digits` does.
-    // So many bytes are put down without a call, and those of a copy without a test of whether they overlap.
+    // So many bytes are put down without a call, and those of a copy without a test of whether they
+    // overlap.
     #[inline(always)]
     pub fn put(&self, bytes: &mut [u8], at: usize) -> usize
         requires { at + MOST_DIGITS ≤ length bytes.old }

@@ -22,7 +22,8 @@ struct RecordsLeft<R> {
     fields: ByteRecord,
 }
 
-// How an input is read: its plain lines where they lie, and from the first on that is not plain by `csv`.
+// How an input is read: its plain lines where they lie, and from the first on that is not plain by
+// `csv`.
 #[derive(Drop)]
 enum Source<R> {
     Lines(LineBuffer<R>),
@@ -86,7 +87,8 @@ fn is_read_up<R: Read>(reader: &Reader<Chain<&'static [u8], LineBuffer<R>>>) -> 
     !lines.has_line()
 }
 
-// Takes records for a part: up to so many requests, and at least one, unless the input ends or has a fault before.
+// Takes records for a part: up to so many requests, and at least one, unless the input ends or has
+// a fault before.
 fn take_records<R: Read>(
     records: &mut RecordsLeft<R>,
     taken: &mut Taken,
@@ -220,9 +222,10 @@ impl<R: Read + Drop> InputLeft<R> {
         })
     }
 
-    /// Reads the next part: rows, if no request was read yet, and at most so many requests. Once it has one it ends where no whole
-    /// line is left of what was read, and does not wait for more. The first record with a fault ends the input, after the part
-    /// before it; a read that failed, or refused memory, ends it with no part.
+    /// Reads the next part: rows, if no request was read yet, and at most so many requests. Once it
+    /// has one it ends where no whole line is left of what was read, and does not wait for more.
+    /// The first record with a fault ends the input, after the part before it; a read that failed,
+    /// or refused memory, ends it with no part.
     pub fn next_part(self, alloc: Global, most: u32) -> Result<Part<R>, ReadFault>
         requires { 1 ≤ most }
         ensures part { IfOk result (λ part. (all : Readable) → CanRead R.remaining self all →

@@ -41,7 +41,7 @@ pub fn number_to(text: &[u8], from: usize, stop: u8) -> Option<(u64, usize)>
     Some((value, at + 1))
 }
 
-/// The same of 32 bits.
+/// The number of at most 32 bits that a field writes up to a stop, and the place after the stop.
 #[inline(always)]
 pub fn u32_to(text: &[u8], from: usize, stop: u8) -> Option<(u32, usize)>
     requires ends { EndsLine text.now }
@@ -67,7 +67,8 @@ pub fn item_to_comma(text: &[u8], from: usize) -> Option<(ItemId, usize)>
     Some((ItemId { worker, serial }, next))
 }
 
-// The number that digits write from a place on, up to a carriage return and a line feed, and the place after them.
+// The number that digits write from a place on, up to a carriage return and a line feed, and the
+// place after them.
 #[inline(never)]
 fn number_to_return(text: &[u8], from: usize) -> Option<(u64, usize)>
     requires ends { EndsLine text.now }
@@ -94,7 +95,7 @@ pub fn last_number(text: &[u8], from: usize) -> Option<(u64, usize)>
     }
 }
 
-/// The same of 32 bits.
+/// The number of at most 32 bits that a line's last field writes, and the place after the line.
 #[inline(always)]
 pub fn last_u32(text: &[u8], from: usize) -> Option<(u32, usize)>
     requires ends { EndsLine text.now }
@@ -139,7 +140,8 @@ fn field_end(text: &[u8], from: usize) -> usize
     at
 }
 
-/// The field from a place on, up to a comma, and the place after the comma; none if a quote is before it.
+/// The field from a place on, up to a comma, and the place after the comma; none if a quote is
+/// before it.
 pub fn field_to_comma(text: &[u8], from: usize) -> Option<(&[u8], usize)>
     requires ends { EndsLine text.now }
     requires within { from < length text.now }
@@ -172,7 +174,8 @@ fn quote_or_feed(text: &[u8], from: usize) -> usize
     at
 }
 
-// The field in quotes from a place on, up to a comma, and the place after the comma; none if a quote or a line feed is in it.
+// The field in quotes from a place on, up to a comma, and the place after the comma; none if a
+// quote or a line feed is in it.
 fn quoted_to_comma(text: &[u8], from: usize) -> Option<(&[u8], usize)>
     requires ends { EndsLine text.now }
     requires within { from < length text.now }
@@ -188,7 +191,8 @@ fn quoted_to_comma(text: &[u8], from: usize) -> Option<(&[u8], usize)>
     Some((&text[from + 1..at], at + 2))
 }
 
-/// The field from a place on, plain or in quotes, up to a comma, and the place after the comma; none if a quote is in it.
+/// The field from a place on, plain or in quotes, up to a comma, and the place after the comma;
+/// none if a quote is in it.
 pub fn next_field(text: &[u8], from: usize) -> Option<(&[u8], usize)>
     requires ends { EndsLine text.now }
     requires within { from < length text.now }
@@ -200,7 +204,8 @@ pub fn next_field(text: &[u8], from: usize) -> Option<(&[u8], usize)>
     }
 }
 
-/// A line's last field, from a place on, and the place after the line; none if a quote is before its end.
+/// A line's last field, from a place on, and the place after the line; none if a quote is before
+/// its end.
 pub fn last_field(text: &[u8], from: usize) -> Option<(&[u8], usize)>
     requires ends { EndsLine text.now }
     requires within { from < length text.now }

@@ -31,7 +31,8 @@ fn bid(text: &[u8], at: usize) -> Option<(Request, usize)>
     Some((request, next))
 }
 
-// The same to any end of the line. To allow for these in `bid` would cost every bid a little.
+// The bid whose fields are from a place on, whatever ends the line. To allow for other ends in
+// `bid` would cost every bid a little.
 #[inline(never)]
 fn any_bid(text: &[u8], at: usize) -> Option<(Request, usize)>
     requires ends { EndsLine text.now }
@@ -51,7 +52,8 @@ fn any_bid(text: &[u8], at: usize) -> Option<(Request, usize)>
     Some((request, next))
 }
 
-// The time and the quantity that end an item's line: one is put up if the line does not say how many.
+// The time and the quantity that end an item's line: one is put up if the line does not say how
+// many.
 fn put_up(text: &[u8], at: usize) -> Option<(u64, Quantity, usize)>
     requires ends { EndsLine text.now }
     requires within { at < length text.now }
@@ -202,7 +204,8 @@ pub fn bid_at(text: &[u8], at: usize) -> Option<(Record, usize)>
     Some((said, next))
 }
 
-// The request that a text goes on with or, after a plus, the row, to the end of the line; and which of the two it is.
+// The request that a text goes on with or, after a plus, the row, to the end of the line; and which
+// of the two it is.
 #[inline(always)]
 fn asked_at(text: &[u8], at: usize) -> Option<(bool, Request, usize)>
     requires ends { EndsLine text.now }

@@ -12,7 +12,8 @@ use crate::record::Record;
 use crate::scripts::MOST_RECORDS;
 use std::io::Read;
 
-// Adds what the line from `at` to `next` says and returns `next`, or returns `at` if its record has a fault.
+// Adds what the line from `at` to `next` says and returns `next`, or returns `at` if its record has
+// a fault.
 #[inline(always)]
 fn add_line(
     progress: &mut Progress,
@@ -36,7 +37,8 @@ fn add_line(
     Ok(next)
 }
 
-// Reads the line at a place, unless a bid's, and returns the place after it: the same place if it is not plain or has a fault.
+// Reads the line at a place, unless a bid's, and returns the place after it: the same place if it
+// is not plain or has a fault.
 #[inline(never)]
 fn read_other(progress: &mut Progress, text: &[u8], at: usize) -> Result<usize, ReadFault>
     requires ends { EndsLine text.now }
@@ -54,7 +56,8 @@ fn read_other(progress: &mut Progress, text: &[u8], at: usize) -> Result<usize, 
     }
 }
 
-// The same of each line; a bid's, of which there are most, is read in place.
+// Reads the line at a place, and returns the place after it: a bid's, of which there are most, in
+// place.
 #[inline(always)]
 fn read_line(progress: &mut Progress, text: &[u8], at: usize) -> Result<usize, ReadFault>
     requires ends { EndsLine text.now }
@@ -105,7 +108,8 @@ pub fn lines_end(text: &[u8]) -> usize
     end
 }
 
-/// Fills a buffer on from a place, and returns the place after what was read: the same if nothing is left, or no room.
+/// Fills a buffer on from a place, and returns the place after what was read: the same if nothing
+/// is left, or no room.
 pub fn read_more<R: Read>(
     buffer: &mut [u8],
     filled: usize,
@@ -126,8 +130,9 @@ pub fn read_more<R: Read>(
     }
 }
 
-// Reads the plain lines at the front of what a buffer holds, if a line ends in its part from a place on, and moves what is after
-// them to the front. Returns how much that is, and whether it is the beginning of a line, of which more may come.
+// Reads the plain lines at the front of what a buffer holds, if a line ends in its part from a
+// place on, and moves what is after them to the front. Returns how much that is, and whether it is
+// the beginning of a line, of which more may come.
 fn take_lines(
     progress: &mut Progress,
     buffer: &mut [u8],
@@ -152,7 +157,8 @@ fn take_lines(
     Ok((filled - at, at == end))
 }
 
-/// Reads plain lines as long as they come, and returns how much of the buffer holds what was read after them.
+/// Reads plain lines as long as they come, and returns how much of the buffer holds what was read
+/// after them.
 pub fn read_lines<R: Read>(
     progress: &mut Progress,
     buffer: &mut [u8],

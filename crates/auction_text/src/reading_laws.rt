@@ -11,7 +11,8 @@ pub fn rows_come_first()
         read_records workers 1 false (records_of text) ≡ Ok all → RowsComeFirst all }
 {}
 
-/// What can be read of an input of at most `MOST_RECORDS` records is what all of it says, or its first fault.
+/// What can be read of an input of at most `MOST_RECORDS` records is what all of it says, or its
+/// first fault.
 pub fn all_is_readable()
     ensures { (workers : ℕ) (text : List ℕ) → length (records_of text) ≤ MOST_RECORDS →
         read_records workers 1 false (records_of text) ≡ all_said (readable_of workers text).said (readable_of workers text).fault }

@@ -193,8 +193,8 @@ fn kind_in(fields: &ByteRecord) -> Result<Kind, Cause>
     kind_named(field_of(fields, 1)).ok_or(Cause::Kind)
 }
 
-/// What the record with the number `place` says, or its first fault. `begun` tells whether a request
-/// stands before it: a row is late then.
+/// What the record with the number `place` says, or its first fault. `begun` tells whether a
+/// request stands before it: a row is late then.
 pub fn read_record(
     fields: &ByteRecord,
     workers: u32,

@@ -10,9 +10,28 @@ use auction_rows::{BidShown, ItemShown, Refusal, Reply, StoreReply, Ten};
 use std::alloc::AllocError;
 use worker_journals::EntryRef;
 
+// The bytes that each part of a reply or of its line takes at most, with 20 for each number.
+const MOST_OF_A_REFUSAL: usize = 24;
+
+const MOST_OF_A_STORE_REPLY: usize = 49;
+
+const MOST_OF_FACTS: usize = 121;
+
+const MOST_OF_A_STATE: usize = 109;
+
+const MOST_OF_A_BID: usize = 105;
+
+const MOST_OF_AN_ITEM: usize = 63;
+
+const MOST_OF_ITEMS: usize = 6 + 10 * MOST_OF_AN_ITEM;
+
+const MOST_OF_A_SCORE: usize = 58;
+
+const MOST_OF_A_PLACE: usize = 83;
+
 fn text_of_refusal(refusal: Refusal) -> &'static [u8]
     ensures text { result.now ≡ refusal_text refusal }
-    ensures short { length result.now ≤ 24 }
+    ensures short { length result.now ≤ MOST_OF_A_REFUSAL }
 {
     match refusal {
         Refusal::NoSuchUser => b"refused 1 NoSuchUser",
@@ -32,9 +51,9 @@ fn put_facts<const N: usize>(
     start: u64,
     closes: u64,
 )
-    requires { 121 + length block.old ≤ N }
+    requires { MOST_OF_FACTS + length block.old ≤ N }
     ensures text { block.new ≡ block.old ++ facts_text seller category start closes }
-    ensures length { length block.new ≤ 121 + length block.old }
+    ensures length { length block.new ≤ MOST_OF_FACTS + length block.old }
 {
     block.push_labelled(b"viewitem seller=", u64::from(seller));
     block.push_labelled(b" category=", u64::from(category));
@@ -49,9 +68,9 @@ fn put_state<const N: usize>(
     bids: u64,
     left: u32,
 )
-    requires { 109 + length block.old ≤ N }
+    requires { MOST_OF_A_STATE + length block.old ≤ N }
     ensures text { block.new ≡ block.old ++ state_text highest bidder bids left }
-    ensures length { length block.new ≤ 109 + length block.old }
+    ensures length { length block.new ≤ MOST_OF_A_STATE + length block.old }
 {
     block.push_optional(b" highest=", highest);
     block.push_optional(b" bidder=", bidder.map(u64::from));
@@ -60,9 +79,9 @@ fn put_state<const N: usize>(
 }
 
 fn put_bid<const N: usize>(block: &mut Block<N>, bid: BidShown)
-    requires { 105 + length block.old ≤ N }
+    requires { MOST_OF_A_BID + length block.old ≤ N }
     ensures text { block.new ≡ block.old ++ bid_text bid }
-    ensures length { length block.new ≤ 105 + length block.old }
+    ensures length { length block.new ≤ MOST_OF_A_BID + length block.old }
 {
     block.push_labelled(b" ", bid.amount);
     block.push_labelled(b":", bid.time);
@@ -82,18 +101,18 @@ fn put_bids<const N: usize>(block: &mut Block<N>, bids: &Ten<BidShown>)
 }
 
 fn put_item<const N: usize>(block: &mut Block<N>, item: ItemShown)
-    requires { 63 + length block.old ≤ N }
+    requires { MOST_OF_AN_ITEM + length block.old ≤ N }
     ensures text { block.new ≡ block.old ++ item_text item }
-    ensures length { length block.new ≤ 63 + length block.old }
+    ensures length { length block.new ≤ MOST_OF_AN_ITEM + length block.old }
 {
     block.push_labelled(b" ", item.time);
     block.push_id(b":", item.id.worker, item.id.serial);
 }
 
 fn put_items<const N: usize>(block: &mut Block<N>, items: &Ten<ItemShown>)
-    requires { 636 + length block.old ≤ N }
+    requires { MOST_OF_ITEMS + length block.old ≤ N }
     ensures text { block.new ≡ block.old ++ (codes "latest" ++ flat_map item_text items.now) }
-    ensures length { length block.new ≤ 636 + length block.old }
+    ensures length { length block.new ≤ MOST_OF_ITEMS + length block.old }
 {
     block.push(b"latest");
     for place in 0..items.len() {
@@ -102,9 +121,9 @@ fn put_items<const N: usize>(block: &mut Block<N>, items: &Ten<ItemShown>)
 }
 
 fn put_score<const N: usize>(block: &mut Block<N>, rating: i64, comments: u64)
-    requires { 58 + length block.old ≤ N }
+    requires { MOST_OF_A_SCORE + length block.old ≤ N }
     ensures text { block.new ≡ block.old ++ score_text rating comments }
-    ensures length { length block.new ≤ 58 + length block.old }
+    ensures length { length block.new ≤ MOST_OF_A_SCORE + length block.old }
 {
     block.push_signed(b" rating=", rating);
     block.push_labelled(b" comments=", comments);
@@ -112,9 +131,9 @@ fn put_score<const N: usize>(block: &mut Block<N>, rating: i64, comments: u64)
 
 #[inline(always)]
 fn put_store_reply<const N: usize>(block: &mut Block<N>, reply: StoreReply)
-    requires { 49 + length block.old ≤ N }
+    requires { MOST_OF_A_STORE_REPLY + length block.old ≤ N }
     ensures text { block.new ≡ block.old ++ reply_text (reply_of reply) }
-    ensures length { length block.new ≤ 49 + length block.old }
+    ensures length { length block.new ≤ MOST_OF_A_STORE_REPLY + length block.old }
 {
     match reply {
         StoreReply::ItemStored(id) => block.push_id(b"item ", id.worker, id.serial),
@@ -218,9 +237,9 @@ pub fn put_reply_line<const N: usize>(block: &mut Block<N>, entry: &EntryRef<'_>
 
 // Adds the place of an entry in a history, with this phase and index.
 fn put_place<const N: usize>(block: &mut Block<N>, entry: &EntryRef<'_>, phase: u64, index: u64)
-    requires { 83 + length block.old ≤ N }
+    requires { MOST_OF_A_PLACE + length block.old ≤ N }
     ensures text { block.new ≡ block.old ++ place_text (record entry.now { phase = phase; index = index }) }
-    ensures length { length block.new ≤ 83 + length block.old }
+    ensures length { length block.new ≤ MOST_OF_A_PLACE + length block.old }
 {
     block.push_number(phase);
     block.push_labelled(b" ", entry.number());

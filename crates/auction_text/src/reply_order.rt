@@ -24,7 +24,8 @@ fn comes_before(one: &EntryRef<'_>, other: &EntryRef<'_>) -> bool
     (one.worker(), one.index()) < (other.worker(), other.index())
 }
 
-// Whether an entry of a worker does not come after the last one of it that stood in turn: those from this index on do.
+// Whether an entry of a worker does not come after the last one of it that stood in turn: those
+// from this index on do.
 #[inline(always)]
 fn is_late(next: u64, entry: &EntryRef<'_>) -> bool
     ensures { result ≡ nat_lt entry.now.index next }
@@ -32,8 +33,8 @@ fn is_late(next: u64, entry: &EntryRef<'_>) -> bool
     u64::from(entry.index()) < next
 }
 
-// The entries of a worker that were committed after a later request of its script, as those put off are, in the order of their
-// commits: they are few.
+// The entries of a worker that were committed after a later request of its script, as those put off
+// are, in the order of their commits: they are few.
 fn late_as_committed(
     alloc: Global,
     history: &History,
@@ -53,7 +54,7 @@ fn late_as_committed(
     Ok(entries)
 }
 
-/// The same in order.
+/// The late entries of a worker in the order of their indexes.
 pub fn late_entries(
     alloc: Global,
     history: &History,
@@ -83,7 +84,8 @@ pub fn all_late_entries(
     Ok(lists)
 }
 
-// Puts the lines of the entries from a place on that come before another, and gives the place after them.
+// Puts the lines of the entries from a place on that come before another, and gives the place after
+// them.
 #[inline(never)]
 fn put_before<W: Write>(
     writer: &mut W,
@@ -110,7 +112,7 @@ fn put_before<W: Write>(
     Ok(place)
 }
 
-// The same, where mostly no entry is left.
+// Puts the lines of the entries that come before another, of which mostly none is left.
 #[inline(always)]
 fn put_any_before<W: Write>(
     writer: &mut W,
@@ -147,8 +149,9 @@ fn put_replies<W: Write>(
     Ok(())
 }
 
-/// Puts the lines of a worker's entries among the replies, by index, then place, after so many requests of it. They are read
-/// where they lie, in the order of their commits, and those that are late, which are given in order, are put in between.
+/// Puts the lines of a worker's entries among the replies, by index, then place, after so many
+/// requests of it. They are read where they lie, in the order of their commits, and those that are
+/// late, which are given in order, are put in between.
 pub fn put_replies_of<W: Write>(
     writer: &mut W,
     block: &mut Block<ROOM>,
@@ -173,7 +176,8 @@ pub fn put_replies_of<W: Write>(
     put_replies(writer, block, &delayed[told..], gone)
 }
 
-/// Puts the lines of all workers' entries among the replies, by worker, then index, then place, after what went before.
+/// Puts the lines of all workers' entries among the replies, by worker, then index, then place,
+/// after what went before.
 pub fn put_all_replies<W: Write>(
     writer: &mut W,
     block: &mut Block<ROOM>,

@@ -127,8 +127,8 @@ fn read_all<R: Read>(
     Ok(())
 }
 
-// Reads as `csv` does the rest of an input, which a reader gives. The reader of records is let go at one place, by which this
-// is proved sooner.
+// Reads as `csv` does the rest of an input, which a reader gives. The reader of records is let go
+// at one place, by which this is proved sooner.
 #[inline(never)]
 fn read_rest<R: Read + Drop>(
     alloc: Global,
@@ -157,7 +157,8 @@ fn read_rest<R: Read + Drop>(
     read_all(&mut records, &mut fields, workers, progress)
 }
 
-/// What the rest of an input is read after: the end of a line, so that no byte order mark is taken off within the input.
+/// What the rest of an input is read after: the end of a line, so that no byte order mark is taken
+/// off within the input.
 pub fn front_of(count: u64) -> &'static [u8]
     ensures { result.now ≡ (if count == 0 then [] else (line_feed ∷ [])) }
 {
@@ -217,10 +218,10 @@ fn read_input<R: Read + Drop>(
 /// Reads to its end what a reader gives: rows to open with, and after them the scripts of so many
 /// workers, whose requests may stand among one another.
 ///
-/// The input is read as `csv` reads it, with no headers and nothing trimmed. The first record with a
-/// fault ends the reading, and so do a row after a request and a record past `MOST_RECORDS`: no scripts
-/// are given then. `Read` comes of a read that failed and `Memory` of memory that was refused; either
-/// may come before the fault of a later record is found.
+/// The input is read as `csv` reads it, with no headers and nothing trimmed. The first record with
+/// a fault ends the reading, and so do a row after a request and a record past `MOST_RECORDS`: no
+/// scripts are given then. `Read` comes of a read that failed and `Memory` of memory that was
+/// refused; either may come before the fault of a later record is found.
 pub fn read_scripts<R: Read + Drop>(
     alloc: Global,
     reader: R,

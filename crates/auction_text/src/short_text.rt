@@ -9,8 +9,8 @@ use std::marker::Model;
 /// The most bytes of a short text: enough for six long numbers and the words before them.
 pub const MOST: usize = 160;
 
-/// A short text, put together in place and from its end, so that a number's digits, of which the last
-/// come first, are written where they stay. Contracts see the text.
+/// A short text, put together in place and from its end, so that a number's digits, of which the
+/// last come first, are written where they stay. Contracts see the text.
 #[derive(Drop)]
 pub struct ShortText {
     bytes: [u8; MOST],
@@ -61,7 +61,8 @@ impl ShortText {
     }
 
     /// Puts a number in decimal before the text.
-    // Not copied into its callers: so these are small enough to be, and the length of a label is known there.
+    // Not copied into its callers: so these are small enough to be, and the length of a label is
+    // known there.
     #[inline(never)]
     pub fn prepend_number(&mut self, number: u64)
         requires { 20 + length self.old ≤ MOST }

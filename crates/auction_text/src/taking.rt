@@ -59,7 +59,8 @@ fn add_taken(taken: &mut Taken, said: &Record) -> Result<(), ReadFault>
     Ok(())
 }
 
-// What the line at a place says, if it is plain, and the place after it; bids, of which there are most, are read in place.
+// What the line at a place says, if it is plain, and the place after it; bids, of which there are
+// most, are read in place.
 #[inline(always)]
 fn said_at(text: &[u8], at: usize) -> Option<(Record, usize)>
     requires ends { EndsLine text.now }
@@ -72,7 +73,8 @@ fn said_at(text: &[u8], at: usize) -> Option<(Record, usize)>
     }
 }
 
-// Takes the line at a place, and returns the place after it: the same place if it is not plain or has a fault.
+// Takes the line at a place, and returns the place after it: the same place if it is not plain or
+// has a fault.
 #[inline(always)]
 fn take_line(taken: &mut Taken, text: &[u8], at: usize) -> Result<usize, ReadFault>
     requires ends { EndsLine text.now }
@@ -97,7 +99,8 @@ fn take_line(taken: &mut Taken, text: &[u8], at: usize) -> Result<usize, ReadFau
     Ok(next)
 }
 
-// Takes the plain lines at the front of a text, up to so many requests, and returns the place after them.
+// Takes the plain lines at the front of a text, up to so many requests, and returns the place after
+// them.
 #[inline(never)]
 fn take_plain(taken: &mut Taken, text: &[u8], most: u32) -> Result<usize, ReadFault>
     requires ends { EndsLine text.now }
@@ -118,8 +121,9 @@ fn take_plain(taken: &mut Taken, text: &[u8], most: u32) -> Result<usize, ReadFa
     Ok(at)
 }
 
-// Takes plain lines of what a buffer holds, up to so many requests, and returns whether `csv` has to read on: at a line that is not
-// plain or has a fault, or that may end with a carriage return alone.
+// Takes plain lines of what a buffer holds, up to so many requests, and returns whether `csv` has
+// to read on: at a line that is not plain or has a fault, or that may end with a carriage return
+// alone.
 fn take_held<R>(lines: &mut LineBuffer<R>, taken: &mut Taken, most: u32) -> Result<bool, ReadFault>
     requires room { taken.old.requests ≤ most }
     ensures takes { OnOk result (TakesOn taken.old (held lines.old) taken.new (held lines.new)) }
@@ -136,8 +140,8 @@ fn take_held<R>(lines: &mut LineBuffer<R>, taken: &mut Taken, most: u32) -> Resu
     Ok(at < end)
 }
 
-/// Takes plain lines for a part: up to so many requests, or all that are whole of what was read, if a request is among them. Returns
-/// whether one is: if not, `csv` has to read on.
+/// Takes plain lines for a part: up to so many requests, or all that are whole of what was read, if
+/// a request is among them. Returns whether one is: if not, `csv` has to read on.
 pub fn take_lines<R: Read>(
     lines: &mut LineBuffer<R>,
     taken: &mut Taken,

@@ -40,7 +40,7 @@ pub fn flush<W: Write>(writer: &mut W) -> Result<(), WriteFault>
     }
 }
 
-/// Writes the last part of a text, and flushes.
+/// Writes the last part of a text, and flushes: after `Write` a prefix of the part was written.
 pub fn write_last<W: Write>(writer: &mut W, part: &[u8]) -> Result<(), WriteFault>
     ensures whole { OnOk result (Appends (W.contents writer.old) (W.contents writer.new) part.now) }
     ensures part { IfErr result (λ fault. (fault ≡ WriteFault.Write) ×
@@ -73,7 +73,8 @@ fn make_room<W: Write>(writer: &mut W, block: &mut Block<ROOM>) -> Result<(), Wr
     Ok(())
 }
 
-/// Puts the line of an entry among the replies, after so many requests of its worker. An index past 64 bits is not written.
+/// Puts the line of an entry among the replies, after so many requests of its worker. An index past
+/// 64 bits is not written.
 #[inline(always)]
 pub fn put_reply<W: Write>(
     writer: &mut W,
@@ -91,7 +92,8 @@ pub fn put_reply<W: Write>(
     Ok(())
 }
 
-/// Puts the line of an entry in a history, after what went before. A phase or an index past 64 bits is not written.
+/// Puts the line of an entry in a history, after what went before. A phase or an index past 64 bits
+/// is not written.
 pub fn put_entry<W: Write>(
     writer: &mut W,
     block: &mut Block<ROOM>,

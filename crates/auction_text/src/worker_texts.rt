@@ -14,8 +14,9 @@ use std::io::Write;
 use std::thread::{Threads, map_indices};
 use worker_journals::History;
 
-// So much room is asked for ahead for each of a worker's replies: few take more, and of it all only what is filled is touched. A text
-// that grows is copied, and the memory that it leaves may stay with the program.
+// So much room is asked for ahead for each of a worker's replies: few take more, and of it all only
+// what is filled is touched. A text that grows is copied, and the memory that it leaves may stay
+// with the program.
 const ROOM_OF_A_REPLY: usize = 128;
 
 // A worker's replies, with room for so many.

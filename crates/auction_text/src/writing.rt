@@ -24,8 +24,8 @@ use std::io::Write;
 use std::thread::Threads;
 use worker_journals::History;
 
-// The bytes that the line of a bid takes at most where numbers have six digits: so much room is asked for ahead for each entry
-// and row, and longer lines make a text grow.
+// The bytes that the line of a bid takes at most where numbers have six digits: so much room is
+// asked for ahead for each entry and row, and longer lines make a text grow.
 const ROOM_OF_A_LINE: usize = 40;
 
 // Of fewer replies one thread makes the text as soon.
@@ -118,10 +118,11 @@ pub fn write_replies<W: Write>(
     write_replies_on(alloc, writer, history, &Before::none())
 }
 
-/// Writes the replies of a part of a run as `write_replies` does: their indexes go on from the requests that went before.
+/// Writes the replies of a part of a run as `write_replies` does: their indexes go on from the
+/// requests that went before.
 ///
-/// `Memory` comes before the first byte is written; after `Write` a prefix of the text was written. An index past 64 bits is
-/// not written: `Write`.
+/// `Memory` comes before the first byte is written; after `Write` a prefix of the text was written.
+/// An index past 64 bits is not written: `Write`.
 pub fn write_replies_on<W: Write>(
     alloc: Global,
     writer: &mut W,
@@ -170,9 +171,11 @@ pub fn write_history<W: Write>(writer: &mut W, history: &History) -> Result<(), 
     write_history_on(writer, history, &Before::none())
 }
 
-/// Writes the entries of a part of a run as `write_history` does: their phases and indexes go on from what went before.
+/// Writes the entries of a part of a run as `write_history` does: their phases and indexes go on
+/// from what went before.
 ///
-/// After `Write` a prefix of the text was written. A phase or an index past 64 bits is not written: `Write`.
+/// After `Write` a prefix of the text was written. A phase or an index past 64 bits is not written:
+/// `Write`.
 pub fn write_history_on<W: Write>(
     writer: &mut W,
     history: &History,

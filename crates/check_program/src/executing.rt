@@ -12,8 +12,9 @@ use item_shards::OpeningBook;
 use std::alloc::Global;
 use std::io::{BufRead, Read, Write};
 
-/// Opens an auction with the rows that the first reader gives, replays the history that the second gives on it, and writes what
-/// is found as a line. After a fault nothing was written, or a prefix of that line.
+/// Opens an auction with the rows that the first reader gives, replays the history that the second
+/// gives on it, and writes what is found as a line. After a fault nothing was written, or a prefix
+/// of that line.
 pub fn execute<I: Read + Drop, H: BufRead, W: Write>(
     alloc: Global,
     reader: I,

@@ -81,7 +81,8 @@ impl From<WriteFault> for Fault {
     }
 }
 
-/// The exit status of a fault: 1 for options, 2 for reading, 3 for opening and checking, 4 for writing.
+/// The exit status of a fault: 1 for options, 2 for reading, 3 for opening and checking, 4 for
+/// writing.
 pub fn status(fault: &Fault) -> u8
     ensures { result ≡ status fault.now }
 {

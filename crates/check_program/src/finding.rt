@@ -9,8 +9,9 @@ use std::alloc::Global;
 use std::io;
 use std::io::Write;
 
-/// The exit status of what was found: 0 where the history replays, 5 for another reply than the one due, 6 for a request that
-/// stands in no line, in two, or in no script, 7 for an order, 8 for a line that can't be read.
+/// The exit status of what was found: 0 where the history replays, 5 for another reply than the one
+/// due, 6 for a request that stands in no line, in two, or in no script, 7 for an order, 8 for a
+/// line that can't be read.
 pub fn verdict_status(verdict: &Verdict) -> u8
     ensures { result ≡ verdict_status verdict.now }
 {
@@ -59,7 +60,8 @@ fn push_verdict(text: &mut Vec<u8>, verdict: &Verdict, line: &[u8]) -> io::Resul
     }
 }
 
-/// Writes the line of what was found. `line` is the line of the history that is wrong, where one is.
+/// Writes the line of what was found. `line` is the line of the history that is wrong, where one
+/// is.
 pub fn write_verdict<W: Write>(
     alloc: Global,
     writer: &mut W,

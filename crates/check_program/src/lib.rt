@@ -1,4 +1,5 @@
-//! The program behind `main` of `rubis_check`: from its words, an input and a history of any engine to what is found of the history.
+//! The program behind `main` of `rubis_check`: from its words, an input and a history of any engine
+//! to what is found of the history.
 #![tactic(auto)]
 
 mod executing;

@@ -15,8 +15,8 @@ use program_options::{
 };
 use std::alloc::{AllocError, Global};
 
-/// What the program is asked to do: how many workers, users and categories the auction has, which history is checked, and in
-/// which order its entries are to stand.
+/// What the program is asked to do: how many workers, users and categories the auction has, which
+/// history is checked, and in which order its entries are to stand.
 #[derive(Drop)]
 pub struct Options {
     /// How many workers there are, 1 to 16.
@@ -99,9 +99,9 @@ fn options_of(alloc: Global, matches: &ArgMatches<'_>) -> Result<Options, UsageF
     })
 }
 
-/// The options that the words give, the first of which is the program's name. Where they say nothing else: one worker, 100 users,
-/// 10 categories, any order; a file with a history has to be named. Words that are refused, or that ask for help, are answered
-/// in `clap`'s words.
+/// The options that the words give, the first of which is the program's name. Where they say
+/// nothing else: one worker, 100 users, 10 categories, any order; a file with a history has to be
+/// named. Words that are refused, or that ask for help, are answered in `clap`'s words.
 pub fn read_options(alloc: Global, words: &[String]) -> Result<Options, UsageFault>
     ensures given { IfOk result (SayOptions (text_in program (map string_bytes words.now)) (value_in program (map string_bytes words.now))) }
     ensures workers { IfOk result (λ options. options.workers ≤ MOST_WORKERS) }

@@ -1,4 +1,5 @@
-//! Tests of the engine by its public calls, a folder for each library that has any, and calls for which memory is refused.
+//! Tests of the engine by its public calls, a folder for each library that has any, and calls for
+//! which memory is refused.
 #![tactic(auto)]
 
 #[cfg(test)]

@@ -1,5 +1,5 @@
-//! Tests of `auction_run`: what gates and boards are told, which runs are refused, runs that go on, the histories of runs on threads, and what is
-//! made of a list of entries.
+//! Tests of `auction_run`: what gates and boards are told, which runs are refused, runs that go on,
+//! the histories of runs on threads, and what is made of a list of entries.
 mod board_tests;
 mod entry_tests;
 mod gate_tests;

@@ -51,7 +51,8 @@ pub fn purchase(buyer: u32, quantity: u64, time: u64) -> Result<Request, Fail> {
     })
 }
 
-/// The view of an item of which so many are left, with so many bids, the greatest of which is this amount of this bidder.
+/// The view of an item of which so many are left, with so many bids, the greatest of which is this
+/// amount of this bidder.
 pub fn item_seen(facts: &Facts, greatest: Option<(u64, u32)>, bids: u64, left: u32) -> Reply {
     Reply::ItemSeen {
         seller: facts.seller,

@@ -39,7 +39,8 @@ fn read_next<R: BufRead>(reader: &mut R, line: &mut Vec<u8>) -> Result<bool, Che
     }
 }
 
-// Reads the next line and performs it. What is found is known where there is no next line, and where it is wrong.
+// Reads the next line and performs it. What is found is known where there is no next line, and
+// where it is wrong.
 fn find_next<R: BufRead>(
     replay: &mut Replay,
     scripts: &[Vec<Request>],
@@ -69,9 +70,10 @@ fn find_next<R: BufRead>(
     }
 }
 
-/// Replays a text, line by line, on an auction of one thread from the book that it is opened with, and compares each reply with
-/// that of the line. `scripts` are those of at most 16 workers. Where a line is wrong, `line` holds it. It takes time in
-/// proportion to the text, the rows, the requests, the users and the categories, and memory for the rows, the scripts and a line.
+/// Replays a text, line by line, on an auction of one thread from the book that it is opened with,
+/// and compares each reply with that of the line. `scripts` are those of at most 16 workers. Where
+/// a line is wrong, `line` holds it. It takes time in proportion to the text, the rows, the
+/// requests, the users and the categories, and memory for the rows, the scripts and a line.
 pub fn check_history<R: BufRead>(
     alloc: Global,
     book: &OpeningBook,

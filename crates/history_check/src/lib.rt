@@ -1,6 +1,7 @@
 //! Whether a history that some engine wrote is one of an auction of one thread.
 //!
-//! `specs/Texts.antt` says what the lines of a text are, `specs/Checking.antt` what is found of them.
+//! `specs/Texts.antt` says what the lines of a text are, `specs/Checking.antt` what is found of
+//! them.
 #![tactic(auto)]
 
 mod checking;

@@ -19,13 +19,15 @@ pub enum Order {
 /// Why a line is wrong after the lines before it.
 #[derive(Clone, Copy)]
 pub enum Wrong {
-    /// It doesn't begin with four numbers that have a space after each, or has no line feed at its end.
+    /// It doesn't begin with four numbers that have a space after each, or has no line feed at its
+    /// end.
     Unreadable,
     /// No script has its request.
     NoRequest,
     /// Its request stands in an earlier line.
     Again,
-    /// A later request of its script stands in an earlier line, against the order that is asked for.
+    /// A later request of its script stands in an earlier line, against the order that is asked
+    /// for.
     Late,
     /// This reply was due, and not the line's.
     Due(Reply),

@@ -78,7 +78,8 @@ fn without_line_feed(line: &[u8]) -> Option<&[u8]>
     }
 }
 
-/// The place that a line begins with, and the text of the reply after it, if there is a line feed at its end.
+/// The place that a line begins with, and the text of the reply after it, if there is a line feed
+/// at its end.
 pub fn read_line(line: &[u8]) -> Option<(Place, &[u8])>
     ensures read { IfSome result (λ found. IsLineOf line.now found.0 found.1.now) }
     ensures none { IfNone result ((place : CommitPlace) (text : List ℕ) → ¬ IsLineOf line.now place text) }

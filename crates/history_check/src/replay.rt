@@ -64,8 +64,8 @@ impl Replay {
         })
     }
 
-    /// Performs the request of one line more, and says what is wrong with the line. After what is wrong, or a fault, the
-    /// replay is to be dropped.
+    /// Performs the request of one line more, and says what is wrong with the line. After what is
+    /// wrong, or a fault, the replay is to be dropped.
     pub fn perform(
         &mut self,
         scripts: &[Vec<Request>],
@@ -88,7 +88,8 @@ impl Replay {
         }
     }
 
-    // Whether a line of a later request of the script stands before the request of a place, and may not.
+    // Whether a line of a later request of the script stands before the request of a place, and may
+    // not.
     fn is_late(&self, place: Place, request: Request) -> bool
         requires { place.worker < MOST_WORKERS }
         ensures { result ≡ is_late self.now.order request place.index (get_or self.now.turns.next place.worker 0) }
@@ -96,7 +97,8 @@ impl Replay {
         is_bound(self.order, request) && self.turns.is_late(place.worker as usize, place.index)
     }
 
-    // Performs the request of a place, where a line tells of it in its turn, and compares the reply with a text.
+    // Performs the request of a place, where a line tells of it in its turn, and compares the reply
+    // with a text.
     fn perform_at(
         &mut self,
         scripts: &[Vec<Request>],

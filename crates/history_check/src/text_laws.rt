@@ -11,8 +11,8 @@ pub fn lines_are_placed()
     ensures { (entry : Entry) → history_line entry ≡ line_at (place_of entry) (reply_text entry.reply) }
 {}
 
-/// A text whose lines are those of a history is the history's text; and where each name that a history shows is a name, as
-/// every `Name` is, the lines of its text are those of the history.
+/// A text whose lines are those of a history is the history's text; and where each name that a
+/// history shows is a name, as every `Name` is, the lines of its text are those of the history.
 pub fn texts_are_lines()
     ensures text { (history : List Entry) (text : List ℕ) → history_lines history ≡ lines_of text → history_text history ≡ text }
     ensures lines { (history : List Entry) → AllByRecursion (λ entry. ShowsName entry.reply) history → lines_of (history_text history) ≡ history_lines history }

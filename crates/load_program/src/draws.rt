@@ -174,7 +174,8 @@ impl Market {
         }
     }
 
-    // A request, its kind drawn by the mix: each kind has as many of a hundred numbers as its share says.
+    // A request, its kind drawn by the mix: each kind has as many of a hundred numbers as its share
+    // says.
     fn request(&self, rng: &mut Xoshiro256PlusPlus, time: u64) -> Request
         ensures names { NamesStored self.now.plan.counts result }
         ensures share { HasShare self.now.plan.mix result }

@@ -33,7 +33,8 @@ pub enum Fault {
     /// No memory was left for the law of popularity. Nothing was written.
     #[error("no memory")]
     Memory,
-    /// A part of the load could not be made or written: what was written before it is the load's beginning.
+    /// A part of the load could not be made or written: what was written before it is the load's
+    /// beginning.
     #[error("{0}")]
     Write(WriteFault),
 }

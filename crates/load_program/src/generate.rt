@@ -78,8 +78,8 @@ fn write_requests<W: Write>(
     Ok(())
 }
 
-/// Writes the load of a plan: a row for each item, and then the requests. `Memory` comes before the first byte; where a part
-/// can't be made or written, what stands before it is written.
+/// Writes the load of a plan: a row for each item, and then the requests. `Memory` comes before the
+/// first byte; where a part can't be made or written, what stands before it is written.
 pub fn write_load<W: Write>(alloc: Global, writer: &mut W, plan: &Plan) -> Result<(), Fault>
     ensures whole { OnOk result (WritesLoad plan.now (W.contents writer.old) (W.contents writer.new)) }
     ensures memory { result ≡ Err Fault.Memory → writer.new ≡ writer.old }

@@ -1,4 +1,5 @@
-//! The program behind `main` of `rubis_load`: from its words to the rows and requests of a load, as the auction reads them.
+//! The program behind `main` of `rubis_load`: from its words to the rows and requests of a load, as
+//! the auction reads them.
 #![tactic(auto)]
 
 mod draws;

@@ -9,7 +9,8 @@ use auction_text::{push_labelled, push_labelled_id, push_number, push_quoted, pu
 use itoa::Buffer;
 use std::alloc::{AllocError, Global};
 
-// The bytes of most lines: so much room is asked for ahead for each, and longer lines make a text grow.
+// The bytes of most lines: so much room is asked for ahead for each, and longer lines make a text
+// grow.
 const ROOM_OF_A_LINE: usize = 40;
 
 /// A request and the worker whose script it is in.

@@ -122,9 +122,10 @@ fn plan_of(matches: &ArgMatches<'_>) -> Result<Plan, PlanFault>
     })
 }
 
-/// The plan that the words ask for, the first of which is the program's name. Where they say nothing else: 1,000 requests of
-/// one worker, 100 items, 100 users, 10 categories, no skew, the bidding mix and the seed 1. Words that are refused, or that
-/// ask for help, are answered in `clap`'s words; then come `TooLong` and `Shares`, in this order.
+/// The plan that the words ask for, the first of which is the program's name. Where they say
+/// nothing else: 1,000 requests of one worker, 100 items, 100 users, 10 categories, no skew, the
+/// bidding mix and the seed 1. Words that are refused, or that ask for help, are answered in
+/// `clap`'s words; then come `TooLong` and `Shares`, in this order.
 pub fn read_plan(alloc: Global, words: &[String]) -> Result<Plan, PlanFault>
     ensures said { IfOk result (SayPlan (text_in program (map string_bytes words.now))) }
     ensures fits { IfOk result (λ plan. Fits plan.counts) }

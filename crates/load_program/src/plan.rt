@@ -69,7 +69,8 @@ pub struct Counts {
 impl Counts {
     ghost use Rattle.std.specs.Int.{div_ceil};
 
-    /// The rows and requests of the first worker, who has the most: both are dealt out to the workers in turn.
+    /// The rows and requests of the first worker, who has the most: both are dealt out to the
+    /// workers in turn.
     pub fn most_of_a_worker(&self) -> u64
         ensures { result ≡ div_ceil self.now.items self.now.workers + div_ceil self.now.requests self.now.workers }
     {

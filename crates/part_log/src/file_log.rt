@@ -8,7 +8,8 @@ use crate::log::{Log, LogFault};
 use std::io;
 use std::marker::Model;
 
-/// A log at the end of a file. Contracts see the bytes that it has accepted, if those of the file are known.
+/// A log at the end of a file. Contracts see the bytes that it has accepted, if those of the file
+/// are known.
 #[derive(Drop)]
 pub struct FileLog<F: AppendFile + Drop> {
     file: F,
@@ -77,7 +78,8 @@ impl<F: AppendFile + Drop> Log for FileLog<F> {
         let Ok(()) = self.file.append(bytes) else {
             return Err(self.take_back());
         };
-        // After a sync that failed the disk may have let go what it was given: nothing more is asked of the file.
+        // After a sync that failed the disk may have let go what it was given: nothing more is
+        // asked of the file.
         let Ok(()) = self.file.sync() else {
             return Err(LogFault::Broken);
         };

@@ -1,4 +1,5 @@
-//! A log of the rows that a run adds: the rows of a part of it are put by before one byte of the part's replies is written.
+//! A log of the rows that a run adds: the rows of a part of it are put by before one byte of the
+//! part's replies is written.
 #![tactic(auto)]
 
 mod append_file;

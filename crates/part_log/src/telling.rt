@@ -39,7 +39,8 @@ fn write_text<W: Write>(writer: &mut W, text: &[u8]) -> Result<(), WriteFault>
     }
 }
 
-/// Puts the rows of a part by, if it has any, and then writes its text: not one byte before the log has accepted the rows.
+/// Puts the rows of a part by, if it has any, and then writes its text: not one byte before the log
+/// has accepted the rows.
 pub fn tell_part<L: Log, W: Write>(
     log: &mut L,
     writer: &mut W,

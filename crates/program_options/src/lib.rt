@@ -1,5 +1,5 @@
-//! What the programs' options have in common: numbers of a range, texts and flags, their help, what `clap` finds in a program's words, and why words
-//! are refused.
+//! What the programs' options have in common: numbers of a range, texts and flags, their help, what
+//! `clap` finds in a program's words, and why words are refused.
 #![tactic(auto)]
 
 mod described;

@@ -10,7 +10,8 @@ use clap::builder::ValueParser;
 use clap::{Arg, ArgAction, ArgMatches};
 use std::alloc::Global;
 
-/// The greatest number that an option takes where nothing else limits it: of users, categories, items, or requests of a phase.
+/// The greatest number that an option takes where nothing else limits it: of users, categories,
+/// items, or requests of a phase.
 pub const MOST_ASKED: u32 = 1_000_000;
 
 /// The least and the greatest number that an option takes.
@@ -71,7 +72,8 @@ pub fn text_option<'a>(alloc: Global, id: &'a str) -> Arg<'a>
     Arg::new(alloc, id).long(id).action(ArgAction::Set)
 }
 
-/// The number of an option. Where its parser found it to be in the range, it is the one that its text says.
+/// The number of an option. Where its parser found it to be in the range, it is the one that its
+/// text says.
 pub fn number_of(matches: &ArgMatches<'_>, id: &str, range: NumberRange) -> u32
     ensures least { range.least ≤ result }
     ensures greatest { result ≤ range.greatest }

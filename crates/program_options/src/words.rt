@@ -11,8 +11,8 @@ use std::alloc::Global;
 use std::env;
 use std::rt::Env;
 
-/// What a command finds in a program's words, the first of which is the program's name. Words that are refused, or that ask for
-/// help or the version, are answered in `clap`'s words.
+/// What a command finds in a program's words, the first of which is the program's name. Words that
+/// are refused, or that ask for help or the version, are answered in `clap`'s words.
 pub fn parse_words<'a>(
     alloc: Global,
     mut command: Command<'a>,

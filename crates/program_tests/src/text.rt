@@ -1,4 +1,5 @@
-//! Tests of how `auction_text` reads the parts of an input, writes their texts, and writes to writers that fail.
+//! Tests of how `auction_text` reads the parts of an input, writes their texts, and writes to
+//! writers that fail.
 mod moved_tests;
 mod part_tests;
 mod writing_tests;

@@ -1,4 +1,5 @@
-//! An auction that is opened with the rows of its input, performs its scripts on threads and writes the replies.
+//! An auction that is opened with the rows of its input, performs its scripts on threads and writes
+//! the replies.
 #![tactic(auto)]
 
 use auction_program::{

@@ -1,8 +1,9 @@
 //! Records of the K greatest entries of a set.
 //!
-//! They are the top-K records of phase reconciliation (Doppel: Narula et al., "Phase Reconciliation for Contended
-//! In-Memory Transactions", OSDI 2014) by a rule of this project: at most K entries, an insert adds one and drops the
-//! least when there would be more than K, and an entry that stands in the record changes nothing.
+//! They are the top-K records of phase reconciliation (Doppel: Narula et al., "Phase Reconciliation
+//! for Contended In-Memory Transactions", OSDI 2014) by a rule of this project: at most K entries,
+//! an insert adds one and drops the least when there would be more than K, and an entry that stands
+//! in the record changes nothing.
 ghost use Rattle.std.specs.Prelude.{◌≡◌, ℕ, ◌≤◌, List, [], ◌∷◌, ◌++◌, length, take, insert, Contains, MatchOption};
 ghost use Rattle.std.specs.Bool.{OnTrue};
 ghost use Rattle.std.specs.FinMap.{IsAntisymmetric};
@@ -20,7 +21,8 @@ use std::marker::Model;
 /// Of entries that compare as equal the first one stays.
 #[derive(Drop)]
 pub struct TopRec<E: Ord + Copy + Default, const K: usize> {
-    // A copy of the last of K entries. It stands apart from them, so that an entry that is past it touches none of their lines.
+    // A copy of the last of K entries. It stands apart from them, so that an entry that is past it
+    // touches none of their lines.
     least: Option<E>,
     entries: ArrayVec<E, K>,
 }
@@ -67,12 +69,18 @@ impl<E: Ord + Copy + Default, const K: usize> TopRec<E, K> {
         }
     }
 
+    /// The entries are their own top list, as the invariant says.
+    fn entries_are_top(&self)
+        ensures { IsOwnTop E.cmp K self.now }
+    {
+        let _ = &self.entries;
+    }
+
     /// Takes each of the entries in.
     fn insert_all(&mut self, entries: &[E])
         ensures { self.new ≡ top E.cmp K (entries.now ++ self.old) }
     {
-        // They are their own top list.
-        let _ = &self.entries;
+        self.entries_are_top();
         for entry in entries.iter().rev() {
             self.insert(*entry);
         }
@@ -141,8 +149,8 @@ fn least<E: Copy, const K: usize>(entries: &ArrayVec<E, K>) -> Option<E>
     }
 }
 
-/// The index at which an entry goes into others that descend, or none where one ties with it. It looks from the least
-/// up, and so at none but those that the entry goes before, and one more.
+/// The index at which an entry goes into others that descend, or none where one ties with it. It
+/// looks from the least up, and so at none but those that the entry goes before, and one more.
 fn place<E: Ord>(entries: &[E], entry: &E) -> Option<usize>
     requires { IsDescending E.cmp entries.now }
     ensures { MatchOption result (placed E.cmp entry.now entries.now ≡ entries.now)

@@ -89,7 +89,8 @@ fn attempt<N: PhaseName, R: Wait + Print>(
     }
 }
 
-// What waits, a view of an unknown user between two looks for memory, a store, once more where it is refused, and a bid.
+// What waits, a view of an unknown user between two looks for memory, a store, once more where it
+// is refused, and a bid.
 fn perform<N: PhaseName, R: Wait + Print>(
     rt: &R,
     alloc: Global,

@@ -10,7 +10,8 @@ use std::sync::Wait;
 use std::test::Fail;
 use std::thread::Threads;
 
-/// Goes on twice from an auction that has no rows: the state after both parts. In the first the vases are split.
+/// Goes on twice from an auction that has no rows: the state after both parts. In the first the
+/// vases are split.
 pub(crate) fn two_parts<R: Threads + Wait + Sync + Print>(
     rt: &R,
     alloc: Global,

@@ -1,4 +1,5 @@
-//! A joined phase of one worker, in whose stash a view waits, and a split phase in which the vases are hot.
+//! A joined phase of one worker, in whose stash a view waits, and a split phase in which the vases
+//! are hot.
 ghost use Rattle.std.specs.Prelude.{◌≡◌, length, vec_len, IfOk};
 
 use crate::calls::joined::joined_phase;

@@ -1,4 +1,5 @@
-//! The calls, and what came of them where memory was there. What each answers stands in `tests/library_calls.txt`.
+//! The calls, and what came of them where memory was there. What each answers stands in
+//! `tests/library_calls.txt`.
 use crate::calls::parts::two_parts;
 use crate::calls::phases::phases_by_hand;
 use crate::calls::printing::{VIEW, print_history};

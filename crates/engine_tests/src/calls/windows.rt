@@ -14,7 +14,8 @@ use std::marker::Brand;
 use std::sync::Wait;
 use std::test::Fail;
 
-/// What a view shows last, of how many phases, and whether none is answered once the publisher has ended.
+/// What a view shows last, of how many phases, and whether none is answered once the publisher has
+/// ended.
 type Ended = (Option<Reply>, u64, bool);
 
 /// Makes a publisher, and publishes twice: the row of the vases and then that of a bid.
@@ -79,8 +80,8 @@ fn publish_all<J: WindowName, R: Wait + Print>(
     publish(rt, alloc, publisher, window, last)
 }
 
-// What a view shows once rows were published, before the window is told of them. Where memory is refused nothing can be
-// published from then on.
+// What a view shows once rows were published, before the window is told of them. Where memory is
+// refused nothing can be published from then on.
 fn publish<J: WindowName, R: Wait + Print>(
     rt: &R,
     alloc: Global,

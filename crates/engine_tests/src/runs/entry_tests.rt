@@ -77,7 +77,8 @@ fn accepted_stores_add_rows(rt: HostRuntime) -> Result<(), Fail> {
     Ok(())
 }
 
-// The objects that three comments about user 3, two bids each on two items, and refused bids on a third make hot.
+// The objects that three comments about user 3, two bids each on two items, and refused bids on a
+// third make hot.
 fn hot_objects(alloc: Global, hot_max: u32) -> Result<Vec<Object>, Fail> {
     let refused = entry(bid_on(2, 1, 9), Reply::Refused(Refusal::BelowStart));
     let entries = [

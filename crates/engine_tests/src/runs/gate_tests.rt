@@ -9,9 +9,10 @@ use std::sync::atomic::{AtomicU64, Ordering};
 use std::test::Fail;
 use worker_journals::History;
 
-// In each of three phases the second of two workers waits at its first request until the first worker has left its own, and the
-// first stays there until the second has gone on: what the gate is told too soon is performed too late, and who is not there is
-// not met. There is a bit for each request that arrives or leaves.
+// In each of three phases the second of two workers waits at its first request until the first
+// worker has left its own, and the first stays there until the second has gone on: what the gate is
+// told too soon is performed too late, and who is not there is not met. There is a bit for each
+// request that arrives or leaves.
 #[derive(Drop)]
 struct Turns {
     has_left: AtomicU64,
@@ -73,7 +74,8 @@ impl Gate for Turns {
     }
 }
 
-// The phase, worker and index of each request that arrives in the run below: the first purchase does so in two phases.
+// The phase, worker and index of each request that arrives in the run below: the first purchase
+// does so in two phases.
 const ARRIVALS: [(u64, u32, u32); 11] = [
     (0, 0, 0),
     (0, 0, 1),
@@ -106,7 +108,8 @@ fn reply_at(history: &History, worker: u32, index: u32) -> Option<Reply> {
     None
 }
 
-// Asserts what those are answered that went on only once the other worker had left, or before it did.
+// Asserts what those are answered that went on only once the other worker had left, or before it
+// did.
 fn assert_replies(rt: &impl Abort, history: &History) {
     let bought = Reply::Bought(BuyId {
         worker: 0,

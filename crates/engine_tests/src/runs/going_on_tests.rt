@@ -45,7 +45,8 @@ fn bought(worker: u32, serial: u32) -> Reply {
     Reply::Bought(BuyId { worker, serial })
 }
 
-// Three vases are put up and bid on; two are bought in the next part, and one in the last. Phases and indexes count from 0 in each.
+// Three vases are put up and bid on; two are bought in the next part, and one in the last. Phases
+// and indexes count from 0 in each.
 #[test]
 fn a_run_goes_on_where_another_ended(rt: HostRuntime) -> Result<(), Fail> {
     let alloc = rt.alloc();
@@ -134,8 +135,8 @@ fn shown_after<R: Threads + Wait + Sync>(
     Ok((outcome.state, answer_at(&outcome.history, 0, 0)))
 }
 
-// A worker of two rows may have 999,998 requests more. For one more than these, a script too few, other shards or no quota the state
-// comes back as it was.
+// A worker of two rows may have 999,998 requests more. For one more than these, a script too few,
+// other shards or no quota the state comes back as it was.
 #[test]
 fn what_is_refused_gives_the_state_back(rt: HostRuntime) -> Result<(), Fail> {
     let alloc = rt.alloc();

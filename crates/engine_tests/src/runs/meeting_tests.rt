@@ -1,4 +1,5 @@
-//! Two workers who meet at a gate in each phase: they run at one time, and no lock is held from one's `arrive` to its `leave`.
+//! Two workers who meet at a gate in each phase: they run at one time, and no lock is held from
+//! one's `arrive` to its `leave`.
 use crate::comparing::assert_same;
 use crate::runs::testing::{LOOK, run_of};
 use auction_run::Gate;
@@ -12,8 +13,8 @@ enum Step {
     Leaves,
 }
 
-// In each of two phases each of two workers, as it arrives, waits for a step of the other. There is a flag for each worker and
-// phase.
+// In each of two phases each of two workers, as it arrives, waits for a step of the other. There is
+// a flag for each worker and phase.
 #[derive(Drop)]
 struct Meeting {
     awaited: [Step; 2],

@@ -24,8 +24,8 @@ fn assert_shows<J: WindowName>(rt: &impl Abort, window: &mut Window<J>, phases: 
     assert_same(rt, &seen, &Some(Some(Seen { phases, reply })));
 }
 
-// The first part puts the vases up and bids on them, and splits them in its second phase. The next one buys a vase and bids in one
-// phase, and the last is refused for want of scripts.
+// The first part puts the vases up and bids on them, and splits them in its second phase. The next
+// one buys a vase and bids in one phase, and the last is refused for want of scripts.
 fn show_parts<J: WindowName, R: Threads + Wait + Sync + Abort>(
     rt: &R,
     alloc: Global,

@@ -1,4 +1,5 @@
-//! Histories of whole runs, on threads and in turn, beside the auction of one thread. Worked examples of runs stand in tests/worked.
+//! Histories of whole runs, on threads and in turn, beside the auction of one thread. Worked
+//! examples of runs stand in tests/worked.
 use crate::comparing::assert_same;
 use crate::runs::testing::{LOOK, Threaded, buy_one, item, run_of};
 use crate::testing::{FIRST, OPENING, bid, item_seen, purchase, put_up, vases};
@@ -22,7 +23,8 @@ fn comment(author: u32, stars: i64) -> Result<Request, Fail> {
     })
 }
 
-// Whether the rows of a history are those that the auction of one thread stores for its accepted stores, in its order.
+// Whether the rows of a history are those that the auction of one thread stores for its accepted
+// stores, in its order.
 fn is_replayed(alloc: Global, history: &History) -> Result<bool, Fail> {
     let mut accepted = Vec::new(alloc);
     let mut rows = Vec::new(alloc);
@@ -85,7 +87,8 @@ fn last_two(history: &History) -> Option<[(u32, Reply); 2]> {
     last.next().is_none().then_some(two)
 }
 
-// Two of three vases are bought in a joined phase. A bid makes them hot, and a purchase of the third is put off.
+// Two of three vases are bought in a joined phase. A bid makes them hot, and a purchase of the
+// third is put off.
 #[test]
 fn what_was_put_off_is_performed_first(rt: HostRuntime) -> Result<(), Fail> {
     let facts = vases(3)?;

@@ -1,4 +1,5 @@
-//! What windows show before a phase is published, of one phase and of two, and of the rows that their auction was opened with.
+//! What windows show before a phase is published, of one phase and of two, and of the rows that
+//! their auction was opened with.
 ghost use Rattle.std.specs.Prelude.{◌≡◌, ◌<◌, ◌++◌, ◌∷◌, [], length, vec_len, IfOk, false};
 ghost use Rattle.item_shards.specs.OpeningBooks.{opening_of, rows_of};
 ghost use Rattle.item_shards.specs.Serial.{CanFollow};
@@ -60,7 +61,8 @@ fn assert_seen<J: WindowName>(
     assert_same(rt, &seen, &Some(Some(Seen { phases, reply })));
 }
 
-// Asserts that a window on an auction in which nothing is published shows no item, and answers no store.
+// Asserts that a window on an auction in which nothing is published shows no item, and answers no
+// store.
 fn assert_empty<J: WindowName>(rt: &impl Abort, window: &mut Window<J>) {
     assert_seen(rt, window, VIEW, 0, NO_ITEM);
     let stored = window.view(bid(1, 20, 5)).ok();
@@ -102,7 +104,8 @@ fn publish<J: WindowName, R: Wait>(
     }
 }
 
-// Publishes the vase, tells one of two windows of it, and then publishes the bid and tells the same window.
+// Publishes the vase, tells one of two windows of it, and then publishes the bid and tells the same
+// window.
 fn show_two_phases<J: WindowName, R: Wait + Abort>(
     rt: &R,
     alloc: Global,
@@ -177,7 +180,8 @@ fn windows_show_whole_phases_and_never_go_back(rt: HostRuntime) -> Result<(), Fa
     show_rows::<Brand, HostRuntime>(&rt, rt.alloc(), PhaseLog::new(), &book)
 }
 
-// Asserts what the window of an auction shows that was opened with this book, before anything is published.
+// Asserts what the window of an auction shows that was opened with this book, before anything is
+// published.
 fn show_opening<J: WindowName, R: Wait + Abort>(
     rt: &R,
     alloc: Global,

@@ -20,7 +20,8 @@ use std::test::Fail;
 use std::thread::Threads;
 use worker_journals::Journal;
 
-// The fault of a joined phase of one worker, who has no script, whose clock is at the end of numbers and in whose stash a view waits.
+// The fault of a joined phase of one worker, who has no script, whose clock is at the end of
+// numbers and in whose stash a view waits.
 fn fault_at_the_end<N, R>(
     rt: &R,
     alloc: Global,

@@ -1,4 +1,5 @@
-//! The requests, and what came of them where memory was there. What each prints stands in `tests/library_calls.txt`.
+//! The requests, and what came of them where memory was there. What each prints stands in
+//! `tests/library_calls.txt`.
 use crate::calls::first_requests::{store, view};
 use crate::comparing::assert_same;
 use crate::permits::testing::four;

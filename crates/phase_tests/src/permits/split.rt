@@ -18,7 +18,8 @@ use std::process::Abort;
 use std::sync::Wait;
 use worker_journals::Journal;
 
-/// A permit at this clock to perform four requests, with slices of these objects. No other item of the worker is hot.
+/// A permit at this clock to perform four requests, with slices of these objects. No other item of
+/// the worker is hot.
 pub(crate) fn split_permit<N: PhaseName>(
     alloc: Global,
     key: Key<N>,

@@ -53,8 +53,8 @@ impl AppendFile for Lapse {
     }
 }
 
-// What a log answers to three parts, of which the call with this number fails: after those of `open`, 2 is the append of the first
-// part and 3 its sync.
+// What a log answers to three parts, of which the call with this number fails: after those of
+// `open`, 2 is the append of the first part and 3 its sync.
 fn three_parts(alloc: Global, fails_at: usize) -> Result<[Result<(), LogFault>; 3], Fail> {
     let file = Lapse {
         held: Vec::new(alloc),

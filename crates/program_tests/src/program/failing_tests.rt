@@ -1,4 +1,5 @@
-//! Faults to which the built program can't be brought. The others stand in tests/limits.py, ends.py and refused_memory.py.
+//! Faults to which the built program can't be brought. The others stand in tests/limits.py, ends.py
+//! and refused_memory.py.
 use crate::comparing::assert_same;
 use auction_program::{Fault, status, write_fault};
 use auction_run::RunFault;

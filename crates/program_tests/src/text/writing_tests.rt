@@ -1,4 +1,5 @@
-//! Replies that are written, whole and in part. Each kind of reply stands in tests/worked, and other writers in tests/ends.py.
+//! Replies that are written, whole and in part. Each kind of reply stands in tests/worked, and
+//! other writers in tests/ends.py.
 use crate::comparing::assert_same;
 use crate::testing::FIRST;
 use auction_rows::{Refusal, Reply, Request};
@@ -9,8 +10,8 @@ use std::io::Write;
 use std::test::Fail;
 use worker_journals::{History, Journal};
 
-// Takes one byte a call, but fails at one call of `write`, and takes more after it. Its flush fails where `is_stuck` says so.
-// Counts what is called.
+// Takes one byte a call, but fails at one call of `write`, and takes more after it. Its flush fails
+// where `is_stuck` says so. Counts what is called.
 #[derive(Drop)]
 struct Lapse {
     held: Vec<u8>,
@@ -51,7 +52,8 @@ fn lapse_at(alloc: Global, fails_at: usize, is_stuck: bool) -> Lapse {
     }
 }
 
-// Whether replies written to this writer are answered so, and leave it with this text after so many calls of each kind.
+// Whether replies written to this writer are answered so, and leave it with this text after so many
+// calls of each kind.
 fn replies_leave(
     alloc: Global,
     history: &History,

@@ -12,7 +12,7 @@ part_before bytes part old put start shows same fits within =
     drop_at (take from bytes) _ from (length-take-le from bytes (omega arith))
     ∙ ap₂ (λ (a b : List ℕ). a ++ b) same (drop-drop (start - from) from bytes ∙ ap (λ n. drop n bytes) end ∙ shows)
 
--- the same of one byte
+-- one byte that is put down before a text
 byte_before : (bytes part old : List ℕ) (start : ℕ) → drop start bytes ≡ old → 1 ≤ length part → length part < 2 → length part ≤ start → start ≤ length bytes
     → drop (start - length part) (set bytes (start - length part) (get_or part 0 0)) ≡ part ++ old
 byte_before bytes [] old start shows some few fits within = absurd (omega (arith, some))

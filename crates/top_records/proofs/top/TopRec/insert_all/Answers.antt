@@ -1,15 +1,14 @@
-use Rattle.std.proofs.Common.{◌≡◌, ◌∷◌, [], ◌++◌, sym, subst, ap, ◌∙◌, append-nil, append_assoc}
+use Rattle.std.proofs.Common.{◌≡◌, ◌∷◌, [], ◌++◌, sym, ap, ◌∙◌, append-nil, append_assoc}
 use Rattle.std.proofs.lemmas.List.{nil_from_length}
 use Rattle.phase_laws.specs.Ranking.{top}
 use Rattle.phase_laws.proofs.TopLemmas.{top-cons_top}
-use Rattle.top_records.specs.TopLaws.{IsOwnTop}
 use Rattle.top_records.proofs.top.TopRec.insert_all.Goals as goal
 
 pub loop-entry-init : goal.loop-entry-init
 loop-entry-init g c = record {
   past = [];
   split = rw (c.into_iter-entry-iterator.ensures.into_iter_gives, c.rev-entry-items.ensures.source, c.iter.ensures.rest) (sym (append-nil c.args.entries.now));
-  so = sym (subst (IsOwnTop g.E.Ord.cmp g.row.K) c.self.view_is c.self.invariant.0);
+  so = sym c.entries_are_top.ensures;
 }
 
 pub loop-entry-preserved : goal.loop-entry-preserved
