@@ -1,5 +1,5 @@
 -- The ranked candidates are the objects to be chosen, in their order.
-use Rattle.std.proofs.Common.{◌≡◌, ◌↔◌, ℕ, zero, suc, ◌+◌, ◌<◌, Bool, true, false, cond, List, [], ◌∷◌, map, filter, take, length, get_or, Some, None, IsSome, Contains, inl, inr, refl, sym, ap, subst, ◌∙◌, arith}
+use Rattle.std.proofs.Common.{◌≡◌, ◌↔◌, ℕ, zero, suc, ◌+◌, ◌<◌, Bool, true, false, cond, List, [], ◌∷◌, map, filter, take, length, get_or, Some, None, IsSome, Contains, inl, inr, refl, sym, ap, subst, ◌∙◌, arith, Option}
 use Rattle.std.specs.Prelude.{nat_le, IsPermutation}
 use Rattle.std.specs.Cmp.{IsEquivalence}
 use Rattle.std.specs.List.{IsDistinct, AllByRecursion}
@@ -32,13 +32,13 @@ use Rattle.auction_rows.proofs.OrderLemmas.{heat_total, heat_same}
 use Rattle.auction_rows.proofs.RequestLemmas.{same_object-true, same_objects, same_either_way}
 use Rattle.run_laws.proofs.CountLemmas.{how_many, how_many-is}
 use Rattle.auction_run.specs.declared.choosing.Candidate.{Candidate}
-use Rattle.auction_run.specs.Ranking.{heat_shown, HasHeats, candidate, candidate_cmp, hot_ones, IsRanking}
+use Rattle.auction_run.specs.Ranking.{heat_shown, if_enough, AreWritten, HasHeats, candidate, candidate_cmp, hot_ones, IsRanking}
 
 -- nothing is chosen where nothing may be
 pub none_chosen : (es : List Entry) (threshold : ℕ) → choose es threshold 0 ≡ []
 none_chosen es threshold = top_first (heat_total es) 0 (filter (λ o. nat_le threshold (heat es o)) (objects_written es))
 
-same_laws : IsEquivalence same_object
+pub same_laws : IsEquivalence same_object
 same_laws = record {
   refl = λ x. (same_objects x x).1 refl;
   symm = same_either_way;
@@ -77,9 +77,17 @@ is_shown : (threshold n : ℕ) → 0 < n → nat_le threshold n ≡ true → IsS
 is_shown threshold zero some le = absurd (omega arith)
 is_shown threshold (suc n) some le = subst (λ b. IsSome (cond b (Some (suc n)) None)) (sym le) refl
 
-shown_is : (n m : ℕ) → heat_shown n ≡ Some m → m ≡ n
-shown_is zero m is = absurd (cc)
-shown_is (suc n) m is = cc
+shown_is : (threshold n m : ℕ) → if_enough threshold (heat_shown n) ≡ Some m → m ≡ n
+shown_is threshold zero m is = absurd (cc)
+shown_is threshold (suc n) m is = go (nat_le threshold (suc n)) is
+  where
+    go : (b : Bool) → cond b (Some (suc n)) None ≡ Some m → m ≡ suc n
+    go true shown = cc
+    go false none = absurd (cc)
+
+filtered : (threshold : ℕ) (found : Option ℕ) → option_filter (nat_le threshold) found ≡ if_enough threshold found
+filtered threshold None = refl
+filtered threshold (Some n) = refl
 
 -- ---- lists in order
 
@@ -96,24 +104,30 @@ names : (rows : List (Object × ℕ)) → map (λ c. c.object) (map candidate ro
 names [] = refl
 names (row ∷ rows) = ap (λ os. row.0 ∷ os) (names rows)
 
-module _ (es : List Entry) (table : List (Object × ℕ)) (threshold : ℕ) (cs : List Candidate) (has : HasHeats es table) (rank : IsRanking table threshold cs) where
+module _ (table : List (Object × ℕ)) (threshold : ℕ) (cs : List Candidate) (once : IsDistinct same_object (keys_of table)) (rank : IsRanking table threshold cs) where
   named : IsPermutation (keys_of (filter (λ row. nat_le threshold row.1) table)) (map (λ c. c.object) cs)
   named = subst (λ os. IsPermutation os (map (λ c. c.object) cs)) (names (filter (λ row. nat_le threshold row.1) table))
       (IsPermutation-map (λ (c : Candidate). c.object) (hot_ones threshold table) cs rank.all)
 
   pub distinct : IsDistinct same_object (map (λ c. c.object) cs)
   distinct = IsDistinct-IsPermutation same_object same_either_way (keys_of (filter (λ row. nat_le threshold row.1) table)) (map (λ c. c.object) cs) named
-      (IsDistinct-keys_filter same_object (λ row. nat_le threshold row.1) table has.once)
+      (IsDistinct-keys_filter same_object (λ row. nat_le threshold row.1) table once)
+
+module _ (es : List Entry) (objects : List Object) (table : List (Object × ℕ)) (threshold : ℕ) (cs : List Candidate) (are : AreWritten es objects) (has : HasHeats objects threshold table) (rank : IsRanking table threshold cs) where
+  heats : (object : Object) → if_enough threshold (lookup (same_object object) table) ≡ if_enough threshold (heat_shown (heat es object))
+  heats object = has.heats object ∙ ap (λ n. if_enough threshold (heat_shown n)) (are object)
 
   -- each candidate has its heat
-  row_right : (row : Object × ℕ) → Contains table row → row.1 ≡ heat es row.0
-  row_right row there = shown_is (heat es row.0) row.1 (sym (has.heats row.0) ∙ lookup-from_Contains same_laws row.0 row.1 table has.once there)
+  row_right : (row : Object × ℕ) → Contains table row → nat_le threshold row.1 ≡ true → row.1 ≡ heat es row.0
+  row_right row there enough =
+      shown_is threshold (heat es row.0) row.1
+      (sym (heats row.0) ∙ ap (if_enough threshold) (lookup-from_Contains same_laws row.0 row.1 table has.once there) ∙ ap (λ b. cond b (Some row.1) None) enough)
 
   right : (c : Candidate) → Contains cs c → c.heat.0 ≡ heat es c.object
   right c there = all-member (λ c. c.heat.0 ≡ heat es c.object) (hot_ones threshold table) c
       (all-map candidate (λ c. c.heat.0 ≡ heat es c.object) (filter (λ row. nat_le threshold row.1) table)
       (from_members (λ row. row.1 ≡ heat es row.0) (filter (λ row. nat_le threshold row.1) table)
-      (λ row h. row_right row ((filter-member (λ row. nat_le threshold row.1) table row).0 h).0)))
+      (λ row h. let both = (filter-member (λ row. nat_le threshold row.1) table row).0 h in row_right row both.0 both.1)))
       ((permuted_members (hot_ones threshold table) cs rank.all c).1 there)
 
   -- the objects are those that are written and hot enough
@@ -121,14 +135,16 @@ module _ (es : List Entry) (table : List (Object × ℕ)) (threshold : ℕ) (cs 
   members object = (there, back)
     where
       seen : lookup (same_object object) (filter (λ row. nat_le threshold row.1) table) ≡ option_filter (nat_le threshold) (heat_shown (heat es object))
-      seen = lookup-filter-values same_laws (nat_le threshold) object table has.once ∙ ap (option_filter (nat_le threshold)) (has.heats object)
+      seen =
+          lookup-filter-values same_laws (nat_le threshold) object table has.once ∙ filtered threshold (lookup (same_object object) table)
+          ∙ heats object ∙ sym (filtered threshold (heat_shown (heat es object)))
 
       heat_is : how_many (λ other. same_object other object) (objects_written es) ≡ heat es object
       heat_is = how_many-is (λ other. same_object other object) (objects_written es)
 
       there : Contains (map (λ c. c.object) cs) object → Contains (filter (λ o. nat_le threshold (heat es o)) (objects_written es)) object
       there h =
-          let found = IsSome-lookup_from_Contains same_laws object (filter (λ row. nat_le threshold row.1) table) ((permuted_members (keys_of (filter (λ row. nat_le threshold row.1) table)) (map (λ c. c.object) cs) named object).1 h) in
+          let found = IsSome-lookup_from_Contains same_laws object (filter (λ row. nat_le threshold row.1) table) ((permuted_members (keys_of (filter (λ row. nat_le threshold row.1) table)) (map (λ c. c.object) cs) (named table threshold cs has.once rank) object).1 h) in
           let both = shown threshold (heat es object) (subst IsSome seen found) in
           (filter-member (λ o. nat_le threshold (heat es o)) (objects_written es) object).1
           (written object (objects_written es) (subst (λ n. 0 < n) (sym heat_is) both.0), both.1)
@@ -141,7 +157,7 @@ module _ (es : List Entry) (table : List (Object × ℕ)) (threshold : ℕ) (cs 
       back h =
           let both = (filter-member (λ o. nat_le threshold (heat es o)) (objects_written es) object).0 h in
           let some : 0 < heat es object = positive (heat es object) (λ none. unwritten object (objects_written es) both.0 (heat_is ∙ none)) in
-          (permuted_members (keys_of (filter (λ row. nat_le threshold row.1) table)) (map (λ c. c.object) cs) named object).0
+          (permuted_members (keys_of (filter (λ row. nat_le threshold row.1) table)) (map (λ c. c.object) cs) (named table threshold cs has.once rank) object).0
           (Contains-keys_from_lookup same_object-true object (filter (λ row. nat_le threshold row.1) table) (subst IsSome (sym seen) (is_shown threshold (heat es object) some both.1)))
 
   -- they stand in the order of the choice
@@ -177,7 +193,7 @@ module _ (es : List Entry) (table : List (Object × ℕ)) (threshold : ℕ) (cs 
           let at_a : get_or (map (λ (c : Candidate). c.object) cs) k (User 0) ≡ (get_or cs k nobody).object = get_or-map (λ (c : Candidate). c.object) cs k nobody (User 0) (omega arith) in
           let at_b : get_or (map (λ (c : Candidate). c.object) cs) (k + 1) (User 0) ≡ (get_or cs (k + 1) nobody).object = get_or-map (λ (c : Candidate). c.object) cs (k + 1) nobody (User 0) (omega arith) in
           let apart : same_object (get_or cs k nobody).object (get_or cs (k + 1) nobody).object ≡ false =
-          (λ i. same_object (sym at_a i) (sym at_b i)) ∙ apart_from_distinct same_object (map (λ (c : Candidate). c.object) cs) k (k + 1) (User 0) distinct (omega arith) less in
+          (λ i. same_object (sym at_a i) (sym at_b i)) ∙ apart_from_distinct same_object (map (λ (c : Candidate). c.object) cs) k (k + 1) (User 0) (distinct table threshold cs has.once rank) (omega arith) less in
           (λ i. heat_cmp es (at_b i) (at_a i))
           ∙ in_turn a b (right a (Contains-get_or cs k nobody (omega arith))) (right b (Contains-get_or cs (k + 1) nobody (omega arith))) (rank.ranked k nobody (omega arith) (omega arith)) apart
 

@@ -1,86 +1,167 @@
--- Heats as entries are added, and in a table.
-use Rattle.std.proofs.Common.{◌≡◌, ℕ, zero, suc, ◌+◌, Bool, true, false, cond, List, [], ◌∷◌, ◌++◌, Option, Some, None, count_by, refl, sym, ap, subst, ◌∙◌, arith}
-use Rattle.std.specs.Prelude.{unwrap_or, option_to_list}
-use Rattle.std.specs.List.{IsDistinct}
+-- Heats of objects in a list, and in a table of those whose buckets have enough.
+use Rattle.std.proofs.Common.{◌≡◌, ℕ, zero, suc, ◌+◌, ◌<◌, ◌≤◌, ◌==◌, Bool, true, false, cond, if◌then◌else◌, List, [], ◌∷◌, ◌++◌, Some, None, count_by, refl, sym, ap, subst, ◌∙◌, arith, eq-eqb}
+use Rattle.std.specs.Prelude.{nat_le, unwrap_or, option_to_list, slice_index}
+use Rattle.std.specs.List.{IsDistinct, sum_by}
 use Rattle.std.specs.Map.{keys_of, lookup}
+use Rattle.std.proofs.lemmas.Bool.{false≢true, leb-false, lt-leb}
+use Rattle.std.proofs.lemmas.Grind.{flat_map-append}
+use Rattle.std.proofs.lemmas.List.{append-nil}
+use Rattle.std.proofs.lemmas.List.Concat.{flat_map-cons}
 use Rattle.std.proofs.lemmas.List.Elements.{filter_map-append}
+use Rattle.std.proofs.lemmas.List.Sorted.{sum_by-IsPermutation}
+use Rattle.std.proofs.lemmas.List.Sums.{sum_by-cons, sum_by_push}
+use Rattle.std.proofs.lemmas.Nat.{mod_below}
+use Rattle.auction_rows.specs.contracts.ids.ObjectPartialEq.TheImpl.{eq-value as object_eq}
 use Rattle.auction_rows.specs.declared.ids.Object.{Object}
 use Rattle.auction_rows.specs.declared.rows.Entry.{Entry}
-use Rattle.auction_rows.specs.Requests.{same_object}
 use Rattle.auction_rows.specs.Choosing.{written_by, objects_written, heat}
-use Rattle.auction_rows.specs.contracts.ids.ObjectPartialEq.TheImpl.{eq-value as object_eq}
+use Rattle.auction_rows.specs.Requests.{same_object, number_of}
 use Rattle.auction_rows.proofs.HistoryLemmas.{filter_map-one}
 use Rattle.auction_rows.proofs.RequestLemmas.{distinct_objects, eq_is_same, same_object-true}
 use Rattle.run_laws.proofs.CountLemmas.{how_many, how_many-is, count-append}
-use Rattle.auction_run.specs.Ranking.{heat_shown, HasHeats}
+use Rattle.worker_journals.specs.Journals.{JournalView}
+use Rattle.worker_journals.specs.Merged.{merged}
+use Rattle.worker_journals.proofs.MergedLemmas.{all_entries, merged_permutes}
+use Rattle.auction_run.specs.Ranking.{AreWritten, HasHeats, bucket_of, heat_shown, how_often, if_enough}
 
--- one entry more adds the heat of what it writes
-heat-push : (es : List Entry) (e : Entry) (object : Object) → heat (es ++ e ∷ []) object ≡ heat es object + how_many (λ other. same_object other object) (option_to_list (written_by e))
-heat-push es e object =
+-- ---- the objects that entries write
+
+pub written_more : (es : List Entry) (e : Entry) → objects_written (es ++ e ∷ []) ≡ objects_written es ++ option_to_list (written_by e)
+written_more es e = filter_map-append written_by es (e ∷ []) ∙ ap (λ os. objects_written es ++ os) (filter_map-one written_by e)
+
+pub written_in_turn : (journals : List JournalView) (journal : JournalView) →
+    objects_written (all_entries (journals ++ journal ∷ [])) ≡ objects_written (all_entries journals) ++ objects_written journal.entries
+written_in_turn journals journal =
+    ap objects_written (flat_map-append (λ (j : JournalView). j.entries) journals (journal ∷ [])
+    ∙ ap (λ es. all_entries journals ++ es) (flat_map-cons (λ (j : JournalView). j.entries) journal [] ∙ append-nil journal.entries))
+    ∙ filter_map-append written_by (all_entries journals) journal.entries
+
+-- how often an entry writes an object
+abbrev adds : Object → Entry → ℕ
+adds object e = how_many (λ other. same_object other object) (option_to_list (written_by e))
+
+heat-summed : (es : List Entry) (object : Object) → heat es object ≡ sum_by (adds object) es
+heat-summed [] object = refl
+heat-summed (e ∷ es) object =
     let p : Object → Bool = λ other. same_object other object in
-    ap (count_by p) (filter_map-append written_by es (e ∷ []) ∙ ap (λ os. objects_written es ++ os) (filter_map-one written_by e))
-    ∙ sym (how_many-is p (objects_written es ++ option_to_list (written_by e))) ∙ count-append p (objects_written es) (option_to_list (written_by e))
-    ∙ ap (λ n. n + how_many p (option_to_list (written_by e))) (how_many-is p (objects_written es))
+    ap (count_by p) (filter_map-append written_by (e ∷ []) es ∙ ap (λ os. os ++ objects_written es) (filter_map-one written_by e))
+    ∙ sym (how_many-is p (option_to_list (written_by e) ++ objects_written es)) ∙ count-append p (option_to_list (written_by e)) (objects_written es)
+    ∙ ap (λ n. adds object e + n) (how_many-is p (objects_written es) ∙ heat-summed es object)
+    ∙ sym (sum_by-cons (adds object) e es)
 
-heat_kept : (es : List Entry) (e : Entry) (object : Object) → written_by e ≡ None → heat (es ++ e ∷ []) object ≡ heat es object
-heat_kept es e object is = heat-push es e object ∙ ap (λ o. heat es object + how_many (λ other. same_object other object) (option_to_list o)) is ∙ omega arith
+-- heats have no order
+pub written_in_any_order : (journals : List JournalView) → AreWritten (merged journals) (objects_written (all_entries journals))
+written_in_any_order journals object =
+    heat-summed (all_entries journals) object
+    ∙ sym (sum_by-IsPermutation (adds object) (all_entries journals) (merged journals) (merged_permutes journals))
+    ∙ sym (heat-summed (merged journals) object)
 
-heat_more : (es : List Entry) (e : Entry) (written object : Object) → written_by e ≡ Some written →
-    heat (es ++ e ∷ []) object ≡ cond (same_object written object) (suc (heat es object)) (heat es object)
-heat_more es e written object is = heat-push es e object ∙ ap (λ o. heat es object + how_many (λ other. same_object other object) (option_to_list o)) is ∙ go (same_object written object)
-  where
-    go : (b : Bool) → heat es object + (cond b 1 0 + 0) ≡ cond b (suc (heat es object)) (heat es object)
-    go true = omega arith
-    go false = omega arith
+-- ---- heats in a table of the objects that pass a test
+
+-- a table has each object that passes and that is in a list, once, with its heat, and no other
+pub record HasHeatsOf (passes : Object → Bool) (objects : List Object) (table : List (Object × ℕ)) : Type 0 where
+  pub once : IsDistinct same_object (keys_of table)
+  pub heats : (object : Object) → lookup (same_object object) table ≡ (if passes object then heat_shown (how_often objects object) else None)
+
+often_more : (objects : List Object) (one object : Object) → how_often (objects ++ one ∷ []) object ≡ how_often objects object + cond (same_object one object) 1 0
+often_more objects one object = sum_by_push (λ (other : Object). cond (same_object other object) 1 0) objects one
 
 heat_read : (n : ℕ) → unwrap_or (heat_shown n) 0 ≡ n
 heat_read zero = refl
 heat_read (suc n) = refl
 
--- a table of the heats so far and one store more
-counted : (es : List Entry) (e : Entry) (written object : Object) (found : Object → Option ℕ) → written_by e ≡ Some written →
-    ((other : Object) → found other ≡ heat_shown (heat es other)) →
-    cond (object_eq.it written object) (Some (unwrap_or (found written) 0 + 1)) (found object) ≡ heat_shown (heat (es ++ e ∷ []) object)
-counted es e written object found is so_far =
-    ap (λ b. cond b (Some (unwrap_or (found written) 0 + 1)) (found object)) (eq_is_same written object)
-    ∙ go (same_object written object) refl
-    ∙ ap heat_shown (sym (heat_more es e written object is))
-  where
-    go : (b : Bool) → same_object written object ≡ b →
-        cond b (Some (unwrap_or (found written) 0 + 1)) (found object) ≡ heat_shown (cond b (suc (heat es object)) (heat es object))
-    go false other = so_far object
-    go true same =
-        let had : unwrap_or (found written) 0 ≡ heat es written = ap (λ o. unwrap_or o 0) (so_far written) ∙ heat_read (heat es written) in
-        let one : heat es written ≡ heat es object = ap (heat es) (same_object-true written object same) in
-        let next : unwrap_or (found written) 0 + 1 ≡ suc (heat es object) = omega arith in
+module _ (passes : Object → Bool) where
+  pub no_heats : HasHeatsOf passes [] []
+  unfolding IsDistinct
+  no_heats = record { once = tt; heats = λ object. none (passes object) }
+    where
+      none : (b : Bool) → None ≡ (if b then heat_shown 0 else None)
+      none true = refl
+      none false = refl
+
+  pub one_passed_over : (objects : List Object) (one : Object) (table : List (Object × ℕ)) → passes one ≡ false → HasHeatsOf passes objects table → HasHeatsOf passes (objects ++ one ∷ []) table
+  one_passed_over objects one table fails has = record { once = has.once; heats = λ object. has.heats object ∙ by object (passes object) refl }
+    where
+      other : (object : Object) → passes object ≡ true → (b : Bool) → same_object one object ≡ b → how_often objects object ≡ how_often objects object + cond b 1 0
+      other object pass false apart = omega arith
+      other object pass true same = absurd (false≢true (sym fails ∙ ap passes (same_object-true one object same) ∙ pass))
+
+      by : (object : Object) (b : Bool) → passes object ≡ b → (if b then heat_shown (how_often objects object) else None) ≡ (if b then heat_shown (how_often (objects ++ one ∷ []) object) else None)
+      by object true pass = ap heat_shown (other object pass (same_object one object) refl ∙ sym (often_more objects one object))
+      by object false pass = refl
+
+  module _ (objects : List Object) (one : Object) (old new : List (Object × ℕ)) (pass : passes one ≡ true) (has : HasHeatsOf passes objects old) where
+    so_far : (object : Object) → lookup (object_eq.it object) old ≡ (if passes object then heat_shown (how_often objects object) else None)
+    so_far object =
+        subst (λ (test : Object → Bool). lookup test old ≡ (if passes object then heat_shown (how_often objects object) else None)) (λ i other. sym (eq_is_same object other) i) (has.heats object)
+
+    counted : (object : Object) (b : Bool) → same_object one object ≡ b →
+        cond b (Some (unwrap_or (lookup (object_eq.it one) old) 0 + 1)) (lookup (object_eq.it object) old)
+        ≡ (if passes object then heat_shown (how_often objects object + cond b 1 0) else None)
+    counted object false apart =
+        let so : how_often objects object ≡ how_often objects object + 0 = omega arith in
+        so_far object ∙ ap (λ n. if passes object then heat_shown n else None) so
+    counted object true same =
+        let is : one ≡ object = same_object-true one object same in
+        let had : unwrap_or (lookup (object_eq.it one) old) 0 ≡ how_often objects one =
+        ap (λ o. unwrap_or o 0) (so_far one ∙ ap (λ b. if b then heat_shown (how_often objects one) else None) pass) ∙ heat_read (how_often objects one) in
+        let alike : how_often objects one ≡ how_often objects object = ap (how_often objects) is in
+        let next : unwrap_or (lookup (object_eq.it one) old) 0 + 1 ≡ suc (how_often objects object) = omega arith in
+        let so : suc (how_often objects object) ≡ how_often objects object + 1 = omega arith in
         ap Some next
+        ∙ ap (λ b. if b then Some (suc (how_often objects object)) else None) (sym (ap passes (sym is) ∙ pass))
+        ∙ ap (λ n. if passes object then heat_shown n else None) so
 
--- a table of heats, looked up by the equality that the code has
-by_equality : (es : List Entry) (table : List (Object × ℕ)) → HasHeats es table → (object : Object) → lookup (object_eq.it object) table ≡ heat_shown (heat es object)
-by_equality es table has object =
-    subst (λ (test : Object → Bool). lookup test table ≡ heat_shown (heat es object)) (λ i other. sym (eq_is_same object other) i) (has.heats object)
+    pub one_counted : IsDistinct object_eq.it (keys_of new) →
+        ((object : Object) → lookup (object_eq.it object) new
+        ≡ cond (object_eq.it one object) (Some (unwrap_or (lookup (object_eq.it one) old) 0 + 1)) (lookup (object_eq.it object) old)) →
+        HasHeatsOf passes (objects ++ one ∷ []) new
+    one_counted once put = record {
+      once = distinct_objects (keys_of new) once;
+      heats = λ object.
+          subst (λ (test : Object → Bool). lookup test new ≡ (if passes object then heat_shown (how_often (objects ++ one ∷ []) object) else None)) (λ i other. eq_is_same object other i)
+          (put object
+          ∙ ap (λ b. cond b (Some (unwrap_or (lookup (object_eq.it one) old) 0 + 1)) (lookup (object_eq.it object) old)) (eq_is_same one object)
+          ∙ counted object (same_object one object) refl
+          ∙ ap (λ n. if passes object then heat_shown n else None) (sym (often_more objects one object)));
+    }
 
--- before the first entry nothing has heat
-pub no_heats : HasHeats [] []
-unfolding IsDistinct
-no_heats = record { once = tt; heats = λ object. refl }
+-- ---- no object is hotter than its bucket
 
--- an entry that writes adds one to the heat of what it writes
-pub one_heat_more : (es : List Entry) (e : Entry) (written : Object) (old new : List (Object × ℕ)) → Some written ≡ written_by e → HasHeats es old →
-    IsDistinct object_eq.it (keys_of new) →
-    ((object : Object) → lookup (object_eq.it object) new
-    ≡ cond (object_eq.it written object) (Some (unwrap_or (lookup (object_eq.it written) old) 0 + 1)) (lookup (object_eq.it object) old)) →
-    HasHeats (es ++ e ∷ []) new
-one_heat_more es e written old new is has once put = record {
-  once = distinct_objects (keys_of new) once;
-  heats = λ object.
-      subst (λ (test : Object → Bool). lookup test new ≡ heat_shown (heat (es ++ e ∷ []) object)) (λ i other. eq_is_same object other i)
-      (put object ∙ counted es e written object (λ other. lookup (object_eq.it other) old) (sym is) (by_equality es old has));
-}
+-- how many objects of a list are in a bucket
+abbrev pub in_bucket : List Object → ℕ → ℕ
+in_bucket objects bucket = count_by (λ object. bucket_of object == bucket) objects
 
--- another leaves all heats
-pub no_heat_more : (es : List Entry) (e : Entry) (table : List (Object × ℕ)) → None ≡ written_by e → HasHeats es table → HasHeats (es ++ e ∷ []) table
-no_heat_more es e table is has = record {
+bucket_bounds : (objects : List Object) (object : Object) → how_often objects object ≤ in_bucket objects (bucket_of object)
+bucket_bounds objects object =
+    omega (arith, how_many-is (λ other. same_object other object) objects, how_many-is (λ other. bucket_of other == bucket_of object) objects, fewer objects)
+  where
+    at_most : (one : Object) (b : Bool) → same_object one object ≡ b → cond b 1 0 ≤ cond (bucket_of one == bucket_of object) 1 0
+    at_most one false apart = omega arith
+    at_most one true same = subst (λ b. 1 ≤ cond b 1 0) (sym (eq-eqb (bucket_of one) (bucket_of object) (ap bucket_of (same_object-true one object same)))) (omega arith)
+
+    fewer : (os : List Object) → how_many (λ other. same_object other object) os ≤ how_many (λ other. bucket_of other == bucket_of object) os
+    fewer [] = omega arith
+    fewer (o ∷ os) = omega (arith, at_most o (same_object o object) refl, fewer os)
+
+-- whether an object may be hot enough: its bucket has as many objects
+abbrev pub may_be_hot : List ℕ → ℕ → Object → Bool
+may_be_hot counts threshold object = nat_le threshold (slice_index counts (bucket_of object))
+
+too_cold : (threshold n : ℕ) → n < threshold → if_enough threshold (heat_shown n) ≡ None
+too_cold threshold zero less = refl
+too_cold threshold (suc n) less = ap (λ b. if b then Some (suc n) else None) (lt-leb threshold (suc n) less)
+
+pub hot_ones_are_counted : (objects : List Object) (threshold : ℕ) (counts : List ℕ) (table : List (Object × ℕ)) →
+    ((bucket : ℕ) → bucket < 256 → slice_index counts bucket ≡ in_bucket objects bucket) → HasHeatsOf (may_be_hot counts threshold) objects table → HasHeats objects threshold table
+hot_ones_are_counted objects threshold counts table are has = record {
   once = has.once;
-  heats = λ object. has.heats object ∙ ap heat_shown (sym (heat_kept es e object (sym is)));
+  heats = λ object. ap (if_enough threshold) (has.heats object) ∙ by object (may_be_hot counts threshold object) refl;
 }
+  where
+    by : (object : Object) (b : Bool) → may_be_hot counts threshold object ≡ b →
+        if_enough threshold (if b then heat_shown (how_often objects object) else None) ≡ if_enough threshold (heat_shown (how_often objects object))
+    by object true may = refl
+    by object false less =
+        let cold : slice_index counts (bucket_of object) < threshold = leb-false threshold (slice_index counts (bucket_of object)) less in
+        sym (too_cold threshold (how_often objects object) (omega (arith, bucket_bounds objects object, are (bucket_of object) (mod_below (number_of object) 256 (omega arith)), cold)))

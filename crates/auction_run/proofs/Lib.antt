@@ -2,6 +2,7 @@ pub mod HeatLemmas
 pub mod RankLemmas
 pub mod ChoiceLemmas
 pub mod ChosenLemmas
+pub mod FirstLemmas
 pub mod QuotaLemmas
 pub mod PhaseLemmas
 pub mod HotThere

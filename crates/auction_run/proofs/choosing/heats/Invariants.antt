@@ -1,7 +1,7 @@
 use Rattle.std.proofs.Common.{take}
-use Rattle.auction_run.specs.Ranking.{HasHeats}
+use Rattle.auction_run.proofs.HeatLemmas.{HasHeatsOf, may_be_hot}
 use Rattle.auction_run.proofs.choosing.heats.Given as goal
 
--- each object has its heat so far
-abbrev pub invariant-loop-entry : goal.invariant-loop-entry
-invariant-loop-entry l = HasHeats (take l.entry-index l.entries) l.heats.entries
+-- each object that may be hot has its heat so far
+abbrev pub invariant-loop-object : goal.invariant-loop-object
+invariant-loop-object l = HasHeatsOf (may_be_hot l.counts l.threshold) (take l.object-index l.objects) l.heats.entries

@@ -9,11 +9,11 @@ use Rattle.auction_run.proofs.choosing.hottest.Goals as goal
 pub first_of-requires : goal.first_of-requires
 first_of-requires c =
     subst (λ (cs : List Candidate). IsDistinct same_object (map (λ c. c.object) cs)) (sym c.deref.ensures.value)
-    (distinct c.requires.0 c.args.heats.now.entries c.args.threshold c.in_ok-candidates.candidates.items c.requires.1 c.in_ok-candidates.ensures)
+    (distinct c.in_ok-heats.heats.entries c.args.threshold c.in_ok-candidates.candidates.items c.in_ok-heats.ensures.once c.in_ok-candidates.ensures)
 
 pub returns : goal.returns
 returns c =
     IfOk-weaker c.first_of.result _ _
-    (λ hot are entries has. are ∙ ap (λ (cs : List Candidate). map (λ (c : Candidate). c.object) (take c.args.hot_max cs)) c.deref.ensures.value
-    ∙ chosen entries c.args.heats.now.entries c.args.threshold c.in_ok-candidates.candidates.items has c.in_ok-candidates.ensures c.args.hot_max)
+    (λ hot are entries written. are ∙ ap (λ (cs : List Candidate). map (λ (c : Candidate). c.object) (take c.args.hot_max cs)) c.deref.ensures.value
+    ∙ chosen entries c.args.objects.now c.in_ok-heats.heats.entries c.args.threshold c.in_ok-candidates.candidates.items written c.in_ok-heats.ensures c.in_ok-candidates.ensures c.args.hot_max)
     c.first_of.ensures
