@@ -23,7 +23,7 @@ pub(crate) struct Deeds {
 impl Deeds {
     /// Those of a store with this reply, by what it saw of its item, where its objects have these
     /// homes.
-    #[inline(always)]
+    #[inline]
     pub(crate) fn of(
         request: &Request,
         reply: StoreReply,
@@ -129,18 +129,18 @@ impl Deeds {
         ensures { result ≡ deal_of self number index }
     {
         let Deeds {
-            first,
-            second,
+            mut first,
+            mut second,
             home,
             other,
         } = self;
-        let nothing = Act::Look(Shown::Nothing);
-        let (first, second) = match (home.shard(), other.shard()) {
-            (Some(_), Some(_)) => (first, second),
-            (Some(_), None) => (first, nothing),
-            (None, Some(_)) => (second, nothing),
-            (None, None) => (nothing, Act::Look(Shown::Nothing)),
-        };
+        if other.shard().is_none() {
+            second = Act::Look(Shown::Nothing);
+        }
+        if home.shard().is_none() {
+            first = second;
+            second = Act::Look(Shown::Nothing);
+        }
         Written {
             number,
             index,

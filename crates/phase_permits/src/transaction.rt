@@ -229,7 +229,7 @@ impl<N: PhaseName> Worker<N> {
 
     // Does what a store does on the shards that were taken, puts them back with their lines, and
     // commits it.
-    #[inline(always)]
+    #[inline]
     fn put_store<R: Wait>(&mut self, rt: &R, boxes: &Boxes<N>, begun: Begun<N>, store: &Store<'_>)
         requires store { is_view store.now.call.request.now ≡ false }
         requires opened { HaveOpening N.opening self.old.opening }

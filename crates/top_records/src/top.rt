@@ -58,7 +58,7 @@ impl<E: Ord + Copy + Default, const K: usize> TopRec<E, K> {
     }
 
     // Takes an entry in, wherever it goes.
-    #[inline(never)]
+    #[inline(always)]
     fn insert_at_its_place(&mut self, entry: E)
         ensures value { self.new ≡ top E.cmp K (entry ∷ self.old) }
         ensures present { Contains self.old entry → self.new ≡ self.old }
