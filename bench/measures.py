@@ -89,7 +89,7 @@ class Systems:
         self.server = None
         if "plain" not in built:
             self.skip("rustc is not installed: plain Rust is left out.")
-        if "watch" not in built:
+        if "windows" not in built:
             self.skip("Windows were left out (--skip).")
         if not instructions.is_there():
             self.skip("valgrind is not installed: instructions were left out.")

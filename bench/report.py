@@ -383,8 +383,8 @@ def heading(asked, systems, rows, when, seconds):
     lines.append(f"    rubis_auction {' '.join(Policy().words(asked.workers))} < LOAD")
     if "referee" in systems.built:
         lines.append(f"    rubis_check {' '.join(measures.auction_words(figures.MOST_WORKERS))} --order --history=HISTORY < LOAD")
-    if "watch" in systems.built:
-        lines.append("    example_watch bench")
+    if "windows" in systems.built:
+        lines.append("    bench_windows")
     lines.append("")
     if systems.server:
         lines.append(f"PostgreSQL {systems.server_version} executes as many of the first {systems.few():,} requests of each load as it can in "

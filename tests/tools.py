@@ -1,6 +1,6 @@
 #!/usr/bin/env python3
 """Tests what helps to use the auction: bench/tune, whose command has to run, examples/timeline.py, whose picture has to have each line of a history, and the help
-of example_watch.
+of example_watch and bench_windows.
 
     tests/tools.py [PROGRAM]
 """
@@ -92,12 +92,12 @@ def drawn(tally: Tally, history: bytes, words: list) -> tuple[dict[str, float], 
     return boxes, circles
 
 
-def help_of_watch_auction(tally: Tally, program: Path) -> None:
-    """help and version of example_watch, and what it makes of other words"""
-    watcher = built("example_watch")
-    said = helps.help_and_version(tally, watcher, "example_watch", None)
-    for words in (["x"], ["bench", "x"], [""]):
-        tally.same(f"example_watch {words}", run([watcher, *words]), Outcome(1, b"", said.encode()))
+def helps_of_windows(tally: Tally, program: Path) -> None:
+    """help and version of example_watch and bench_windows, and what they make of other words"""
+    for name in ("example_watch", "bench_windows"):
+        said = helps.help_and_version(tally, built(name), name, None)
+        for words in (["x"], ["bench", "x"], [""]):
+            tally.same(f"{name} {words}", run([built(name), *words]), Outcome(1, b"", said.encode()))
 
 
 def main() -> None:
@@ -105,7 +105,7 @@ def main() -> None:
     parser.add_argument("program", type=Path, nargs="?", default=BUILT)
     program = parser.parse_args().program.resolve()
     tally = Tally()
-    for check in (tuned, timelines, help_of_watch_auction):
+    for check in (tuned, timelines, helps_of_windows):
         passed = tally.passed
         check(tally, program)
         print(f"{tally.passed - passed:6} passed: {check.__doc__}")

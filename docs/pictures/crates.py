@@ -20,8 +20,8 @@ LAYERS = {
                "phase_workers": 420, "auction_run": 560},
     "texts": {"program_options": 420, "auction_text": 940, "part_log": 860, "history_check": 230},
     "programs": {"auction_program": 735, "load_program": 985, "check_program": 300, "rubis_auction": 680, "rubis_load": 985, "rubis_check": 300},
-    "examples and tests": {"example_vase": 235, "example_phases": 370, "engine_tests": 500, "phase_tests": 605, "program_tests": 790,
-                           "example_watch": 910},
+    "examples and tests": {"example_vase": 235, "example_phases": 370, "engine_tests": 500, "phase_tests": 605, "program_tests": 745,
+                           "example_watch": 865, "bench_windows": 985},
 }
 MODEL = "auction_rows"
 KNOWS, KNOWS_NOT = "#b3261e", "#3d6e91"

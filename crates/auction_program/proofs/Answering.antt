@@ -3,27 +3,27 @@ use Rattle.std.proofs.Common.{◌≡◌, ℕ, ◌<◌, List, length, Option, IfS
 use Rattle.std.specs.Prelude.{◌↔◌}
 use Rattle.std.specs.Result.{IsErr, IsErrAnd}
 use Rattle.std.proofs.lemmas.Option.{IfSome_then}
-use Rattle.auction_rows.specs.declared.numbers.Opening.{Opening}
+use Rattle.auction_rows.specs.declared.values.Opening.{Opening}
 use Rattle.auction_rows.specs.declared.requests.Request.{Request}
 use Rattle.auction_rows.specs.Book.{Book}
 use Rattle.auction_text.specs.Scripts.{input_of}
 use Rattle.item_shards.specs.OpeningRows.{AreRows, IsFirstBad, IsTooLong, opening_rows}
-use Rattle.item_shards.specs.declared.opened.Opened.{Opened}
-use Rattle.item_shards.specs.declared.opening_book.ResumeFault.{ResumeFault}
-use Rattle.item_shards.specs.declared.opening_book.ResumeFault.TheVariants as resume
+use Rattle.item_shards.specs.declared.openings.Opened.{Opened}
+use Rattle.item_shards.specs.declared.openings.ResumeFault.{ResumeFault}
+use Rattle.item_shards.specs.declared.openings.ResumeFault.TheVariants as resume
 use Rattle.run_laws.specs.Answers.{IsAnswer}
-use Rattle.auction_rows.specs.declared.policy.Policy.{Policy}
-use Rattle.auction_text.specs.declared.faults.WriteFault.{WriteFault}
+use Rattle.auction_rows.specs.declared.limits.Policy.{Policy}
+use Rattle.auction_text.specs.declared.output.WriteFault.{WriteFault}
 use Rattle.auction_program.specs.Execution.{added_text, commits_text, Answers, IsAllowed, IsCausedBy, IsNotPerformed, IsNotRun, IsRefused, OfInput, Performs}
 use Rattle.auction_program.specs.Options.{opening_of, policy_of}
 use Rattle.auction_run.specs.Beginning.{HaveWorkers, HasShards, HasQuotas, AreShort}
 use Rattle.auction_run.specs.Phases.{hot_sets}
-use Rattle.auction_run.specs.declared.fault.RunFault.{RunFault}
-use Rattle.auction_run.specs.declared.fault.RunFault.TheVariants as run
+use Rattle.auction_run.specs.declared.checks.RunFault.{RunFault}
+use Rattle.auction_run.specs.declared.checks.RunFault.TheVariants as run
 use Rattle.auction_program.specs.declared.faults.Fault.{Fault}
 use Rattle.auction_program.specs.declared.faults.Fault.TheVariants.{Usage, Read, Resume, Make, Run, Write, Report, OpenLog, Locked, LogRecord, Log}
 use Rattle.auction_program.specs.declared.options.Options.{Options}
-use Rattle.auction_program.specs.declared.performing.Performed.{Performed}
+use Rattle.auction_program.specs.declared.execution.Performed.{Performed}
 
 -- what holds of the error that there is
 pub error_is : {T E : Type 0} (r : Result T E) (e : E) (Q : E → Type 0) → IsErr r × IsErrAnd r (λ x. x ≡ e) → Q e → IfErr r Q

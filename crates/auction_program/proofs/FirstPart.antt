@@ -9,11 +9,11 @@ use Rattle.auction_text.specs.Parts.{IsPart, KeepsWorkers}
 use Rattle.auction_text.specs.Readable.{Readable, requests_in}
 use Rattle.auction_text.specs.Reading.{IsInputFault}
 use Rattle.auction_text.specs.Scripts.{Asked, rows}
-use Rattle.auction_text.specs.declared.faults.ReadFault.{ReadFault}
+use Rattle.auction_text.specs.declared.record.ReadFault.{ReadFault}
 use Rattle.auction_text.specs.declared.parts.Part.{Part}
 use Rattle.item_shards.specs.OpeningRows.{AreRows, IsTooLong, opening_rows}
-use Rattle.item_shards.specs.declared.opened.Opened.{Opened}
-use Rattle.part_log.specs.declared.telling.Teller.{Teller}
+use Rattle.item_shards.specs.declared.openings.Opened.{Opened}
+use Rattle.part_log.specs.declared.log.Teller.{Teller}
 use Rattle.run_laws.specs.Serving.{lists}
 use Rattle.auction_program.specs.Options.{opening_of}
 use Rattle.auction_program.specs.PartRuns.{HasServed, IsPastReading, IsSession, Opens, RunsPart, ServesPart, StartsAt}
@@ -21,7 +21,7 @@ use Rattle.auction_program.specs.Serving.{ArePartTold, AreTold, IsLoggedBefore, 
 use Rattle.auction_program.specs.declared.faults.Fault.{Fault}
 use Rattle.auction_program.specs.declared.faults.Fault.TheVariants.{Read}
 use Rattle.auction_program.specs.declared.options.Options.{Options}
-use Rattle.auction_program.specs.declared.part_runs.Served.{Served}
+use Rattle.auction_program.specs.declared.parts.Served.{Served}
 use Rattle.auction_program.proofs.Answering.{is_error}
 use Rattle.auction_program.proofs.ServingLemmas.{first_rows, opened_first, opened_served}
 use Rattle.auction_program.proofs.SessionLemmas.{session_first, session_more}

@@ -1,7 +1,7 @@
 -- The histories of parts are one.
 use Rattle.std.proofs.Common.{◌≡◌, ◌++◌, ◌∷◌, ◌∙◌, Bool, true, false, ℕ, List, [], ap, if◌then◌else◌, refl, subst, sym}
 use Rattle.std.proofs.lemmas.Grind.{flat_map-append}
-use Rattle.auction_rows.specs.declared.numbers.Opening.{Opening}
+use Rattle.auction_rows.specs.declared.values.Opening.{Opening}
 use Rattle.auction_rows.specs.declared.rows.Entry.{Entry}
 use Rattle.auction_rows.specs.Book.{Book}
 use Rattle.auction_rows.specs.History.{ReplaysFrom, after_entry, book_after}

@@ -13,23 +13,23 @@ use Rattle.auction_text.specs.Readable.{Readable, after, faulty, no_more, reques
 use Rattle.auction_text.specs.RowLines.{rows_text}
 use Rattle.auction_text.specs.Scripts.{asked_in, row_in, rows}
 use Rattle.auction_text.specs.Writing.{IsPartWritten}
-use Rattle.auction_text.specs.declared.faults.ReadFault.{ReadFault}
+use Rattle.auction_text.specs.declared.record.ReadFault.{ReadFault}
 use Rattle.auction_text.specs.declared.parts.InputLeft.{InputLeft}
 use Rattle.auction_text.specs.declared.parts.Part.{Part}
 use Rattle.auction_text.specs.declared.parts.PartEnd.{PartEnd}
 use Rattle.auction_text.specs.declared.parts.PartEnd.TheVariants.{More, All, Fault}
 use Rattle.auction_text.specs.declared.record.Record.{Record}
 use Rattle.item_shards.specs.OpeningRows.{AreRows, IsTooLong, opening_rows}
-use Rattle.item_shards.specs.declared.opened.Opened.{Opened}
-use Rattle.part_log.specs.declared.telling.Teller.{Teller}
+use Rattle.item_shards.specs.declared.openings.Opened.{Opened}
+use Rattle.part_log.specs.declared.log.Teller.{Teller}
 use Rattle.run_laws.specs.Serving.{lists}
 use Rattle.auction_program.specs.Execution.{commits_text}
 use Rattle.auction_program.specs.Options.{opening_of}
 use Rattle.auction_program.specs.PartRuns.{HasServed, IsSession, Opens, RunsPart, ServesPart, StartsAt, book_past, gone_with}
 use Rattle.auction_program.specs.Serving.{ArePartRuns, ArePartTold, AreTold, IsLoggedBefore, IsNothingTold, IsPartRun, IsServed, PartRun, Serves, ServesFirst, book_in, gone_past, nothing_gone, opening_text, part_texts, scripts_in, served_rows, served_text, unlogged_rows}
 use Rattle.auction_program.specs.declared.options.Options.{Options}
-use Rattle.auction_program.specs.declared.part_runs.Served.{Served}
-use Rattle.auction_program.specs.declared.part_runs.Start.{Start}
+use Rattle.auction_program.specs.declared.parts.Served.{Served}
+use Rattle.auction_program.specs.declared.parts.Start.{Start}
 use Rattle.auction_program.proofs.WrittenLemmas.{part_of_added}
 
 -- what each part gives, with one part more

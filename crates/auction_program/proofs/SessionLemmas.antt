@@ -6,19 +6,19 @@ use Rattle.auction_text.specs.Moved.{gone_by}
 use Rattle.auction_text.specs.Parts.{CanRead, GoesOn, IsPart, KeepsWorkers, workers_of}
 use Rattle.auction_text.specs.Readable.{Readable, after, requests_in}
 use Rattle.auction_text.specs.Scripts.{Asked, asked_in}
-use Rattle.auction_text.specs.declared.faults.ReadFault.{ReadFault}
+use Rattle.auction_text.specs.declared.record.ReadFault.{ReadFault}
 use Rattle.auction_text.specs.declared.parts.InputLeft.{InputLeft}
 use Rattle.auction_text.specs.declared.parts.Part.{Part}
 use Rattle.auction_text.specs.declared.parts.PartEnd.{PartEnd}
 use Rattle.auction_text.specs.declared.parts.PartEnd.TheVariants.{More, All, Fault}
 use Rattle.auction_text.specs.declared.record.Record.{Record}
-use Rattle.item_shards.specs.declared.opened.Opened.{Opened}
-use Rattle.part_log.specs.declared.telling.Teller.{Teller}
+use Rattle.item_shards.specs.declared.openings.Opened.{Opened}
+use Rattle.part_log.specs.declared.log.Teller.{Teller}
 use Rattle.run_laws.specs.Serving.{lists}
 use Rattle.auction_program.specs.PartRuns.{HasServed, IsSession, RunsPart, ServesPart, StartsAt}
 use Rattle.auction_program.specs.Serving.{ArePartTold, AreTold, IsNothingTold, Serves, ServesFirst, scripts_in}
 use Rattle.auction_program.specs.declared.options.Options.{Options}
-use Rattle.auction_program.specs.declared.part_runs.Served.{Served}
+use Rattle.auction_program.specs.declared.parts.Served.{Served}
 use Rattle.auction_program.proofs.ServingLemmas.{first_kept, first_more, goes_further, one_more, rest_of}
 
 module _ {R L W : Type 0} (remaining : R → Option (List ℕ)) (accepted : L → Option (List ℕ)) (contents : W → Option (List ℕ)) (options : Options) (logged : List Opened) (all : Readable)

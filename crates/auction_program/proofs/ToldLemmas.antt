@@ -3,7 +3,7 @@ use Rattle.std.proofs.Common.{◌≡◌, ◌∙◌, ◌⊎◌, true, if◌then�
 use Rattle.std.specs.Io.KnownBytes.{Appends, Keeps}
 use Rattle.std.specs.List.{cons_option}
 use Rattle.std.specs.Result.{IsErr, IsErrAnd}
-use Rattle.auction_rows.specs.declared.ids.Object.{Object}
+use Rattle.auction_rows.specs.declared.requests.Object.{Object}
 use Rattle.auction_rows.specs.declared.requests.Request.{Request}
 use Rattle.auction_rows.specs.declared.rows.Entry.{Entry}
 use Rattle.auction_rows.specs.Book.{Book}
@@ -12,15 +12,15 @@ use Rattle.auction_text.specs.Moved.{Gone, all_moved}
 use Rattle.auction_text.specs.RowLines.{row_line, rows_text}
 use Rattle.auction_text.specs.Replies.{history_text, lines, replies_text}
 use Rattle.auction_text.specs.Writing.{IsPartWritten}
-use Rattle.auction_run.specs.declared.fault.RunFault.{RunFault}
-use Rattle.auction_text.specs.declared.faults.WriteFault.{WriteFault}
-use Rattle.item_shards.specs.declared.opening_book.ResumeFault.{ResumeFault}
+use Rattle.auction_run.specs.declared.checks.RunFault.{RunFault}
+use Rattle.auction_text.specs.declared.output.WriteFault.{WriteFault}
+use Rattle.item_shards.specs.declared.openings.ResumeFault.{ResumeFault}
 use Rattle.part_log.specs.Telling.{IsLoggedFirst}
 use Rattle.part_log.specs.declared.log.LogFault.{LogFault}
-use Rattle.part_log.specs.declared.telling.TellFault.{TellFault}
-use Rattle.part_log.specs.declared.telling.Teller.{Teller}
+use Rattle.part_log.specs.declared.log.TellFault.{TellFault}
+use Rattle.part_log.specs.declared.log.Teller.{Teller}
 use Rattle.run_laws.specs.Answers.{IsAnswer}
-use Rattle.part_log.specs.declared.telling.TellFault.TheVariants as telling
+use Rattle.part_log.specs.declared.log.TellFault.TheVariants as telling
 use Rattle.auction_program.specs.Execution.{commits_text}
 use Rattle.auction_program.specs.Faults.{of_telling}
 use Rattle.auction_program.specs.declared.options.Options.{Options}

@@ -1,8 +1,8 @@
 -- What the program answers.
 use Rattle.std.specs.Prelude.{ℕ, ◌≡◌, ◌<◌, ◌⊎◌, List, [], ◌++◌, length, Option, Ok, Err, IfSome, IsTrue, if◌then◌else◌}
 use Rattle.std.specs.Io.KnownBytes.{Appends, Keeps}
-use Rattle.auction_rows.specs.declared.ids.Object.{Object}
-use Rattle.auction_rows.specs.declared.numbers.Opening.{Opening}
+use Rattle.auction_rows.specs.declared.requests.Object.{Object}
+use Rattle.auction_rows.specs.declared.values.Opening.{Opening}
 use Rattle.auction_rows.specs.declared.requests.Request.{Request}
 use Rattle.auction_rows.specs.declared.rows.Entry.{Entry}
 use Rattle.auction_rows.specs.Book.{Book}
@@ -12,24 +12,24 @@ use Rattle.auction_text.specs.Replies.{replies_text, history_text}
 use Rattle.auction_text.specs.RowLines.{rows_text}
 use Rattle.auction_text.specs.Scripts.{input_of}
 use Rattle.auction_text.specs.Writing.{IsPartWritten}
-use Rattle.auction_text.specs.declared.report.ReportLines.{ReportLines}
+use Rattle.auction_text.specs.declared.rows.ReportLines.{ReportLines}
 use Rattle.item_shards.specs.OpeningRows.{AreRows, IsFirstBad, IsTooLong, opening_rows}
-use Rattle.item_shards.specs.declared.opened.Opened.{Opened}
-use Rattle.item_shards.specs.declared.opening_book.ResumeFault.{ResumeFault}
-use Rattle.item_shards.specs.declared.opening_book.ResumeFault.TheVariants as resume
+use Rattle.item_shards.specs.declared.openings.Opened.{Opened}
+use Rattle.item_shards.specs.declared.openings.ResumeFault.{ResumeFault}
+use Rattle.item_shards.specs.declared.openings.ResumeFault.TheVariants as resume
 use Rattle.run_laws.specs.Answers.{IsAnswer}
-use Rattle.auction_rows.specs.declared.policy.Policy.{Policy}
+use Rattle.auction_rows.specs.declared.limits.Policy.{Policy}
 use Rattle.auction_program.specs.Options.{opening_of, policy_of}
 use Rattle.auction_program.specs.Report.{report_of, AreViews}
 use Rattle.auction_run.specs.Beginning.{HaveWorkers, HasShards, HasQuotas, AreShort}
 use Rattle.auction_run.specs.Phases.{hot_sets}
-use Rattle.auction_run.specs.declared.fault.RunFault.{RunFault}
-use Rattle.auction_run.specs.declared.fault.RunFault.TheVariants as run
-use Rattle.auction_run.specs.declared.running.Outcome.{Outcome}
+use Rattle.auction_run.specs.declared.checks.RunFault.{RunFault}
+use Rattle.auction_run.specs.declared.checks.RunFault.TheVariants as run
+use Rattle.auction_run.specs.declared.runs.Outcome.{Outcome}
 use Rattle.auction_program.specs.declared.faults.Fault.{Fault}
 use Rattle.auction_program.specs.declared.faults.Fault.TheVariants.{Usage, Read, Resume, Make, Run, Write, Report, OpenLog, Locked, LogRecord, Log}
 use Rattle.auction_program.specs.declared.options.Options.{Options}
-use Rattle.auction_program.specs.declared.performing.Performed.{Performed}
+use Rattle.auction_program.specs.declared.execution.Performed.{Performed}
 
 -- what the options ask for: the rows, or else the history, or else the replies
 abbrev pub commits_text : Options → Book → List Entry → List ℕ

@@ -1,7 +1,7 @@
 -- The exit statuses of faults, and their words.
 use Rattle.std.specs.Prelude.{ℕ, List, Option, None}
-use Rattle.part_log.specs.declared.telling.TellFault.{TellFault}
-use Rattle.part_log.specs.declared.telling.TellFault.TheVariants as telling
+use Rattle.part_log.specs.declared.log.TellFault.{TellFault}
+use Rattle.part_log.specs.declared.log.TellFault.TheVariants as telling
 use Rattle.program_options.specs.Words.{usage_words}
 use Rattle.auction_program.specs.declared.faults.Fault.{Fault}
 use Rattle.auction_program.specs.declared.faults.Fault.TheVariants.{Usage, Read, Resume, Make, Run, Write, Report, OpenLog, Locked, LogRecord, Log}

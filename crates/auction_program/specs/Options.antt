@@ -1,9 +1,9 @@
 -- What options say of an auction and of its run.
 use Rattle.std.specs.Prelude.{◌≤◌}
 use Rattle.auction_rows.specs.declared.limits.TheConstants.{MOST_HOT, MOST_SHARDS, MOST_WORKERS}
-use Rattle.auction_rows.specs.declared.numbers.Opening.{Opening}
+use Rattle.auction_rows.specs.declared.values.Opening.{Opening}
 use Rattle.program_options.specs.declared.options.TheConstants.{MOST_ASKED}
-use Rattle.auction_rows.specs.declared.policy.Policy.{Policy}
+use Rattle.auction_rows.specs.declared.limits.Policy.{Policy}
 use Rattle.auction_program.specs.declared.options.Options.{Options}
 
 -- the users and categories

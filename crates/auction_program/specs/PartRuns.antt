@@ -1,6 +1,6 @@
 -- What is known between two parts of an input.
 use Rattle.std.specs.Prelude.{ℕ, ◌≡◌, ◌+◌, ◌++◌, List, [], Option, flat_map, fold, length, slice_index_or}
-use Rattle.auction_rows.specs.declared.ids.Object.{Object}
+use Rattle.auction_rows.specs.declared.requests.Object.{Object}
 use Rattle.auction_rows.specs.declared.requests.Request.{Request}
 use Rattle.auction_rows.specs.declared.rows.Entry.{Entry}
 use Rattle.auction_rows.specs.Book.{Book}
@@ -10,12 +10,12 @@ use Rattle.auction_text.specs.Parts.{GoesOn, KeepsWorkers}
 use Rattle.auction_text.specs.Readable.{Readable}
 use Rattle.auction_text.specs.RowLines.{rows_text}
 use Rattle.auction_text.specs.Scripts.{rows}
-use Rattle.auction_text.specs.declared.faults.ReadFault.{ReadFault}
+use Rattle.auction_text.specs.declared.record.ReadFault.{ReadFault}
 use Rattle.auction_text.specs.declared.parts.PartEnd.{PartEnd}
 use Rattle.auction_text.specs.declared.record.Record.{Record}
 use Rattle.item_shards.specs.OpeningBooks as opened
 use Rattle.item_shards.specs.OpeningRows.{AreRows, IsTooLong, opening_rows}
-use Rattle.item_shards.specs.declared.opened.Opened.{Opened}
+use Rattle.item_shards.specs.declared.openings.Opened.{Opened}
 use Rattle.phase_floor.specs.States.{IsBookOf}
 use Rattle.run_laws.specs.Answers.{IsAnswer}
 use Rattle.auction_program.specs.Execution.{commits_text}
@@ -24,9 +24,9 @@ use Rattle.auction_program.specs.Serving.{ArePartRuns, PartRun, book_in, gone_pa
 use Rattle.auction_program.specs.declared.faults.Fault.{Fault}
 use Rattle.auction_program.specs.declared.faults.Fault.TheVariants.{Read}
 use Rattle.auction_program.specs.declared.options.Options.{Options}
-use Rattle.auction_program.specs.declared.part_runs.Served.{Served}
-use Rattle.auction_program.specs.declared.part_runs.Start.{Start}
-use Rattle.auction_program.specs.declared.part_runs.Start.TheVariants.{Book as Opening, State}
+use Rattle.auction_program.specs.declared.parts.Served.{Served}
+use Rattle.auction_program.specs.declared.parts.Start.{Start}
+use Rattle.auction_program.specs.declared.parts.Start.TheVariants.{Book as Opening, State}
 
 -- a run begins at this book
 abbrev pub StartsAt : Options → Start → Book → Type 0

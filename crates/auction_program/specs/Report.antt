@@ -2,8 +2,8 @@
 use Rattle.std.specs.Prelude.{ℕ, ◌≡◌, List, length, map}
 use mathlib.Core.List.{IsPrefix}
 use Rattle.std.specs.List.{range_with_len}
-use Rattle.auction_rows.specs.declared.ids.Object.{Object}
-use Rattle.auction_rows.specs.declared.numbers.Opening.{Opening}
+use Rattle.auction_rows.specs.declared.requests.Object.{Object}
+use Rattle.auction_rows.specs.declared.values.Opening.{Opening}
 use Rattle.auction_rows.specs.declared.replies.Reply.{Reply}
 use Rattle.auction_rows.specs.declared.requests.Request.{Request}
 use Rattle.auction_rows.specs.declared.requests.Request.TheVariants.{ViewCategory, ViewUser}
@@ -14,8 +14,8 @@ use Rattle.auction_rows.specs.Replies.{reply}
 use Rattle.auction_text.specs.Report.{report_text}
 use Rattle.auction_window.specs.Published.{book_of}
 use Rattle.phase_floor.specs.States.{JoinedState, StandsFor}
-use Rattle.auction_program.specs.declared.views.Viewed.{Viewed}
-use Rattle.auction_program.specs.declared.views.Viewed.TheVariants.{Categories, Users}
+use Rattle.auction_program.specs.declared.texts.Viewed.{Viewed}
+use Rattle.auction_program.specs.declared.texts.Viewed.TheVariants.{Categories, Users}
 
 -- the replies that a book gives to the views of so many numbers from 0
 abbrev pub views : Opening → Book → (ℕ → Request) → ℕ → List Reply

@@ -1,19 +1,23 @@
-//! The opening of an auction whose parts are told.
+//! The opening of an auction whose parts are told, and the opening of a log.
 ghost use Rattle.std.specs.Prelude.{◌≡◌, ◌⊎◌, ◌++◌, IfErr, IfOk, OnOk};
 ghost use Rattle.item_shards.specs.OpeningRows.{opening_rows};
 ghost use Rattle.auction_program.specs.Options.{opening_of};
 ghost use Rattle.auction_program.specs.PartRuns.{IsPastReading, Opens, StartsAt};
 ghost use Rattle.auction_program.specs.Serving.{ArePartTold, AreTold, IsNothingTold};
-ghost use Rattle.auction_program.specs.declared.part_runs.Start.{Start};
+ghost use Rattle.auction_program.specs.declared.parts.Start.{Start};
 
 use crate::faults::Fault;
 use crate::options::Options;
-use crate::part_texts::tell_opening;
+use crate::parts::tell_opening;
 use auction_run::RunFault;
+use auction_text::{Cause, Input, ReadFault, read_scripts};
 use item_shards::{Opened, OpeningBook};
-use part_log::{Log, Teller};
+use part_log::{FileLog, Log, Teller, whole_lines};
 use std::alloc::Global;
-use std::io::Write;
+use std::fs::{File, OpenOptions};
+use std::io;
+use std::io::{Read, Write};
+use std::rt::Files;
 
 /// Rows, and then others.
 pub fn joined_rows(rows: Vec<Opened>, others: &[Opened]) -> Result<Vec<Opened>, RunFault>
@@ -47,4 +51,88 @@ pub fn open<L: Log, W: Write>(
     let book = OpeningBook::new(alloc, options.opening(), all)?;
     tell_opening(alloc, teller, book.rows(), known, options)?;
     Ok(book)
+}
+
+/// A log that was opened.
+#[derive(Drop)]
+pub struct OpenedLog {
+    /// The rows that it has.
+    pub rows: Vec<Opened>,
+    /// The log.
+    pub log: FileLog<File>,
+    /// How many bytes were cut off: those of a last line without an end.
+    pub cut: usize,
+}
+
+// The rows of a log: a request is none.
+fn rows_of(alloc: Global, text: &[u8], options: &Options) -> Result<Vec<Opened>, Fault> {
+    let Input { rows, scripts } = read_scripts(alloc, text, options.workers).map_err(
+        Fault::LogRecord,
+    )?;
+    if scripts.iter().any(|script| !script.is_empty()) {
+        let place = rows.len() as u64 + 1;
+        return Err(Fault::LogRecord(ReadFault::Line(place, Cause::Kind)));
+    }
+    Ok(rows)
+}
+
+// Whether rows open an auction is known before a byte of their log is cut off.
+fn check_rows(alloc: Global, rows: &[Opened], options: &Options) -> Result<(), Fault> {
+    let rows = joined_rows(Vec::new(alloc), rows)?;
+    let _book = OpeningBook::new(alloc, options.opening(), rows)?;
+    Ok(())
+}
+
+// The folder of a path.
+fn folder_of(path: &str) -> &str {
+    match path.rfind('/') {
+        Some(0) => "/",
+        Some(at) => &path[..at],
+        None => ".",
+    }
+}
+
+// Has the disk keep the name of a file that may be new.
+fn sync_folder<R: Files<File = File>>(rt: &R, path: &str) -> io::Result<()> {
+    let folder = File::open(rt, folder_of(path))?;
+    folder.sync_all()
+}
+
+// Opens the file of a log, which no other program may have open.
+fn open_file<R: Files<File = File>>(rt: &R, path: &str) -> Result<File, Fault> {
+    let mut how = OpenOptions::new();
+    let Ok(file) = how.read(true).append(true).create(true).open(rt, path) else {
+        return Err(Fault::OpenLog);
+    };
+    if file.try_lock().is_err() {
+        return Err(Fault::Locked);
+    }
+    if sync_folder(rt, path).is_err() {
+        return Err(Fault::OpenLog);
+    }
+    Ok(file)
+}
+
+/// Opens the log at a path, which no other program may have open, reads its rows, and cuts off a
+/// last line that has no end. A log with a line that is no row, or a row that opens no auction, is
+/// left as it is.
+pub fn open_log<R: Files<File = File>>(
+    rt: &R,
+    alloc: Global,
+    path: &str,
+    options: &Options,
+) -> Result<OpenedLog, Fault> {
+    let mut file = open_file(rt, path)?;
+    let mut text = Vec::new(alloc);
+    if file.read_to_end(&mut text).is_err() {
+        return Err(Fault::OpenLog);
+    }
+    let kept = whole_lines(text.as_slice());
+    let cut = text.len() - kept;
+    let rows = rows_of(alloc, &text.as_slice()[..kept], options)?;
+    check_rows(alloc, rows.as_slice(), options)?;
+    match FileLog::open(file, kept as u64) {
+        Ok(log) => Ok(OpenedLog { rows, log, cut }),
+        Err(_) => Err(Fault::OpenLog),
+    }
 }

@@ -2,7 +2,7 @@
 ghost use Rattle.std.specs.Prelude.{◌≡◌, IfOk, IfErr, OnOk, map, option_map, string_bytes};
 ghost use Rattle.clap.specs.Words.{app_of, found_of, one_text};
 ghost use Rattle.program_options.specs.Words.{AreTaken, HaveNumbers};
-ghost use Rattle.program_options.specs.declared.faults.UsageFault.{UsageFault};
+ghost use Rattle.program_options.specs.declared.words.UsageFault.{UsageFault};
 ghost use Rattle.auction_program.specs.Options.{AreInRange};
 ghost use Rattle.auction_program.specs.Words.{log_in, options_in, options_of, program};
 

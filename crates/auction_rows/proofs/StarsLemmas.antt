@@ -5,7 +5,7 @@ use Rattle.std.specs.Int.Signed.{le_z}
 use Rattle.std.proofs.Props.{props}
 use mathlib.Core.HLevel.{is_prop→PathP}
 use Rattle.auction_rows.specs.Stars.{stars_of, stars_if, is_true}
-use Rattle.auction_rows.specs.declared.numbers.Stars.{Stars}
+use Rattle.auction_rows.specs.declared.values.Stars.{Stars}
 
 low_prop : (v : ℤ) → IsProp (negsuc 4 ≤ℤ v)
 low_prop v = hlevel props

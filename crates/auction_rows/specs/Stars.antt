@@ -1,7 +1,7 @@
 -- The stars of a number.
 use Rattle.std.specs.Prelude.{ℤ, pos, negsuc, Bool, true, false, Option, Some, None, T}
 use Rattle.std.specs.Int.Signed.{le_z, le_z_yes}
-use Rattle.auction_rows.specs.declared.numbers.Stars.{Stars}
+use Rattle.auction_rows.specs.declared.values.Stars.{Stars}
 
 abbrev pub is_true : (b : Bool) → Dec (T b)
 is_true true = yes tt

@@ -5,11 +5,11 @@ use Rattle.std.specs.List.{IsDistinct, AllByRecursion, list_any}
 use Rattle.std.proofs.Math.Seq.{take-suc}
 use Rattle.std.proofs.lemmas.Bool.{lt-leb}
 use Rattle.std.proofs.lemmas.List.{get_or-take, get_or-map, length-take, length-map, map-append, take-map, take_min}
-use Rattle.auction_rows.specs.contracts.ids.ObjectPartialEq.TheImpl.{eq-value as object_eq}
-use Rattle.auction_rows.specs.declared.ids.Object.{Object}
+use Rattle.auction_rows.specs.contracts.requests.ObjectPartialEq.TheImpl.{eq-value as object_eq}
+use Rattle.auction_rows.specs.declared.requests.Object.{Object}
 use Rattle.auction_rows.specs.Requests.{same_object}
 use Rattle.auction_rows.proofs.RequestLemmas.{eq_is_same, same_either_way}
-use Rattle.auction_run.specs.declared.choosing.Candidate.{Candidate}
+use Rattle.auction_run.specs.declared.choice.Candidate.{Candidate}
 use Rattle.auction_run.specs.Ranking.{candidate, hot_ones}
 
 -- ---- gathering

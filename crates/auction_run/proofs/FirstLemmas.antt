@@ -7,8 +7,8 @@ use Rattle.std.specs.Map.{keys_of, values_of}
 use Rattle.std.proofs.lemmas.Map.Entries.{hash_map_get_place}
 use Rattle.indexmap.specs.IndexMap.{IndexMap, IsUnique, Updates, get, keys, values, with_value_at}
 use Rattle.indexmap.proofs.CallerLemmas.{keys-with_value_at, updates-with_value_at}
-use Rattle.auction_rows.specs.contracts.ids.ObjectPartialEq.TheImpl.{eq-value as object_eq}
-use Rattle.auction_rows.specs.declared.ids.Object.{Object}
+use Rattle.auction_rows.specs.contracts.requests.ObjectPartialEq.TheImpl.{eq-value as object_eq}
+use Rattle.auction_rows.specs.declared.requests.Object.{Object}
 use Rattle.auction_rows.proofs.RequestLemmas.{eq_is_same, same_object-true}
 use Rattle.auction_run.proofs.ChosenLemmas.{same_laws}
 

@@ -9,9 +9,9 @@ use Rattle.std.proofs.lemmas.List.Elements.{filter_map-append}
 use Rattle.std.proofs.lemmas.List.Folds.{find-append}
 use Rattle.phase_laws.proofs.MemberLemmas.{all-member, filter-member}
 use Rattle.phase_laws.proofs.RankLemmas.{top_is_top}
-use Rattle.auction_rows.specs.declared.ids.Object.{Object}
-use Rattle.auction_rows.specs.declared.ids.Object.TheVariants.{Item, User, Category}
-use Rattle.auction_rows.specs.declared.numbers.Opening.{Opening}
+use Rattle.auction_rows.specs.declared.requests.Object.{Object}
+use Rattle.auction_rows.specs.declared.requests.Object.TheVariants.{Item, User, Category}
+use Rattle.auction_rows.specs.declared.values.Opening.{Opening}
 use Rattle.auction_rows.specs.declared.replies.Refusal.{Refusal}
 use Rattle.auction_rows.specs.declared.requests.Facts.{Facts}
 use Rattle.auction_rows.specs.declared.requests.Request.{Request}

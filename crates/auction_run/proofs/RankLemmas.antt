@@ -4,12 +4,12 @@ use Rattle.std.specs.Prelude.{IsSorted}
 use Rattle.std.specs.Ordering.{is_lt, ordering_then, nat_cmp}
 use Rattle.std.specs.declared.cmp.Ordering.{Ordering}
 use Rattle.std.specs.declared.cmp.Ordering.TheVariants.{Less, Equal, Greater}
-use Rattle.auction_rows.specs.contracts.ids.ObjectOrd.TheImpl.{cmp-value as object_order}
-use Rattle.auction_rows.specs.declared.ids.Object.{Object}
-use Rattle.auction_rows.specs.declared.ids.Object.TheVariants.{Item, User, Category}
+use Rattle.auction_rows.specs.contracts.requests.ObjectOrd.TheImpl.{cmp-value as object_order}
+use Rattle.auction_rows.specs.declared.requests.Object.{Object}
+use Rattle.auction_rows.specs.declared.requests.Object.TheVariants.{Item, User, Category}
 use Rattle.auction_rows.specs.Orders.{object_cmp}
-use Rattle.auction_run.specs.contracts.choosing.CandidateOrd.TheImpl.{cmp-value as candidate_order}
-use Rattle.auction_run.specs.declared.choosing.Candidate.{Candidate}
+use Rattle.auction_run.specs.contracts.choice.CandidateOrd.TheImpl.{cmp-value as candidate_order}
+use Rattle.auction_run.specs.declared.choice.Candidate.{Candidate}
 use Rattle.auction_run.specs.Ranking.{candidate_cmp}
 
 and_then_equal : (r : Ordering) → r ≡ ordering_then r Equal

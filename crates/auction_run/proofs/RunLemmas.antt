@@ -6,8 +6,8 @@ use Rattle.std.proofs.lemmas.Bool.{cases_Bool, cases_lt, false≢true}
 use Rattle.std.proofs.Math.Seq.{drop-append_seam}
 use Rattle.std.proofs.lemmas.List.{length-append, length-map}
 use Rattle.std.proofs.lemmas.List.Filters.{length-filter_both}
-use Rattle.auction_rows.specs.declared.numbers.Opening.{Opening}
-use Rattle.auction_rows.specs.declared.ids.Object.{Object}
+use Rattle.auction_rows.specs.declared.values.Opening.{Opening}
+use Rattle.auction_rows.specs.declared.requests.Object.{Object}
 use Rattle.auction_rows.specs.declared.requests.Request.{Request}
 use Rattle.auction_rows.specs.declared.rows.Entry.{Entry}
 use Rattle.auction_rows.specs.Book.{Book}
@@ -22,7 +22,7 @@ use Rattle.run_laws.proofs.QuotaLemmas.{given_length}
 use Rattle.run_laws.proofs.ReachLemmas.{first_next, split_then_joined}
 use Rattle.run_laws.proofs.TurnLemmas.{waiting_none}
 use Rattle.worker_journals.specs.Merged.{added, merged}
-use Rattle.auction_rows.specs.declared.policy.Policy.{Policy}
+use Rattle.auction_rows.specs.declared.limits.Policy.{Policy}
 use Rattle.run_laws.specs.Books.{HasReplayed, ReplaysOn}
 use Rattle.run_laws.specs.Run.{first_index, calls_of, calls_given, HasRun, HasPerformed, HasLeft, AreChosen}
 use Rattle.run_laws.specs.Serving.{script_of, segment_of, hot_in, phase_reached, AreNumbered}
@@ -31,7 +31,7 @@ use Rattle.run_laws.proofs.ClosedLemmas.{none_chosen, none_numbered, phase_chose
 use Rattle.run_laws.proofs.EndLemmas.{run_serves, few_phases}
 use Rattle.run_laws.proofs.StepLemmas.{run_begins, phase_runs}
 use Rattle.run_laws.proofs.ScriptLemmas.{past_end}
-use Rattle.auction_run.specs.declared.running.Running.{Running}
+use Rattle.auction_run.specs.declared.runs.Running.{Running}
 use Rattle.auction_run.specs.Beginning.{HasQuotas, AreShort}
 use Rattle.auction_run.specs.Closed.{HasClosedPhase, HasPerformedPhase}
 use Rattle.auction_run.specs.Outcomes.{IsOutcome}

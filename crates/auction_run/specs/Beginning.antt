@@ -4,10 +4,10 @@ use Rattle.auction_rows.specs.declared.limits.TheConstants.{MOST_HOT, MOST_OF_A_
 use Rattle.auction_rows.specs.declared.requests.Request.{Request}
 use Rattle.auction_rows.specs.Book.{Book, worker_of}
 use Rattle.item_shards.specs.OpeningRows.{rows_by}
-use Rattle.auction_rows.specs.declared.policy.Policy.{Policy}
+use Rattle.auction_rows.specs.declared.limits.Policy.{Policy}
 use Rattle.run_laws.specs.Serving.{script_of}
-use Rattle.auction_run.specs.declared.fault.RunFault.{RunFault}
-use Rattle.auction_run.specs.declared.fault.RunFault.TheVariants.{Workers, Shards, Quota, TooLong, Spawn, Memory, NumberFull}
+use Rattle.auction_run.specs.declared.checks.RunFault.{RunFault}
+use Rattle.auction_run.specs.declared.checks.RunFault.TheVariants.{Workers, Shards, Quota, TooLong, Spawn, Memory, NumberFull}
 
 -- there are 1 to 16 scripts, and each row is of a worker that has one
 pub record HaveWorkers (rows : Book) (scripts : List (List Request)) : Type 0 where

@@ -1,6 +1,6 @@
 -- What a phase of a run leaves.
 use Rattle.std.specs.Prelude.{◌≡◌, ℕ, suc, ◌+◌, ◌<◌, List, ◌++◌, length, Result, IfOk, IfErr, OnOk}
-use Rattle.auction_rows.specs.declared.ids.Object.{Object}
+use Rattle.auction_rows.specs.declared.requests.Object.{Object}
 use Rattle.auction_rows.specs.declared.requests.Request.{Request}
 use Rattle.auction_rows.specs.declared.rows.Entry.{Entry}
 use Rattle.auction_rows.specs.Phases.{IsNumbered}
@@ -9,10 +9,10 @@ use Rattle.closing_laws.specs.Standing.{counters_at}
 use Rattle.phase_floor.specs.States.{JoinedState, StandsFor}
 use Rattle.worker_journals.specs.Histories.{HistoryView}
 use Rattle.worker_journals.specs.Merged.{added, merged}
-use Rattle.auction_rows.specs.declared.policy.Policy.{Policy}
+use Rattle.auction_rows.specs.declared.limits.Policy.{Policy}
 use Rattle.run_laws.specs.Books.{ReplaysOn}
 use Rattle.run_laws.specs.Run.{HasPerformed, calls_of}
-use Rattle.auction_run.specs.declared.fault.RunFault.{RunFault}
+use Rattle.auction_run.specs.declared.checks.RunFault.{RunFault}
 use Rattle.auction_run.specs.declared.phase.Closed.{Closed}
 use Rattle.auction_run.specs.Phases.{waiting_in, IsMet}
 

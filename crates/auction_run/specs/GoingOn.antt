@@ -3,20 +3,20 @@ use Rattle.std.specs.Prelude.{ℕ, ◌+◌, ◌<◌, ◌≤◌, ◌≡◌, List,
 use Rattle.auction_rows.specs.declared.limits.TheConstants.{MOST_OF_A_WORKER, MOST_WORKERS}
 use Rattle.auction_rows.specs.declared.requests.Request.{Request}
 use Rattle.auction_rows.specs.declared.rows.Row.{Row}
-use Rattle.auction_rows.specs.declared.numbers.Opening.{Opening}
+use Rattle.auction_rows.specs.declared.values.Opening.{Opening}
 use Rattle.auction_rows.specs.Book.{Book, worker_of}
 use Rattle.auction_rows.specs.History.{IsBook}
 use Rattle.auction_window.specs.Published.{book_of}
 use Rattle.item_shards.specs.OpeningRows.{rows_by}
 use Rattle.closing_laws.specs.Standing.{counters_at, stores}
 use Rattle.phase_floor.specs.States.{JoinedState, StandsFor}
-use Rattle.auction_rows.specs.declared.policy.Policy.{Policy}
+use Rattle.auction_rows.specs.declared.limits.Policy.{Policy}
 use Rattle.run_laws.specs.Serving.{script_of}
 use Rattle.auction_run.specs.Beginning.{AreShort, HasQuotas, IsFirstToFail}
 use Rattle.auction_run.specs.Phases.{IsMet}
-use Rattle.auction_run.specs.declared.fault.RunFault.{RunFault}
-use Rattle.auction_run.specs.declared.stopped.Stopped.{Stopped}
-use Rattle.auction_run.specs.declared.stopped.Stopped.TheVariants.{Refused, Failed}
+use Rattle.auction_run.specs.declared.checks.RunFault.{RunFault}
+use Rattle.auction_run.specs.declared.checks.Stopped.{Stopped}
+use Rattle.auction_run.specs.declared.checks.Stopped.TheVariants.{Refused, Failed}
 
 -- there is a script for each worker of the state
 abbrev pub HasScripts : JoinedState → List (List Request) → Type 0

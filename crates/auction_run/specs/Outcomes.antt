@@ -1,22 +1,22 @@
 -- What a run answers, and what its board has then.
 use Rattle.std.specs.Prelude.{ℕ, ◌≡◌, ◌⊎◌, List, [], length}
-use Rattle.auction_rows.specs.declared.ids.Object.{Object}
-use Rattle.auction_rows.specs.declared.numbers.Opening.{Opening}
+use Rattle.auction_rows.specs.declared.requests.Object.{Object}
+use Rattle.auction_rows.specs.declared.values.Opening.{Opening}
 use Rattle.auction_rows.specs.declared.requests.Request.{Request}
 use Rattle.auction_rows.specs.declared.rows.Row.{Row}
 use Rattle.auction_rows.specs.declared.rows.Entry.{Entry}
 use Rattle.auction_rows.specs.Book.{Book}
 use Rattle.auction_rows.specs.History.{ReplaysFrom, book_after}
 use Rattle.phase_floor.specs.States.{StandsFor}
-use Rattle.auction_rows.specs.declared.policy.Policy.{Policy}
+use Rattle.auction_rows.specs.declared.limits.Policy.{Policy}
 use Rattle.run_laws.specs.Run.{AreChosen, HasRun}
 use Rattle.run_laws.specs.Serving.{AreNumbered, Serves}
 use Rattle.auction_window.specs.Published.{book_of}
 use Rattle.auction_run.specs.Boards.{HasShown, HasShownAfter}
 use Rattle.auction_run.specs.Phases.{hot_sets}
-use Rattle.auction_run.specs.declared.fault.RunFault.{RunFault}
-use Rattle.auction_run.specs.declared.fault.RunFault.TheVariants.{Memory}
-use Rattle.auction_run.specs.declared.running.Outcome.{Outcome}
+use Rattle.auction_run.specs.declared.checks.RunFault.{RunFault}
+use Rattle.auction_run.specs.declared.checks.RunFault.TheVariants.{Memory}
+use Rattle.auction_run.specs.declared.runs.Outcome.{Outcome}
 
 -- The outcome of a run of these scripts, from an opening book on.
 pub record IsOutcome (opening : Opening) (rows : Book) (policy : Policy)

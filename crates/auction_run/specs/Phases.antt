@@ -2,23 +2,23 @@
 use Rattle.std.specs.Prelude.{ℕ, ◌≡◌, ◌+◌, ◌<◌, ◌≤◌, ◌^◌, true, false, List, [], map, length, ⊤}
 use Rattle.std.specs.HashSet.{HashSet}
 use Rattle.auction_rows.specs.declared.limits.TheConstants.{MOST_OF_A_WORKER}
-use Rattle.auction_rows.specs.declared.ids.Object.{Object}
+use Rattle.auction_rows.specs.declared.requests.Object.{Object}
 use Rattle.auction_rows.specs.declared.requests.Request.{Request}
 use Rattle.phase_permits.specs.Stashes.{StashState}
 use Rattle.closing_laws.specs.Standing.{counters_at}
 use Rattle.phase_floor.specs.Floors.{stash_at}
 use Rattle.phase_floor.specs.States.{JoinedState, states_of, DoAllExist}
 use Rattle.run_laws.specs.Phases.{is_split, quota}
-use Rattle.auction_rows.specs.declared.policy.Policy.{Policy}
+use Rattle.auction_rows.specs.declared.limits.Policy.{Policy}
 use Rattle.run_laws.specs.Run.{first_index}
 use Rattle.run_laws.specs.Serving.{script_of}
-use Rattle.phase_permits.specs.declared.fault.PermitFault.TheVariants as worker_fault
-use Rattle.phase_workers.specs.declared.fault.ServingFault.{ServingFault}
-use Rattle.phase_workers.specs.declared.fault.ServingFault.TheVariants as serving
-use Rattle.auction_run.specs.declared.plan.Plan.{Plan}
+use Rattle.phase_permits.specs.declared.transaction.PermitFault.TheVariants as worker_fault
+use Rattle.phase_workers.specs.declared.round.ServingFault.{ServingFault}
+use Rattle.phase_workers.specs.declared.round.ServingFault.TheVariants as serving
+use Rattle.auction_run.specs.declared.phase.Plan.{Plan}
 pub use Rattle.run_laws.specs.Serving.{lists}
-use Rattle.auction_run.specs.declared.fault.RunFault.{RunFault}
-use Rattle.auction_run.specs.declared.fault.RunFault.TheVariants.{Workers, Shards, Quota, TooLong, Spawn, Memory, NumberFull}
+use Rattle.auction_run.specs.declared.checks.RunFault.{RunFault}
+use Rattle.auction_run.specs.declared.checks.RunFault.TheVariants.{Workers, Shards, Quota, TooLong, Spawn, Memory, NumberFull}
 
 -- the objects of each hot set, in its order
 abbrev pub hot_sets : {S : Type 0} → List (HashSet Object S) → List (List Object)

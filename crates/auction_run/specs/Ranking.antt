@@ -4,12 +4,12 @@ use Rattle.std.specs.List.{IsDistinct}
 use Rattle.std.specs.Map.{keys_of, lookup}
 use Rattle.std.specs.Ordering.{nat_cmp, on, then_cmp, flip_args}
 use Rattle.std.specs.declared.cmp.Ordering.{Ordering}
-use Rattle.auction_rows.specs.declared.ids.Object.{Object}
+use Rattle.auction_rows.specs.declared.requests.Object.{Object}
 use Rattle.auction_rows.specs.declared.rows.Entry.{Entry}
 use Rattle.auction_rows.specs.Orders.{object_cmp}
 use Rattle.auction_rows.specs.Requests.{same_object, shard_of}
 use Rattle.auction_rows.specs.Choosing.{heat}
-use Rattle.auction_run.specs.declared.choosing.Candidate.{Candidate}
+use Rattle.auction_run.specs.declared.choice.Candidate.{Candidate}
 
 -- how often an object is in a list
 abbrev pub how_often : List Object → Object → ℕ

@@ -1,6 +1,6 @@
 -- What a run knows between two phases.
 use Rattle.std.specs.Prelude.{ℕ, ◌+◌, ◌-◌, ◌<◌, ◌≤◌, ◌≡◌, min, List, length, drop}
-use Rattle.auction_rows.specs.declared.numbers.Opening.{Opening}
+use Rattle.auction_rows.specs.declared.values.Opening.{Opening}
 use Rattle.auction_rows.specs.declared.requests.Request.{Request}
 use Rattle.auction_rows.specs.Book.{Book}
 use Rattle.auction_rows.specs.History.{IsBook}
@@ -8,13 +8,13 @@ use Rattle.item_shards.specs.OpeningRows.{rows_by}
 use Rattle.closing_laws.specs.Standing.{counters_at}
 use Rattle.phase_floor.specs.States.{StandsFor}
 use Rattle.worker_journals.specs.Merged.{merged}
-use Rattle.auction_rows.specs.declared.policy.Policy.{Policy}
+use Rattle.auction_rows.specs.declared.limits.Policy.{Policy}
 use Rattle.run_laws.specs.Books.{HasReplayed}
 use Rattle.run_laws.specs.Run.{HasRun, AreChosen, first_index}
 use Rattle.run_laws.specs.Serving.{script_of, segment_of, AreNumbered}
 use Rattle.auction_run.specs.Beginning.{AreShort}
 use Rattle.auction_run.specs.Phases.{hot_sets, waiting_in}
-use Rattle.auction_run.specs.declared.running.Running.{Running}
+use Rattle.auction_run.specs.declared.runs.Running.{Running}
 
 -- What a run from an opening book knows before a phase.
 pub record IsRunning (opening : Opening) (rows : Book) (policy : Policy)

@@ -1,13 +1,13 @@
 -- What the workers of a phase are given.
 use Rattle.std.specs.Prelude.{ℕ, ◌≡◌, ◌<◌, List, length, slice_index}
-use Rattle.auction_rows.specs.declared.ids.Object.{Object}
+use Rattle.auction_rows.specs.declared.requests.Object.{Object}
 use Rattle.auction_rows.specs.declared.requests.Request.{Request}
 use Rattle.phase_permits.specs.Slicing.{objects_of}
 use Rattle.phase_permits.specs.Stashes.{StashState}
 use Rattle.phase_floor.specs.Floors.{FloorState, AreBegun, stash_at}
 use Rattle.phase_floor.specs.States.{JoinedState}
 use Rattle.phase_permits.specs.Workers.{WorkerState}
-use Rattle.auction_rows.specs.declared.policy.Policy.{Policy}
+use Rattle.auction_rows.specs.declared.limits.Policy.{Policy}
 use Rattle.run_laws.specs.Serving.{script_of}
 use Rattle.auction_run.specs.Phases.{waiting_in, quota_of}
 

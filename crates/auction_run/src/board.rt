@@ -7,7 +7,7 @@ use std::sync::Wait;
 /// What is given the rows of each phase of a run, once the phase has closed.
 pub trait Board {
     ghost use Rattle.std.specs.Prelude.{◌≡◌, ◌++◌, ◌∷◌, [], false, List, OnOk, OnErr};
-    ghost use Rattle.auction_rows.specs.declared.numbers.Opening.{Opening};
+    ghost use Rattle.auction_rows.specs.declared.values.Opening.{Opening};
     ghost use Rattle.auction_rows.specs.declared.rows.Row.{Row as Stored};
     ghost use Rattle.auction_rows.specs.Book.{Book};
     ghost use Rattle.auction_run.specs.Boards.{CanShow};

@@ -2,24 +2,16 @@
 #![tactic(auto)]
 
 mod board;
-mod checking;
-mod choosing;
-mod fault;
-mod going_on;
-mod joined_phase;
+mod checks;
+mod choice;
 mod parts;
 mod phase;
-mod plan;
-mod running;
-mod split_phase;
-mod stopped;
+mod runs;
 
 pub use auction_rows::Policy;
 pub use board::{Board, NoBoard, WindowBoard};
-pub use choosing::{choose_hot, choose_hot_after};
-pub use fault::RunFault;
-pub use going_on::{run_on, run_on_shown};
-pub use parts::parts_replay;
+pub use checks::{RunFault, Stopped};
+pub use choice::{choose_hot, choose_hot_after};
+pub use parts::{parts_replay, run_on, run_on_shown};
 pub use phase_workers::{FreeGate, Gate};
-pub use running::{Outcome, run, run_shown};
-pub use stopped::Stopped;
+pub use runs::{Outcome, run, run_shown};

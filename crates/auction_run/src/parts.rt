@@ -1,11 +1,91 @@
-//! The parts of a history, which one run after the other performs, as a law.
-ghost use Rattle.std.specs.Prelude.{◌≡◌, ◌++◌, ◌∷◌, [], List};
-ghost use Rattle.auction_rows.specs.declared.numbers.Opening.{Opening};
-ghost use Rattle.auction_rows.specs.declared.rows.Entry.{Entry};
+//! Runs that go on from what another left, and the parts of a history, which one run after the
+//! other performs, as a law.
+ghost use Rattle.std.specs.Prelude.{List, length, IfOk, OnOk, IfErr, ◌≡◌, ◌++◌, ◌∷◌, []};
+ghost use Rattle.auction_rows.specs.declared.rows.Row.{Row as Stored};
 ghost use Rattle.auction_rows.specs.Book.{Book};
-ghost use Rattle.auction_rows.specs.History.{ReplaysFrom, book_after};
-ghost use Rattle.phase_floor.specs.States.{JoinedState, IsBookOf};
+ghost use Rattle.auction_rows.specs.History.{book_after, ReplaysFrom};
+ghost use Rattle.auction_rows.specs.declared.values.Opening.{Opening};
+ghost use Rattle.auction_rows.specs.declared.rows.Entry.{Entry};
+ghost use Rattle.phase_floor.specs.States.{IsBookOf, JoinedState};
+ghost use Rattle.auction_window.specs.Published.{book_of};
+ghost use Rattle.auction_run.specs.Boards.{HasShownAfter, IsUpToDate};
+ghost use Rattle.auction_run.specs.GoingOn.{IsReadyFor, IsStopped, fault_of};
+ghost use Rattle.auction_run.specs.Outcomes.{HasShownFirstAfter, IsOutcome};
+ghost use Rattle.auction_run.specs.Phases.{lists};
 ghost use Rattle.auction_run.specs.Parts.{ArePartsFrom, HaveLeft, book_after_parts, history_of};
+
+use crate::board::{Board, NoBoard};
+use crate::checks::{Stopped, check_on};
+use crate::runs::{Outcome, run_from};
+use auction_rows::{Policy, Request};
+use phase_floor::Joined;
+use phase_workers::Gate;
+use std::alloc::Global;
+use std::sync::Wait;
+use std::thread::Threads;
+
+/// Goes on from a state that a run left, or with which an auction was resumed: performs scripts of
+/// its workers as `run` does. The history is that of these scripts, and replays from each book of
+/// the state; the state left has the book after it. Phases and indexes count from 0 again, and
+/// nothing is hot at first. The first four faults are found first, in their order, exactly for
+/// their causes, and give the state back as it was; after another it is gone.
+pub fn run_on<R: Threads + Wait + Sync, G: Gate + Sync>(
+    rt: &R,
+    alloc: Global,
+    state: Joined,
+    scripts: Vec<Vec<Request>>,
+    policy: Policy,
+    gate: &G,
+) -> Result<Outcome, Stopped>
+    ensures ready { OnOk result (IsReadyFor state policy (lists scripts.items)) }
+    ensures outcome { IfOk result (λ outcome. (book : Book) → IsBookOf state book →
+        IsOutcome state.opening book policy (lists scripts.items) outcome) }
+    ensures left { IfOk result (λ outcome. (book : Book) → IsBookOf state book →
+        IsBookOf outcome.state (book_after state.opening book outcome.history.entries)) }
+    ensures stopped { IfErr result (IsStopped state policy (lists scripts.items)) }
+{
+    run_on_shown(rt, alloc, state, scripts, policy, gate, &mut NoBoard)
+}
+
+/// The same, of which a board that is up to date with the state is given the rows of each phase,
+/// after all that it has. It is up to date with the state left, and so the next part can be shown
+/// to it too. A board that errs ends the run with `Memory`. After a fault it has the phases that it
+/// was given, which are the first ones of such a run; it may have refused one more.
+pub fn run_on_shown<R: Threads + Wait + Sync, G: Gate + Sync, B: Board>(
+    rt: &R,
+    alloc: Global,
+    state: Joined,
+    scripts: Vec<Vec<Request>>,
+    policy: Policy,
+    gate: &G,
+    board: &mut B,
+) -> Result<Outcome, Stopped>
+    requires { B.can_be_watched → IsUpToDate B.has board.old state }
+    ensures ready { OnOk result (IsReadyFor state policy (lists scripts.items)) }
+    ensures outcome { IfOk result (λ outcome. (book : Book) → IsBookOf state book →
+        IsOutcome state.opening book policy (lists scripts.items) outcome) }
+    ensures left { IfOk result (λ outcome. (book : Book) → IsBookOf state book →
+        IsBookOf outcome.state (book_after state.opening book outcome.history.entries)) }
+    ensures stopped { IfErr result (IsStopped state policy (lists scripts.items)) }
+    ensures board { IfOk result (λ outcome. (rows : Book) (before : List (List Stored)) →
+        B.has board.old state.opening rows before → IsBookOf state (book_of rows before) →
+        HasShownAfter B.has state.opening rows before (length outcome.hot.items)
+        outcome.history.entries board.new) }
+    ensures up_to_date { IfOk result (λ outcome.
+        IsUpToDate B.has board.old state → IsUpToDate B.has board.new outcome.state) }
+    ensures board_after_fault { IfErr result (λ stopped.
+        (rows : Book) (before : List (List Stored)) →
+        B.has board.old state.opening rows before → IsBookOf state (book_of rows before) →
+        HasShownFirstAfter B.has B.has_refused state.opening rows before policy
+        (lists scripts.items) board.new (fault_of stopped)) }
+{
+    if let Err(fault) = check_on(&state, &scripts, policy) {
+        return Err(Stopped::Refused(state, fault));
+    }
+    let state = state.for_next_run();
+    let outcome = run_from(rt, alloc, state, &scripts, policy, gate, board)?;
+    Ok(outcome)
+}
 
 /// The parts of an auction, each performed from the state that the one before left, are one
 /// history: it replays from the first book and leaves the last one, and every request of an earlier

@@ -5,13 +5,13 @@ use Rattle.std.proofs.lemmas.Bool.{lt-ltb}
 use Rattle.csv.specs.Records.{field_at}
 use Rattle.auction_rows.specs.declared.requests.Request.{Request}
 use Rattle.auction_rows.specs.declared.requests.Request.TheVariants as request
-use Rattle.auction_rows.specs.declared.ids.ItemId.{ItemId}
-use Rattle.auction_rows.specs.declared.numbers.Stars.{Stars}
+use Rattle.auction_rows.specs.declared.requests.ItemId.{ItemId}
+use Rattle.auction_rows.specs.declared.values.Stars.{Stars}
 use Rattle.auction_text.specs.Fields.{name, quantity, stars}
 use Rattle.auction_text.specs.Kinds.{has_count, kind_of}
 use Rattle.auction_text.specs.Records.{put_up, request_of}
-use Rattle.auction_text.specs.declared.kinds.RequestKind.{RequestKind}
-use Rattle.auction_text.specs.declared.kinds.RequestKind.TheVariants as kind
+use Rattle.auction_text.specs.declared.fields.RequestKind.{RequestKind}
+use Rattle.auction_text.specs.declared.fields.RequestKind.TheVariants as kind
 use Rattle.auction_text.specs.Lines.{HasRead, HasWordAt, IsEndOfItem, IsFieldTo, IsItemTo, IsLastField, IsLastItem, IsLastNumber, IsLine, IsNumberTo, IsPutUp, IsRequestAt, IsRestOf, is_plain}
 use Rattle.auction_text.specs.QuotedFields.{HasNextField}
 use Rattle.auction_text.proofs.LineLemmas.{first_and_comma, next_and_comma}

@@ -3,7 +3,7 @@ use Rattle.std.proofs.Common.{arith, ◌≡◌, ◌==◌, ◌&&◌, ◌<◌, ◌
 use Rattle.std.proofs.lemmas.List.{append-nil, length-map}
 use Rattle.csv.specs.Reading.{default_config, records, strip_bom}
 use Rattle.csv.specs.declared.reader.Reader.{Reader}
-use Rattle.auction_text.specs.declared.progress.Progress.{Progress}
+use Rattle.auction_text.specs.declared.scripts.Progress.{Progress}
 use Rattle.auction_text.specs.declared.record.Record.{Record}
 use Rattle.auction_text.specs.declared.scripts.TheConstants.{MOST_RECORDS}
 use Rattle.auction_text.specs.Lines.{IsLine}

@@ -6,12 +6,12 @@ use Rattle.std.specs.Option.{ok_or}
 use Rattle.std.specs.Result.{result_map_both}
 use Rattle.auction_rows.specs.declared.requests.Request.{Request}
 use Rattle.auction_text.specs.declared.scripts.TheConstants.{MOST_RECORDS}
-use Rattle.auction_text.specs.declared.faults.Cause.{Cause}
-use Rattle.auction_text.specs.declared.faults.Cause.TheVariants as cause
-use Rattle.auction_text.specs.declared.faults.ReadFault.{ReadFault}
-use Rattle.auction_text.specs.declared.faults.ReadFault.TheVariants as fault
-use Rattle.auction_text.specs.declared.kinds.Kind.{Kind}
-use Rattle.auction_text.specs.declared.kinds.RequestKind.{RequestKind}
+use Rattle.auction_text.specs.declared.record.Cause.{Cause}
+use Rattle.auction_text.specs.declared.record.Cause.TheVariants as cause
+use Rattle.auction_text.specs.declared.record.ReadFault.{ReadFault}
+use Rattle.auction_text.specs.declared.record.ReadFault.TheVariants as fault
+use Rattle.auction_text.specs.declared.fields.Kind.{Kind}
+use Rattle.auction_text.specs.declared.fields.RequestKind.{RequestKind}
 use Rattle.auction_text.specs.declared.record.Record.{Record}
 use Rattle.auction_text.specs.Fields.{number}
 use Rattle.auction_text.specs.Kinds.{has_count}

@@ -11,8 +11,8 @@ use Rattle.csv.specs.declared.parser.State.TheVariants as st
 use Rattle.csv.specs.declared.reader.Reader.{Reader}
 use Rattle.auction_rows.specs.declared.requests.Request.{Request}
 use Rattle.auction_text.specs.declared.scripts.TheConstants.{MOST_RECORDS}
-use Rattle.auction_text.specs.declared.faults.ReadFault.{ReadFault}
-use Rattle.auction_text.specs.declared.faults.ReadFault.TheVariants as fault
+use Rattle.auction_text.specs.declared.record.ReadFault.{ReadFault}
+use Rattle.auction_text.specs.declared.record.ReadFault.TheVariants as fault
 use Rattle.auction_text.specs.declared.record.Record.{Record}
 use Rattle.auction_text.specs.Reading.{nothing_asked, with_record}
 use Rattle.auction_text.specs.Records.{and_then, read_record}

@@ -2,9 +2,9 @@
 use Rattle.std.specs.Prelude.{ℕ, ◌==◌, List, [], ◌∷◌, Bool, true, false, ◌||◌, codes, Option, Some, None, if◌then◌else◌}
 use Rattle.std.specs.Option.{option_map, option_or}
 use Rattle.std.specs.Str.{bytes_eq}
-use Rattle.auction_text.specs.declared.kinds.Kind.{Kind}
-use Rattle.auction_text.specs.declared.kinds.RequestKind.{RequestKind}
-use Rattle.auction_text.specs.declared.kinds.RequestKind.TheVariants as kind
+use Rattle.auction_text.specs.declared.fields.Kind.{Kind}
+use Rattle.auction_text.specs.declared.fields.RequestKind.{RequestKind}
+use Rattle.auction_text.specs.declared.fields.RequestKind.TheVariants as kind
 
 -- a request of a kind, and a row that such a request would add
 abbrev pub request : RequestKind → Kind

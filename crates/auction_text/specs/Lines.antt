@@ -5,12 +5,12 @@ use Rattle.std.specs.List.{list_all}
 use Rattle.csv.specs.Machine.{next_record}
 use Rattle.csv.specs.Reading.{default_config, records, strip_bom}
 use Rattle.csv.specs.declared.parser.State.TheVariants as st
-use Rattle.auction_rows.specs.declared.ids.ItemId.{ItemId}
+use Rattle.auction_rows.specs.declared.requests.ItemId.{ItemId}
 use Rattle.auction_rows.specs.declared.requests.Request.{Request}
 use Rattle.auction_text.specs.Fields.{item_id, number, quantity}
 use Rattle.auction_text.specs.Kinds.{has_count, kind_of}
 use Rattle.auction_text.specs.Records.{read_record, request_of}
-use Rattle.auction_text.specs.declared.kinds.RequestKind.{RequestKind}
+use Rattle.auction_text.specs.declared.fields.RequestKind.{RequestKind}
 use Rattle.auction_text.specs.declared.record.Record.{Record}
 
 -- the bytes of a comma, a line feed and a carriage return

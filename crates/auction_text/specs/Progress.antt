@@ -1,7 +1,7 @@
 -- How far an input is read.
 use Rattle.std.specs.Prelude.{ℕ, ◌≡◌, ◌≤◌, ◌<◌, ◌+◌, ◌++◌, ◌==◌, ◌||◌, Bool, false, not, List, [], Ok, get_or, length, vec_len, if◌then◌else◌}
 use Rattle.csv.specs.Reading.{default_config, records, strip_bom}
-use Rattle.auction_text.specs.declared.progress.Progress.{Progress}
+use Rattle.auction_text.specs.declared.scripts.Progress.{Progress}
 use Rattle.auction_text.specs.declared.record.Record.{Record}
 use Rattle.auction_text.specs.declared.scripts.TheConstants.{MOST_RECORDS}
 use Rattle.auction_text.specs.Reading.{with_record}

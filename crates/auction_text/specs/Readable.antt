@@ -1,6 +1,6 @@
 -- What can be read of records that may have a fault.
 use Rattle.std.specs.Prelude.{ℕ, ◌+◌, ◌++◌, ◌||◌, not, Bool, false, List, [], ◌∷◌, Option, Some, None, Result, Ok, Err, count_by}
-use Rattle.auction_text.specs.declared.faults.ReadFault.{ReadFault}
+use Rattle.auction_text.specs.declared.record.ReadFault.{ReadFault}
 use Rattle.auction_text.specs.declared.record.Record.{Record}
 use Rattle.auction_text.specs.Records.{read_record}
 use Rattle.auction_text.specs.Scripts.{records_of}

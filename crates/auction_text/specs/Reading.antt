@@ -6,8 +6,8 @@ use Rattle.csv.specs.declared.reader.Reader.{Reader}
 use Rattle.csv.specs.declared.reader.Trim.TheVariants as trim
 use Rattle.auction_text.specs.Scripts.{Asked, as_row}
 use Rattle.auction_text.specs.declared.record.Record.{Record}
-use Rattle.auction_text.specs.declared.faults.ReadFault.{ReadFault}
-use Rattle.auction_text.specs.declared.faults.ReadFault.TheVariants as fault
+use Rattle.auction_text.specs.declared.record.ReadFault.{ReadFault}
+use Rattle.auction_text.specs.declared.record.ReadFault.TheVariants as fault
 
 -- a reader of records with no header row, of any number of fields, that trims nothing
 abbrev pub IsPlain : {R : Type 0} → Reader R → Type 0

@@ -3,19 +3,19 @@ use Rattle.std.specs.Prelude.{ℕ, Bool, ◌&&◌, ◌==◌, List, [], length, n
 use Rattle.std.specs.Option.{unwrap_or, ok_or}
 use Rattle.std.specs.Result.{result_map_both}
 use Rattle.csv.specs.Records.{field_at}
-use Rattle.auction_rows.specs.declared.ids.ItemId.{ItemId}
-use Rattle.auction_rows.specs.declared.numbers.Stars.{Stars}
+use Rattle.auction_rows.specs.declared.requests.ItemId.{ItemId}
+use Rattle.auction_rows.specs.declared.values.Stars.{Stars}
 use Rattle.auction_rows.specs.declared.requests.Request.{Request}
 use Rattle.auction_rows.specs.declared.requests.Request.TheVariants as request
 use Rattle.auction_text.specs.Fields.{number, item_id, name, quantity, stars}
 use Rattle.auction_text.specs.Kinds.{kind_of, has_count}
-use Rattle.auction_text.specs.declared.faults.Cause.{Cause}
-use Rattle.auction_text.specs.declared.faults.Cause.TheVariants as cause
-use Rattle.auction_text.specs.declared.faults.ReadFault.{ReadFault}
-use Rattle.auction_text.specs.declared.faults.ReadFault.TheVariants as fault
-use Rattle.auction_text.specs.declared.kinds.Kind.{Kind}
-use Rattle.auction_text.specs.declared.kinds.RequestKind.{RequestKind}
-use Rattle.auction_text.specs.declared.kinds.RequestKind.TheVariants as kind
+use Rattle.auction_text.specs.declared.record.Cause.{Cause}
+use Rattle.auction_text.specs.declared.record.Cause.TheVariants as cause
+use Rattle.auction_text.specs.declared.record.ReadFault.{ReadFault}
+use Rattle.auction_text.specs.declared.record.ReadFault.TheVariants as fault
+use Rattle.auction_text.specs.declared.fields.Kind.{Kind}
+use Rattle.auction_text.specs.declared.fields.RequestKind.{RequestKind}
+use Rattle.auction_text.specs.declared.fields.RequestKind.TheVariants as kind
 use Rattle.auction_text.specs.declared.record.Record.{Record}
 
 -- the field at a place, empty past the last

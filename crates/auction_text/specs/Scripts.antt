@@ -3,11 +3,11 @@ use Rattle.std.specs.Prelude.{ℕ, ◌≡◌, ◌++◌, Bool, false, not, ◌==�
 use Rattle.std.specs.List.{filter, filter_map, range_with_len}
 use Rattle.csv.specs.Reading.{default_config, records, strip_bom}
 use Rattle.auction_rows.specs.declared.requests.Request.{Request}
-use Rattle.item_shards.specs.declared.opened.Opened.{Opened}
+use Rattle.item_shards.specs.declared.openings.Opened.{Opened}
 use Rattle.auction_text.specs.declared.scripts.TheConstants.{MOST_RECORDS}
 use Rattle.auction_text.specs.declared.scripts.Input.{Input}
-use Rattle.auction_text.specs.declared.faults.ReadFault.{ReadFault}
-use Rattle.auction_text.specs.declared.faults.ReadFault.TheVariants as fault
+use Rattle.auction_text.specs.declared.record.ReadFault.{ReadFault}
+use Rattle.auction_text.specs.declared.record.ReadFault.TheVariants as fault
 use Rattle.auction_text.specs.declared.record.Record.{Record}
 use Rattle.auction_text.specs.Records.{and_then, read_record}
 

@@ -2,12 +2,12 @@
 use Rattle.std.specs.Prelude.{ℕ, ◌≡◌, ◌<◌, ◌+◌, ◌++◌, ◌||◌, not, List, [], ◌∷◌, Option, Err, Some, true, get_or, length, vec_len, if◌then◌else◌}
 use Rattle.csv.specs.Reading.{default_config, reader_state, records, source_of}
 use Rattle.csv.specs.declared.reader.Reader.{Reader}
-use Rattle.auction_text.specs.declared.faults.ReadFault.{ReadFault}
+use Rattle.auction_text.specs.declared.record.ReadFault.{ReadFault}
 use Rattle.auction_text.specs.declared.line_buffer.LineBuffer.{LineBuffer}
 use Rattle.auction_text.specs.declared.record.Record.{Record}
-use Rattle.auction_text.specs.declared.taking.Stop.{Stop}
-use Rattle.auction_text.specs.declared.taking.Stop.TheVariants.{Full, End, Fault}
-use Rattle.auction_text.specs.declared.taking.Taken.{Taken}
+use Rattle.auction_text.specs.declared.part_records.Stop.{Stop}
+use Rattle.auction_text.specs.declared.part_records.Stop.TheVariants.{Full, End, Fault}
+use Rattle.auction_text.specs.declared.part_records.Taken.{Taken}
 use Rattle.auction_text.specs.LineBuffers.{lines_left}
 use Rattle.auction_text.specs.Progress.{unmarked}
 use Rattle.auction_text.specs.Readable.{Readable, after, readable, requests_in}

@@ -2,8 +2,8 @@
 ghost use Rattle.std.specs.Prelude.{◌≡◌, ◌≤◌, ◌<◌, [], Some, ℕ, List, drop, length, take, vec_len, IfOk, IfErr, OnOk};
 ghost use Rattle.auction_text.specs.Reading.{IsInputFault};
 
-use crate::faults::ReadFault;
 use crate::plain_text::read_more;
+use crate::record::ReadFault;
 use std::alloc::Global;
 use std::io;
 use std::io::Read;

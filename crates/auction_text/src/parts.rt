@@ -7,10 +7,10 @@ ghost use Rattle.auction_text.specs.Readable.{Readable, readable_of};
 ghost use Rattle.auction_text.specs.Reading.{IsInputFault};
 ghost use Rattle.auction_text.specs.Taking.{IsAt, IsStopped, IsTakenUpTo};
 
-use crate::faults::ReadFault;
 use crate::line_buffer::LineBuffer;
+use crate::part_records::{Stop, Taken, take_lines, take_record};
+use crate::record::ReadFault;
 use crate::scripts::{Input, empty_input, front_of};
-use crate::taking::{Stop, Taken, take_lines, take_record};
 use csv::{ByteRecord, Reader, ReaderBuilder};
 use std::alloc::Global;
 use std::io::{Chain, Read};

@@ -1,6 +1,6 @@
 //! Lines of plain fields, of which an item's name may be in quotes, read where they lie.
 ghost use Rattle.std.specs.Prelude.{ℕ, ◌≡◌, ◌+◌, ◌<◌, false, true, get_or, length, IfSome};
-ghost use Rattle.auction_text.specs.declared.kinds.RequestKind.TheVariants as kind;
+ghost use Rattle.auction_text.specs.declared.fields.RequestKind.TheVariants as kind;
 ghost use Rattle.auction_text.specs.Lines.{EndsLine, IsEndOfItem, IsLine, IsRequestAt, IsRestOf, plus};
 
 use crate::fields::{read_name, read_quantity, read_stars};

@@ -5,11 +5,9 @@ ghost use Rattle.auction_text.specs.Progress.{ReadsOn};
 ghost use Rattle.auction_text.specs.Reading.{IsInputFault};
 ghost use Rattle.auction_text.specs.declared.scripts.TheConstants.{MOST_RECORDS};
 
-use crate::faults::ReadFault;
 use crate::plain_lines::{bid_at, line_at};
-use crate::progress::{Progress, add};
-use crate::record::Record;
-use crate::scripts::MOST_RECORDS;
+use crate::record::{ReadFault, Record};
+use crate::scripts::{MOST_RECORDS, Progress, add};
 use std::io::Read;
 
 // Adds what the line from `at` to `next` says and returns `next`, or returns `at` if its record has

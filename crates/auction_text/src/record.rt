@@ -1,13 +1,65 @@
-//! One record: a worker's request, or a row, or the first fault.
+//! One record: a worker's request, or a row, or the first fault; and why an input gives no scripts.
 ghost use Rattle.std.specs.Prelude.{◌≡◌, ◌<◌, IfOk};
 ghost use Rattle.csv.specs.Records.{fields_of};
 ghost use Rattle.auction_text.specs.Records.{field, item_at, kind_in, name_at, number_at, put_up, quantity_at, read_record, request_of, stars_at};
 
-use crate::faults::{Cause, ReadFault};
-use crate::fields::{read_item_id, read_name, read_quantity, read_stars, read_u32, read_u64};
-use crate::kinds::{Kind, RequestKind, has_count, kind_named};
+use crate::fields::{
+    Kind, RequestKind, has_count, kind_named, read_item_id, read_name, read_quantity, read_stars,
+    read_u32, read_u64,
+};
+use crate::scripts::MOST_RECORDS;
 use auction_rows::{Facts, ItemId, Name, Quantity, Request, Stars};
 use csv::ByteRecord;
+use thiserror::Error;
+
+/// What is wrong with a record.
+#[derive(Clone, Copy, Debug, PartialEq, Eq, Drop, Error)]
+pub enum Cause {
+    /// A field is not a number of its type.
+    #[error("not a number")]
+    Number,
+    /// The second field is not a kind.
+    #[error("unknown kind")]
+    Kind,
+    /// A row stands after a request.
+    #[error("row after a request")]
+    Late,
+    /// There are more or fewer fields than the kind has.
+    #[error("wrong number of fields")]
+    Fields,
+    /// A field is not an item's id.
+    #[error("not an item id")]
+    Item,
+    /// A field is not a name.
+    #[error("not a name")]
+    Name,
+    /// A field is not a number from 1 to 1,000,000.
+    #[error("not a quantity")]
+    Quantity,
+    /// A field is not a number from -5 to 5.
+    #[error("not stars")]
+    Stars,
+}
+
+/// Why an input gives no scripts. Records are counted from 1.
+#[derive(Clone, Copy, Debug, PartialEq, Eq, Drop, Error)]
+pub enum ReadFault {
+    /// A record is not what its kind asks for.
+    #[error("record {0}: {1}")]
+    Line(u64, Cause),
+    /// A record's worker is not below the number of workers.
+    #[error("record {0}: no such worker")]
+    Worker(u64),
+    /// A read of the input failed.
+    #[error("input cannot be read")]
+    Read,
+    /// No memory was left.
+    #[error("no memory")]
+    Memory,
+    /// There are more records than `MOST_RECORDS`.
+    #[error("more than {} records", MOST_RECORDS)]
+    Long,
+}
 
 /// What a record without a fault says: a worker's request, or a row that its request would add.
 #[derive(Clone, Copy)]

@@ -1,22 +1,45 @@
-//! The scripts of an input.
-ghost use Rattle.std.specs.Prelude.{ℕ, ◌≡◌, ◌<◌, ◌≤◌, ◌==◌, ◌++◌, ◌∷◌, [], true, vec_len, IfOk, IfErr, List, OnOk, IfSome, if◌then◌else◌};
+//! How far an input is read, and its scripts.
+ghost use Rattle.std.specs.Prelude.{◌<◌, vec_len, IfErr, OnOk, ℕ, ◌≡◌, ◌≤◌, ◌==◌, ◌++◌, ◌∷◌, [], true, IfOk, List, IfSome, if◌then◌else◌};
 ghost use Rattle.csv.specs.Reading.{ReadRecord, strip_bom};
 ghost use Rattle.csv.specs.Records.{fields_of};
-ghost use Rattle.auction_text.specs.Lines.{line_feed};
-ghost use Rattle.auction_text.specs.Progress.{IsReadUpTo, unmarked};
-ghost use Rattle.auction_text.specs.Reading.{IsAtStart, IsInputFault, IsPlain, nothing_asked, with_record};
-ghost use Rattle.auction_text.specs.Scripts.{asked_by, input_of};
+ghost use Rattle.auction_text.specs.Progress.{HasAdded, IsReadUpTo, unmarked};
+ghost use Rattle.auction_text.specs.Reading.{IsInputFault, IsAtStart, IsPlain, nothing_asked, with_record};
 ghost use Rattle.auction_text.specs.declared.scripts.TheConstants.{MOST_RECORDS};
+ghost use Rattle.auction_text.specs.Lines.{line_feed};
+ghost use Rattle.auction_text.specs.Scripts.{asked_by, input_of};
 
-use crate::faults::ReadFault;
 use crate::plain_text::read_lines;
-use crate::progress::{Progress, add};
-use crate::record::{Record, read_record};
+use crate::record::{ReadFault, Record, read_record};
 use auction_rows::{MOST_ROWS, Request};
 use csv::{ByteRecord, ErrorKind, Reader, ReaderBuilder};
 use item_shards::Opened;
 use std::alloc::Global;
 use std::io::Read;
+
+/// What was read of an input so far.
+#[derive(Drop)]
+pub struct Progress {
+    /// What its records ask for.
+    pub input: Input,
+    /// How many they are.
+    pub count: u32,
+    /// Whether a request is among them: a row is late then.
+    pub begun: bool,
+}
+
+/// Adds a record to what was read.
+#[inline(always)]
+pub fn add(progress: &mut Progress, said: &Record) -> Result<(), ReadFault>
+    requires worker { said.now.worker < vec_len progress.old.input.scripts }
+    requires room { progress.old.count < MOST_RECORDS }
+    ensures adds { OnOk result (HasAdded progress.old said.now progress.new) }
+    ensures fails { IfErr result (λ fault. IsInputFault fault → ⊥) }
+{
+    add_record(&mut progress.input, said)?;
+    progress.count += 1;
+    progress.begun |= !said.is_row;
+    Ok(())
+}
 
 /// The most records of an input: as many as a book has rows.
 pub const MOST_RECORDS: u32 = MOST_ROWS as u32;

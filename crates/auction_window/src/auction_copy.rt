@@ -5,8 +5,7 @@ ghost use Rattle.auction_rows.specs.Replies.{reply};
 ghost use Rattle.item_shards.specs.OpeningBooks.{opening_of, rows_of};
 ghost use Rattle.auction_window.specs.Published.{book_of, IsLastPhase};
 
-use crate::name::WindowName;
-use crate::prefix::Prefix;
+use crate::phases::{Prefix, WindowName};
 use auction_rows::{Reply, Request, Row};
 use item_shards::{OpeningBook, SerialAuction};
 use left_right::Absorb;

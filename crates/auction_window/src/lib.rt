@@ -5,15 +5,10 @@
 #![tactic(auto)]
 
 mod auction_copy;
-mod name;
-mod phase_log;
-mod prefix;
+mod phases;
 mod publisher;
-mod rows;
 mod window;
 
-pub use name::WindowName;
-pub use phase_log::PhaseLog;
+pub use phases::{PhaseLog, WindowName, last_rows, rows_of};
 pub use publisher::{MakeFault, Publisher};
-pub use rows::{last_rows, rows_of};
 pub use window::{NoGuard, Seen, Told, Window};

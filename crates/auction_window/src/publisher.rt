@@ -5,9 +5,7 @@ ghost use Rattle.item_shards.specs.Serial.{CanFollow};
 ghost use Rattle.auction_window.specs.Published.{book_of, AreComparable};
 
 use crate::auction_copy::{AddPhase, AuctionCopy};
-use crate::name::WindowName;
-use crate::phase_log::{PhaseCount, PhaseLog};
-use crate::prefix::Prefix;
+use crate::phases::{PhaseCount, PhaseLog, Prefix, WindowName};
 use crate::window::{Told, Window};
 use auction_rows::{MOST_WORKERS, Row};
 use core::mem::replace_with;

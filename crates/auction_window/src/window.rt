@@ -6,8 +6,7 @@ ghost use Rattle.auction_rows.specs.Requests.{is_view};
 ghost use Rattle.auction_window.specs.Published.{book_of};
 
 use crate::auction_copy::AuctionCopy;
-use crate::name::WindowName;
-use crate::prefix::Prefix;
+use crate::phases::{Prefix, WindowName};
 use auction_rows::{Reply, Request, is_view};
 use core::mem::replace_with;
 use crossbeam_utils::rule::Unruled;

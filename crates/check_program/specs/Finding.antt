@@ -3,7 +3,7 @@ use Rattle.std.specs.Prelude.{ℕ, ◌≡◌, List, Ok}
 use Rattle.auction_rows.specs.declared.requests.Request.{Request}
 use Rattle.auction_text.specs.Scripts.{input_of}
 use Rattle.item_shards.specs.OpeningRows.{AreRows, opening_rows}
-use Rattle.item_shards.specs.declared.opened.Opened.{Opened}
+use Rattle.item_shards.specs.declared.openings.Opened.{Opened}
 use Rattle.history_check.specs.declared.lines.Verdict.{Verdict}
 use Rattle.history_check.specs.declared.lines.Verdict.TheVariants.{Replays}
 use Rattle.history_check.specs.Checking.{IsAccepted, IsVerdict}

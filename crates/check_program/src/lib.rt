@@ -2,13 +2,11 @@
 //! to what is found of the history.
 #![tactic(auto)]
 
-mod executing;
+mod execution;
 mod faults;
-mod finding;
 mod help;
 mod options;
 
-pub use executing::execute;
+pub use execution::{execute, verdict_status};
 pub use faults::{Fault, status, write_fault};
-pub use finding::verdict_status;
 pub use options::{Options, read_options};

@@ -2,7 +2,7 @@
 ghost use Rattle.std.specs.Prelude.{◌≡◌, ◌≤◌, IfOk, IfErr, OnOk, false, map, string_bytes};
 ghost use Rattle.clap.specs.Words.{app_of, first_value, found_of, one_text, rule_of};
 ghost use Rattle.program_options.specs.Words.{AreTaken, HaveNumbers, text_in, value_in};
-ghost use Rattle.program_options.specs.declared.faults.UsageFault.{UsageFault};
+ghost use Rattle.program_options.specs.declared.words.UsageFault.{UsageFault};
 ghost use Rattle.check_program.specs.Words.{SayOptions, history_rule, order_of, plain_history_rule, program};
 
 use crate::help;

@@ -7,7 +7,7 @@ use Rattle.phase_laws.specs.Numbers.{IsLinkedFrom, IsNumberedFrom, shares}
 use Rattle.phase_laws.specs.Order.{Precedes, IsAscending, Lifted, part}
 use Rattle.phase_laws.proofs.NumberLemmas.{follows, linked_from_map, follows_map}
 use Rattle.phase_laws.proofs.OrderLemmas.{ordered_from_map, lines_in_order, lifted}
-use Rattle.auction_rows.specs.declared.ids.Object.{Object}
+use Rattle.auction_rows.specs.declared.requests.Object.{Object}
 use Rattle.auction_rows.specs.Footprint.{footprint, objects_taken, takes_shard}
 use Rattle.auction_rows.specs.Requests.{number_of as object_number, shard_of}
 use Rattle.worker_journals.specs.Journals.{entry_number, entry_worker}

@@ -4,10 +4,10 @@ use Rattle.std.proofs.Math.ListN.{length-set}
 use Rattle.std.proofs.Math.Nat.{mod-lt}
 use Rattle.std.proofs.lemmas.Bool.{eqb-true, false≢true}
 use Rattle.std.proofs.lemmas.List.{get_or-set_same, get_or-set_other}
-use Rattle.auction_rows.specs.declared.ids.Object.{Object}
+use Rattle.auction_rows.specs.declared.requests.Object.{Object}
 use Rattle.auction_rows.specs.Requests.{number_of as object_number, same_object, shard_of}
 use Rattle.auction_rows.proofs.RequestLemmas.{same_object-true}
-use Rattle.item_shards.specs.declared.slices.Slice.{Slice}
+use Rattle.item_shards.specs.declared.shard.slices.Slice.{Slice}
 use Rattle.shard_boxes.specs.States.{ShardState, no_shard, state_at}
 use Rattle.closing_laws.specs.Phases.{value_on}
 use Rattle.closing_laws.specs.Merging.{merged_with, with_slice, after_merge}

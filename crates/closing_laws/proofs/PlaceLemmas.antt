@@ -2,8 +2,8 @@
 use Rattle.std.proofs.Common.{◌≡◌, ℕ, ◌==◌, Bool, true, false, ◌++◌, Option, IsSome, option_to_list, refl, sym, ap, subst, eq-eqb, eqb-true}
 use Rattle.std.proofs.lemmas.Bool.{false≢true}
 use Rattle.phase_laws.specs.Replay.{PlaceLaws}
-use Rattle.auction_rows.specs.declared.ids.ItemId.{ItemId}
-use Rattle.auction_rows.specs.declared.ids.Object.TheVariants.{Item}
+use Rattle.auction_rows.specs.declared.requests.ItemId.{ItemId}
+use Rattle.auction_rows.specs.declared.requests.Object.TheVariants.{Item}
 use Rattle.auction_rows.specs.declared.replies.Reply.{Reply}
 use Rattle.auction_rows.specs.declared.requests.Facts.{Facts}
 use Rattle.auction_rows.specs.Book.{Book}
@@ -15,7 +15,7 @@ use Rattle.item_shards.specs.Contents.{Contents, after_acts}
 use Rattle.item_shards.specs.Standing.{ContentsStandsFor}
 use Rattle.item_shards.proofs.EntryLemmas.{entry_stands, untaken_stands}
 use Rattle.shard_boxes.specs.Lines.{acts_in, AreTrueOf}
-use Rattle.phase_permits.specs.declared.counters.Counters.{Counters}
+use Rattle.phase_permits.specs.declared.worker.Counters.{Counters}
 use Rattle.phase_permits.specs.Txns.{Setting, Txn, hot_in, takes, line_on, counted, after_txn, IsAnswered}
 use Rattle.phase_permits.specs.Slicing.{stock_of}
 use Rattle.phase_permits.specs.Replying.{CountsOf, HasFixed}

@@ -9,7 +9,7 @@ use Rattle.phase_laws.specs.Replay.{SawInTurn}
 use Rattle.auction_rows.specs.History.{rows_of}
 use Rattle.worker_journals.specs.Merged.{entries_of}
 use Rattle.shard_boxes.specs.Keys.{key_at, lines_at}
-use Rattle.phase_permits.specs.declared.counters.Counters.{Counters}
+use Rattle.phase_permits.specs.declared.worker.Counters.{Counters}
 use Rattle.phase_permits.specs.Txns.{Setting, Txn, entry_of, number_of, greatest_clock, lines_owed, IsAnswered, after_txn}
 use Rattle.phase_permits.specs.Workers.{WorkerState, work_of}
 use Rattle.phase_permits.specs.Slicing.{slices_of}

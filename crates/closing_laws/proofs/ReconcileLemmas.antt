@@ -4,17 +4,17 @@ use Rattle.std.specs.List.{list_any, AllByRecursion}
 use Rattle.phase_laws.specs.Order.{part, up_from}
 use Rattle.phase_laws.proofs.WorkerLemmas.{up_from_ordered, up_from_has, map-up_from}
 use Rattle.phase_laws.proofs.ListLemmas.{every_from}
-use Rattle.auction_rows.specs.declared.ids.ItemId.{ItemId}
-use Rattle.auction_rows.specs.declared.ids.Object.{Object}
-use Rattle.auction_rows.specs.declared.ids.Object.TheVariants.{Item, User, Category}
+use Rattle.auction_rows.specs.declared.requests.ItemId.{ItemId}
+use Rattle.auction_rows.specs.declared.requests.Object.{Object}
+use Rattle.auction_rows.specs.declared.requests.Object.TheVariants.{Item, User, Category}
 use Rattle.auction_rows.specs.declared.rows.Entry.{Entry}
 use Rattle.auction_rows.specs.Book.{Book, facts_of, bought}
 use Rattle.auction_rows.specs.Footprint.{is_hot}
 use Rattle.auction_rows.specs.History.{book_after, rows_of}
 use Rattle.auction_rows.specs.Requests.{shard_of}
 use Rattle.auction_rows.proofs.HistoryLemmas.{book_after-replays}
-use Rattle.item_shards.specs.declared.slices.UserSlice.{UserSlice}
-use Rattle.item_shards.specs.declared.slices.CategorySlice.{CategorySlice}
+use Rattle.item_shards.specs.declared.shard.slices.UserSlice.{UserSlice}
+use Rattle.item_shards.specs.declared.shard.slices.CategorySlice.{CategorySlice}
 use Rattle.item_shards.specs.Contents.{Contents, bids_merged, comments_merged, items_merged}
 use Rattle.item_shards.specs.Slices.{with_bids, with_comments, with_items}
 use Rattle.item_shards.specs.Standing.{ContentsStandsFor}

@@ -4,17 +4,17 @@ use Rattle.std.specs.List.{AllByRecursion, IsDistinct}
 use Rattle.std.proofs.lemmas.Bool.{false≢true, or_parts}
 use Rattle.std.proofs.lemmas.List.Sums.{fold-append}
 use Rattle.phase_laws.specs.Merging.{SliceLaws}
-use Rattle.auction_rows.specs.declared.ids.Object.{Object}
+use Rattle.auction_rows.specs.declared.requests.Object.{Object}
 use Rattle.auction_rows.specs.declared.requests.Facts.{Facts}
 use Rattle.auction_rows.specs.Book.{Book}
 use Rattle.auction_rows.specs.Footprint.{is_hot}
 use Rattle.auction_rows.specs.Requests.{same_object}
 use Rattle.auction_rows.proofs.RequestLemmas.{same_object-true, same_objects}
-use Rattle.item_shards.specs.declared.slices.Slice.{Slice}
-use Rattle.item_shards.specs.declared.slices.Slice.TheVariants as slice
-use Rattle.item_shards.specs.declared.slices.ItemSlice.{ItemSlice}
-use Rattle.item_shards.specs.declared.slices.UserSlice.{UserSlice}
-use Rattle.item_shards.specs.declared.slices.CategorySlice.{CategorySlice}
+use Rattle.item_shards.specs.declared.shard.slices.Slice.{Slice}
+use Rattle.item_shards.specs.declared.shard.slices.Slice.TheVariants as slice
+use Rattle.item_shards.specs.declared.shard.slices.ItemSlice.{ItemSlice}
+use Rattle.item_shards.specs.declared.shard.slices.UserSlice.{UserSlice}
+use Rattle.item_shards.specs.declared.shard.slices.CategorySlice.{CategorySlice}
 use Rattle.item_shards.specs.SliceLaws.{item_laws, user_laws, category_laws}
 use Rattle.item_shards.specs.Values.{Value, value}
 use Rattle.phase_permits.specs.Workers.{WorkerState}

@@ -1,7 +1,7 @@
 -- A phase that closes: a user is hot, and the one worker comments on a stored item about that user.
 use Rattle.std.specs.Prelude.{false, [], ◌∷◌, Some, None}
-use Rattle.auction_rows.specs.declared.ids.ItemId.{ItemId}
-use Rattle.auction_rows.specs.declared.ids.Object.TheVariants.{Item, User}
+use Rattle.auction_rows.specs.declared.requests.ItemId.{ItemId}
+use Rattle.auction_rows.specs.declared.requests.Object.TheVariants.{Item, User}
 use Rattle.auction_rows.specs.declared.replies.Reply.TheVariants.{CommentStored}
 use Rattle.auction_rows.specs.declared.requests.Facts.{Facts}
 use Rattle.auction_rows.specs.declared.requests.Request.TheVariants.{StoreComment}
@@ -15,7 +15,7 @@ use Rattle.shard_boxes.specs.declared.line.Line.{Line}
 use Rattle.shard_boxes.specs.Keys.{KeyState}
 use Rattle.shard_boxes.specs.Lines.{after_line}
 use Rattle.shard_boxes.specs.States.{ShardState}
-use Rattle.phase_permits.specs.declared.counters.Counters.{Counters}
+use Rattle.phase_permits.specs.declared.worker.Counters.{Counters}
 use Rattle.phase_permits.specs.Txns.{Setting, Txn, line_on, after_txn}
 use Rattle.phase_permits.specs.Slicing.{slices_of}
 use Rattle.phase_permits.specs.Workers.{WorkerState}

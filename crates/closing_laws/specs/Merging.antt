@@ -3,11 +3,11 @@ use Rattle.std.specs.Prelude.{◌≡◌, ℕ, ◌+◌, ◌<◌, ◌^◌, ◌+ℤ
 use Rattle.std.specs.Int.{w64}
 use Rattle.std.specs.List.{flat_map}
 use Rattle.std.specs.List.Sorted.{IsPermutation}
-use Rattle.auction_rows.specs.declared.ids.Object.{Object}
-use Rattle.auction_rows.specs.declared.ids.Object.TheVariants.{Item, User, Category}
+use Rattle.auction_rows.specs.declared.requests.Object.{Object}
+use Rattle.auction_rows.specs.declared.requests.Object.TheVariants.{Item, User, Category}
 use Rattle.auction_rows.specs.Requests.{shard_of}
-use Rattle.item_shards.specs.declared.slices.Slice.{Slice}
-use Rattle.item_shards.specs.declared.slices.Slice.TheVariants as slice
+use Rattle.item_shards.specs.declared.shard.slices.Slice.{Slice}
+use Rattle.item_shards.specs.declared.shard.slices.Slice.TheVariants as slice
 use Rattle.item_shards.specs.Contents.{changed, bids_merged, comments_merged, items_merged}
 use Rattle.item_shards.specs.Values.{Value}
 use Rattle.shard_boxes.specs.States.{ShardState, state_at}

@@ -2,8 +2,8 @@
 use Rattle.std.specs.Prelude.{◌≡◌, ℕ, ◌<◌, List, [], Option, map, length, slice_index_or, ⊤}
 use Rattle.std.specs.List.{AllByRecursion, IsDistinct}
 use Rattle.phase_laws.specs.Order.{IsAscending, part}
-use Rattle.auction_rows.specs.declared.ids.Object.{Object}
-use Rattle.auction_rows.specs.declared.ids.Object.TheVariants.{Item, User, Category}
+use Rattle.auction_rows.specs.declared.requests.Object.{Object}
+use Rattle.auction_rows.specs.declared.requests.Object.TheVariants.{Item, User, Category}
 use Rattle.auction_rows.specs.declared.requests.Facts.{Facts}
 use Rattle.auction_rows.specs.declared.rows.Entry.{Entry}
 use Rattle.auction_rows.specs.Requests.{same_object, shard_of}
@@ -13,7 +13,7 @@ use Rattle.worker_journals.specs.Merged.{entries_of}
 use Rattle.shard_boxes.specs.Closed.{AreClosed}
 use Rattle.shard_boxes.specs.Keys.{KeyState, no_key}
 use Rattle.shard_boxes.specs.States.{ShardState, state_at}
-use Rattle.phase_permits.specs.declared.counters.Counters.{Counters}
+use Rattle.phase_permits.specs.declared.worker.Counters.{Counters}
 use Rattle.phase_permits.specs.Txns.{Setting, Txn, hot_in}
 use Rattle.phase_permits.specs.Workers.{WorkerState, IsExplained, no_counters, new_worker, setting_of}
 use Rattle.phase_permits.specs.Slicing.{IsStocked}

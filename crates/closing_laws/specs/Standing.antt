@@ -1,12 +1,12 @@
 -- Shards and counters, and the books for which they stand.
 use Rattle.std.specs.Prelude.{ℕ, ◌+◌, ◌<◌, List, length, slice_index_or}
 use Rattle.std.specs.List.{AllByRecursion}
-use Rattle.auction_rows.specs.declared.ids.Object.{Object}
+use Rattle.auction_rows.specs.declared.requests.Object.{Object}
 use Rattle.auction_rows.specs.Book.{Book}
 use Rattle.item_shards.specs.Counting.{worker_of}
 use Rattle.item_shards.specs.Standing.{ContentsStandsFor}
 use Rattle.shard_boxes.specs.States.{ShardState, state_at}
-use Rattle.phase_permits.specs.declared.counters.Counters.{Counters}
+use Rattle.phase_permits.specs.declared.worker.Counters.{Counters}
 use Rattle.phase_permits.specs.Workers.{no_counters}
 use Rattle.phase_permits.specs.Replying.{CountsOf}
 

@@ -1,8 +1,6 @@
-//! Two workers bid on a vase while a thread watches it through a window. With the word `bench`, how fast windows are.
+//! Two workers bid on a vase while a thread watches it through a window.
 #![tactic(auto)]
 
-mod bench;
-mod timed;
 mod watching;
 
 use crate::watching::watched_run;
@@ -13,7 +11,7 @@ use program_options::{VERSION, program_words};
 use std::alloc::Global;
 use std::io;
 use std::process::ExitCode;
-use std::rt::{Clock, Env};
+use std::rt::Env;
 use std::sync::Wait;
 use std::thread::Threads;
 
@@ -30,22 +28,15 @@ const FREE_RUNS: u32 = 20;
 const HELP: &str = "\
 Shows an auction to a thread through a window, while two workers bid on a vase.
 
-Usage: example_watch [bench]
-
-Arguments:
-  bench                 Measure windows instead: some seconds, on an idle machine
+Usage: example_watch [OPTIONS]
 
 Options:
   -h, --help            Print help
   -V, --version         Print version
 
-Reads nothing. Writes a line per view, or figures, to standard output.
+Reads nothing. Writes a line per view to standard output.
 Faults, this help and the version go to standard error.
-Status: 0 all done, 1 words, help or a fault.
-
-Examples:
-  example_watch
-  example_watch bench";
+Status: 0 all done, 1 words, help or a fault.";
 
 /// What is done about the program's words.
 enum Done {
@@ -68,12 +59,11 @@ fn main(rt: HostRuntime) -> ExitCode {
 // Shows what the program's words ask for.
 fn perform<R>(rt: &R) -> Result<Done>
 where
-    R: Env + Print + Alloc<A = Global> + Threads + Wait + Sync + Clock,
+    R: Env + Print + Alloc<A = Global> + Threads + Wait + Sync,
 {
     let words = program_words(rt)?;
     match words.get(1).map(String::as_str) {
         None => watch(rt, rt.alloc())?,
-        Some("bench") if words.len() == 2 => bench::measure(rt, rt.alloc())?,
         Some("--version" | "-V") => return Ok(Done::AskedForVersion),
         Some(_) => return Ok(Done::AskedForHelp),
     }

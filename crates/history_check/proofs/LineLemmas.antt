@@ -5,7 +5,7 @@ use Rattle.std.specs.Io.BufRead.{take_through, drop_through, DropsThrough}
 use Rattle.std.proofs.lemmas.List.{length-append}
 use Rattle.auction_rows.specs.declared.rows.Entry.{Entry}
 use Rattle.auction_text.specs.Replies.{history_line, reply_text}
-use Rattle.history_check.specs.declared.places.Place.{Place}
+use Rattle.history_check.specs.declared.lines.Place.{Place}
 use Rattle.history_check.specs.Places.{line_at, Fits, place_of}
 use Rattle.history_check.specs.Texts.{with_byte, lines_of, history_lines, ReadsLine, HasRead}
 use Rattle.history_check.proofs.NumberLemmas.{numbers_apart, take_front}

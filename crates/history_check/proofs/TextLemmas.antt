@@ -5,7 +5,7 @@ use Rattle.std.specs.List.{AllByRecursion, list_all}
 use Rattle.std.proofs.lemmas.Bool.{false≢true, and_parts}
 use Rattle.auction_rows.specs.declared.rows.Entry.{Entry}
 use Rattle.auction_text.specs.Replies.{history_line, history_text, reply_text}
-use Rattle.history_check.specs.declared.places.Place.{Place}
+use Rattle.history_check.specs.declared.lines.Place.{Place}
 use Rattle.history_check.specs.Places.{placed, place_of}
 use Rattle.history_check.specs.Texts.{with_byte, lines_of, history_lines, ShowsName}
 use Rattle.history_check.proofs.OneLineLemmas.{no_feed, IsOneLine, both, number_one, reply_one}

@@ -2,7 +2,7 @@
 use Rattle.std.specs.Prelude.{ℕ, ◌+◌, ◌≡◌, ◌<◌, ◌≤◌, nat_lt, if◌then◌else◌, List, ◌∷◌, ◌++◌, length, count_by, Some, None}
 use Rattle.std.specs.List.{AllByRecursion}
 use Rattle.phase_laws.specs.Order.{IsOrderedBy}
-use Rattle.auction_rows.specs.declared.numbers.Opening.{Opening}
+use Rattle.auction_rows.specs.declared.values.Opening.{Opening}
 use Rattle.auction_rows.specs.declared.replies.Reply.{Reply}
 use Rattle.auction_rows.specs.declared.requests.Request.{Request}
 use Rattle.auction_rows.specs.declared.rows.Entry.{Entry}
@@ -16,7 +16,7 @@ use Rattle.history_check.specs.declared.lines.Verdict.{Verdict}
 use Rattle.history_check.specs.declared.lines.Verdict.TheVariants.{Replays, WrongAt, Lacks}
 use Rattle.history_check.specs.declared.lines.Wrong.{Wrong}
 use Rattle.history_check.specs.declared.lines.Wrong.TheVariants.{Unreadable, NoRequest, Again, Late, Due}
-use Rattle.history_check.specs.declared.places.Place.{Place}
+use Rattle.history_check.specs.declared.lines.Place.{Place}
 use Rattle.history_check.specs.Orders.{MayPrecede}
 use Rattle.history_check.specs.Places.{Fits, IsLineOf, entry_at, place_of}
 use Rattle.history_check.specs.Scripts.{request_at, is_of}

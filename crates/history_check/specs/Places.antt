@@ -3,7 +3,7 @@ use Rattle.std.specs.Prelude.{ℕ, ◌==◌, ◌<◌, ◌^◌, ◌≡◌, Bool, 
 use Rattle.auction_rows.specs.declared.replies.Reply.{Reply}
 use Rattle.auction_rows.specs.declared.requests.Request.{Request}
 use Rattle.auction_rows.specs.declared.rows.Entry.{Entry}
-use Rattle.history_check.specs.declared.places.Place.{Place}
+use Rattle.history_check.specs.declared.lines.Place.{Place}
 
 abbrev pub is_space : ℕ → Bool
 is_space byte = byte == 32

@@ -4,16 +4,10 @@
 //! them.
 #![tactic(auto)]
 
-mod checking;
+mod history;
 mod lines;
-mod marks;
-mod places;
 mod replay;
-mod text_laws;
-mod turns;
 
-pub use checking::check_history;
-pub use lines::{CheckFault, Order, Verdict, Wrong};
-pub use places::{Place, read_line};
+pub use history::{check_history, lines_are_placed, texts_are_lines};
+pub use lines::{CheckFault, Order, Place, Verdict, Wrong, read_line};
 pub use replay::Replay;
-pub use text_laws::{lines_are_placed, texts_are_lines};

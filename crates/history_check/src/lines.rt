@@ -1,9 +1,97 @@
-//! What is found of the lines of a history.
-ghost use Rattle.std.specs.Prelude.{◌≡◌};
+//! The place of a commit, which a line of a history begins with, the text after it, and what is
+//! found of the lines.
+ghost use Rattle.std.specs.Prelude.{◌≡◌, ◌++◌, ◌∷◌, [], ◌<◌, ◌^◌, ℕ, List, decimal, length, IfSome, IfNone, IsSomeAnd};
+ghost use Rattle.std.specs.List.{position};
+ghost use Rattle.history_check.specs.declared.lines.Place.{Place as CommitPlace};
+ghost use Rattle.history_check.specs.Places.{is_space, placed, Fits, IsLineOf};
 
 use auction_rows::Reply;
+use auction_text::read_u64;
 use std::alloc::{AllocError, AllocFailed};
 use thiserror::Error;
+
+/// Where a commit stands: its phase and number, its worker and the index of its request.
+#[derive(Clone, Copy)]
+pub struct Place {
+    pub phase: u64,
+    pub number: u64,
+    pub worker: u32,
+    pub index: u32,
+}
+
+// The place of the first space.
+fn first_space(bytes: &[u8]) -> Option<usize>
+    ensures place { result ≡ position is_space bytes.now }
+    ensures within { IfSome result (λ i. i < length bytes.now) }
+{
+    bytes.iter().position(|byte| *byte == b' ')
+}
+
+// The number before the first space, and what is after it.
+fn read_number(bytes: &[u8]) -> Option<(u64, &[u8])>
+    ensures read { IfSome result (λ found. bytes.now ≡ decimal found.0 ++ 32 ∷ found.1.now) }
+    ensures all { (n : ℕ) (rest : List ℕ) → n < 2 ^ 64 → bytes.now ≡ decimal n ++ 32 ∷ rest →
+        IsSomeAnd result (λ found. (found.0 ≡ n) × (found.1.now ≡ rest)) }
+{
+    let space = first_space(bytes)?;
+    let number = read_u64(&bytes[..space])?;
+    Some((number, &bytes[space + 1..]))
+}
+
+// The same, of a number below 2^32.
+fn read_short_number(bytes: &[u8]) -> Option<(u32, &[u8])>
+    ensures read { IfSome result (λ found. bytes.now ≡ decimal found.0 ++ 32 ∷ found.1.now) }
+    ensures all { (n : ℕ) (rest : List ℕ) → n < 2 ^ 32 → bytes.now ≡ decimal n ++ 32 ∷ rest →
+        IsSomeAnd result (λ found. (found.0 ≡ n) × (found.1.now ≡ rest)) }
+{
+    let (number, rest) = read_number(bytes)?;
+    if number > u64::from(u32::MAX) {
+        return None;
+    }
+    Some((number as u32, rest))
+}
+
+// The place that a text begins with, and what is after the space that follows it.
+fn read_place(text: &[u8]) -> Option<(Place, &[u8])>
+    ensures read { IfSome result (λ found. text.now ≡ placed found.0 found.1.now) }
+    ensures fits { IfSome result (λ found. Fits found.0) }
+    ensures all { (place : CommitPlace) (rest : List ℕ) → Fits place → text.now ≡ placed place rest →
+        IsSomeAnd result (λ found. (found.0 ≡ place) × (found.1.now ≡ rest)) }
+{
+    let (phase, text) = read_number(text)?;
+    let (number, text) = read_number(text)?;
+    let (worker, text) = read_short_number(text)?;
+    let (index, rest) = read_short_number(text)?;
+    let place = Place {
+        phase,
+        number,
+        worker,
+        index,
+    };
+    Some((place, rest))
+}
+
+// A line without the line feed at its end.
+fn without_line_feed(line: &[u8]) -> Option<&[u8]>
+    ensures read { IfSome result (λ text. line.now ≡ text.now ++ 10 ∷ []) }
+    ensures all { (text : List ℕ) → line.now ≡ text ++ 10 ∷ [] → IsSomeAnd result (λ found. found.now ≡ text) }
+{
+    match line {
+        [text @ .., b'\n'] => Some(text),
+        _ => None,
+    }
+}
+
+/// The place that a line begins with, and the text of the reply after it, if there is a line feed
+/// at its end.
+pub fn read_line(line: &[u8]) -> Option<(Place, &[u8])>
+    ensures read { IfSome result (λ found. IsLineOf line.now found.0 found.1.now) }
+    ensures none { IfNone result ((place : CommitPlace) (text : List ℕ) → ¬ IsLineOf line.now place text) }
+{
+    let (place, rest) = read_place(line)?;
+    let text = without_line_feed(rest)?;
+    Some((place, text))
+}
 
 /// The order in which the entries of each worker are to stand.
 #[derive(Clone, Copy)]

@@ -1,26 +1,150 @@
-//! An auction of one thread on which a history is replayed.
-ghost use Rattle.std.specs.Prelude.{◌≡◌, ◌↔◌, ◌<◌, ◌≤◌, ◌++◌, ◌∷◌, [], ℕ, List, length, get_or, IfOk, IfSome, IfNone, IsTrue, IsErrOf};
+//! Which requests of the scripts have stood in a line, how far each worker's entries have come in
+//! its script, and an auction of one thread on which a history is replayed.
+ghost use Rattle.std.specs.Prelude.{◌≡◌, ◌<◌, ◌≤◌, ℕ, true, false, length, IfOk, IfNone, IfSome, ◌==◌, ◌&&◌, if◌then◌else◌, Some, ◌^◌, suc, max, nat_lt, get_or, ◌↔◌, ◌++◌, ◌∷◌, [], List, IsTrue, IsErrOf};
+ghost use Rattle.run_laws.specs.Serving.{script_of};
 ghost use Rattle.auction_rows.specs.Book.{Book as Rows};
-ghost use Rattle.auction_rows.specs.declared.numbers.Opening.{Opening};
+ghost use Rattle.auction_rows.specs.declared.values.Opening.{Opening};
 ghost use Rattle.auction_rows.specs.declared.rows.Entry.{Entry};
-ghost use Rattle.auction_text.specs.Replies.{reply_text, history_line};
 ghost use Rattle.item_shards.specs.OpeningBooks.{opening_of, rows_of};
+ghost use Rattle.auction_text.specs.Replies.{reply_text, history_line};
+ghost use Rattle.history_check.specs.Scripts.{lists, request_at};
+ghost use Rattle.history_check.specs.Marks.{is_marked, HasPlaces, AreWide};
+ghost use Rattle.history_check.specs.Orders.{is_bound, is_late};
 ghost use Rattle.history_check.specs.declared.lines.CheckFault.TheVariants.{TooLong};
 ghost use Rattle.history_check.specs.declared.lines.Order.{Order as Asked};
-ghost use Rattle.history_check.specs.Orders.{is_late};
-ghost use Rattle.history_check.specs.Scripts.{lists};
 ghost use Rattle.history_check.specs.Places.{Fits, IsLineOf, place_of};
 ghost use Rattle.history_check.specs.Checking.{IsWrong};
-ghost use Rattle.history_check.specs.Taking.{HasTaken, CanTake, AreMarked, IsUnmarked};
 
-use crate::lines::{CheckFault, Order, Wrong};
-use crate::marks::{Marks, request_of};
-use crate::places::{Place, read_line};
-use crate::turns::{Turns, is_bound};
-use auction_rows::{MOST_ROWS, MOST_WORKERS, Reply, Request};
+use crate::lines::{CheckFault, Order, Place, Wrong, read_line};
+use auction_rows::{MOST_ROWS, MOST_WORKERS, Reply, Request, is_splittable};
 use auction_text::push_reply;
 use item_shards::{OpeningBook, SerialAuction};
 use std::alloc::{AllocError, Global};
+
+/// For each index a mark for each of 16 workers.
+#[derive(Drop)]
+pub struct Marks {
+    pub(crate) rows: Vec<[bool; MOST_WORKERS]>,
+    ghost wide: { AreWide rows.items },
+}
+
+// The request with an index in a worker's script, if there is one.
+pub(crate) fn request_of(scripts: &[Vec<Request>], worker: u32, index: u32) -> Option<Request>
+    ensures { result ≡ request_at (lists scripts.now) worker index }
+{
+    let script = scripts.get(worker as usize)?;
+    script.get(index as usize).copied()
+}
+
+// The length of the longest script.
+fn longest(scripts: &[Vec<Request>]) -> usize
+    ensures { (worker : ℕ) → length (script_of (lists scripts.now) worker) ≤ result }
+{
+    let mut most = 0;
+    for script in scripts {
+        if most < script.len() {
+            most = script.len();
+        }
+    }
+    most
+}
+
+impl Marks {
+    /// A place for each request of each script, with no mark.
+    pub fn new(alloc: Global, scripts: &[Vec<Request>]) -> Result<Marks, AllocError>
+        ensures places { IfOk result (λ marks. HasPlaces marks.rows.items (lists scripts.now)) }
+        ensures none { IfOk result (λ marks. (worker index : ℕ) → worker < MOST_WORKERS → is_marked marks.rows.items worker index ≡ false) }
+    {
+        let places = longest(scripts);
+        Ok(Marks {
+            rows: vec![in alloc; [false; MOST_WORKERS]; places]?,
+        })
+    }
+
+    /// Whether a place has a mark.
+    pub fn has(&self, worker: usize, index: usize) -> bool
+        requires worker { worker < MOST_WORKERS }
+        requires index { index < length self.now.rows.items }
+        ensures { result ≡ is_marked self.now.rows.items worker index }
+    {
+        let row = self.rows[index];
+        row[worker]
+    }
+
+    /// An index below so many at which a worker has no mark, if there is one.
+    pub fn lacks(&self, worker: usize, count: usize) -> Option<usize>
+        requires worker { worker < MOST_WORKERS }
+        requires places { count ≤ length self.now.rows.items }
+        ensures none { IfNone result ((index : ℕ) → index < count → is_marked self.now.rows.items worker index ≡ true) }
+        ensures some { IfSome result (λ index. (index < count) × (is_marked self.now.rows.items worker index ≡ false)) }
+    {
+        for index in 0..count {
+            if !self.has(worker, index) {
+                return Some(index);
+            }
+        }
+        None
+    }
+
+    /// Marks a place.
+    pub fn mark(&mut self, worker: usize, index: usize)
+        requires worker { worker < MOST_WORKERS }
+        requires index { index < length self.old.rows.items }
+        ensures places { length self.new.rows.items ≡ length self.old.rows.items }
+        ensures marked { (w i : ℕ) → w < MOST_WORKERS → is_marked self.new.rows.items w i
+            ≡ (if (worker == w) && (index == i) then true else is_marked self.old.rows.items w i) }
+    {
+        let mut row = self.rows[index];
+        row[worker] = true;
+        self.rows[index] = row;
+    }
+}
+
+/// For each of 16 workers one past the greatest index of its entries.
+#[derive(Drop)]
+pub struct Turns {
+    pub(crate) next: [u64; MOST_WORKERS],
+}
+
+impl Turns {
+    /// The turns where there are no entries.
+    pub fn new() -> Turns
+        ensures { (worker : ℕ) → get_or result.next worker 0 ≡ 0 }
+    {
+        Turns {
+            next: [0; MOST_WORKERS],
+        }
+    }
+
+    /// Whether an entry of a worker has a greater index.
+    pub fn is_late(&self, worker: usize, index: u32) -> bool
+        requires { worker < MOST_WORKERS }
+        ensures { result ≡ nat_lt index (get_or self.now.next worker 0) }
+    {
+        u64::from(index) < self.next[worker]
+    }
+
+    /// Adds an entry.
+    pub fn pass(&mut self, worker: usize, index: u32)
+        requires { worker < MOST_WORKERS }
+        ensures { (other : ℕ) → other < MOST_WORKERS → get_or self.new.next other 0
+            ≡ (if worker == other then max (get_or self.old.next other 0) (suc index) else get_or self.old.next other 0) }
+    {
+        let next = u64::from(index) + 1;
+        self.next[worker] = self.next[worker].max(next);
+    }
+}
+
+// Whether a request may stand after no later one of its script.
+pub(crate) fn is_bound(order: Order, request: Request) -> bool
+    ensures { result ≡ is_bound order request }
+{
+    match order {
+        Order::Any => false,
+        Order::StoresFirst => is_splittable(request),
+        Order::Strict => true,
+    }
+}
 
 /// An auction of one thread that has performed the lines of a history so far.
 #[derive(Drop)]
@@ -45,6 +169,8 @@ fn is_text_of(written: &mut Vec<u8>, reply: &Reply, text: &[u8]) -> Result<bool,
 }
 
 impl Replay {
+    ghost use Rattle.history_check.specs.Taking.{HasTaken, CanTake, AreMarked, IsUnmarked};
+
     /// The auction of an opening book, before the first line.
     pub fn new(
         alloc: Global,

@@ -9,11 +9,11 @@ use Rattle.std.proofs.lemmas.List.{length-append}
 use Rattle.phase_laws.specs.Replay.{SawInTurn}
 use Rattle.phase_laws.proofs.MemberLemmas.{all-member}
 use Rattle.phase_laws.proofs.ListLemmas.{all-append}
-use Rattle.auction_rows.specs.declared.ids.ItemId.{ItemId}
-use Rattle.auction_rows.specs.declared.ids.Object.{Object}
-use Rattle.auction_rows.specs.declared.ids.Object.TheVariants.{Item, User, Category}
-use Rattle.auction_rows.specs.declared.numbers.Opening.{Opening}
-use Rattle.auction_rows.specs.declared.numbers.Stars.{Stars}
+use Rattle.auction_rows.specs.declared.requests.ItemId.{ItemId}
+use Rattle.auction_rows.specs.declared.requests.Object.{Object}
+use Rattle.auction_rows.specs.declared.requests.Object.TheVariants.{Item, User, Category}
+use Rattle.auction_rows.specs.declared.values.Opening.{Opening}
+use Rattle.auction_rows.specs.declared.values.Stars.{Stars}
 use Rattle.auction_rows.specs.declared.requests.Facts.{Facts}
 use Rattle.auction_rows.specs.declared.requests.Request.{Request}
 use Rattle.auction_rows.specs.declared.requests.Request.TheVariants.{StoreItem, StoreBid, StoreComment, BuyNow, ViewItem, ViewBids, ViewCategory, ViewUser}
@@ -28,7 +28,7 @@ use Rattle.auction_rows.specs.Refusals.{of_stored, number_refusal, refusal}
 use Rattle.auction_rows.specs.Replies.{answer, answer_unless, reply, row_of, row_if}
 use Rattle.auction_rows.specs.Requests.{shard_of}
 use Rattle.auction_rows.proofs.RefusalLemmas.{enough, in_range, not_by_number, is_stored}
-use Rattle.item_shards.specs.declared.acts.Act.{Act}
+use Rattle.item_shards.specs.declared.shard.acts.Act.{Act}
 use Rattle.item_shards.specs.Values.{Value, value, HasLeft}
 use Rattle.item_shards.specs.Contents.{Contents, after_act}
 use Rattle.item_shards.specs.Standing.{ContentsStandsFor}

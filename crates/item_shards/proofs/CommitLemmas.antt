@@ -1,8 +1,8 @@
 -- Two acts in turn.
 use Rattle.std.proofs.Common.{◌≡◌, ℕ, Bool, List, [], ◌∷◌, length, get_or, refl, sym, subst, arith}
-use Rattle.auction_rows.specs.declared.ids.ItemId.{ItemId}
-use Rattle.auction_rows.specs.declared.numbers.Opening.{Opening}
-use Rattle.item_shards.specs.declared.acts.Act.{Act}
+use Rattle.auction_rows.specs.declared.requests.ItemId.{ItemId}
+use Rattle.auction_rows.specs.declared.values.Opening.{Opening}
+use Rattle.item_shards.specs.declared.shard.acts.Act.{Act}
 use Rattle.item_shards.specs.declared.shard.Shard.{Shard}
 use Rattle.item_shards.specs.Acting.{CanActOn, CanAct}
 use Rattle.item_shards.specs.Contents.{Contents, after_act}

@@ -3,9 +3,9 @@ use Rattle.std.proofs.Common.{◌≡◌, ℕ, ◌+◌, ◌*◌, ◌≤◌, ◌==
 use Rattle.std.specs.List.{filter_map, cons_option}
 use Rattle.std.proofs.lemmas.Int.{ints}
 use Rattle.split_records.specs.Sums.{int_sum}
-use Rattle.auction_rows.specs.declared.ids.ItemId.{ItemId}
-use Rattle.auction_rows.specs.declared.ids.Object.TheVariants.{Item, User}
-use Rattle.auction_rows.specs.declared.numbers.Stars.{Stars}
+use Rattle.auction_rows.specs.declared.requests.ItemId.{ItemId}
+use Rattle.auction_rows.specs.declared.requests.Object.TheVariants.{Item, User}
+use Rattle.auction_rows.specs.declared.values.Stars.{Stars}
 use Rattle.auction_rows.specs.declared.rows.CommentRow.{CommentRow}
 use Rattle.auction_rows.specs.declared.rows.Row.{Row}
 use Rattle.auction_rows.specs.declared.rows.Row.TheVariants as row

@@ -1,7 +1,7 @@
 -- A slice merged into a record: the record of the operations of both.
 use Rattle.std.proofs.Common.{◌≡◌, List, sym, ap, ◌∙◌}
 use Rattle.split_records.specs.Laws.{ValueLaws}
-use Rattle.auction_rows.specs.declared.ids.Object.{Object}
+use Rattle.auction_rows.specs.declared.requests.Object.{Object}
 use Rattle.item_shards.specs.Slices.{IsOfBoth}
 use Rattle.item_shards.specs.Values.{Value}
 use Rattle.item_shards.specs.Contents.{Contents, changed}

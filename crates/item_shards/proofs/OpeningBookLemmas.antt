@@ -9,15 +9,15 @@ use Rattle.std.proofs.lemmas.List.Sums.{fold_push, sum_by-append, sum_by-cons, s
 use Rattle.phase_laws.specs.Replay.{Replays}
 use Rattle.phase_laws.proofs.ReplayLemmas.{replays_append}
 use Rattle.phase_laws.proofs.OrderLemmas.{all_push}
-use Rattle.auction_rows.specs.declared.numbers.Opening.{Opening}
+use Rattle.auction_rows.specs.declared.values.Opening.{Opening}
 use Rattle.auction_rows.specs.declared.rows.Row.{Row}
 use Rattle.auction_rows.specs.Book.{Book}
 use Rattle.auction_rows.specs.History.{commit, commit_of, GoOn, IsBook}
 use Rattle.auction_rows.specs.Replies.{reply, row_of}
 use Rattle.auction_rows.proofs.HistoryLemmas.{longer_book, own_row, rows_go_on}
-use Rattle.item_shards.specs.declared.opened.Opened.{Opened}
-use Rattle.item_shards.specs.declared.opening_book.ResumeFault.{ResumeFault}
-use Rattle.item_shards.specs.declared.opening_book.ResumeFault.TheVariants.{TooLong, BadRow, Memory}
+use Rattle.item_shards.specs.declared.openings.Opened.{Opened}
+use Rattle.item_shards.specs.declared.openings.ResumeFault.{ResumeFault}
+use Rattle.item_shards.specs.declared.openings.ResumeFault.TheVariants.{TooLong, BadRow, Memory}
 use Rattle.item_shards.specs.Counting.{worker_of}
 use Rattle.item_shards.specs.OpeningRows.{with_opened, opening_rows, IsRow, AreRows, IsFirstBad, opened_of, asked_by, IsTooLong, rows_by}
 use Rattle.item_shards.proofs.SerialLemmas.{worker_is, worker_of_added}

@@ -1,18 +1,18 @@
 -- A contents: objects by their values, and what acts and merges do to it.
 use Rattle.std.specs.Prelude.{ℕ, ◌+◌, List, fold, if◌then◌else◌, is_some, Option, Some, None}
-use Rattle.auction_rows.specs.declared.numbers.Stars.{Stars}
-use Rattle.auction_rows.specs.declared.ids.ItemEntry.{ItemEntry}
-use Rattle.auction_rows.specs.declared.ids.BidEntry.{BidEntry}
+use Rattle.auction_rows.specs.declared.values.Stars.{Stars}
+use Rattle.auction_rows.specs.declared.requests.ItemEntry.{ItemEntry}
+use Rattle.auction_rows.specs.declared.requests.BidEntry.{BidEntry}
 use Rattle.auction_rows.specs.declared.requests.Facts.{Facts}
-use Rattle.auction_rows.specs.declared.ids.Object.{Object}
-use Rattle.auction_rows.specs.declared.ids.Object.TheVariants.{Item, User, Category}
+use Rattle.auction_rows.specs.declared.requests.Object.{Object}
+use Rattle.auction_rows.specs.declared.requests.Object.TheVariants.{Item, User, Category}
 use Rattle.auction_rows.specs.Requests.{same_object}
-use Rattle.item_shards.specs.declared.acts.Act.{Act}
-use Rattle.item_shards.specs.declared.acts.Act.TheVariants.{AddItem, ListItem, Bid, Comment, Buy, Look}
-use Rattle.item_shards.specs.declared.acts.Shown.TheVariants.{Nothing, Facts as ShownFacts, Left, Reply}
-use Rattle.item_shards.specs.declared.slices.ItemSlice.{ItemSlice}
-use Rattle.item_shards.specs.declared.slices.UserSlice.{UserSlice}
-use Rattle.item_shards.specs.declared.slices.CategorySlice.{CategorySlice}
+use Rattle.item_shards.specs.declared.shard.acts.Act.{Act}
+use Rattle.item_shards.specs.declared.shard.acts.Act.TheVariants.{AddItem, ListItem, Bid, Comment, Buy, Look}
+use Rattle.item_shards.specs.declared.shard.acts.Shown.TheVariants.{Nothing, Facts as ShownFacts, Left, Reply}
+use Rattle.item_shards.specs.declared.shard.slices.ItemSlice.{ItemSlice}
+use Rattle.item_shards.specs.declared.shard.slices.UserSlice.{UserSlice}
+use Rattle.item_shards.specs.declared.shard.slices.CategorySlice.{CategorySlice}
 use Rattle.item_shards.specs.Slices.{with_bid, with_bids, with_comment, with_comments, with_item, with_items}
 use Rattle.item_shards.specs.Values.{Value}
 

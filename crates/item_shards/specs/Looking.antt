@@ -1,13 +1,13 @@
 -- When a look is true of contents.
 use Rattle.std.specs.Prelude.{◌≡◌, ⊤}
-use Rattle.auction_rows.specs.declared.ids.Object.{Object}
-use Rattle.auction_rows.specs.declared.ids.Object.TheVariants.{Item, User, Category}
+use Rattle.auction_rows.specs.declared.requests.Object.{Object}
+use Rattle.auction_rows.specs.declared.requests.Object.TheVariants.{Item, User, Category}
 use Rattle.auction_rows.specs.declared.replies.Reply.{Reply}
 use Rattle.auction_rows.specs.declared.replies.Reply.TheVariants.{BidsSeen}
-use Rattle.item_shards.specs.declared.acts.Act.{Act}
-use Rattle.item_shards.specs.declared.acts.Act.TheVariants.{AddItem, ListItem, Bid, Comment, Buy, Look}
-use Rattle.item_shards.specs.declared.acts.Shown.{Shown}
-use Rattle.item_shards.specs.declared.acts.Shown.TheVariants as shown
+use Rattle.item_shards.specs.declared.shard.acts.Act.{Act}
+use Rattle.item_shards.specs.declared.shard.acts.Act.TheVariants.{AddItem, ListItem, Bid, Comment, Buy, Look}
+use Rattle.item_shards.specs.declared.shard.acts.Shown.{Shown}
+use Rattle.item_shards.specs.declared.shard.acts.Shown.TheVariants as shown
 use Rattle.item_shards.specs.Values.{Value, stock}
 use Rattle.item_shards.specs.Contents.{Contents}
 use Rattle.item_shards.specs.Views.{item_view, bids_view, category_view, user_view}

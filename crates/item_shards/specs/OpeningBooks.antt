@@ -1,7 +1,7 @@
 -- A book that an auction is opened with, as contracts see it.
-use Rattle.auction_rows.specs.declared.numbers.Opening.{Opening}
+use Rattle.auction_rows.specs.declared.values.Opening.{Opening}
 use Rattle.auction_rows.specs.Book.{Book}
-use Rattle.item_shards.specs.declared.opening_book.OpeningBook.{OpeningBook}
+use Rattle.item_shards.specs.declared.openings.OpeningBook.{OpeningBook}
 use Rattle.item_shards.specs.OpeningRows.{rows_in}
 
 -- the users and categories of the auction

@@ -1,17 +1,17 @@
 -- A shard by its contents.
 use Rattle.std.specs.Prelude.{ℕ, ◌≡◌, ◌==◌, ◌/◌, if◌then◌else◌, Bool, false, ◌||◌, List, [], slice_get, Option, is_some, IsTrue, MatchOption}
 use Rattle.indexmap.specs.IndexMap.{IndexMap, get}
-use Rattle.auction_rows.specs.declared.ids.ItemId.{ItemId}
-use Rattle.auction_rows.specs.declared.ids.Object.{Object}
-use Rattle.auction_rows.specs.declared.ids.Object.TheVariants.{Item, User, Category}
-use Rattle.auction_rows.specs.declared.numbers.Opening.{Opening}
+use Rattle.auction_rows.specs.declared.requests.ItemId.{ItemId}
+use Rattle.auction_rows.specs.declared.requests.Object.{Object}
+use Rattle.auction_rows.specs.declared.requests.Object.TheVariants.{Item, User, Category}
+use Rattle.auction_rows.specs.declared.values.Opening.{Opening}
 use Rattle.auction_rows.specs.Book.{Book, same_item}
 use Rattle.auction_rows.specs.Footprint.{is_hot}
 use Rattle.auction_rows.specs.Requests.{shard_of}
 use Rattle.item_shards.specs.declared.shard.Shard.{Shard}
-use Rattle.item_shards.specs.declared.slices.UserSlice.{UserSlice}
-use Rattle.item_shards.specs.declared.slices.CategorySlice.{CategorySlice}
-use Rattle.item_shards.specs.declared.items.ItemRecord.{ItemRecord}
+use Rattle.item_shards.specs.declared.shard.slices.UserSlice.{UserSlice}
+use Rattle.item_shards.specs.declared.shard.slices.CategorySlice.{CategorySlice}
+use Rattle.item_shards.specs.declared.shard.records.ItemRecord.{ItemRecord}
 use Rattle.item_shards.specs.Values.{Value, blank}
 use Rattle.item_shards.specs.Records.{item_value, user_value, category_value}
 use Rattle.item_shards.specs.Contents.{Contents, changed}

@@ -1,11 +1,11 @@
 //! The auction of one thread: every object in one shard.
 ghost use Rattle.std.specs.Prelude.{◌≡◌, ◌+◌, ◌<◌, ◌++◌, ◌∷◌, [], IfOk, OnOk, OnErr, All};
-ghost use Rattle.auction_rows.specs.declared.ids.Object.{Object as Thing};
+ghost use Rattle.auction_rows.specs.declared.requests.Object.{Object as Thing};
 ghost use Rattle.item_shards.specs.ShardContents.{LiesIn};
 
-use crate::answering::refusal_with;
-use crate::counting::StoreCounts;
+use crate::openings::StoreCounts;
 use crate::shard::Shard;
+use crate::shard::answers::refusal_with;
 use auction_rows::{
     BidId, BuyId, CommentId, ItemId, MOST_WORKERS, Opening, Refusal, Reply, Request, Row, item_of,
     number_refusal, row_of,

@@ -4,7 +4,7 @@ use Rattle.std.specs.Io.KnownBytes.{Appends}
 use Rattle.std.specs.List.{flat_map}
 use Rattle.auction_rows.specs.declared.rows.Row.{Row}
 use Rattle.auction_text.specs.RowLines.{rows_text}
-use Rattle.load_program.specs.declared.lines.Line.{Line}
+use Rattle.load_program.specs.declared.load.Line.{Line}
 use Rattle.load_program.specs.declared.plan.Counts.{Counts}
 use Rattle.load_program.specs.declared.plan.Plan.{Plan}
 use Rattle.load_program.specs.Lines.{line_text}

@@ -9,7 +9,7 @@ use Rattle.clap.specs.Simple.{App, new_rule, with_rule}
 use Rattle.clap.specs.Walk.{Rule}
 use Rattle.program_options.specs.Options.{SaysNumber, named_rule, versioned_program}
 use Rattle.program_options.specs.declared.options.TheConstants.{MOST_ASKED}
-use Rattle.program_options.specs.declared.faults.UsageFault.TheVariants as usage
+use Rattle.program_options.specs.declared.words.UsageFault.TheVariants as usage
 use Rattle.load_program.specs.declared.faults.PlanFault.{PlanFault}
 use Rattle.load_program.specs.declared.faults.PlanFault.TheVariants as fault
 use Rattle.load_program.specs.declared.plan.Counts.{Counts}

@@ -4,9 +4,8 @@ ghost use Rattle.auction_rows.specs.declared.limits.TheConstants.{MOST_QUANTITY}
 ghost use Rattle.load_program.specs.Loads.{EachFrom};
 ghost use Rattle.load_program.specs.Stored.{HasShare, IsLineAt, IsRowAt, IsStored, NamesStored, item_at};
 
-use crate::lines::Line;
-use crate::plan::{Counts, Plan};
-use crate::popularity::Popularity;
+use crate::load::Line;
+use crate::plan::{Counts, Plan, Popularity};
 use auction_rows::{Facts, ItemId, ItemRow, MOST_QUANTITY, Name, Quantity, Request, Row, Stars};
 use rand::RngExt;
 use rand_xoshiro::Xoshiro256PlusPlus;

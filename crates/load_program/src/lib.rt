@@ -4,14 +4,12 @@
 
 mod draws;
 mod faults;
-mod generate;
 mod help;
-mod lines;
+mod load;
 mod options;
 mod plan;
-mod popularity;
 
 pub use faults::{Fault, PlanFault, status, write_fault};
-pub use generate::write_load;
+pub use load::write_load;
 pub use options::read_plan;
 pub use plan::{Counts, Mix, Plan};

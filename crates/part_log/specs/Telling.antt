@@ -2,8 +2,8 @@
 use Rattle.std.specs.Prelude.{◌⊎◌, ℕ, List, Option}
 use Rattle.std.specs.Io.KnownBytes.{Appends, Keeps}
 use Rattle.auction_text.specs.Writing.{IsPartWritten}
-use Rattle.part_log.specs.declared.telling.TellFault.{TellFault}
-use Rattle.part_log.specs.declared.telling.TellFault.TheVariants.{Log, Write}
+use Rattle.part_log.specs.declared.log.TellFault.{TellFault}
+use Rattle.part_log.specs.declared.log.TellFault.TheVariants.{Log, Write}
 
 -- the log has accepted the rows of a part, and a prefix of its text was written; or neither has changed
 abbrev pub IsLoggedFirst : Option (List ℕ) → Option (List ℕ) → List ℕ → Option (List ℕ) → Option (List ℕ) → List ℕ → Type 0

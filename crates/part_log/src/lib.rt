@@ -2,14 +2,8 @@
 //! part's replies is written.
 #![tactic(auto)]
 
-mod append_file;
 mod file_log;
 mod log;
-mod recovery;
-mod telling;
 
-pub use append_file::AppendFile;
-pub use file_log::FileLog;
-pub use log::{Log, LogFault, NoLog};
-pub use recovery::{LINE_END, whole_lines};
-pub use telling::{TellFault, Teller, tell_part};
+pub use file_log::{AppendFile, FileLog};
+pub use log::{LINE_END, Log, LogFault, NoLog, TellFault, Teller, tell_part, whole_lines};

@@ -1,7 +1,12 @@
-//! Where rows are put by.
-ghost use Rattle.std.specs.Prelude.{◌≡◌, ℕ, false, List, Option, None, IsErr, OnOk};
+//! Where rows are put by before a part is told, and what a crash left of a log.
+ghost use Rattle.std.specs.Prelude.{◌≡◌, ℕ, false, List, Option, None, IsErr, OnOk, IfErr};
 ghost use Rattle.std.specs.Io.KnownBytes.{Appends, Keeps};
+ghost use Rattle.auction_text.specs.Writing.{IsPartWritten};
+ghost use Rattle.part_log.specs.Telling.{IsLoggedFirst, IsUnlogged};
+ghost use Rattle.part_log.specs.WholeLines.{AreWholeLines};
 
+use auction_text::WriteFault;
+use std::io::Write;
 use thiserror::Error;
 
 /// Why bytes were not put by.
@@ -45,4 +50,92 @@ impl Log for NoLog {
     fn keeps(&self) -> bool {
         false
     }
+}
+
+/// Why a part was not told.
+#[derive(Clone, Copy, Debug, PartialEq, Eq, Drop, Error)]
+pub enum TellFault {
+    /// Its rows were not put by, and no byte was written.
+    #[error("{0}")]
+    Log(LogFault),
+    /// Its rows were put by, and a prefix of its text was written.
+    #[error("{0}")]
+    Write(WriteFault),
+}
+
+// Writes a text by calls of `write` on the rest that is left, and flushes.
+fn write_text<W: Write>(writer: &mut W, text: &[u8]) -> Result<(), WriteFault>
+    ensures whole { OnOk result (Appends (W.contents writer.old) (W.contents writer.new) text.now) }
+    ensures part { IfErr result (λ fault. (fault ≡ WriteFault.Write) ×
+        IsPartWritten (W.contents writer.old) (W.contents writer.new) text.now) }
+{
+    let mut written = 0;
+    while written < text.len() {
+        match writer.write(&text[written..]) {
+            Ok(0) | Err(_) => return Err(WriteFault::Write),
+            Ok(count) => written += count,
+        }
+    }
+    match writer.flush() {
+        Ok(()) => Ok(()),
+        Err(_) => Err(WriteFault::Write),
+    }
+}
+
+/// Puts the rows of a part by, if it has any, and then writes its text: not one byte before the log
+/// has accepted the rows.
+pub fn tell_part<L: Log, W: Write>(
+    log: &mut L,
+    writer: &mut W,
+    rows: &[u8],
+    text: &[u8],
+) -> Result<(), TellFault>
+    ensures logged { OnOk result (Appends (L.accepted log.old) (L.accepted log.new) rows.now) }
+    ensures told { OnOk result (Appends (W.contents writer.old) (W.contents writer.new) text.now) }
+    ensures first { IsLoggedFirst (L.accepted log.old) (L.accepted log.new) rows.now
+        (W.contents writer.old) (W.contents writer.new) text.now }
+    ensures unlogged { IfErr result (λ fault. IsUnlogged fault → writer.new ≡ writer.old) }
+{
+    if !rows.is_empty() {
+        if let Err(fault) = log.put(rows) {
+            return Err(TellFault::Log(fault));
+        }
+    }
+    write_text(writer, text).map_err(TellFault::Write)
+}
+
+/// A log, and a writer that is told what the log has accepted.
+#[derive(Drop)]
+pub struct Teller<L, W> {
+    /// The log.
+    pub log: L,
+    /// The writer.
+    pub writer: W,
+}
+
+impl<L: Log, W: Write> Teller<L, W> {
+    /// Puts the rows of a part by, and then writes its text, as `tell_part` does.
+    pub fn tell(&mut self, rows: &[u8], text: &[u8]) -> Result<(), TellFault>
+        ensures logged { OnOk result (Appends (L.accepted self.old.log) (L.accepted self.new.log) rows.now) }
+        ensures told { OnOk result (Appends (W.contents self.old.writer) (W.contents self.new.writer) text.now) }
+        ensures first { IsLoggedFirst (L.accepted self.old.log) (L.accepted self.new.log) rows.now
+            (W.contents self.old.writer) (W.contents self.new.writer) text.now }
+        ensures unlogged { IfErr result (λ fault. IsUnlogged fault → self.new.writer ≡ self.old.writer) }
+    {
+        tell_part(&mut self.log, &mut self.writer, rows, text)
+    }
+}
+
+/// The byte that ends a line.
+pub const LINE_END: u8 = b'\n';
+
+/// How many bytes of a text are whole lines: those up to its last line end, and with it.
+pub fn whole_lines(text: &[u8]) -> usize
+    ensures { AreWholeLines text.now result }
+{
+    let mut whole = text.len();
+    while whole > 0 && text[whole - 1] != LINE_END {
+        whole -= 1;
+    }
+    whole
 }

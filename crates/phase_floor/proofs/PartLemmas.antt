@@ -4,11 +4,11 @@ use Rattle.std.specs.Prelude.{IfSome, IfNone}
 use Rattle.std.specs.List.{flat_map}
 use Rattle.std.proofs.lemmas.List.{append-nil}
 use Rattle.std.proofs.lemmas.Grind.{flat_map-append}
-use Rattle.auction_rows.specs.declared.ids.Object.{Object}
+use Rattle.auction_rows.specs.declared.requests.Object.{Object}
 use Rattle.shard_boxes.specs.Keys.{KeyState}
 use Rattle.shard_boxes.proofs.Each.{map_push}
 use Rattle.worker_journals.specs.Journals.{JournalView}
-use Rattle.phase_permits.specs.declared.counters.Counters.{Counters}
+use Rattle.phase_permits.specs.declared.worker.Counters.{Counters}
 use Rattle.phase_permits.specs.declared.slices.Hot.{Hot}
 use Rattle.phase_permits.specs.Stashes.{StashState}
 use Rattle.phase_permits.specs.Workers.{WorkerState}

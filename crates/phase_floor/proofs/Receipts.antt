@@ -12,8 +12,8 @@ use Rattle.phase_permits.proofs.Places.{stocks_of_rows}
 use Rattle.phase_permits.specs.Workers.{with_first_called, with_try, WorkerState}
 use Rattle.phase_permits.specs.Performing.{HasPerformedFirst, HasDealtWith, HasCommitted}
 use Rattle.phase_permits.proofs.PermitLemmas.{stocks-acts}
-use Rattle.phase_permits.specs.declared.fault.Done.{Done}
-use Rattle.phase_permits.specs.declared.fault.Done.TheVariants.{Committed, Stashed}
+use Rattle.phase_permits.specs.declared.transaction.Done.{Done}
+use Rattle.phase_permits.specs.declared.transaction.Done.TheVariants.{Committed, Stashed}
 use Rattle.closing_laws.specs.Phases.{no_receipt}
 use Rattle.phase_floor.specs.Closings.{IsReceipt, AreReceiptsOf}
 use Rattle.phase_floor.specs.Floors.{FloorState, IsBegun, AreBegun}

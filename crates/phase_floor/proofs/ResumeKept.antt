@@ -2,13 +2,13 @@
 use Rattle.std.proofs.Common.{◌≡◌, ℕ, ◌+◌, ◌<◌, ◌≤◌, ◌==◌, cond, List, [], ◌∷◌, map, length, refl, sym, subst, arith}
 use Rattle.std.proofs.lemmas.List.{length-map}
 use Rattle.std.proofs.lemmas.List.Sums.{sum_by-append}
-use Rattle.auction_rows.specs.declared.numbers.Opening.{Opening}
+use Rattle.auction_rows.specs.declared.values.Opening.{Opening}
 use Rattle.auction_rows.specs.Book.{Book, worker_of}
 use Rattle.auction_rows.specs.History.{IsBook}
 use Rattle.item_shards.specs.declared.shard.Shard.{Shard}
 use Rattle.item_shards.specs.OpeningRows.{rows_by}
 use Rattle.shard_boxes.specs.States.{state_of}
-use Rattle.phase_permits.specs.declared.counters.Counters.{Counters}
+use Rattle.phase_permits.specs.declared.worker.Counters.{Counters}
 use Rattle.phase_permits.specs.Replying.{CountsOf}
 use Rattle.closing_laws.specs.Standing.{ShardsStandFor, StandFor, AreOfWorkers, counters_at, stores}
 use Rattle.phase_floor.specs.Resuming.{counters_in, AreReady}

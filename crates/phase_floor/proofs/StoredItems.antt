@@ -4,9 +4,9 @@ use Rattle.std.specs.Prelude.{IsSome, is_some, option_map}
 use Rattle.std.proofs.Math.Nat.{lt_of_not-le}
 use Rattle.std.proofs.lemmas.Bool.{false≢true}
 use Rattle.std.proofs.lemmas.Nat.{mod_below}
-use Rattle.auction_rows.specs.declared.ids.ItemId.{ItemId}
-use Rattle.auction_rows.specs.declared.ids.Object.TheVariants.{Item}
-use Rattle.auction_rows.specs.declared.numbers.Opening.{Opening}
+use Rattle.auction_rows.specs.declared.requests.ItemId.{ItemId}
+use Rattle.auction_rows.specs.declared.requests.Object.TheVariants.{Item}
+use Rattle.auction_rows.specs.declared.values.Opening.{Opening}
 use Rattle.auction_rows.specs.declared.requests.Facts.{Facts}
 use Rattle.auction_rows.specs.Book.{Book, facts_of, bought}
 use Rattle.auction_rows.specs.History.{IsBook}
@@ -14,7 +14,7 @@ use Rattle.auction_rows.specs.Requests.{number_of, shard_of}
 use Rattle.auction_rows.proofs.FreshIdLemmas.{ids_of_book}
 use Rattle.item_shards.specs.Values.{value, stock}
 use Rattle.shard_boxes.specs.States.{ShardState}
-use Rattle.phase_permits.specs.declared.counters.Counters.{Counters}
+use Rattle.phase_permits.specs.declared.worker.Counters.{Counters}
 use Rattle.closing_laws.specs.Phases.{value_on}
 use Rattle.closing_laws.specs.Standing.{StandFor, counters_at}
 use Rattle.phase_floor.specs.States.{IsKept}

@@ -1,22 +1,21 @@
 -- When a phase begins, and when it does not.
-use Rattle.std.specs.Prelude.{◌≡◌, ◌+◌, ◌<◌, ◌^◌, ◌↔◌}
-use Rattle.std.specs.Prelude.{ℕ, List, [], length, map, slice_index, slice_index_or}
+use Rattle.std.specs.Prelude.{◌≡◌, ◌+◌, ◌<◌, ◌^◌, ◌↔◌, ℕ, List, [], length, map, slice_index, slice_index_or}
 use Rattle.std.specs.Global.{Vec}
 use Rattle.auction_rows.specs.declared.limits.TheConstants.{MOST_OF_A_WORKER}
-use Rattle.auction_rows.specs.declared.ids.Object.{Object}
-use Rattle.auction_rows.specs.declared.numbers.Opening.{Opening}
+use Rattle.auction_rows.specs.declared.requests.Object.{Object}
+use Rattle.auction_rows.specs.declared.values.Opening.{Opening}
 use Rattle.shard_boxes.specs.Keys.{KeyState}
 use Rattle.shard_boxes.specs.States.{ShardState}
 use Rattle.worker_journals.specs.Journals.{JournalView, empty_journal}
-use Rattle.phase_permits.specs.declared.counters.Counters.{Counters}
+use Rattle.phase_permits.specs.declared.worker.Counters.{Counters}
 use Rattle.phase_permits.specs.declared.slices.Hot.{Hot}
 use Rattle.phase_permits.specs.Slicing.{objects_of, slices_of}
 use Rattle.phase_permits.specs.Workers.{HasStashRoom, new_worker, WorkerState}
 use Rattle.phase_permits.specs.Stashes.{StashState}
 use Rattle.closing_laws.specs.Standing.{counters_at}
-use Rattle.phase_floor.specs.declared.fault.BeginFault.{BeginFault}
-use Rattle.phase_floor.specs.declared.fault.BeginFault.TheVariants.{UnknownHot, TooLong}
-use Rattle.phase_floor.specs.declared.kits.Kit.{Kit}
+use Rattle.phase_floor.specs.declared.floor.BeginFault.{BeginFault}
+use Rattle.phase_floor.specs.declared.floor.BeginFault.TheVariants.{UnknownHot, TooLong}
+use Rattle.phase_floor.specs.declared.start.Kit.{Kit}
 use Rattle.phase_floor.specs.Floors.{FloorState, Stocks, AreBegun, AreStocksOf, stash_at}
 use Rattle.phase_floor.specs.States.{JoinedState, DoAllExist, states_of}
 

@@ -1,14 +1,14 @@
 -- A phase that is open, and what it begins with.
 use Rattle.std.specs.Prelude.{◌≡◌, ℕ, ◌+◌, ◌<◌, ◌^◌, List, [], Option, length, slice_index, slice_index_or}
 use Rattle.std.specs.List.{AllByRecursion, IsDistinct}
-use Rattle.auction_rows.specs.declared.ids.Object.{Object}
-use Rattle.auction_rows.specs.declared.numbers.Opening.{Opening}
+use Rattle.auction_rows.specs.declared.requests.Object.{Object}
+use Rattle.auction_rows.specs.declared.values.Opening.{Opening}
 use Rattle.auction_rows.specs.declared.requests.Facts.{Facts}
 use Rattle.auction_rows.specs.Requests.{same_object}
 use Rattle.shard_boxes.specs.Keys.{BoxId, KeyState, IsNewKey}
 use Rattle.shard_boxes.specs.States.{ShardState}
 use Rattle.worker_journals.specs.Journals.{empty_journal}
-use Rattle.phase_permits.specs.declared.counters.Counters.{Counters}
+use Rattle.phase_permits.specs.declared.worker.Counters.{Counters}
 use Rattle.phase_permits.specs.Slicing.{objects_of, slices_of, IsStocked}
 use Rattle.phase_permits.specs.Workers.{new_worker, WorkerState}
 use Rattle.phase_permits.specs.Stashes.{StashState}

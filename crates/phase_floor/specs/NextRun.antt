@@ -1,6 +1,6 @@
 -- A state with which another run can begin.
 use Rattle.std.specs.Prelude.{map}
-use Rattle.phase_permits.specs.declared.counters.Counters.{Counters}
+use Rattle.phase_permits.specs.declared.worker.Counters.{Counters}
 use Rattle.closing_laws.specs.Standing.{stores}
 use Rattle.phase_floor.specs.States.{JoinedState}
 

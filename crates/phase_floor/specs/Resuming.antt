@@ -1,16 +1,16 @@
 -- The state that an auction is resumed with.
 use Rattle.std.specs.Prelude.{◌≡◌, ℕ, ◌+◌, ◌<◌, true, List, [], length, slice_index_or}
 use Rattle.std.specs.List.{AllByRecursion}
-use Rattle.auction_rows.specs.declared.ids.ItemId.{ItemId}
-use Rattle.auction_rows.specs.declared.ids.Object.{Object}
-use Rattle.auction_rows.specs.declared.ids.Object.TheVariants as object
+use Rattle.auction_rows.specs.declared.requests.ItemId.{ItemId}
+use Rattle.auction_rows.specs.declared.requests.Object.{Object}
+use Rattle.auction_rows.specs.declared.requests.Object.TheVariants as object
 use Rattle.auction_rows.specs.declared.limits.TheConstants.{MOST_ROWS}
-use Rattle.auction_rows.specs.declared.numbers.Opening.{Opening}
+use Rattle.auction_rows.specs.declared.values.Opening.{Opening}
 use Rattle.auction_rows.specs.declared.rows.Row.{Row}
 use Rattle.auction_rows.specs.declared.rows.Row.TheVariants as row
 use Rattle.auction_rows.specs.Book.{Book, items_stored, bids_stored, comments_stored, buys_stored}
 use Rattle.auction_rows.specs.Requests.{shard_of}
-use Rattle.item_shards.specs.declared.acts.Act.{Act}
+use Rattle.item_shards.specs.declared.shard.acts.Act.{Act}
 use Rattle.item_shards.specs.declared.shard.Shard.{Shard}
 use Rattle.item_shards.specs.Acting.{CanActOn, CanAct}
 use Rattle.item_shards.specs.OpeningRows.{rows_by}
@@ -18,7 +18,7 @@ use Rattle.item_shards.specs.Contents.{after_acts}
 use Rattle.item_shards.specs.ShardContents.{HasRoom}
 use Rattle.item_shards.specs.Writing.{writes_of, is_done_on, done_on}
 use Rattle.shard_boxes.specs.States.{ShardState, state_at}
-use Rattle.phase_permits.specs.declared.counters.Counters.{Counters}
+use Rattle.phase_permits.specs.declared.worker.Counters.{Counters}
 use Rattle.phase_permits.specs.Performing.{HaveOpening}
 
 -- a worker's counters by its rows of a book: each row was a commit

@@ -2,15 +2,15 @@
 use Rattle.std.specs.Prelude.{ℕ, ◌<◌, ◌≤◌, List, [], All, IsSome, length, map}
 use Rattle.std.specs.List.{AllByRecursion}
 use Rattle.auction_rows.specs.declared.limits.TheConstants.{MOST_OF_A_WORKER, MOST_SHARDS, MOST_WORKERS}
-use Rattle.auction_rows.specs.declared.ids.Object.{Object}
-use Rattle.auction_rows.specs.declared.ids.Object.TheVariants.{Item, User, Category}
-use Rattle.auction_rows.specs.declared.numbers.Opening.{Opening}
+use Rattle.auction_rows.specs.declared.requests.Object.{Object}
+use Rattle.auction_rows.specs.declared.requests.Object.TheVariants.{Item, User, Category}
+use Rattle.auction_rows.specs.declared.values.Opening.{Opening}
 use Rattle.auction_rows.specs.Book.{Book, worker_of}
 use Rattle.auction_rows.specs.History.{IsBook}
 use Rattle.item_shards.specs.declared.shard.Shard.{Shard}
 use Rattle.item_shards.specs.Values.{stock}
 use Rattle.shard_boxes.specs.States.{ShardState, state_of, AreOpened}
-use Rattle.phase_permits.specs.declared.counters.Counters.{Counters}
+use Rattle.phase_permits.specs.declared.worker.Counters.{Counters}
 use Rattle.phase_permits.specs.Performing.{HaveOpening}
 use Rattle.closing_laws.specs.Phases.{value_on}
 use Rattle.closing_laws.specs.Standing.{StandFor, AreOfWorkers, counters_at, stores}

@@ -1,21 +1,184 @@
-//! How a phase closes.
-ghost use Rattle.std.specs.Prelude.{◌≡◌, ◌++◌, map, IfOk, OnErr, OnOk};
+//! How a phase closes: its receipts and their parts; the slices of all workers, merged into the
+//! shards in which their objects lie; and the shards' clocks, which are at 0 between phases.
+ghost use Rattle.std.specs.Prelude.{◌≡◌, [], length, IfSome, IfNone, ◌+◌, ◌<◌, ◌≤◌, ◌++◌, ◌∷◌, map, IfOk, OnOk, vec_len, vec_capacity, fold, OnErr};
+ghost use Rattle.std.specs.List.{AllByRecursion, flat_map};
+ghost use Rattle.phase_laws.specs.Replay.{SawInTurn};
+ghost use Rattle.closing_laws.specs.Merging.{CanMerge, CanTake, after_merge, with_slice};
+ghost use Rattle.item_shards.specs.ShardContents.{LiesIn, contents, opening};
 ghost use Rattle.worker_journals.specs.Merged.{added, merged};
-ghost use Rattle.phase_floor.specs.Closings.{AreReceiptsOf, HasSettled, HasReconciled, Leaves};
+ghost use Rattle.shard_boxes.specs.States.{state_of};
+ghost use Rattle.phase_permits.specs.Workers.{WorkerState};
+ghost use Rattle.phase_floor.specs.Closings.{IsFinished, ArePartsOf, AreOfOne, AreKnown, IsKnown, opening_in, from_the_last, at_start, AreReceiptsOf, HasSettled, HasReconciled, Leaves};
 ghost use Rattle.phase_floor.specs.States.{states_of};
 
-use crate::fault::FloorFault;
-use crate::floor::{Floor, JoinedFloor, SplitFloor};
+use crate::floor::{Floor, FloorFault, JoinedFloor, SplitFloor};
 use crate::joined::Joined;
-use crate::merge::merge_all;
-use crate::parts::Parts;
-use crate::receipt::Receipt;
-use crate::reset::reset_clocks;
-use phase_permits::{JoinedReceipt, SplitReceipt, Stash};
-use shard_boxes::PhaseName;
-use std::alloc::Global;
+use auction_rows::{Object, shard_of};
+use item_shards::{Shard, Slice};
+use phase_permits::{Counters, JoinedReceipt, Slices, SplitReceipt, Stash};
+use shard_boxes::{Key, PhaseName};
+use std::alloc::{AllocError, Global};
 use std::sync::Wait;
-use worker_journals::History;
+use worker_journals::{History, Journal};
+
+/// What a worker leaves at the end of a phase.
+pub(crate) trait Receipt<N: PhaseName>: Drop {
+    /// What it shows.
+    ghost shows: { Self → WorkerState };
+
+    /// The journal, the slices, the stash, the key and the counters, which are explained by its
+    /// transactions. It takes no memory.
+    fn open(self) -> (Journal, Option<Slices>, Stash, Key<N>, Counters)
+        ensures journal { result.0 ≡ (shows self).journal }
+        ensures sliced { IfSome result.1 (λ slices. slices ≡ (shows self).slices) }
+        ensures cold { IfNone result.1 ((shows self).slices ≡ []) }
+        ensures stash { result.2 ≡ (shows self).stash }
+        ensures key { result.3 ≡ (shows self).key }
+        ensures counters { result.4 ≡ (shows self).counters }
+        ensures finished { IsFinished (length N.opening) (shows self) };
+}
+
+impl<N: PhaseName> Receipt<N> for JoinedReceipt<N> {
+    ghost shows = { λ receipt. receipt };
+
+    fn open(self) -> (Journal, Option<Slices>, Stash, Key<N>, Counters) {
+        let (journal, stash, key, counters) = self.parts();
+        (journal, None, stash, key, counters)
+    }
+}
+
+impl<N: PhaseName> Receipt<N> for SplitReceipt<N> {
+    ghost shows = { λ receipt. receipt };
+
+    fn open(self) -> (Journal, Option<Slices>, Stash, Key<N>, Counters) {
+        let (journal, slices, stash, key, counters) = self.parts();
+        (journal, Some(slices), stash, key, counters)
+    }
+}
+
+/// The journals, stashes, keys, counters and slices of a phase's workers, each in the order of the
+/// workers.
+#[derive(Drop)]
+pub(crate) struct Parts<N: PhaseName> {
+    pub(crate) journals: Vec<Journal>,
+    pub(crate) stashes: Vec<Stash>,
+    pub(crate) keys: Vec<Key<N>>,
+    pub(crate) counters: Vec<Counters>,
+    pub(crate) slices: Vec<Slices>,
+}
+
+impl<N: PhaseName> Parts<N> {
+    /// Those of receipts. All memory is asked for before a receipt is opened.
+    pub(crate) fn of<R: Receipt<N>>(alloc: Global, receipts: Vec<R>) -> Result<Parts<N>, AllocError>
+        ensures parts { IfOk result (λ parts. ArePartsOf (map R.shows receipts.items)
+            parts.journals.items parts.stashes.items parts.keys.items parts.counters.items
+            parts.slices.items) }
+        ensures finished { OnOk result
+            (AllByRecursion (IsFinished (length N.opening)) (map R.shows receipts.items)) }
+    {
+        let workers = receipts.len();
+        let mut journals = Vec::with_capacity(alloc, workers)?;
+        let mut stashes = Vec::with_capacity(alloc, workers)?;
+        let mut keys = Vec::with_capacity(alloc, workers)?;
+        let mut counters = Vec::with_capacity(alloc, workers)?;
+        let mut slices = Vec::with_capacity(alloc, workers)?;
+        for receipt in receipts {
+            let (journal, own, stash, key, counted) = receipt.open();
+            journals.push_reserved(journal);
+            stashes.push_reserved(stash);
+            keys.push_reserved(key);
+            counters.push_reserved(counted);
+            add(&mut slices, own);
+        }
+        Ok(Parts {
+            journals,
+            stashes,
+            keys,
+            counters,
+            slices,
+        })
+    }
+}
+
+// Adds slices at the end, if there are any.
+fn add(all: &mut Vec<Slices>, slices: Option<Slices>)
+    requires { vec_len all.old < vec_capacity all.old }
+    ensures some { IfSome slices (λ own. all.new.items ≡ all.old.items ++ own ∷ []) }
+    ensures none { IfNone slices (all.new.items ≡ all.old.items) }
+    ensures len { vec_len all.new ≤ vec_len all.old + 1 }
+    ensures room { vec_capacity all.new ≡ vec_capacity all.old }
+{
+    if let Some(own) = slices {
+        all.push_reserved(own);
+    }
+}
+
+// Merges a slice of an object into the shard in which it lies.
+pub(crate) fn merge(shards: &mut Vec<Shard>, object: Object, slice: Slice)
+    requires shards { AreOfOne (map state_of shards.old.items) }
+    requires known { IsKnown (opening_in (map state_of shards.old.items)) object }
+    requires can { CanMerge (map state_of shards.old.items) (object, slice) }
+    ensures { map state_of shards.new.items
+        ≡ after_merge (map state_of shards.old.items) (object, slice) }
+{
+    let place = shard_of(object, shards.len() as u32) as usize;
+    merge_into(&mut shards[place], object, slice);
+}
+
+// Merges a slice of an object into its shard.
+fn merge_into(shard: &mut Shard, object: Object, slice: Slice)
+    requires lies { LiesIn shard.old object }
+    requires known { IsKnown (opening shard.old) object }
+    requires can { CanTake (contents shard.old object) (object, slice) }
+    ensures { state_of shard.new ≡ with_slice (state_of shard.old) (object, slice) }
+{
+    match (object, slice) {
+        (Object::Item(item), Slice::Item(slice)) => shard.merge_item(item, slice),
+        (Object::User(user), Slice::User(slice)) => shard.merge_user(user, slice),
+        (Object::Category(category), Slice::Category(slice)) => {
+            shard.merge_category(category, slice)
+        }
+        _ => unreachable!(),
+    }
+}
+
+// Merges the slices of a worker, from the last on.
+fn merge_own(shards: &mut Vec<Shard>, mut slices: Slices)
+    requires shards { AreOfOne (map state_of shards.old.items) }
+    requires known { AreKnown (map state_of shards.old.items) (from_the_last slices) }
+    requires can { SawInTurn CanMerge after_merge (map state_of shards.old.items)
+        (from_the_last slices) }
+    ensures { map state_of shards.new.items
+        ≡ fold after_merge (map state_of shards.old.items) (from_the_last slices) }
+{
+    while let Some((object, slice)) = slices.pop() {
+        merge(shards, object, slice);
+    }
+}
+
+// Merges the slices of all workers, one worker's after the other.
+pub(crate) fn merge_all(shards: &mut Vec<Shard>, slices: Vec<Slices>)
+    requires shards { AreOfOne (map state_of shards.old.items) }
+    requires known { AreKnown (map state_of shards.old.items)
+        (flat_map from_the_last slices.items) }
+    requires can { SawInTurn CanMerge after_merge (map state_of shards.old.items)
+        (flat_map from_the_last slices.items) }
+    ensures { map state_of shards.new.items
+        ≡ fold after_merge (map state_of shards.old.items) (flat_map from_the_last slices.items) }
+{
+    for own in slices {
+        merge_own(shards, own);
+    }
+}
+
+// Sets all clocks to 0: numbers are those of one phase.
+pub(crate) fn reset_clocks(shards: &mut Vec<Shard>)
+    ensures { map state_of shards.new.items ≡ map at_start (map state_of shards.old.items) }
+{
+    for s in 0..shards.len() {
+        shards[s].reset_clock();
+    }
+}
 
 impl<N: PhaseName> Floor<N> {
     // Closes the phase, by one receipt of each worker, in order: adds it to the history, and merges

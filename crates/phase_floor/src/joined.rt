@@ -1,7 +1,10 @@
-//! The state between two phases.
-ghost use Rattle.std.specs.Prelude.{◌≡◌};
+//! The state between two phases, what it shows, and how it is made ready for another run.
+ghost use Rattle.std.specs.Prelude.{◌≡◌, [], is_some, IfSome, ℕ, ◌<◌, ◌≤◌, length, map};
+ghost use Rattle.std.specs.List.{AllByRecursion};
+ghost use Rattle.closing_laws.specs.Standing.{counters_at, stores};
+ghost use Rattle.phase_floor.specs.NextRun.{stores_as_commits};
 
-use auction_rows::Opening;
+use auction_rows::{MOST_OF_A_WORKER, MOST_WORKERS, Object, Opening, Reply, Request, shard_of};
 use item_shards::Shard;
 use phase_permits::Counters;
 use std::marker::Model;
@@ -38,5 +41,116 @@ impl Joined {
         ensures { result ≡ self.now.phase }
     {
         self.phase
+    }
+}
+
+impl Joined {
+    ghost use Rattle.auction_rows.specs.Book.{Book};
+    ghost use Rattle.auction_rows.specs.Replies.{reply};
+    ghost use Rattle.auction_rows.specs.Requests.{is_view};
+    ghost use Rattle.item_shards.specs.ShardContents.{LiesIn, opening, contents, StandsFor as ShardStandsFor};
+    ghost use Rattle.closing_laws.specs.Phases.{value_on};
+    ghost use Rattle.phase_floor.specs.States.{states_of, StandsFor};
+
+    /// The reply to a view: None exactly where the request is none. It takes no memory.
+    pub fn view(&self, request: &Request) -> Option<Reply>
+        ensures none { is_some result ≡ is_view request.now }
+        ensures book { IfSome result (λ seen. (book : Book) (worker : ℕ) → StandsFor self.now book →
+            seen ≡ reply self.now.opening book worker request.now) }
+    {
+        match *request {
+            Request::ViewItem { item } => Some(self.shard(Object::Item(item)).view_item(item)),
+            Request::ViewBids { item } => Some(self.shard(Object::Item(item)).view_bids(item)),
+            Request::ViewCategory { category } => {
+                Some(
+                    self.shard(Object::Category(category))
+                        .view_category(category),
+                )
+            }
+            Request::ViewUser { user } => Some(self.shard(Object::User(user)).view_user(user)),
+            _ => None,
+        }
+    }
+
+    // The shard in which an object lies.
+    pub(crate) fn shard(&self, object: Object) -> &Shard
+        ensures here { LiesIn result.now object }
+        ensures opening { opening result.now ≡ self.now.opening }
+        ensures value { contents result.now object ≡ value_on (states_of self.now) object }
+        ensures books { (book : Book) →
+            StandsFor self.now book → ShardStandsFor result.now book [] }
+    {
+        &self.shards[shard_of(object, self.shards.len() as u32) as usize]
+    }
+}
+
+impl Joined {
+    ghost use Rattle.auction_rows.specs.Book.{Book};
+    ghost use Rattle.phase_floor.specs.NextRun.{for_next_run};
+    ghost use Rattle.phase_floor.specs.States.{StandsFor, HasNoBook};
+
+    /// How many shards there are.
+    pub fn shards(&self) -> u32
+        ensures { result ≡ length self.now.shards }
+    {
+        self.shards.len() as u32
+    }
+
+    /// How many workers there are.
+    pub fn workers(&self) -> u32
+        ensures count { result ≡ length self.now.counters }
+        ensures few { result ≤ MOST_WORKERS }
+    {
+        self.counters.len() as u32
+    }
+
+    /// How many rows a worker has stored.
+    pub fn stored_by(&self, worker: usize) -> u32
+        requires { worker < length self.now.counters }
+        ensures stored { result ≡ stores (counters_at self.now.counters worker) }
+        ensures limit { result ≤ MOST_OF_A_WORKER }
+    {
+        stores(&self.counters[worker])
+    }
+
+    /// The same auction before the first phase of another run: its next phase has number 0, and
+    /// each worker's commits are its rows, as after a resume. It stands for the same books.
+    pub fn for_next_run(self) -> Joined
+        ensures next { result ≡ for_next_run self }
+        ensures stands { (book : Book) → StandsFor self book → StandsFor result book }
+        ensures of_a_book { ¬ HasNoBook self }
+    {
+        let Joined {
+            opening,
+            phase: _,
+            shards,
+            mut counters,
+        } = self;
+        set_commits(&mut counters);
+        Joined {
+            opening,
+            phase: 0,
+            shards,
+            counters,
+        }
+    }
+}
+
+// How many stores of all kinds were accepted.
+fn stores(counters: &Counters) -> u32
+    requires { stores counters.now ≤ MOST_OF_A_WORKER }
+    ensures { result ≡ stores counters.now }
+{
+    counters.items + counters.bids + counters.comments + counters.buys
+}
+
+// Counts the accepted stores of each worker as its commits, and nothing else.
+fn set_commits(counters: &mut Vec<Counters>)
+    requires { AllByRecursion (λ c. stores c ≤ MOST_OF_A_WORKER) counters.old.items }
+    ensures { counters.new.items ≡ map stores_as_commits counters.old.items }
+{
+    for worker in 0..counters.len() {
+        let commits = stores(&counters[worker]);
+        counters[worker].commits = commits;
     }
 }

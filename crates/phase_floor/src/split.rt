@@ -2,12 +2,9 @@
 ghost use Rattle.std.specs.Prelude.{◌≡◌, IfOk, IfErr, ◌↔◌, IsTrue};
 ghost use Rattle.phase_floor.specs.Begins.{CanBegin, HasRefusedSplit, OpensSplit};
 
-use crate::fault::BeginFault;
-use crate::floor::SplitFloor;
+use crate::floor::{BeginFault, SplitFloor};
 use crate::joined::Joined;
-use crate::kits::{Stocks, new_stashes};
-use crate::quotas::is_too_long;
-use crate::start::split_permits;
+use crate::start::{Stocks, is_too_long, new_stashes, split_permits};
 use auction_rows::{Facts, Object};
 use indexmap::IndexSet;
 use phase_permits::SplitPermit;

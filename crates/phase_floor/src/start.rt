@@ -1,13 +1,95 @@
-//! What a worker starts a phase with, and the permit that is made of it.
-ghost use Rattle.std.specs.Prelude.{◌≡◌, ◌≤◌, [], vec_len, vec_capacity};
-ghost use Rattle.std.specs.List.{AllByRecursion};
-ghost use Rattle.phase_floor.specs.Begins.{HasNoSlices};
+//! How a phase begins: how many requests it may perform, what its workers start it with, and the
+//! permits that are made of that.
+ghost use Rattle.std.specs.Prelude.{◌≡◌, ◌+◌, ◌<◌, length, IsTrue, ◌↔◌, ◌≤◌, ℕ, map, vec_len, IfOk, slice_index, [], vec_capacity, IfErr};
+ghost use Rattle.std.specs.List.{AllByRecursion, IsDistinct};
+ghost use Rattle.auction_rows.specs.Requests.{same_object};
+ghost use Rattle.shard_boxes.specs.Keys.{AreNewKeys};
+ghost use Rattle.phase_permits.specs.Slicing.{objects_of, IsStocked};
+ghost use Rattle.phase_floor.specs.Begins.{IsTooLong, AreKits, empty_stash, HasNoSlices, asked_in_all, CanBegin, CanBeGiven, HasRefusedJoined, HaveStashRoom, OpensJoined, OpensPhase};
+ghost use Rattle.phase_floor.specs.Floors.{stash_at, AreBegun};
 
-use auction_rows::Opening;
+use crate::floor::{BeginFault, Floor, JoinedFloor};
+use crate::joined::Joined;
+use auction_rows::{Facts, MOST_OF_A_WORKER, MOST_WORKERS, Object, Opening};
 use phase_permits::{Counters, JoinedPermit, Slices, SplitPermit, Stash};
-use shard_boxes::{Key, PhaseName};
+use shard_boxes::{Boxes, Key, PhaseName};
+use std::alloc::{AllocError, Global};
 use std::marker::Model;
+use std::sync::Wait;
 use worker_journals::Journal;
+
+// Whether these are more than 1,000,000 together.
+pub(crate) fn is_over(commits: u32, waiting: usize, quota: u32) -> bool
+    ensures { IsTrue result ↔ (MOST_OF_A_WORKER < commits + waiting + quota) }
+{
+    waiting as u64 > MOST_OF_A_WORKER
+        || commits as u64 + waiting as u64 + quota as u64 > MOST_OF_A_WORKER
+}
+
+// Whether some worker has committed and shall perform more than 1,000,000 requests. Past the
+// stashes nothing waits.
+pub(crate) fn is_too_long(counters: &[Counters], stashes: &[Stash], quotas: &[u32]) -> bool
+    requires quotas { length quotas.now ≡ length counters.now }
+    ensures { IsTrue result ↔ IsTooLong counters.now stashes.now quotas.now }
+{
+    for w in 0..counters.len() {
+        let waiting = stashes.get(w).map_or(0, Stash::len);
+        if is_over(counters[w].commits, waiting, quotas[w]) {
+            return true;
+        }
+    }
+    false
+}
+
+/// What is fixed of each hot object: of an item its facts and how many are left.
+pub(crate) type Stocks = Vec<(Object, Option<(Facts, u32)>)>;
+
+/// A worker's journal and slices as a phase begins.
+#[derive(Drop)]
+pub(crate) struct Kit {
+    pub(crate) journal: Journal,
+    pub(crate) slices: Slices,
+}
+
+// A kit for each worker, with room for what waits and for the quota.
+pub(crate) fn new_kits(
+    alloc: Global,
+    phase: u64,
+    stocks: &Stocks,
+    stashes: &[Stash],
+    quotas: &[u32],
+) -> Result<Vec<Kit>, AllocError>
+    requires stashes { length stashes.now ≡ length quotas.now }
+    requires few { length quotas.now ≤ MOST_WORKERS }
+    requires fit { (w : ℕ) → w < length quotas.now →
+        length (stash_at stashes.now w).requests + slice_index quotas.now w ≤ MOST_OF_A_WORKER }
+    requires distinct { IsDistinct same_object (objects_of stocks.now.items) }
+    requires stocked { AllByRecursion IsStocked stocks.now.items }
+    ensures len { IfOk result (λ kits. vec_len kits ≡ length quotas.now) }
+    ensures each { IfOk result (λ kits. AreKits phase stocks.now.items stashes.now quotas.now
+        (length quotas.now) kits.items) }
+{
+    let mut kits = Vec::with_capacity(alloc, quotas.len())?;
+    for w in 0..quotas.len() {
+        let room = stashes[w].len() + quotas[w] as usize;
+        let journal = Journal::with_room(alloc, phase, w as u32, room)?;
+        let slices = Slices::new(alloc, stocks)?;
+        kits.push_reserved(Kit { journal, slices });
+    }
+    Ok(kits)
+}
+
+// An empty stash for each worker, with room for its quota.
+pub(crate) fn new_stashes(alloc: Global, quotas: &[u32]) -> Result<Vec<Stash>, AllocError>
+    requires few { length quotas.now ≤ MOST_WORKERS }
+    ensures { IfOk result (λ stashes. stashes.items ≡ map empty_stash quotas.now) }
+{
+    let mut stashes = Vec::with_capacity(alloc, quotas.len())?;
+    for quota in quotas {
+        stashes.push(Stash::with_room(alloc, *quota as usize)?)?;
+    }
+    Ok(stashes)
+}
 
 /// What a worker starts a phase with, of either kind. It shows what the permit shows that is made
 /// of it.
@@ -97,4 +179,130 @@ pub(crate) fn split_permits<N: PhaseName>(
         permits.push_reserved(start.split());
     }
     permits
+}
+
+impl Joined {
+    /// Begins a joined phase: a permit for each worker to perform what waits in its stash and its
+    /// quota. The phase is of this state's shards and workers, and its number is below 2^64 - 1. If
+    /// it does not begin, the state and the stashes come back unchanged: `TooLong` if some worker's
+    /// commits, stash and quota are more than 1,000,000 together, `Memory` if none is left.
+    pub fn begin_joined<N: PhaseName, R: Wait>(
+        self,
+        rt: &R,
+        alloc: Global,
+        quotas: &[u32],
+        stashes: Vec<Stash>,
+    ) -> Result<(JoinedFloor<N>, Vec<JoinedPermit<N>>), (Joined, Vec<Stash>, BeginFault)>
+        requires can { CanBegin N.opening N.workers self quotas.now }
+        requires stashes { vec_len stashes ≡ N.workers }
+        ensures begun { IfOk result (λ begun.
+            OpensJoined self quotas.now stashes.items begun.0 begun.1.items) }
+        ensures refused { IfErr result (λ refused.
+            HasRefusedJoined self stashes quotas.now refused.0 refused.1 refused.2) }
+    {
+        if is_too_long(&self.counters, &stashes, quotas) {
+            return Err((self, stashes, BeginFault::TooLong));
+        }
+        let Ok(permits) = Vec::with_capacity(alloc, quotas.len()) else {
+            return Err((self, stashes, BeginFault::Memory));
+        };
+        match self.begin(rt, alloc, Vec::new(alloc), quotas, stashes) {
+            Ok((floor, starts)) => {
+                let permits = joined_permits(permits, starts);
+                Ok((JoinedFloor { floor }, permits))
+            }
+            Err((state, stashes)) => {
+                permits.destroy_empty();
+                Err((state, stashes, BeginFault::Memory))
+            }
+        }
+    }
+
+    // Begins a phase of either kind: what each worker starts with. All memory is asked for before
+    // anything is moved; if it is refused, the state and the stashes come back unchanged.
+    pub(crate) fn begin<N: PhaseName, R: Wait>(
+        self,
+        rt: &R,
+        alloc: Global,
+        stocks: Stocks,
+        quotas: &[u32],
+        stashes: Vec<Stash>,
+    ) -> Result<(Floor<N>, Vec<Start<N>>), (Joined, Vec<Stash>)>
+        requires can { CanBegin N.opening N.workers self quotas.now }
+        requires stashes { vec_len stashes ≡ N.workers }
+        requires given { CanBeGiven self stocks.items stashes.items quotas.now }
+        ensures begun { IfOk result (λ begun.
+            OpensPhase self quotas.now stashes.items begun.0 begun.1.items) }
+        ensures stocks { IfOk result (λ begun. begun.0.stocks ≡ stocks.items) }
+        ensures refused { IfErr result (λ refused. (refused.0 ≡ self) × (refused.1 ≡ stashes)) }
+    {
+        let Ok(kits) = new_kits(alloc, self.phase, &stocks, &stashes, quotas) else {
+            return Err((self, stashes));
+        };
+        let Ok(starts) = Vec::with_capacity(alloc, quotas.len()) else {
+            return Err((self, stashes));
+        };
+        match Boxes::new(rt, alloc, self.shards, quotas.len() as u32) {
+            Ok((boxes, keys)) => {
+                let floor = Floor {
+                    opening: self.opening,
+                    phase: self.phase,
+                    counters: self.counters,
+                    stocks,
+                    boxes,
+                };
+                let starts = floor.give(starts, keys, kits, stashes, quotas);
+                Ok((floor, starts))
+            }
+            Err((shards, _)) => Err((Joined { shards, ..self }, stashes)),
+        }
+    }
+}
+
+impl<N: PhaseName> Floor<N> {
+    // What each worker starts with, by the keys.
+    fn give(
+        &self,
+        mut starts: Vec<Start<N>>,
+        keys: Vec<Key<N>>,
+        kits: Vec<Kit>,
+        stashes: Vec<Stash>,
+        quotas: &[u32],
+    ) -> Vec<Start<N>>
+        requires empty { vec_len starts ≡ 0 }
+        requires room { N.workers ≤ vec_capacity starts }
+        requires keys { AreNewKeys self.now.boxes N.workers keys.items }
+        requires lens { (vec_len kits ≡ N.workers) × (vec_len stashes ≡ N.workers)
+            × (length quotas.now ≡ N.workers) }
+        requires kits { AreKits self.now.phase self.now.stocks stashes.items quotas.now N.workers
+            kits.items }
+        requires fits { (w : ℕ) → w < N.workers →
+            asked_in_all self.now.counters stashes.items quotas.now w ≤ MOST_OF_A_WORKER }
+        requires rooms { HaveStashRoom self.now.stocks stashes.items quotas.now }
+        ensures { AreBegun self.now quotas.now stashes.items result.items }
+    {
+        let mut w = 0;
+        let mut kits = kits.into_iter();
+        let mut stashes = stashes.into_iter();
+        for key in keys {
+            let Some(Kit { journal, slices }) = kits.next() else {
+                unreachable!();
+            };
+            let Some(stash) = stashes.next() else {
+                unreachable!();
+            };
+            let counters = self.counters[w];
+            starts.push_reserved(Start {
+                key,
+                opening: self.opening,
+                counters,
+                journal,
+                stash,
+                slices,
+                quota: quotas[w],
+            });
+            w += 1;
+        }
+        starts
+    }
 }

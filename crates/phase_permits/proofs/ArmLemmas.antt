@@ -1,18 +1,18 @@
 -- What each kind of store does is good on a shard that it took, by what it was answered.
 use Rattle.std.proofs.Common.{◌≡◌, ℕ, List, Option, Some, None, MatchOption, option_map, refl, subst}
-use Rattle.auction_rows.specs.declared.ids.BidEntry.{BidEntry}
-use Rattle.auction_rows.specs.declared.ids.BidId.{BidId}
-use Rattle.auction_rows.specs.declared.ids.BuyId.{BuyId}
-use Rattle.auction_rows.specs.declared.ids.ItemId.{ItemId}
-use Rattle.auction_rows.specs.declared.numbers.Stars.{Stars}
+use Rattle.auction_rows.specs.declared.requests.BidEntry.{BidEntry}
+use Rattle.auction_rows.specs.declared.requests.BidId.{BidId}
+use Rattle.auction_rows.specs.declared.requests.BuyId.{BuyId}
+use Rattle.auction_rows.specs.declared.requests.ItemId.{ItemId}
+use Rattle.auction_rows.specs.declared.values.Stars.{Stars}
 use Rattle.auction_rows.specs.declared.replies.Refusal.{Refusal}
 use Rattle.auction_rows.specs.declared.replies.Reply.{Reply}
 use Rattle.auction_rows.specs.declared.replies.Reply.TheVariants.{BidStored, Bought, Refused}
 use Rattle.auction_rows.specs.declared.requests.Facts.{Facts}
 use Rattle.auction_rows.specs.declared.requests.Request.{Request}
 use Rattle.auction_rows.specs.declared.requests.Request.TheVariants.{StoreBid, StoreComment, BuyNow}
-use Rattle.item_shards.specs.declared.acts.Act.TheVariants.{Bid, Comment, Buy, Look}
-use Rattle.item_shards.specs.declared.acts.Shown.TheVariants as shown
+use Rattle.item_shards.specs.declared.shard.acts.Act.TheVariants.{Bid, Comment, Buy, Look}
+use Rattle.item_shards.specs.declared.shard.acts.Shown.TheVariants as shown
 use Rattle.shard_boxes.specs.Helds.{HeldState}
 use Rattle.phase_permits.specs.Begun.{IsAnsweredOn, Step}
 use Rattle.phase_permits.specs.Deeds.{AreGoodOn}

@@ -4,9 +4,9 @@ use Rattle.std.specs.Option.{option_or}
 use Rattle.std.specs.List.{AllByRecursion}
 use Rattle.std.proofs.lemmas.Bool.{true≢false}
 use Rattle.phase_laws.specs.Numbers.{greatest_by}
-use Rattle.auction_rows.specs.declared.ids.ItemId.{ItemId}
-use Rattle.auction_rows.specs.declared.ids.Object.{Object}
-use Rattle.auction_rows.specs.declared.ids.Object.TheVariants.{Item}
+use Rattle.auction_rows.specs.declared.requests.ItemId.{ItemId}
+use Rattle.auction_rows.specs.declared.requests.Object.{Object}
+use Rattle.auction_rows.specs.declared.requests.Object.TheVariants.{Item}
 use Rattle.auction_rows.specs.declared.replies.Refusal.{Refusal}
 use Rattle.auction_rows.specs.declared.replies.Reply.{Reply}
 use Rattle.auction_rows.specs.declared.replies.Reply.TheVariants.{ItemStored, Refused}
@@ -22,14 +22,14 @@ use Rattle.shard_boxes.specs.Helds.{HeldState}
 use Rattle.shard_boxes.specs.Keys.{KeyState}
 use Rattle.shard_boxes.specs.States.{ShardState}
 use Rattle.phase_permits.specs.declared.deeds.Deeds.{Deeds}
-use Rattle.phase_permits.specs.declared.fault.PermitFault.TheVariants.{Memory}
+use Rattle.phase_permits.specs.declared.transaction.PermitFault.TheVariants.{Memory}
 use Rattle.phase_permits.specs.declared.homes.Home.{Home}
 use Rattle.phase_permits.specs.declared.homes.Home.TheVariants as home
 use Rattle.phase_permits.specs.declared.homes.Homes.{Homes}
-use Rattle.phase_permits.specs.declared.read_set.ReadSet.{ReadSet}
+use Rattle.phase_permits.specs.declared.transaction.ReadSet.{ReadSet}
 use Rattle.phase_permits.specs.declared.slices.Hot.{Hot}
-use Rattle.phase_permits.specs.declared.taken.Begun.{Begun}
-use Rattle.phase_permits.specs.declared.taken.Taken.{Taken}
+use Rattle.phase_permits.specs.declared.homes.Begun.{Begun}
+use Rattle.phase_permits.specs.declared.homes.Taken.{Taken}
 use Rattle.phase_permits.specs.Begun.{Step, HasBegun, HasFirst, HasRoomFor, IsAnsweredOn, IsSeen}
 use Rattle.phase_permits.specs.Deeds.{IsReplyBy, IsNextIf, AreDeedsOf, AreGoodOn, acts_for, clocks_of, deal_of, footprint_on}
 use Rattle.phase_permits.specs.Homes.{IsHomeOf}

@@ -9,7 +9,7 @@ use Rattle.auction_rows.specs.declared.requests.Request.{Request}
 use Rattle.auction_rows.specs.Footprint.{is_hot, objects_of as objects_named}
 use Rattle.auction_rows.specs.Refusals.{number_refusal}
 use Rattle.auction_rows.specs.Requests.{shard_of}
-use Rattle.item_shards.specs.declared.acts.Act.{Act}
+use Rattle.item_shards.specs.declared.shard.acts.Act.{Act}
 use Rattle.item_shards.specs.CommitNumbers.{last_number}
 use Rattle.item_shards.specs.ShardContents.{clock}
 use Rattle.item_shards.specs.Writing.{padded, done_on, acts_owed}
@@ -19,11 +19,11 @@ use Rattle.shard_boxes.specs.Keys.{KeyState}
 use Rattle.shard_boxes.specs.Lines.{first_two}
 use Rattle.shard_boxes.specs.States.{ShardState}
 use Rattle.phase_permits.specs.declared.deeds.Deeds.{Deeds}
-use Rattle.phase_permits.specs.declared.fault.PermitFault.{PermitFault}
-use Rattle.phase_permits.specs.declared.fault.PermitFault.TheVariants.{Memory, NumberFull}
+use Rattle.phase_permits.specs.declared.transaction.PermitFault.{PermitFault}
+use Rattle.phase_permits.specs.declared.transaction.PermitFault.TheVariants.{Memory, NumberFull}
 use Rattle.phase_permits.specs.declared.homes.Homes.{Homes}
-use Rattle.phase_permits.specs.declared.read_set.ReadSet.{ReadSet}
-use Rattle.phase_permits.specs.declared.taken.Taken.{Taken}
+use Rattle.phase_permits.specs.declared.transaction.ReadSet.{ReadSet}
+use Rattle.phase_permits.specs.declared.homes.Taken.{Taken}
 use Rattle.phase_permits.specs.Deeds.{first_dealt, second_dealt, clocks_of, acts_for, AreDeedsOf, footprint_on}
 use Rattle.phase_permits.specs.Performing.{HasCommitted, HasFailed, IsCause, StoresItem, asks, shards_asked, greatest_seen}
 use Rattle.phase_permits.specs.Putting.{clock_seen, HasPutAll, IsAsTaken}

@@ -4,15 +4,15 @@ use Rattle.std.specs.List.{list_any}
 use Rattle.std.proofs.lemmas.Bool.{eq-eqb, ne_eqb, false≢true}
 use Rattle.std.proofs.lemmas.Bool.Decides.{eqb_tells}
 use Rattle.phase_laws.specs.Numbers.{greatest_by}
-use Rattle.item_shards.specs.declared.acts.Act.{Act}
+use Rattle.item_shards.specs.declared.shard.acts.Act.{Act}
 use Rattle.item_shards.specs.ShardContents.{clock}
 use Rattle.item_shards.specs.Writing.{padded}
 use Rattle.shard_boxes.specs.Helds.{HeldState}
 use Rattle.shard_boxes.specs.Lines.{first_two}
 use Rattle.phase_permits.specs.declared.homes.Home.{Home}
 use Rattle.phase_permits.specs.declared.homes.Home.TheVariants as home
-use Rattle.phase_permits.specs.declared.taken.Taken.{Taken}
-use Rattle.phase_permits.specs.declared.taken.Taken.TheVariants as taken
+use Rattle.phase_permits.specs.declared.homes.Taken.{Taken}
+use Rattle.phase_permits.specs.declared.homes.Taken.TheVariants as taken
 use Rattle.phase_permits.specs.Deeds.{is_at, deeds_on, first_dealt, second_dealt, clocks_of}
 use Rattle.phase_permits.specs.Putting.{alone_in}
 use Rattle.phase_permits.specs.Takens.{shard_at, each_once, held_in, numbers_of, is_one_of, dealt, no_line, line_among}

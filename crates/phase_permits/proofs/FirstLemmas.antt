@@ -4,9 +4,9 @@ use Rattle.std.specs.List.{AllByRecursion}
 use Rattle.std.proofs.lemmas.Bool.{eq-eqb, true≢false}
 use Rattle.std.proofs.lemmas.Option.{same_Some}
 use Rattle.phase_laws.specs.Numbers.{greatest_by}
-use Rattle.auction_rows.specs.declared.ids.ItemId.{ItemId}
-use Rattle.auction_rows.specs.declared.ids.Object.{Object}
-use Rattle.auction_rows.specs.declared.ids.Object.TheVariants.{Item}
+use Rattle.auction_rows.specs.declared.requests.ItemId.{ItemId}
+use Rattle.auction_rows.specs.declared.requests.Object.{Object}
+use Rattle.auction_rows.specs.declared.requests.Object.TheVariants.{Item}
 use Rattle.auction_rows.specs.declared.requests.Facts.{Facts}
 use Rattle.auction_rows.specs.declared.requests.Request.{Request}
 use Rattle.auction_rows.specs.Requests.{shard_of}
@@ -19,9 +19,9 @@ use Rattle.shard_boxes.specs.Lines.{IsHistory}
 use Rattle.shard_boxes.specs.States.{ShardState, state_of}
 use Rattle.phase_permits.specs.declared.homes.Home.{Home}
 use Rattle.phase_permits.specs.declared.slices.Hot.{Hot}
-use Rattle.phase_permits.specs.declared.taken.Begun.{Begun}
-use Rattle.phase_permits.specs.declared.taken.Taken.{Taken}
-use Rattle.phase_permits.specs.declared.taken.Taken.TheVariants as taken
+use Rattle.phase_permits.specs.declared.homes.Begun.{Begun}
+use Rattle.phase_permits.specs.declared.homes.Taken.{Taken}
+use Rattle.phase_permits.specs.declared.homes.Taken.TheVariants as taken
 use Rattle.phase_permits.specs.Begun.{HasBegun, Step, FirstHas, FirstHasRoom, states_in}
 use Rattle.phase_permits.specs.Deeds.{stock_on}
 use Rattle.phase_permits.specs.Homes.{IsHomeOf}

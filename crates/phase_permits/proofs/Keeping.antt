@@ -7,7 +7,7 @@ use Rattle.std.proofs.lemmas.List.Sums.{fold-append}
 use Rattle.phase_laws.proofs.OrderLemmas.{all_push}
 use Rattle.phase_laws.proofs.ReplayLemmas.{saw_push}
 use Rattle.phase_laws.proofs.NumberLemmas.{numbered_push, last-push}
-use Rattle.auction_rows.specs.declared.ids.Object.{Object}
+use Rattle.auction_rows.specs.declared.requests.Object.{Object}
 use Rattle.auction_rows.specs.declared.requests.Facts.{Facts}
 use Rattle.auction_rows.specs.declared.rows.Entry.{Entry}
 use Rattle.auction_rows.specs.declared.rows.Row.{Row}

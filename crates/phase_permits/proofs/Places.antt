@@ -5,15 +5,15 @@ use Rattle.std.proofs.lemmas.Option.{slice_get-get_or}
 use Rattle.std.specs.List.{IsDistinct, AllByRecursion}
 use Rattle.std.specs.Map.{lookup}
 use Rattle.indexmap.specs.Layout.{set_value_at}
-use Rattle.auction_rows.specs.contracts.ids.ObjectPartialEq.TheImpl.{eq-value as object_eq}
-use Rattle.auction_rows.specs.declared.ids.Object.{Object}
+use Rattle.auction_rows.specs.contracts.requests.ObjectPartialEq.TheImpl.{eq-value as object_eq}
+use Rattle.auction_rows.specs.declared.requests.Object.{Object}
 use Rattle.auction_rows.specs.declared.requests.Facts.{Facts}
 use Rattle.auction_rows.specs.Book.{Book}
 use Rattle.auction_rows.specs.Footprint.{is_hot}
 use Rattle.auction_rows.specs.Requests.{same_object}
 pub use Rattle.auction_rows.proofs.RequestLemmas.{distinct_objects}
 use Rattle.auction_rows.proofs.RequestLemmas.{eq_is_same, same_either_way, same_object-true, same_objects}
-use Rattle.item_shards.specs.declared.slices.Slice.{Slice}
+use Rattle.item_shards.specs.declared.shard.slices.Slice.{Slice}
 use Rattle.item_shards.specs.Values.{blank, value}
 use Rattle.item_shards.proofs.StandingLemmas.{blank_of_none}
 use Rattle.phase_permits.specs.declared.slices.Hot.{Hot}

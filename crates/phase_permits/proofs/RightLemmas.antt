@@ -4,11 +4,11 @@ use Rattle.std.specs.List.{list_any}
 use Rattle.std.specs.Option.{option_or}
 use Rattle.std.proofs.Math.Seq.{take-append_seam}
 use Rattle.std.proofs.lemmas.List.{ext_get_or}
-use Rattle.auction_rows.specs.declared.ids.ItemId.{ItemId}
-use Rattle.auction_rows.specs.declared.ids.Object.{Object}
-use Rattle.auction_rows.specs.declared.ids.Object.TheVariants.{Item, User, Category}
-use Rattle.auction_rows.specs.declared.numbers.Opening.{Opening}
-use Rattle.auction_rows.specs.declared.numbers.Stars.{Stars}
+use Rattle.auction_rows.specs.declared.requests.ItemId.{ItemId}
+use Rattle.auction_rows.specs.declared.requests.Object.{Object}
+use Rattle.auction_rows.specs.declared.requests.Object.TheVariants.{Item, User, Category}
+use Rattle.auction_rows.specs.declared.values.Opening.{Opening}
+use Rattle.auction_rows.specs.declared.values.Stars.{Stars}
 use Rattle.auction_rows.specs.declared.replies.Refusal.{Refusal}
 use Rattle.auction_rows.specs.declared.replies.Reply.{Reply}
 use Rattle.auction_rows.specs.declared.replies.Reply.TheVariants.{ItemStored, BidStored, CommentStored, Bought, ItemSeen, BidsSeen, CategorySeen, UserSeen, Refused}
@@ -22,9 +22,9 @@ use Rattle.auction_rows.specs.Refusals.{number_refusal, item_refusal, refusal}
 use Rattle.auction_rows.specs.Replies.{answer_unless, answer, reply}
 use Rattle.auction_rows.specs.Requests.{item_of, shard_of}
 use Rattle.auction_rows.proofs.RefusalLemmas.{refusal-split}
-use Rattle.item_shards.specs.declared.acts.Act.{Act}
-use Rattle.item_shards.specs.declared.acts.Act.TheVariants.{Look}
-use Rattle.item_shards.specs.declared.acts.Shown.TheVariants as shown
+use Rattle.item_shards.specs.declared.shard.acts.Act.{Act}
+use Rattle.item_shards.specs.declared.shard.acts.Act.TheVariants.{Look}
+use Rattle.item_shards.specs.declared.shard.acts.Shown.TheVariants as shown
 use Rattle.item_shards.specs.Looking.{view_like}
 use Rattle.item_shards.specs.Contents.{Contents}
 use Rattle.item_shards.specs.Standing.{ContentsStandsFor}
@@ -36,11 +36,11 @@ use Rattle.shard_boxes.specs.declared.line.Line.{Line}
 use Rattle.shard_boxes.specs.Keys.{KeyState, no_seat, seat_at, seen_at}
 use Rattle.shard_boxes.specs.Lines.{acts_in, after, AreTrueOf}
 use Rattle.shard_boxes.specs.States.{ShardState, state_at}
-use Rattle.phase_permits.specs.declared.counters.Counters.{Counters}
-use Rattle.phase_permits.specs.declared.read_set.ReadSet.{ReadSet}
+use Rattle.phase_permits.specs.declared.worker.Counters.{Counters}
+use Rattle.phase_permits.specs.declared.transaction.ReadSet.{ReadSet}
 use Rattle.phase_permits.specs.Txns.{Setting, Txn, hot_in, takes, line_on, stock_seen, refusal_by, SuitsItem, SuitsBids, IsAnswered}
 use Rattle.phase_permits.specs.Slicing.{stock_of}
-use Rattle.phase_permits.specs.declared.fault.PermitFault.{PermitFault}
+use Rattle.phase_permits.specs.declared.transaction.PermitFault.{PermitFault}
 use Rattle.phase_permits.specs.Performing.{HasCommitted, HasFailed, HasPerformed, IsUntouched, shards_asked}
 use Rattle.phase_permits.specs.Workers.{WorkerState, setting_of, txn_of}
 use Rattle.phase_permits.proofs.HomeLemmas.{no_other}

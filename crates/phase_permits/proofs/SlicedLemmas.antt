@@ -1,12 +1,12 @@
 -- What a store does to the slices of its worker.
 use Rattle.std.proofs.Common.{◌≡◌, ℕ, ◌==◌, Bool, true, false, cond, List, [], ◌∷◌, refl, sym, ap, subst, ◌∙◌}
 use Rattle.std.proofs.lemmas.Bool.{eq-eqb, or_parts}
-use Rattle.auction_rows.specs.declared.ids.BidId.{BidId}
-use Rattle.auction_rows.specs.declared.ids.CommentId.{CommentId}
-use Rattle.auction_rows.specs.declared.ids.ItemId.{ItemId}
-use Rattle.auction_rows.specs.declared.ids.Object.{Object}
-use Rattle.auction_rows.specs.declared.ids.Object.TheVariants.{Item, User, Category}
-use Rattle.auction_rows.specs.declared.numbers.Stars.{Stars}
+use Rattle.auction_rows.specs.declared.requests.BidId.{BidId}
+use Rattle.auction_rows.specs.declared.requests.CommentId.{CommentId}
+use Rattle.auction_rows.specs.declared.requests.ItemId.{ItemId}
+use Rattle.auction_rows.specs.declared.requests.Object.{Object}
+use Rattle.auction_rows.specs.declared.requests.Object.TheVariants.{Item, User, Category}
+use Rattle.auction_rows.specs.declared.values.Stars.{Stars}
 use Rattle.auction_rows.specs.declared.replies.StoreReply.{StoreReply}
 use Rattle.auction_rows.specs.declared.replies.StoreReply.TheVariants as store
 use Rattle.auction_rows.specs.declared.requests.Facts.{Facts}
@@ -18,7 +18,7 @@ use Rattle.auction_rows.specs.Replies.{row_of, row_if}
 use Rattle.auction_rows.specs.Requests.{same_object}
 use Rattle.auction_rows.specs.StoreReplies.{reply_of}
 use Rattle.auction_rows.proofs.RequestLemmas.{same_either_way}
-use Rattle.item_shards.specs.declared.slices.Slice.{Slice}
+use Rattle.item_shards.specs.declared.shard.slices.Slice.{Slice}
 use Rattle.item_shards.specs.Writing.{writes_if}
 use Rattle.phase_permits.specs.declared.homes.Home.{Home}
 use Rattle.phase_permits.specs.declared.homes.Home.TheVariants as home

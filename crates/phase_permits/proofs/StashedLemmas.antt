@@ -4,8 +4,8 @@ use Rattle.std.specs.Prelude.{slice_get}
 use Rattle.auction_rows.specs.declared.requests.Request.{Request}
 use Rattle.shard_boxes.specs.Keys.{KeyState, seat_at}
 use Rattle.shard_boxes.specs.States.{ShardState}
-use Rattle.phase_permits.specs.declared.fault.PermitFault.{PermitFault}
-use Rattle.phase_permits.specs.declared.fault.PermitFault.TheVariants.{Memory, NumberFull}
+use Rattle.phase_permits.specs.declared.transaction.PermitFault.{PermitFault}
+use Rattle.phase_permits.specs.declared.transaction.PermitFault.TheVariants.{Memory, NumberFull}
 use Rattle.phase_permits.specs.Putting.{HasSameLines}
 use Rattle.phase_permits.specs.Performing.{HasFailed, HasFailedFirst, IsCause}
 use Rattle.phase_permits.specs.Workers.{WorkerState, IsIdle, with_first_called}

@@ -2,8 +2,8 @@
 use Rattle.std.proofs.Common.{◌≡◌, ℕ, true, false, cond, List, [], ◌∷◌, length, Option, Some, None, MatchOption, refl, sym, ap, subst, ◌∙◌}
 use Rattle.std.proofs.lemmas.Bool.{true≢false, false≢true}
 use Rattle.std.proofs.lemmas.Option.{same_Some}
-use Rattle.auction_rows.specs.declared.ids.Object.{Object}
-use Rattle.auction_rows.specs.declared.ids.Object.TheVariants.{Item, User, Category}
+use Rattle.auction_rows.specs.declared.requests.Object.{Object}
+use Rattle.auction_rows.specs.declared.requests.Object.TheVariants.{Item, User, Category}
 use Rattle.auction_rows.specs.declared.replies.Reply.{Reply}
 use Rattle.auction_rows.specs.declared.replies.Reply.TheVariants.{Refused}
 use Rattle.auction_rows.specs.declared.requests.Request.{Request}
@@ -11,20 +11,20 @@ use Rattle.auction_rows.specs.declared.requests.Request.TheVariants.{StoreItem, 
 use Rattle.auction_rows.specs.Footprint.{is_hot}
 use Rattle.auction_rows.specs.Refusals.{number_refusal}
 use Rattle.auction_rows.specs.Requests.{is_view}
-use Rattle.item_shards.specs.declared.acts.Act.TheVariants.{Look}
-use Rattle.item_shards.specs.declared.acts.Shown.TheVariants as shown
+use Rattle.item_shards.specs.declared.shard.acts.Act.TheVariants.{Look}
+use Rattle.item_shards.specs.declared.shard.acts.Shown.TheVariants as shown
 use Rattle.item_shards.specs.Writing.{padded, done_on}
 use Rattle.shard_boxes.specs.Keys.{KeyState}
 use Rattle.shard_boxes.specs.States.{ShardState}
-use Rattle.phase_permits.specs.declared.counters.Counters.{Counters}
+use Rattle.phase_permits.specs.declared.worker.Counters.{Counters}
 use Rattle.phase_permits.specs.declared.deeds.Deeds.{Deeds}
 use Rattle.phase_permits.specs.declared.homes.Home.{Home}
 use Rattle.phase_permits.specs.declared.homes.Home.TheVariants as home
 use Rattle.phase_permits.specs.declared.homes.Homes.{Homes}
-use Rattle.phase_permits.specs.declared.read_set.ReadSet.{ReadSet}
+use Rattle.phase_permits.specs.declared.transaction.ReadSet.{ReadSet}
 use Rattle.phase_permits.specs.declared.slices.Hot.{Hot}
-use Rattle.phase_permits.specs.declared.taken.Begun.{Begun}
-use Rattle.phase_permits.specs.declared.taken.Taken.{Taken}
+use Rattle.phase_permits.specs.declared.homes.Begun.{Begun}
+use Rattle.phase_permits.specs.declared.homes.Taken.{Taken}
 use Rattle.phase_permits.specs.Begun.{Step, HasBegun, viewed}
 use Rattle.phase_permits.specs.Deeds.{AreDeedsOf, acts_for, clocks_of, first_dealt, second_dealt}
 use Rattle.phase_permits.specs.Homes.{IsHomeOf, AreHomesOf}

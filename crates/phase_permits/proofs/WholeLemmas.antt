@@ -10,7 +10,7 @@ use Rattle.shard_boxes.specs.Helds.{HeldState}
 use Rattle.shard_boxes.specs.Keys.{KeyState, seat_at, seen_at, lines_at}
 use Rattle.shard_boxes.specs.Lines.{after}
 use Rattle.shard_boxes.specs.States.{ShardState, state_at}
-use Rattle.phase_permits.specs.declared.read_set.ReadSet.{ReadSet}
+use Rattle.phase_permits.specs.declared.transaction.ReadSet.{ReadSet}
 use Rattle.phase_permits.specs.Txns.{takes, line_on, greatest_clock, IsAnswered}
 use Rattle.phase_permits.specs.Performing.{HasCommitted}
 use Rattle.phase_permits.specs.Workers.{WorkerState, setting_of, txn_of, after_commit}

@@ -1,8 +1,8 @@
 -- A transaction that has taken its shards, and what its request is answered by.
 use Rattle.std.specs.Prelude.{◌≡◌, ℕ, suc, max, ◌<◌, ◌≤◌, false, List, ◌∷◌, [], Option, None, Some, length, ⊤}
-use Rattle.auction_rows.specs.declared.ids.ItemId.{ItemId}
-use Rattle.auction_rows.specs.declared.ids.Object.{Object}
-use Rattle.auction_rows.specs.declared.ids.Object.TheVariants.{Item, User, Category}
+use Rattle.auction_rows.specs.declared.requests.ItemId.{ItemId}
+use Rattle.auction_rows.specs.declared.requests.Object.{Object}
+use Rattle.auction_rows.specs.declared.requests.Object.TheVariants.{Item, User, Category}
 use Rattle.auction_rows.specs.declared.replies.Reply.{Reply}
 use Rattle.auction_rows.specs.declared.requests.Facts.{Facts}
 use Rattle.auction_rows.specs.declared.requests.Request.{Request}
@@ -18,9 +18,9 @@ use Rattle.shard_boxes.specs.Keys.{BoxId, KeyState}
 use Rattle.shard_boxes.specs.States.{ShardState, state_of}
 use Rattle.phase_permits.specs.declared.deeds.Deeds.{Deeds}
 use Rattle.phase_permits.specs.declared.homes.Homes.{Homes}
-use Rattle.phase_permits.specs.declared.taken.Begun.{Begun}
-use Rattle.phase_permits.specs.declared.taken.Taken.{Taken}
-use Rattle.phase_permits.specs.declared.taken.Taken.TheVariants as taken
+use Rattle.phase_permits.specs.declared.homes.Begun.{Begun}
+use Rattle.phase_permits.specs.declared.homes.Taken.{Taken}
+use Rattle.phase_permits.specs.declared.homes.Taken.TheVariants as taken
 use Rattle.phase_permits.specs.Deeds.{IsReplyBy, IsNextIf, AreDeedsOf, AreGoodOn, acts_for, footprint_on, stock_on}
 use Rattle.phase_permits.specs.Homes.{AreHomesOf}
 use Rattle.phase_permits.specs.Putting.{IsAsTaken}

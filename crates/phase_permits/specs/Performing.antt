@@ -1,7 +1,7 @@
 -- What becomes of a request.
 use Rattle.std.specs.Prelude.{◌≡◌, ℕ, suc, max, ◌<◌, ◌≤◌, Bool, true, false, if◌then◌else◌, List, [], ◌∷◌, ◌++◌, length, Some, None, Result, Ok, Err, ⊤, slice_get}
 use Rattle.phase_laws.specs.Numbers.{greatest_by}
-use Rattle.auction_rows.specs.declared.numbers.Opening.{Opening}
+use Rattle.auction_rows.specs.declared.values.Opening.{Opening}
 use Rattle.auction_rows.specs.declared.replies.Reply.{Reply}
 use Rattle.auction_rows.specs.declared.replies.Reply.TheVariants.{ItemStored}
 use Rattle.auction_rows.specs.declared.requests.Request.{Request}
@@ -12,11 +12,11 @@ use Rattle.auction_rows.specs.Refusals.{number_refusal}
 use Rattle.item_shards.specs.CommitNumbers.{last_number}
 use Rattle.shard_boxes.specs.Keys.{BoxId, KeyState, seat_at}
 use Rattle.shard_boxes.specs.States.{ShardState, state_at}
-use Rattle.phase_permits.specs.declared.fault.Done.{Done}
-use Rattle.phase_permits.specs.declared.fault.Done.TheVariants.{Committed, Stashed}
-use Rattle.phase_permits.specs.declared.fault.PermitFault.{PermitFault}
-use Rattle.phase_permits.specs.declared.fault.PermitFault.TheVariants.{Memory, NumberFull}
-use Rattle.phase_permits.specs.declared.read_set.ReadSet.{ReadSet}
+use Rattle.phase_permits.specs.declared.transaction.Done.{Done}
+use Rattle.phase_permits.specs.declared.transaction.Done.TheVariants.{Committed, Stashed}
+use Rattle.phase_permits.specs.declared.transaction.PermitFault.{PermitFault}
+use Rattle.phase_permits.specs.declared.transaction.PermitFault.TheVariants.{Memory, NumberFull}
+use Rattle.phase_permits.specs.declared.transaction.ReadSet.{ReadSet}
 use Rattle.phase_permits.specs.Putting.{HasPutAll, clock_seen, HasSameLines}
 use Rattle.phase_permits.specs.Slicing.{objects_of}
 use Rattle.phase_permits.specs.Txns.{Setting, Txn, hot_in, number_of, takes, line_on, greatest_clock, is_put_off, IsAnswered}

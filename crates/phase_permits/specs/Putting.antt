@@ -1,9 +1,9 @@
 -- A shard that is put back with a line, and what a key has seen of it.
 use Rattle.std.specs.Prelude.{◌≡◌, ℕ, ◌<◌, ◌≤◌, if◌then◌else◌, Bool, true, false, List, [], ◌∷◌, ◌++◌, length, Some}
 use Rattle.item_shards.specs.CommitNumbers.{last_number}
-use Rattle.item_shards.specs.declared.acts.Act.{Act}
-use Rattle.item_shards.specs.declared.acts.Act.TheVariants.{Look}
-use Rattle.item_shards.specs.declared.acts.Shown.TheVariants as shown
+use Rattle.item_shards.specs.declared.shard.acts.Act.{Act}
+use Rattle.item_shards.specs.declared.shard.acts.Act.TheVariants.{Look}
+use Rattle.item_shards.specs.declared.shard.acts.Shown.TheVariants as shown
 use Rattle.item_shards.specs.declared.shard.Shard.{Shard}
 pub use Rattle.item_shards.specs.Acting.{CanDo}
 use Rattle.item_shards.specs.ShardContents.{clock}
@@ -12,7 +12,7 @@ use Rattle.shard_boxes.specs.Helds.{HeldState, taken_at}
 use Rattle.shard_boxes.specs.Keys.{KeyState, seat_at, seen_at, lines_at, holds_at, putting}
 use Rattle.shard_boxes.specs.Lines.{first_two, after, IsHistory, MayFollow, StartsWith}
 use Rattle.shard_boxes.specs.States.{ShardState, state_at, state_of}
-use Rattle.phase_permits.specs.declared.putting.Written.{Written}
+use Rattle.phase_permits.specs.declared.deeds.Written.{Written}
 use Rattle.phase_permits.specs.Workers.{IsIdle}
 
 -- the clock of a shard as the key has last seen it

@@ -2,7 +2,7 @@
 use Rattle.std.specs.Prelude.{◌≡◌, ℕ, ◌<◌, ◌==◌, if◌then◌else◌, Bool, true, false, List, [], ◌∷◌, ◌++◌, map, length, Option, Some, None, ⊤}
 use Rattle.std.specs.List.{AllByRecursion, list_any}
 use Rattle.phase_laws.specs.Numbers.{greatest_by}
-use Rattle.item_shards.specs.declared.acts.Act.{Act}
+use Rattle.item_shards.specs.declared.shard.acts.Act.{Act}
 use Rattle.item_shards.specs.ShardContents.{clock, contents}
 use Rattle.shard_boxes.specs.declared.line.Line.{Line}
 use Rattle.shard_boxes.specs.Helds.{HeldState}
@@ -12,8 +12,8 @@ use Rattle.shard_boxes.specs.States.{ShardState}
 use Rattle.phase_permits.specs.declared.homes.Home.{Home}
 use Rattle.phase_permits.specs.declared.homes.Home.TheVariants as home
 use Rattle.phase_permits.specs.declared.homes.Homes.{Homes}
-use Rattle.phase_permits.specs.declared.taken.Taken.{Taken}
-use Rattle.phase_permits.specs.declared.taken.Taken.TheVariants as taken
+use Rattle.phase_permits.specs.declared.homes.Taken.{Taken}
+use Rattle.phase_permits.specs.declared.homes.Taken.TheVariants as taken
 use Rattle.phase_permits.specs.Workers.{IsIdle}
 use Rattle.phase_permits.specs.Putting.{CanDo, alone_in, line_of, HasSameLines, IsAsTaken}
 

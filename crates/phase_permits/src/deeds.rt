@@ -1,15 +1,37 @@
-//! What a request does on the shards that it takes.
+//! A store whose reply is known, what it does on the shards that it takes, and shards that go back
+//! with a line.
 ghost use Rattle.std.specs.Prelude.{◌≡◌, false, option_map};
 ghost use Rattle.auction_rows.specs.Requests.{is_view};
 ghost use Rattle.auction_rows.specs.StoreReplies.{reply_of};
+ghost use Rattle.item_shards.specs.ShardContents.{contents};
+ghost use Rattle.shard_boxes.specs.Lines.{AreTrueOf};
 ghost use Rattle.phase_permits.specs.Begun.{AreGoodFor, AreOwedBy, HaveFootprint};
 ghost use Rattle.phase_permits.specs.Deeds.{deal_of};
+ghost use Rattle.phase_permits.specs.Putting.{CanDo, written_acts, line_of, IsHeldFor, IsPutWith};
 
 use crate::homes::{Home, Homes};
-use crate::putting::Written;
 use auction_rows::{BidEntry, Facts, ItemEntry, Request, StoreReply};
 use ghost_log::Ghost;
 use item_shards::{Act, Shown};
+use shard_boxes::{Acts, Boxes, Held, Key, Line, PhaseName};
+use std::sync::Wait;
+
+/// A request of the quota, with its index in the script.
+#[derive(Clone, Copy)]
+pub(crate) struct Call<'a> {
+    pub(crate) request: &'a Request,
+    pub(crate) index: u32,
+}
+
+/// A store of the quota whose reply is known, with where its objects are and what it saw of the
+/// item that it needs.
+#[derive(Drop)]
+pub(crate) struct Store<'a> {
+    pub(crate) call: Call<'a>,
+    pub(crate) homes: &'a Homes,
+    pub(crate) seen: &'a Option<(Facts, u32)>,
+    pub(crate) reply: StoreReply,
+}
 
 /// Two acts, each where its object has its home.
 #[derive(Drop)]
@@ -159,4 +181,47 @@ fn facts_in(seen: &Option<(Facts, u32)>) -> Option<Facts>
         Some((facts, _)) => Some(*facts),
         None => None,
     }
+}
+
+/// What a transaction writes on its shards, at its number, of the request of this index: two acts.
+#[derive(Drop)]
+pub(crate) struct Written {
+    pub(crate) number: u64,
+    pub(crate) index: u32,
+    pub(crate) first: Act,
+    pub(crate) second: Act,
+}
+
+/// Does two acts on a shard that is as it was taken, at a number after its clock, and puts it back
+/// with their line.
+#[inline(always)]
+pub(crate) fn put_with_line<N: PhaseName, R: Wait>(
+    rt: &R,
+    boxes: &Boxes<N>,
+    key: &mut Key<N>,
+    mut held: Held<N>,
+    written: Written,
+)
+    requires of { key.old.boxes ≡ boxes.now }
+    requires held { IsHeldFor N.opening key.old held written.number }
+    requires can { CanDo held.shard (written_acts written) }
+    requires looks { AreTrueOf (contents held.shard) (written_acts written) }
+    ensures { IsPutWith N.opening key.old key.new held
+        (line_of written.number written.index (written_acts written) held.shard) }
+{
+    let Written {
+        number,
+        index,
+        first,
+        second,
+    } = written;
+    let acts = [first, second];
+    let before = held.shard_mut().commit(number, &acts);
+    let line = Line {
+        number,
+        before,
+        index,
+        acts: Acts::of(&acts),
+    };
+    boxes.put(rt, key, held, Some(line));
 }

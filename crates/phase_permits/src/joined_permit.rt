@@ -1,11 +1,10 @@
 //! A worker's right to perform in a joined phase, and what it leaves.
 ghost use Rattle.std.specs.Prelude.{◌≡◌, ◌≤◌, ◌<◌, [], length, true, false, slice_get, Some, IfSome, IfNone, IfOk, IfErr};
 
-use crate::counters::Counters;
-use crate::fault::PermitFault;
 use crate::slices::Slices;
 use crate::stash::Stash;
-use crate::worker::{Start, Worker};
+use crate::transaction::PermitFault;
+use crate::worker::{Counters, Start, Worker};
 use auction_rows::{MOST_OF_A_WORKER, MOST_TRIES, Object, Opening, Reply, Request};
 use shard_boxes::{Boxes, Key, PhaseName};
 use std::marker::Model;

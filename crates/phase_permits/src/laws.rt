@@ -1,7 +1,7 @@
 //! What slices are of rows, and what commits keep, as laws for the crates above. Each law is what a
 //! function with an empty body ensures.
 ghost use Rattle.std.specs.Prelude.{◌≡◌, ◌<◌, ◌==◌, if◌then◌else◌, ℕ, ◌++◌, ◌∷◌, [], List, Option, length};
-ghost use Rattle.auction_rows.specs.declared.ids.Object.{Object};
+ghost use Rattle.auction_rows.specs.declared.requests.Object.{Object};
 ghost use Rattle.auction_rows.specs.declared.replies.Reply.{Reply};
 ghost use Rattle.auction_rows.specs.declared.requests.Facts.{Facts};
 ghost use Rattle.auction_rows.specs.declared.requests.Request.{Request};
@@ -15,8 +15,8 @@ ghost use Rattle.item_shards.specs.Writing.{writes_of};
 ghost use Rattle.shard_boxes.specs.declared.line.Line.{Line};
 ghost use Rattle.shard_boxes.specs.Keys.{KeyState, taking, putting, lines_at, added};
 ghost use Rattle.shard_boxes.specs.States.{ShardState};
-ghost use Rattle.phase_permits.specs.declared.counters.Counters.{Counters};
-ghost use Rattle.phase_permits.specs.declared.fault.PermitFault.{PermitFault};
+ghost use Rattle.phase_permits.specs.declared.worker.Counters.{Counters};
+ghost use Rattle.phase_permits.specs.declared.transaction.PermitFault.{PermitFault};
 ghost use Rattle.phase_permits.specs.Performing.{HasCommitted, HasFailed, shards_asked};
 ghost use Rattle.phase_permits.specs.Replying.{CountsOf, HasStocks, SawTrue, StoodFor, HasFixed, StoodAsTaken};
 ghost use Rattle.phase_permits.specs.Slicing.{slices_of, after_acts, AreFew};

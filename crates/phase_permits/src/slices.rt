@@ -1,7 +1,7 @@
 //! A worker's slices of the objects that are split.
 ghost use Rattle.std.specs.Prelude.{◌≡◌, ◌-◌, ◌↔◌, ◌++◌, ◌∷◌, [], IfOk, IfSome, IsNone, ℕ, length, take, is_some};
 ghost use Rattle.std.specs.List.{IsDistinct, AllByRecursion};
-ghost use Rattle.item_shards.specs.declared.slices.Slice.{Slice as SliceValue};
+ghost use Rattle.item_shards.specs.declared.shard.slices.Slice.{Slice as SliceValue};
 ghost use Rattle.phase_permits.specs.Slicing.{HasAtMost};
 
 use crate::homes::{Home, Homes};
@@ -102,7 +102,7 @@ pub struct Slices {
 
 impl Model for Slices {
     ghost use Rattle.std.specs.Prelude.{List};
-    ghost use Rattle.auction_rows.specs.declared.ids.Object.{Object};
+    ghost use Rattle.auction_rows.specs.declared.requests.Object.{Object};
     ghost use Rattle.std.specs.List.{AllByRecursion};
     ghost use Rattle.phase_permits.specs.declared.slices.Hot.{Hot};
     ghost use Rattle.phase_permits.specs.Slicing.{stocks_of, IsStocked};
@@ -115,7 +115,7 @@ impl Model for Slices {
 }
 
 impl Slices {
-    ghost use Rattle.auction_rows.specs.declared.ids.Object.{Object};
+    ghost use Rattle.auction_rows.specs.declared.requests.Object.{Object};
     ghost use Rattle.auction_rows.specs.Requests.{same_object};
     ghost use Rattle.auction_rows.specs.Footprint.{is_hot};
     ghost use Rattle.phase_permits.specs.Slicing.{objects_of, slices_of, stocks_of, stock_of, slices_in, changed, after_acts, IsAt, IsStocked, AreFew};

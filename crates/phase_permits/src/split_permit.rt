@@ -2,11 +2,10 @@
 ghost use Rattle.std.specs.Prelude.{◌≡◌, ◌≤◌, ◌<◌, ◌↔◌, length, true, false, Ok, IsNone, IfNone, IfSome, IfOk, IfErr};
 ghost use Rattle.item_shards.specs.CommitNumbers.{last_number};
 
-use crate::counters::Counters;
-use crate::fault::{Done, PermitFault};
 use crate::slices::Slices;
 use crate::stash::Stash;
-use crate::worker::{Start, Worker};
+use crate::transaction::{Done, PermitFault};
+use crate::worker::{Counters, Start, Worker};
 use auction_rows::{ItemId, MOST_OF_A_WORKER, MOST_TRIES, Object, Opening, Reply, Request, Stars};
 use shard_boxes::{Boxes, Key, PhaseName};
 use std::marker::Model;
@@ -48,10 +47,10 @@ impl<N: PhaseName> Model for SplitReceipt<N> {
 }
 
 impl<N: PhaseName> SplitPermit<N> {
-    ghost use Rattle.auction_rows.specs.declared.ids.Object.TheVariants.{Item, User};
+    ghost use Rattle.auction_rows.specs.declared.requests.Object.TheVariants.{Item, User};
     ghost use Rattle.auction_rows.specs.declared.requests.Request.TheVariants.{StoreBid, StoreComment};
     ghost use Rattle.auction_rows.specs.Footprint.{is_hot};
-    ghost use Rattle.phase_permits.specs.declared.fault.Done.TheVariants.{Stashed};
+    ghost use Rattle.phase_permits.specs.declared.transaction.Done.TheVariants.{Stashed};
     ghost use Rattle.std.specs.Prelude.{Some};
     ghost use Rattle.phase_permits.specs.Performing.{IsUntouched, HasCommitted, HasDealt, HasDealtWith, HasFailed, HaveOpening};
     ghost use Rattle.phase_permits.specs.Slicing.{objects_of};

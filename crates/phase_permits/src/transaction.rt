@@ -1,4 +1,4 @@
-//! What a worker does with a request that is not put off.
+//! What a worker does with a request that is not put off: what it finds, and how it answers.
 ghost use Rattle.std.specs.Prelude.{◌≡◌, ◌<◌, ◌≤◌, ◌↔◌, ℕ, suc, max, None, Some, IsNone, IfNone, IfSome, IfOk, IfErr, false, true, length};
 ghost use Rattle.std.specs.List.{AllByRecursion};
 ghost use Rattle.auction_rows.specs.Refusals.{number_refusal};
@@ -6,24 +6,65 @@ ghost use Rattle.auction_rows.specs.Requests.{is_view};
 ghost use Rattle.auction_rows.specs.StoreReplies.{reply_of};
 ghost use Rattle.item_shards.specs.CommitNumbers.{last_number};
 ghost use Rattle.shard_boxes.specs.Keys.{KeyState};
-ghost use Rattle.phase_permits.specs.declared.fault.PermitFault.TheVariants.{NumberFull};
+ghost use Rattle.phase_permits.specs.declared.transaction.PermitFault.TheVariants.{NumberFull};
 
-use crate::deeds::Deeds;
-use crate::fault::PermitFault;
-use crate::homes::Homes;
-use crate::putting::Written;
-use crate::read_set::ReadSet;
-use crate::store::{Call, Store};
-use crate::taken::{Begun, clock_of, clocks_of, make_room, put_all, put_back, take_all};
-use crate::viewing::view_on;
+use crate::answers::view_on;
+use crate::deeds::{Call, Deeds, Store, Written};
+use crate::homes::{Begun, Homes, clock_of, clocks_of, make_room, put_all, put_back, take_all};
 use crate::worker::Worker;
-use auction_rows::{Refusal, Request, StoreReply, is_view, number_refusal};
+use auction_rows::{Facts, Refusal, Reply, Request, StoreReply, is_view, number_refusal};
 use ghost_log::Ghost;
 use item_shards::{Act, Shown, next_number};
 use shard_boxes::{Boxes, PhaseName};
 use std::alloc::AllocError;
 use std::sync::Wait;
+use thiserror::Error;
 use worker_journals::{Answer, Told};
+
+/// Why a permit did not perform a request. After either nothing has changed but the number of tries
+/// and what the key has seen of the request's shards.
+#[derive(Clone, Copy, Debug, PartialEq, Eq, Drop, Error)]
+pub enum PermitFault {
+    /// No memory was left for the place of a new item.
+    #[error("no memory")]
+    Memory,
+    /// The greatest clock found is at the end of numbers, 2^59.
+    #[error("commit numbers used up")]
+    NumberFull,
+}
+
+/// What a split permit did with a request.
+#[derive(Clone, Copy, Debug, PartialEq, Eq)]
+pub enum Done {
+    /// It was committed with this reply.
+    Committed(Reply),
+    /// It waits for the next joined phase.
+    Stashed,
+}
+
+/// What a transaction finds, which proofs alone read: of the item that it needs, if its shard is
+/// taken, the facts and how many are left, where it is stored; and of each shard that is taken the
+/// number and the clock.
+#[derive(Drop)]
+pub struct ReadSet {
+    pub stock: Ghost<Option<(Facts, u32)>>,
+    pub clocks: [Option<(u32, u64)>; 2],
+}
+
+impl ReadSet {
+    ghost use Rattle.phase_permits.specs.Workers.{nothing};
+
+    /// What is found where no shard is taken.
+    #[inline(always)]
+    pub(crate) fn nothing() -> ReadSet
+        ensures { result ≡ nothing }
+    {
+        ReadSet {
+            stock: Ghost::of(&None),
+            clocks: [None, None],
+        }
+    }
+}
 
 impl<N: PhaseName> Worker<N> {
     ghost use Rattle.phase_permits.specs.declared.homes.Homes.{Homes as HomesValue};

@@ -6,13 +6,13 @@ use Rattle.std.specs.List.{AllByRecursion, AllZip}
 use Rattle.std.proofs.lemmas.List.{map-append, length-map}
 use Rattle.std.proofs.lemmas.Slice.Zip.{AllZip-long}
 use Rattle.auction_rows.specs.declared.requests.Request.{Request}
-use Rattle.phase_permits.specs.declared.fault.PermitFault.{PermitFault}
+use Rattle.phase_permits.specs.declared.transaction.PermitFault.{PermitFault}
 use Rattle.phase_permits.specs.Workers.{WorkerState}
 use Rattle.phase_laws.proofs.ListLemmas.{all-append}
 use Rattle.shard_boxes.specs.States.{ShardState}
-use Rattle.phase_workers.specs.declared.fault.ServingFault.{ServingFault}
-use Rattle.phase_workers.specs.declared.fault.ServingFault.TheVariants.{Worker, Spawn, Memory}
-use Rattle.phase_workers.specs.declared.serving.WorkerAnswer.{WorkerAnswer}
+use Rattle.phase_workers.specs.declared.round.ServingFault.{ServingFault}
+use Rattle.phase_workers.specs.declared.round.ServingFault.TheVariants.{Worker, Spawn, Memory}
+use Rattle.phase_workers.specs.declared.round.WorkerAnswer.{WorkerAnswer}
 use Rattle.phase_workers.specs.Tasks.{lists, Task, task, tasks, IsDone, HasMetFault, without_fault, fault_or, first_fault, IsFirstFault, IsFaultBy}
 use Rattle.phase_workers.specs.Threads.{IsUnstarted}
 

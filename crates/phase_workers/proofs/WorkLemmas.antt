@@ -6,7 +6,7 @@ use Rattle.std.proofs.Math.Seq.{drop-nil}
 use Rattle.std.proofs.lemmas.Bool.{false≢true}
 use Rattle.std.proofs.lemmas.List.{append-nil, map-append, length-append, take-append-drop, drop-drop, drop_all}
 use Rattle.std.proofs.lemmas.List.Elements.{filter-append}
-use Rattle.auction_rows.specs.declared.ids.Object.{Object}
+use Rattle.auction_rows.specs.declared.requests.Object.{Object}
 use Rattle.auction_rows.specs.declared.replies.Reply.{Reply}
 use Rattle.auction_rows.specs.declared.requests.Request.{Request}
 use Rattle.auction_rows.specs.declared.rows.Entry.{Entry}
@@ -18,7 +18,7 @@ use Rattle.phase_permits.specs.Slicing.{objects_of, stocks_of}
 use Rattle.phase_permits.proofs.HomeLemmas.{same_objects_of}
 use Rattle.phase_permits.proofs.LawfulLemmas.{objects-acts}
 use Rattle.phase_permits.proofs.PermitLemmas.{stocks-acts, none_put_off}
-use Rattle.phase_permits.specs.declared.fault.PermitFault.{PermitFault}
+use Rattle.phase_permits.specs.declared.transaction.PermitFault.{PermitFault}
 use Rattle.phase_permits.specs.Performing.{HasFailed, IsCause, HasCommitted, HasFailedFirst, HasDealt, HasPerformedFirstSome}
 use Rattle.phase_laws.proofs.ListLemmas.{all-append}
 use Rattle.run_laws.specs.Serving.{call_of}

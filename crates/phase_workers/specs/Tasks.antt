@@ -1,17 +1,16 @@
 -- What the workers of a phase have to do, and what they have done.
 use Rattle.std.specs.Prelude.{◌≡◌, ℕ, ◌+◌, ◌-◌, ◌<◌, ◌≤◌, ◌⊎◌, Bool, List, [], ◌∷◌, ◌++◌, length, Result, Ok, Err, Option, Some, None, ⊤}
-use Rattle.auction_rows.specs.declared.limits.TheConstants.{MOST_TRIES}
-use Rattle.auction_rows.specs.declared.limits.TheConstants.{MOST_OF_A_WORKER}
+use Rattle.auction_rows.specs.declared.limits.TheConstants.{MOST_TRIES, MOST_OF_A_WORKER}
 use Rattle.auction_rows.specs.declared.requests.Request.{Request}
 use Rattle.shard_boxes.specs.Keys.{BoxId}
 use Rattle.shard_boxes.specs.States.{ShardState}
-use Rattle.phase_permits.specs.declared.fault.PermitFault.{PermitFault}
+use Rattle.phase_permits.specs.declared.transaction.PermitFault.{PermitFault}
 use Rattle.phase_permits.specs.Workers.{WorkerState}
 use Rattle.phase_permits.specs.Performing.{HaveOpening}
 pub use Rattle.run_laws.specs.Serving.{lists}
-use Rattle.phase_workers.specs.declared.fault.ServingFault.{ServingFault}
-use Rattle.phase_workers.specs.declared.fault.ServingFault.TheVariants.{Worker, Spawn, Memory}
-use Rattle.phase_workers.specs.declared.serving.WorkerAnswer.{WorkerAnswer}
+use Rattle.phase_workers.specs.declared.round.ServingFault.{ServingFault}
+use Rattle.phase_workers.specs.declared.round.ServingFault.TheVariants.{Worker, Spawn, Memory}
+use Rattle.phase_workers.specs.declared.round.WorkerAnswer.{WorkerAnswer}
 use Rattle.phase_workers.specs.Working.{calls_from, committed, stashed, taken, kept, hot_for, put_off, not_put_off, IsSamePermit, HasStopped}
 
 -- a worker's permit as the phase begins, its script, and the index from which on it is given

@@ -2,8 +2,8 @@
 use Rattle.std.specs.Prelude.{ℕ, ◌<◌, ⊤}
 use Rattle.std.specs.declared.thread.PromisedHandle.{PromisedHandle}
 use Rattle.phase_workers.specs.declared.threads.JobPromise.{JobPromise}
-use Rattle.phase_workers.specs.declared.fault.ServingFault.{ServingFault}
-use Rattle.phase_workers.specs.declared.fault.ServingFault.TheVariants.{Worker, Spawn, Memory}
+use Rattle.phase_workers.specs.declared.round.ServingFault.{ServingFault}
+use Rattle.phase_workers.specs.declared.round.ServingFault.TheVariants.{Worker, Spawn, Memory}
 
 -- the job of a thread
 abbrev pub job_of : {T J : Type 0} → PromisedHandle T (JobPromise J) → J

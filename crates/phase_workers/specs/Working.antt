@@ -1,12 +1,12 @@
 -- What a worker does in a phase: which calls its permit has committed, and which wait.
 use Rattle.std.specs.Prelude.{ℕ, suc, ◌≡◌, ◌≤◌, ◌+◌, ◌-◌, Bool, cond, not, List, [], ◌∷◌, ◌++◌, length, map, take, drop, ⊤}
 use Rattle.std.specs.List.{filter, AllByRecursion}
-use Rattle.auction_rows.specs.declared.ids.Object.{Object}
+use Rattle.auction_rows.specs.declared.requests.Object.{Object}
 use Rattle.auction_rows.specs.declared.requests.Request.{Request}
 use Rattle.auction_rows.specs.Phases.{is_put_off}
 use Rattle.shard_boxes.specs.States.{ShardState}
 use Rattle.phase_permits.specs.Slicing.{objects_of, stocks_of}
-use Rattle.phase_permits.specs.declared.fault.PermitFault.{PermitFault}
+use Rattle.phase_permits.specs.declared.transaction.PermitFault.{PermitFault}
 use Rattle.phase_permits.specs.Performing.{IsCause}
 use Rattle.phase_permits.specs.Workers.{WorkerState}
 use Rattle.run_laws.specs.Turns.{numbered}

@@ -2,16 +2,12 @@
 //! one after the other.
 #![tactic(auto)]
 
-mod fault;
-mod gate;
-mod joined_permit;
 mod permit;
-mod serving;
+mod round;
 mod split_permit;
 mod threads;
 mod worker;
 
-pub use fault::ServingFault;
-pub use gate::{FreeGate, Gate};
 pub use permit::Permit;
-pub use serving::{Round, serve_all};
+pub use round::{Round, ServingFault, serve_all};
+pub use worker::{FreeGate, Gate};

@@ -1,11 +1,12 @@
-//! What the permits of joined and of split phases have in common.
-ghost use Rattle.std.specs.Prelude.{◌≡◌, ◌<◌, Bool, length, slice_get, OnOk, IfErr};
+//! What the permits of joined and of split phases have in common, and what a worker may do in a
+//! joined phase.
+ghost use Rattle.std.specs.Prelude.{◌≡◌, ◌<◌, Bool, length, slice_get, OnOk, IfErr, true};
 ghost use Rattle.phase_permits.specs.Performing.{HasFailed, HaveOpening, HasFailedFirst};
 ghost use Rattle.phase_permits.specs.Workers.{with_try, WorkerState};
 ghost use Rattle.phase_workers.specs.Working.{taken, HasDealtWithNext, HasPerformedWaiting};
 
 use auction_rows::{MOST_TRIES, Request};
-use phase_permits::PermitFault;
+use phase_permits::{JoinedPermit, JoinedReceipt, PermitFault};
 use shard_boxes::{Boxes, PhaseName};
 use std::sync::Wait;
 
@@ -65,4 +66,46 @@ pub trait Permit<N: PhaseName> {
     /// Spends the permit.
     fn spend(self) -> Self::Receipt
         ensures { leaves result ≡ shows self };
+}
+
+impl<N: PhaseName> Permit<N> for JoinedPermit<N> {
+    type Receipt = JoinedReceipt<N>;
+
+    ghost shows = { λ permit. permit };
+
+    ghost leaves = { λ receipt. receipt };
+
+    ghost takes_stash = { true };
+
+    fn quota_left(&self) -> u32 {
+        self.left()
+    }
+
+    fn waiting(&self) -> usize {
+        self.stashed()
+    }
+
+    fn first_waiting(&self) -> Option<(u32, Request)> {
+        self.first_stashed()
+    }
+
+    fn perform_waiting<R: Wait>(&mut self, rt: &R, boxes: &Boxes<N>) -> Result<(), PermitFault> {
+        self.commit_stashed(rt, boxes)?;
+        Ok(())
+    }
+
+    fn perform_next<R: Wait>(
+        &mut self,
+        rt: &R,
+        boxes: &Boxes<N>,
+        request: &Request,
+        index: u32,
+    ) -> Result<(), PermitFault> {
+        self.commit(rt, boxes, request, index)?;
+        Ok(())
+    }
+
+    fn spend(self) -> JoinedReceipt<N> {
+        self.finish()
+    }
 }

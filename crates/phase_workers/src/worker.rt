@@ -1,18 +1,46 @@
-//! What a worker does in a phase of a run.
+//! What a worker does in a phase of a run, and where it can be watched.
 ghost use Rattle.std.specs.Prelude.{◌≡◌, ◌+◌, ◌-◌, ◌≤◌, ◌<◌, ◌++◌, false, length, OnOk, IfErr};
 ghost use Rattle.phase_permits.specs.Performing.{HasFailed, HaveOpening, HasFailedFirst};
 ghost use Rattle.phase_permits.specs.Workers.{with_try};
 ghost use Rattle.phase_workers.specs.Tasks.{task, CanBeDone, IsDone, HasMetFault};
-ghost use Rattle.phase_workers.specs.Working.{calls_from, committed, stashed, taken, hot_for, put_off, not_put_off};
-ghost use Rattle.phase_workers.specs.Working.{IsPermitOf, IsSamePermit, HasDealtWithNext, HasPerformedStash};
-ghost use Rattle.phase_workers.specs.Working.{HasPerformedWaiting, HasStopped};
+ghost use Rattle.phase_workers.specs.Working.{calls_from, committed, stashed, taken, hot_for, put_off, not_put_off, IsPermitOf, IsSamePermit, HasDealtWithNext, HasPerformedStash, HasPerformedWaiting, HasStopped};
 
-use crate::gate::Gate;
 use crate::permit::Permit;
 use auction_rows::{MOST_OF_A_WORKER, MOST_TRIES, Request};
 use phase_permits::PermitFault;
 use shard_boxes::{Boxes, PhaseName};
 use std::sync::Wait;
+
+/// What a worker calls before and after each request that it performs, a stashed one at both
+/// attempts, while it holds no shard.
+pub trait Gate {
+    /// The worker is about to perform the request with this index of its script.
+    fn arrive(&self, phase: u64, worker: u32, index: u32);
+
+    /// It has performed it, or stashed it, or met a fault.
+    fn leave(&self, phase: u64, worker: u32, index: u32);
+
+    /// Whether each worker has a thread of its own in every phase, as a gate needs at which one
+    /// worker waits for another. Where it need not, a phase that is short may be performed by one
+    /// thread, worker after worker.
+    fn needs_threads(&self) -> bool {
+        true
+    }
+}
+
+/// A gate that does nothing.
+#[derive(Clone, Copy, Debug, Default)]
+pub struct FreeGate;
+
+impl Gate for FreeGate {
+    fn arrive(&self, _phase: u64, _worker: u32, _index: u32) {}
+
+    fn leave(&self, _phase: u64, _worker: u32, _index: u32) {}
+
+    fn needs_threads(&self) -> bool {
+        false
+    }
+}
 
 /// A worker's place in a phase: the boxes to which its key is, and what a gate is told of it.
 #[derive(Drop)]

@@ -9,8 +9,8 @@ use Rattle.clap.specs.Faults.{fault_of}
 use Rattle.clap.specs.Simple.{App, built, matches_of}
 use Rattle.clap.specs.Walk.{Rule, first_of, one_of}
 use Rattle.program_options.specs.Options.{IsNumberIn}
-use Rattle.program_options.specs.declared.faults.UsageFault.{UsageFault}
-use Rattle.program_options.specs.declared.faults.UsageFault.TheVariants.{Text, Memory}
+use Rattle.program_options.specs.declared.words.UsageFault.{UsageFault}
+use Rattle.program_options.specs.declared.words.UsageFault.TheVariants.{Text, Memory}
 
 -- The parser finds no fault in the words: after the program's name they are options of it, each once at most, with its number in its range.
 abbrev pub AreTaken : App → List (List ℕ) → Type 0

@@ -2,17 +2,12 @@
 //! `clap` finds in a program's words, and why words are refused.
 #![tactic(auto)]
 
-mod described;
-mod faults;
 mod options;
 mod words;
 
-pub use described::{
-    Description, VERSION, described_file, described_flag, described_number, described_program,
-};
-pub use faults::{UsageFault, words_fault};
 pub use options::{
-    FROM_ONE, FROM_ZERO, MOST_ASKED, NumberRange, flag, flag_of, number_of, number_option, text_of,
-    text_option,
+    Description, FROM_ONE, FROM_ZERO, MOST_ASKED, NumberRange, VERSION, described_file,
+    described_flag, described_number, described_program, flag, flag_of, number_of, number_option,
+    text_of, text_option,
 };
-pub use words::{parse_words, program_words};
+pub use words::{UsageFault, parse_words, program_words, words_fault};

@@ -1,13 +1,14 @@
-//! Options that take a number or a text, and flags.
+//! Options that take a number or a text, and flags; programs and options with what help says of
+//! them.
 ghost use Rattle.std.specs.Prelude.{◌≡◌, ◌≤◌, IfErr, IfOk, false, option_map, pos, string_bytes};
-ghost use Rattle.clap.specs.Words.{first_value, found_of, one_text, rule_of};
+ghost use Rattle.clap.specs.Words.{first_value, found_of, one_text, rule_of, app_of};
 ghost use Rattle.clap.specs.declared.builder.value_parser.ValueParser.TheVariants as vp;
-ghost use Rattle.program_options.specs.Options.{SaysNumber, flag_rule, is_set, number_rule, text_rule};
-ghost use Rattle.program_options.specs.declared.faults.UsageFault.{UsageFault};
+ghost use Rattle.program_options.specs.Options.{SaysNumber, flag_rule, is_set, number_rule, text_rule, file_rule, named_rule, versioned_program};
+ghost use Rattle.program_options.specs.declared.words.UsageFault.{UsageFault};
 
-use crate::faults::UsageFault;
+use crate::words::UsageFault;
 use clap::builder::ValueParser;
-use clap::{Arg, ArgAction, ArgMatches};
+use clap::{Arg, ArgAction, ArgMatches, Command};
 use std::alloc::Global;
 
 /// The greatest number that an option takes where nothing else limits it: of users, categories,
@@ -108,4 +109,65 @@ pub fn flag_of(matches: &ArgMatches<'_>, id: &str) -> bool
     ensures { result ≡ is_set (one_text (found_of matches.now) id.now) }
 {
     matches.get_one(id).unwrap_or(false)
+}
+
+/// What `--version` prints after a program's name.
+pub const VERSION: &str = "0.1.0";
+
+/// What a program says of itself in its help.
+#[derive(Clone, Copy)]
+pub struct Description<'a> {
+    /// What it does.
+    pub about: &'a str,
+    /// How it is called.
+    pub usage: &'a str,
+    /// What stands after the options: formats, exit statuses and examples.
+    pub after: &'a str,
+}
+
+/// A program without its options: it has a version and a description.
+pub fn described_program<'a>(
+    alloc: Global,
+    name: &'a str,
+    description: Description<'a>,
+) -> Command<'a>
+    ensures { app_of result ≡ versioned_program name.entry.now }
+{
+    Command::new(alloc, name)
+        .version(VERSION)
+        .about(description.about)
+        .override_usage(description.usage)
+        .after_help(description.after)
+}
+
+/// `--id N`, with a number of a range; the usual one where the words don't have it.
+pub fn described_number<'a>(
+    alloc: Global,
+    id: &'a str,
+    range: NumberRange,
+    usual: &'a str,
+    help: &'a str,
+) -> Arg<'a>
+    ensures rule { rule_of result ≡ named_rule id.entry.now range.least range.greatest usual.entry.now }
+    ensures local { result.global ≡ false }
+{
+    number_option(alloc, id, range, usual)
+        .value_name("N")
+        .help(help)
+}
+
+/// `--id FILE`, with the name of a file, which need not be there.
+pub fn described_file<'a>(alloc: Global, id: &'a str, help: &'a str) -> Arg<'a>
+    ensures rule { rule_of result ≡ file_rule id.entry.now }
+    ensures local { result.global ≡ false }
+{
+    text_option(alloc, id).value_name("FILE").help(help)
+}
+
+/// `--id`, which is there or not.
+pub fn described_flag<'a>(alloc: Global, id: &'a str, help: &'a str) -> Arg<'a>
+    ensures rule { rule_of result ≡ flag_rule id.entry.now }
+    ensures local { result.global ≡ false }
+{
+    flag(alloc, id).help(help)
 }

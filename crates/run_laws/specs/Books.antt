@@ -1,6 +1,6 @@
 -- What a run does to the book that it starts from.
 use Rattle.std.specs.Prelude.{List}
-use Rattle.auction_rows.specs.declared.numbers.Opening.{Opening}
+use Rattle.auction_rows.specs.declared.values.Opening.{Opening}
 use Rattle.auction_rows.specs.declared.rows.Entry.{Entry}
 use Rattle.auction_rows.specs.Book.{Book}
 use Rattle.auction_rows.specs.History.{ReplaysFrom, book_after, IsBook}

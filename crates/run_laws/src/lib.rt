@@ -8,14 +8,11 @@
 //! what a run may answer. The functions compute nothing: each carries laws in its contract.
 #![tactic(auto)]
 
-mod books;
-mod phases;
-mod reaching;
-mod serving;
-mod taking;
+mod runs;
+mod turns;
 
-pub use books::{PhaseBooks, phase_replays, run_starts};
-pub use phases::{phase_closes, phase_runs, quota_gives, run_begins};
-pub use reaching::{phases_follow, phases_reached};
-pub use serving::{one_worker_one_answer, phases_are_few, run_serves};
-pub use taking::{phases_take, quotas_give, turns_are_whole};
+pub use runs::{
+    PhaseBooks, one_worker_one_answer, phase_closes, phase_replays, phase_runs, phases_are_few,
+    quota_gives, run_begins, run_serves, run_starts,
+};
+pub use turns::{phases_follow, phases_reached, phases_take, quotas_give, turns_are_whole};

@@ -2,7 +2,7 @@
 use Rattle.std.proofs.Common.{◌≡◌, ℕ, zero, suc, ◌<◌, false, List, [], ◌∷◌, ◌++◌, length, slice_index_or, slice_set, Option, sym, refl, ap, ◌∙◌, arith}
 use Rattle.std.proofs.lemmas.List.{map-set, get_or-map, get_or-set_same, length-set}
 use Rattle.shard_boxes.specs.declared.line.Line.{Line}
-use Rattle.shard_boxes.specs.declared.rule.View.{View}
+use Rattle.shard_boxes.specs.declared.place.View.{View}
 use Rattle.shard_boxes.specs.Rule.{Speaks, put}
 use Rattle.shard_boxes.specs.Passes.{LeaveState}
 use Rattle.shard_boxes.specs.Keys.{SeatState, KeyState, no_seat, seat_at, with_seat, put_seat, seen_at, holds_at, added, entries}

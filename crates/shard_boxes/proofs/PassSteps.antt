@@ -9,7 +9,7 @@ use Rattle.crossbeam_queue.specs.Fifo.{Forks, Merges}
 use Rattle.crossbeam_queue.proofs.Lists.{at_longer, set_else}
 use Rattle.item_shards.specs.declared.shard.Shard.{Shard}
 use Rattle.shard_boxes.specs.declared.line.Line.{Line}
-use Rattle.shard_boxes.specs.declared.rule.View.{View}
+use Rattle.shard_boxes.specs.declared.place.View.{View}
 use Rattle.shard_boxes.specs.States.{ShardState}
 use Rattle.shard_boxes.specs.Lines.{lines_of, StartsWith}
 use Rattle.shard_boxes.specs.Rule.{Speaks, BoxState, Fits, IsIn, IsOut, BoxRule, head_of, tail_of, first_of, rest_of, longer, joined, spent}

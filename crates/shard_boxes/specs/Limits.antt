@@ -1,9 +1,9 @@
 -- How far acts can raise counts and ratings.
 use Rattle.std.specs.Prelude.{◌+◌, ◌<◌, ◌^◌, ◌+ℤ◌, FitsSigned, ⊤}
 use Rattle.std.specs.Int.{w64}
-use Rattle.auction_rows.specs.declared.ids.Object.TheVariants.{Item, User}
-use Rattle.item_shards.specs.declared.acts.Act.{Act}
-use Rattle.item_shards.specs.declared.acts.Act.TheVariants.{AddItem, ListItem, Bid, Comment, Buy, Look}
+use Rattle.auction_rows.specs.declared.requests.Object.TheVariants.{Item, User}
+use Rattle.item_shards.specs.declared.shard.acts.Act.{Act}
+use Rattle.item_shards.specs.declared.shard.acts.Act.TheVariants.{AddItem, ListItem, Bid, Comment, Buy, Look}
 use Rattle.item_shards.specs.Contents.{Contents}
 
 -- the sums that an act makes fit their types

@@ -4,11 +4,11 @@ use Rattle.std.specs.List.{AllByRecursion}
 use Rattle.phase_laws.specs.Numbers.{IsLinkedFrom}
 use Rattle.phase_laws.specs.Order.{IsAscendingByNumber, part}
 use Rattle.phase_laws.specs.Replay.{SawInTurn}
-use Rattle.item_shards.specs.declared.acts.Act.{Act}
+use Rattle.item_shards.specs.declared.shard.acts.Act.{Act}
 use Rattle.item_shards.specs.Looking.{IsTrueAct}
 use Rattle.item_shards.specs.Contents.{Contents, after_act, after_acts}
 use Rattle.item_shards.specs.Writing.{first_act, second_act}
-use Rattle.shard_boxes.specs.declared.acts.Acts.{Acts}
+use Rattle.shard_boxes.specs.declared.line.Acts.{Acts}
 use Rattle.shard_boxes.specs.declared.line.Line.{Line}
 use Rattle.shard_boxes.specs.States.{ShardState, state_at, IsWithin}
 

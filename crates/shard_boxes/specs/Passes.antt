@@ -1,7 +1,7 @@
 -- What a leave shows: the box that it is for, and what its pass knows.
 use Rattle.crossbeam_queue.specs.Passes.{Pass, view}
 use Rattle.item_shards.specs.declared.shard.Shard.{Shard}
-use Rattle.shard_boxes.specs.declared.rule.View.{View}
+use Rattle.shard_boxes.specs.declared.place.View.{View}
 use Rattle.shard_boxes.specs.Keys.{BoxId}
 
 -- what a leave shows

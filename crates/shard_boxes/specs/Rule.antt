@@ -5,7 +5,7 @@ use lib.ListN.{get_elem?}
 use Rattle.item_shards.specs.declared.shard.Shard.{Shard}
 use Rattle.item_shards.specs.ShardContents.{shard_number}
 use Rattle.shard_boxes.specs.declared.line.Line.{Line}
-use Rattle.shard_boxes.specs.declared.rule.View.{View}
+use Rattle.shard_boxes.specs.declared.place.View.{View}
 use Rattle.shard_boxes.specs.States.{ShardState, state_of, state_at, IsWithin, IsOpened}
 use Rattle.shard_boxes.specs.Lines.{after, after_put, put_by, line_put, lines_of, MayFollow, StartsWith}
 use Rattle.shard_boxes.specs.Keys.{added, entries}

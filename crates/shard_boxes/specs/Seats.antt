@@ -1,10 +1,9 @@
 -- What a key shows, of its leaves.
 use Rattle.std.specs.Prelude.{◌≡◌, ℕ, ◌<◌, List, [], map, length, slice_index_or}
-use Rattle.shard_boxes.specs.Keys.{BoxId}
+use Rattle.shard_boxes.specs.Keys.{BoxId, SeatState, KeyState}
 use Rattle.shard_boxes.specs.declared.line.Line.{Line}
-use Rattle.shard_boxes.specs.declared.rule.View.{View}
+use Rattle.shard_boxes.specs.declared.place.View.{View}
 use Rattle.shard_boxes.specs.Passes.{LeaveState}
-use Rattle.shard_boxes.specs.Keys.{SeatState, KeyState}
 
 -- the lines of the first worker for whom the pass speaks
 abbrev pub own_of : View → List Line

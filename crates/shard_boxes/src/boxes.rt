@@ -1,18 +1,37 @@
-//! The boxes of one phase, and how a worker takes a shard and puts it back.
+//! The name of a phase and its boxes, and how a worker takes a shard and puts it back.
 ghost use Rattle.std.specs.Prelude.{◌≡◌, ◌<◌, length, true};
 ghost use Rattle.shard_boxes.specs.States.{state_of};
 ghost use Rattle.shard_boxes.specs.Lines.{lines_of, StartsWith, IsHistory};
 ghost use Rattle.shard_boxes.specs.Keys.{taking, putting, lines_at, seen_at, holds_at, HoldsNoneFrom};
 ghost use Rattle.shard_boxes.specs.Helds.{taken_at, MayPut};
 
-use crate::held::Held;
-use crate::key::Key;
+use crate::key::{Held, Key};
 use crate::line::Line;
-use crate::phase::PhaseName;
 use crate::place::Place;
 use item_shards::Shard;
-use std::marker::Model;
+use std::marker::{Brand, Model};
 use std::sync::Wait;
+
+/// Names what the shards of a phase show as it opens, and the number of its workers. Who runs a phase is generic in the
+/// name, and is called with `Brand`.
+pub trait PhaseName {
+    ghost use Rattle.std.specs.Prelude.{ℕ, List};
+    ghost use Rattle.shard_boxes.specs.States.{ShardState};
+
+    /// What the shards handed to `Boxes::new` show.
+    ghost opening: { List ShardState };
+
+    /// The number of keys.
+    ghost workers: { ℕ };
+}
+
+impl PhaseName for Brand {
+    ghost use Rattle.std.specs.Prelude.{[]};
+
+    ghost opening = { [] };
+
+    ghost workers = { 0 };
+}
 
 /// The boxes of one phase, one for each of its 1 to 64 shards. They are shared by reference, and no lock is taken.
 #[derive(Drop)]

@@ -1,15 +1,23 @@
-//! A worker's right to take the shards of a phase.
+//! A worker's right to take the shards of a phase, a shard out of its box, and what it allows.
 ghost use Rattle.std.specs.Prelude.{◌≡◌, ◌<◌, ◌∷◌, [], ℕ, true, false, length};
-ghost use Rattle.shard_boxes.specs.States.{state_of};
+ghost use Rattle.std.specs.Borrow.{Lends, sem};
+ghost use Rattle.phase_laws.specs.Replay.{SawInTurn};
+ghost use Rattle.item_shards.specs.contracts.shard.Shard.{the_row as shard_row};
+ghost use Rattle.item_shards.specs.declared.shard.acts.Act.{Act};
+ghost use Rattle.item_shards.specs.CommitNumbers.{last_number};
+ghost use Rattle.item_shards.specs.Contents.{after_act};
+ghost use Rattle.shard_boxes.specs.States.{state_of, ShardState, IsWithin};
 ghost use Rattle.shard_boxes.specs.Lines.{lines_of, StartsWith, IsHistory, after};
 ghost use Rattle.shard_boxes.specs.Keys.{taking, putting, lines_at, seen_at, holds_at};
 ghost use Rattle.shard_boxes.specs.Helds.{taken_at, MayPut};
 ghost use Rattle.shard_boxes.specs.Passes.{LeaveState};
 ghost use Rattle.shard_boxes.specs.Seats.{IsPlaceAt};
 ghost use Rattle.shard_boxes.specs.Leaves.{AreFree, own_at};
+ghost use Rattle.shard_boxes.specs.contracts.key.Held.{the_row};
+ghost use Rattle.shard_boxes.specs.Limits.{SumsFit};
 
+use crate::boxes::PhaseName;
 use crate::line::Line;
-use crate::phase::PhaseName;
 use crate::place::{Leave, Place};
 use item_shards::Shard;
 use std::marker::{Brand, Model, PhantomData};
@@ -99,3 +107,86 @@ impl<N: PhaseName> Key<N> {
         leaves
     }
 }
+
+/// A shard that was taken out of its box. It must be put back by `Boxes::put`: it can't be dropped.
+pub struct Held<N: PhaseName> {
+    number: u32,
+    shard: Shard,
+    of: PhantomData<N>,
+}
+
+impl<N: PhaseName> Model for Held<N> {
+    ghost use Rattle.std.specs.Prelude.{◌<◌, length};
+    ghost use Rattle.shard_boxes.specs.Helds.{HeldState, held_code};
+
+    ghost Value = { HeldState };
+
+    ghost coded = { held_code };
+
+    ghost view = { λ h. record { number = h.number; shard = h.shard } };
+
+    ghost invariant = { λ h. h.number < length N.opening };
+}
+
+impl<N: PhaseName> Held<N> {
+    #[inline(always)]
+    pub(crate) fn new(number: u32, shard: Shard) -> Held<N>
+        requires { number < length N.opening }
+        ensures number { result.number ≡ number }
+        ensures shard { result.shard ≡ shard }
+    {
+        Held {
+            number,
+            shard,
+            of: PhantomData,
+        }
+    }
+
+    // The shard with its number.
+    #[inline(always)]
+    pub(crate) fn open(self) -> (u32, Shard)
+        ensures known { self.number < length N.opening }
+        ensures number { result.0 ≡ self.number }
+        ensures shard { result.1 ≡ self.shard }
+    {
+        let Held {
+            number,
+            shard,
+            of: _,
+        } = self;
+        (number, shard)
+    }
+
+    /// The number of the shard.
+    #[inline(always)]
+    pub fn number(&self) -> u32
+        ensures { result ≡ self.now.number }
+    {
+        self.number
+    }
+
+    /// The shard.
+    #[inline(always)]
+    pub fn shard(&self) -> &Shard
+        ensures { result.now ≡ self.now.shard }
+    {
+        &self.shard
+    }
+
+    /// The shard, to act on it.
+    #[inline(always)]
+    pub fn shard_mut(&mut self) -> &mut Shard
+        ensures* lends { sem 𝓛 (Lends (the_row N.row N.PhaseName) shard_row self.entry result
+            (λ w. record self.old { shard = w })) }
+        ensures value { result.now ≡ self.old.shard }
+    {
+        &mut self.shard
+    }
+}
+
+/// While a shard's clock is below the last number, the sums that two acts make on it fit their types.
+pub fn sums_fit()
+    ensures { (state : ShardState) (first second : Act) →
+        IsWithin state → state.clock < last_number →
+        SawInTurn SumsFit after_act state.contents (first ∷ second ∷ []) }
+{}

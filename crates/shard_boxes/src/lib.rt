@@ -4,22 +4,12 @@
 //! contracts see of each key which lines its worker has put and which list of lines it has seen.
 #![tactic(auto)]
 
-mod acts;
 mod boxes;
-mod close;
-mod held;
 mod key;
-mod laws;
+mod leaves;
 mod line;
-mod open;
-mod phase;
 mod place;
-mod rule;
 
-pub use acts::Acts;
-pub use boxes::Boxes;
-pub use held::Held;
-pub use key::Key;
-pub use laws::sums_fit;
-pub use line::Line;
-pub use phase::PhaseName;
+pub use boxes::{Boxes, PhaseName};
+pub use key::{Held, Key, sums_fit};
+pub use line::{Acts, Line};

@@ -8,9 +8,9 @@ ghost use Rattle.worker_journals.specs.Merged.{AreByWorker, entries_of, merged};
 ghost use Rattle.worker_journals.specs.Histories.{ArePhase, no_history, with_phase};
 ghost use Rattle.worker_journals.specs.Places.{first_entries};
 
-use crate::entry_ref::EntryRef;
+use crate::entries::EntryRef;
 use crate::journal::Journal;
-use crate::merging::{Merging, count_of};
+use crate::merge::{Merging, count_of};
 use auction_rows::{Entry, MOST_WORKERS};
 use std::alloc::{AllocError, Global};
 use std::marker::Model;

@@ -5,8 +5,7 @@ ghost use Rattle.auction_rows.specs.Choosing.{written_by};
 ghost use Rattle.worker_journals.specs.Journals.{IsLawful, ComesAfter, closed_journal, empty_journal, entry_index, entry_number, with_commit};
 ghost use Rattle.worker_journals.specs.Places.{entry_reply, entry_request, entry_store_reply, is_refused};
 
-use crate::answer::Answer;
-use crate::entry_ref::EntryRef;
+use crate::entries::{Answer, EntryRef};
 use crate::heads::Head;
 use crate::sides::Sides;
 use auction_rows::{Entry, Object, Reply, Request, StoreReply};

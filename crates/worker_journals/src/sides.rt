@@ -2,7 +2,7 @@
 ghost use Rattle.std.specs.Prelude.{◌≡◌, ◌+◌, ◌<◌, ◌≤◌, ◌++◌, ◌∷◌, [], length, take, drop, option_to_list, vec_len, vec_capacity, IfOk};
 ghost use Rattle.worker_journals.specs.Sides.{HasRoom, SaysReply, SaysRequest, facts_in, shown_in, item_reply};
 
-use crate::answer::{Answer, Told};
+use crate::entries::{Answer, Told};
 use crate::heads::{ItemSeen, Place, ShortReply, ShortRequest, UserSeen};
 use auction_rows::{BidShown, Facts, ItemShown, MOST_SHOWN, Object, Reply, Request, Ten};
 use std::alloc::{AllocError, Global};

@@ -7,8 +7,8 @@ use Rattle.phase_floor.specs.Floors.{FloorState}
 use Rattle.phase_floor.proofs.Receipts.{committed, dealt}
 use Rattle.phase_permits.specs.Slicing.{stocks_of}
 use Rattle.phase_permits.specs.Workers.{WorkerState, with_try}
-use Rattle.phase_permits.specs.declared.fault.Done.{Done}
-use Rattle.phase_permits.specs.declared.fault.PermitFault.{PermitFault}
+use Rattle.phase_permits.specs.declared.transaction.Done.{Done}
+use Rattle.phase_permits.specs.declared.transaction.PermitFault.{PermitFault}
 use Rattle.phase_permits.specs.Performing.{HasDealtWith, HasFailed, HasCommitted}
 use Rattle.auction_rows.specs.declared.replies.Reply.{Reply}
 use Rattle.auction_rows.specs.declared.requests.Request.{Request}

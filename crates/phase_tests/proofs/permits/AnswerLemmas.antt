@@ -4,7 +4,7 @@ use Rattle.std.specs.Prelude.{IfOk, IfErr, IfSome, IfNone}
 use Rattle.auction_rows.specs.declared.replies.Reply.{Reply}
 use Rattle.auction_rows.specs.declared.requests.Request.{Request}
 use Rattle.phase_permits.specs.Workers.{WorkerState, with_try}
-use Rattle.phase_permits.specs.declared.fault.PermitFault.{PermitFault}
+use Rattle.phase_permits.specs.declared.transaction.PermitFault.{PermitFault}
 use Rattle.phase_permits.specs.Performing.{HasFailed, HasCommitted, HasPerformedFirst, HasFailedFirst}
 use Rattle.shard_boxes.specs.States.{ShardState}
 

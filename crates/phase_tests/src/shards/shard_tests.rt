@@ -1,5 +1,5 @@
 //! Numbers of commits, and what one shard says of an item. What views show stands in tests/worked.
-ghost use Rattle.auction_rows.specs.declared.ids.Object.TheVariants.{Item};
+ghost use Rattle.auction_rows.specs.declared.requests.Object.TheVariants.{Item};
 ghost use Rattle.item_shards.specs.ShardContents.{LiesIn};
 
 use crate::comparing::assert_same;

@@ -1,7 +1,7 @@
 use Rattle.std.proofs.Common.{◌∙◌, List, ap₂, subst}
-use Rattle.auction_rows.specs.declared.numbers.Opening.{Opening}
+use Rattle.auction_rows.specs.declared.values.Opening.{Opening}
 use Rattle.item_shards.specs.OpeningRows.{AreRows, IsTooLong, opening_rows}
-use Rattle.item_shards.specs.declared.opened.Opened.{Opened}
+use Rattle.item_shards.specs.declared.openings.Opened.{Opened}
 use Rattle.auction_program.specs.Options.{opening_of}
 use Rattle.auction_program.proofs.Answering.{not_long}
 use Rattle.auction_program.proofs.FirstPart.{open_told}

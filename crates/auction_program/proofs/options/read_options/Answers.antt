@@ -2,7 +2,7 @@ use Rattle.std.proofs.Common.{◌≡◌, ◌∙◌, List, ℕ, codes, map, strin
 use Rattle.clap.specs.Matches.{first_value, found_of, one_text}
 use Rattle.clap.specs.Simple.{app_of}
 use Rattle.program_options.specs.Words.{AreTaken, HaveNumbers, text_in, value_in}
-use Rattle.program_options.specs.declared.faults.UsageFault.TheVariants.{Memory}
+use Rattle.program_options.specs.declared.words.UsageFault.TheVariants.{Memory}
 use Rattle.auction_program.specs.Words.{options_of, program}
 use Rattle.auction_program.proofs.Answering.{error_is}
 use Rattle.auction_program.proofs.ProgramWords.{is_free}

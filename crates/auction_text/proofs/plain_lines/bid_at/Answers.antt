@@ -1,5 +1,5 @@
 use Rattle.std.proofs.Common.{codes, rules, refl, false}
-use Rattle.auction_text.specs.declared.kinds.RequestKind.TheVariants as kind
+use Rattle.auction_text.specs.declared.fields.RequestKind.TheVariants as kind
 use Rattle.auction_text.specs.Lines.{IsRequestAt}
 use Rattle.auction_text.proofs.PlainLineLemmas.{line_in_place}
 use Rattle.auction_text.proofs.plain_lines.bid_at.Goals as goal

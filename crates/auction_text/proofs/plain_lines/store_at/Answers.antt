@@ -1,5 +1,5 @@
 use Rattle.std.proofs.Common.{codes, refl}
-use Rattle.auction_text.specs.declared.kinds.RequestKind.TheVariants as kind
+use Rattle.auction_text.specs.declared.fields.RequestKind.TheVariants as kind
 use Rattle.auction_text.proofs.PlainLineLemmas.{row_at, some_weaker}
 use Rattle.auction_text.proofs.plain_lines.store_at.Goals as goal
 

@@ -1,5 +1,5 @@
 use Rattle.std.proofs.Common.{◌+◌, codes, refl}
-use Rattle.auction_text.specs.declared.kinds.RequestKind.TheVariants as kind
+use Rattle.auction_text.specs.declared.fields.RequestKind.TheVariants as kind
 use Rattle.auction_text.proofs.PlainLineLemmas.{view_bids_in_place, view_category_in_place, view_item_in_place, view_user_in_place}
 use Rattle.auction_text.proofs.plain_lines.view_at.Goals as goal
 

@@ -1,7 +1,7 @@
 use Rattle.std.proofs.Common.{rules, ◌≡◌, ◌<◌, [], ◌∷◌, ◌++◌, true, false, length, refl}
 use Rattle.std.proofs.lemmas.List.{map-set, get_or-map}
 use Rattle.std.specs.Result.{is_ok}
-use Rattle.item_shards.specs.declared.opened.Opened.{Opened}
+use Rattle.item_shards.specs.declared.openings.Opened.{Opened}
 use Rattle.auction_text.proofs.scripts.add_record.Goals as goal
 use Rattle.auction_text.proofs.scripts.add_record.Goals.{then-said, else-said}
 

@@ -2,7 +2,7 @@ use Rattle.std.proofs.Common.{arith, ◌≡◌, ◌+◌, ◌∙◌, ◌++◌, �
 use Rattle.std.proofs.lemmas.List.{map-append, replicate_more}
 use Rattle.std.specs.Result.{is_ok}
 use Rattle.auction_rows.specs.declared.requests.Request.{Request}
-use Rattle.item_shards.specs.declared.opened.Opened.{Opened}
+use Rattle.item_shards.specs.declared.openings.Opened.{Opened}
 use Rattle.auction_text.specs.Scripts.{Asked}
 use Rattle.auction_text.proofs.scripts.empty_input.Goals as goal
 

@@ -1,7 +1,7 @@
 use Rattle.std.proofs.Common.{◌≡◌}
 use Rattle.std.proofs.lemmas.Result.{IfErr-weaker}
 use Rattle.auction_text.specs.Writing.{IsPartWritten}
-use Rattle.auction_text.specs.declared.faults.WriteFault.TheVariants.{Write}
+use Rattle.auction_text.specs.declared.output.WriteFault.TheVariants.{Write}
 use Rattle.auction_text.proofs.PutLemmas.{part_of_end}
 use Rattle.auction_text.proofs.text_blocks.write_last.Goals as goal
 

@@ -4,7 +4,7 @@ use Rattle.std.proofs.lemmas.Result.{IfErr-weaker, IfOk-weaker, err_from_is_err_
 use Rattle.clap.specs.Matches.{first_value, found_of, one_text}
 use Rattle.clap.specs.Simple.{app_of}
 use Rattle.program_options.specs.Words.{AreTaken, HaveNumbers, text_in, value_in}
-use Rattle.program_options.specs.declared.faults.UsageFault.TheVariants.{Memory}
+use Rattle.program_options.specs.declared.words.UsageFault.TheVariants.{Memory}
 use Rattle.check_program.specs.Words.{SayOptions, program}
 use Rattle.check_program.proofs.OptionLemmas.{is_free}
 use Rattle.check_program.proofs.options.read_options.Goals as goal

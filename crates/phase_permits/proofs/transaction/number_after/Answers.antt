@@ -1,8 +1,8 @@
 use Rattle.std.proofs.Common.{◌≡◌, ◌≤◌, ℕ, suc, max, Result, sym, subst}
 use Rattle.std.specs.Prelude.{IfOk, IfErr}
 use Rattle.item_shards.specs.CommitNumbers.{last_number}
-use Rattle.phase_permits.specs.declared.fault.PermitFault.{PermitFault}
-use Rattle.phase_permits.specs.declared.fault.PermitFault.TheVariants.{NumberFull}
+use Rattle.phase_permits.specs.declared.transaction.PermitFault.{PermitFault}
+use Rattle.phase_permits.specs.declared.transaction.PermitFault.TheVariants.{NumberFull}
 use Rattle.phase_permits.proofs.NumberLemmas.{number_is, number_within, fault_is, full_is}
 use Rattle.phase_permits.proofs.transaction.number_after.Goals as goal
 

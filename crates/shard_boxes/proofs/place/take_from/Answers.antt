@@ -1,6 +1,6 @@
 use Rattle.std.proofs.Common.{◌∙◌, refl, sym, subst}
 use Rattle.crossbeam_queue.specs.Passes.{view}
-use Rattle.shard_boxes.specs.declared.rule.View.{View}
+use Rattle.shard_boxes.specs.declared.place.View.{View}
 use Rattle.shard_boxes.specs.Rule.{Speaks, TakenBy}
 use Rattle.shard_boxes.proofs.BoxSteps.{takes}
 use Rattle.shard_boxes.proofs.place.take_from.Goals as goal

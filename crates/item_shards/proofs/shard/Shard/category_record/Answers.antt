@@ -1,5 +1,5 @@
 use Rattle.std.proofs.Common.{sym, ap, ◌∙◌}
-use Rattle.auction_rows.specs.declared.ids.Object.TheVariants.{Category}
+use Rattle.auction_rows.specs.declared.requests.Object.TheVariants.{Category}
 use Rattle.item_shards.specs.Slices.{no_items}
 use Rattle.item_shards.specs.Values.{Value}
 use Rattle.item_shards.proofs.Stored.{contents_here}

@@ -1,5 +1,5 @@
 use Rattle.std.proofs.Common.{get_or, sym, ap, subst, ◌∙◌, List}
-use Rattle.item_shards.specs.declared.acts.Act.{Act}
+use Rattle.item_shards.specs.declared.shard.acts.Act.{Act}
 use Rattle.item_shards.specs.Acting.{CanDo}
 use Rattle.item_shards.specs.Contents.{Contents, after_act, after_acts}
 use Rattle.item_shards.specs.ShardContents.{contents}

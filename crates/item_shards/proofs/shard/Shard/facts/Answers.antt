@@ -1,6 +1,6 @@
 use Rattle.std.proofs.Common.{Option, Some, None, IfSome, ap, sym, ◌∙◌, rules}
 use Rattle.std.specs.Prelude.{is_some}
-use Rattle.auction_rows.specs.declared.ids.Object.TheVariants.{Item}
+use Rattle.auction_rows.specs.declared.requests.Object.TheVariants.{Item}
 use Rattle.auction_rows.specs.declared.requests.Facts.{Facts}
 use Rattle.item_shards.specs.Values.{Value}
 use Rattle.item_shards.specs.ShardContents.{HasRoom}

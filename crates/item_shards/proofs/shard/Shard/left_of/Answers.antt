@@ -1,5 +1,5 @@
 use Rattle.std.proofs.Common.{ap, ◌∙◌, rules}
-use Rattle.auction_rows.specs.declared.ids.Object.TheVariants.{Item}
+use Rattle.auction_rows.specs.declared.requests.Object.TheVariants.{Item}
 use Rattle.item_shards.specs.Values.{left}
 use Rattle.item_shards.proofs.AnswerLemmas.{left_is}
 use Rattle.item_shards.proofs.shard.Shard.left_of.Goals as goal

@@ -1,5 +1,5 @@
 use Rattle.std.proofs.Common.{ap, ◌∙◌, rules}
-use Rattle.auction_rows.specs.declared.ids.Object.TheVariants.{Item}
+use Rattle.auction_rows.specs.declared.requests.Object.TheVariants.{Item}
 use Rattle.item_shards.specs.Values.{stock}
 use Rattle.item_shards.proofs.AnswerLemmas.{stock_is}
 use Rattle.item_shards.proofs.shard.Shard.stock.Goals as goal

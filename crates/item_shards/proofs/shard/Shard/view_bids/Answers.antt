@@ -1,5 +1,5 @@
 use Rattle.std.proofs.Common.{ap, ◌∙◌, rules}
-use Rattle.auction_rows.specs.declared.ids.Object.TheVariants.{Item}
+use Rattle.auction_rows.specs.declared.requests.Object.TheVariants.{Item}
 use Rattle.item_shards.specs.Views.{bids_view}
 use Rattle.item_shards.specs.ShardContents.{opening}
 use Rattle.item_shards.proofs.AnswerLemmas.{bids_reply}

@@ -1,5 +1,5 @@
 use Rattle.std.proofs.Common.{rules, ◌≡◌, ◌%◌, [], ◌∷◌, ◌++◌, refl}
-use Rattle.load_program.specs.declared.lines.Line.{Line}
+use Rattle.load_program.specs.declared.load.Line.{Line}
 use Rattle.load_program.specs.Stored.{IsLineAt}
 use Rattle.load_program.proofs.LoadLemmas.{EachFrom-push}
 use Rattle.load_program.proofs.draws.Market.lines.Goals as goal

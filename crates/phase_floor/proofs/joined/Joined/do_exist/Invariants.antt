@@ -1,5 +1,5 @@
 use Rattle.std.proofs.Common.{ℕ, ◌<◌, get_or}
-use Rattle.auction_rows.specs.declared.ids.Object.{Object}
+use Rattle.auction_rows.specs.declared.requests.Object.{Object}
 use Rattle.phase_floor.specs.States.{DoesExist, states_of}
 use Rattle.phase_floor.proofs.joined.Joined.do_exist.Given as goal
 

@@ -1,8 +1,8 @@
 use Rattle.std.proofs.Common.{sym, ap, option_map, subst, ◌∙◌}
 use Rattle.auction_rows.specs.StoreReplies.{reply_of}
-use Rattle.item_shards.specs.declared.acts.Act.{Act}
-use Rattle.item_shards.specs.declared.acts.Act.TheVariants.{Look}
-use Rattle.item_shards.specs.declared.acts.Shown.TheVariants as shown
+use Rattle.item_shards.specs.declared.shard.acts.Act.{Act}
+use Rattle.item_shards.specs.declared.shard.acts.Act.TheVariants.{Look}
+use Rattle.item_shards.specs.declared.shard.acts.Shown.TheVariants as shown
 use Rattle.phase_permits.specs.Deeds.{AreGoodOn}
 use Rattle.phase_permits.specs.Takens.{shard_at}
 use Rattle.phase_permits.proofs.ArmLemmas.{bid_arm, bid_looks, buy_arm, buy_looks, comment_arm, comment_looks}

@@ -1,5 +1,5 @@
 use Rattle.std.proofs.Common.{◌≡◌, ◌<◌, List, false, length, sym, ap, subst, ◌∙◌}
-use Rattle.auction_rows.specs.declared.ids.Object.{Object}
+use Rattle.auction_rows.specs.declared.requests.Object.{Object}
 use Rattle.phase_permits.specs.declared.slices.Hot.{Hot}
 use Rattle.phase_permits.specs.Performing.{HasPerformed, HaveOpening}
 use Rattle.phase_permits.specs.Slicing.{objects_of}

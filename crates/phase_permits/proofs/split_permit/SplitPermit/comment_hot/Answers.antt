@@ -1,6 +1,6 @@
 use Rattle.std.proofs.Common.{length, sym, ap, subst}
 use Rattle.std.specs.Prelude.{is_some}
-use Rattle.auction_rows.specs.declared.ids.Object.TheVariants.{Item, User}
+use Rattle.auction_rows.specs.declared.requests.Object.TheVariants.{Item, User}
 use Rattle.auction_rows.specs.declared.requests.Request.{Request}
 use Rattle.auction_rows.specs.declared.requests.Request.TheVariants.{StoreComment}
 use Rattle.phase_permits.specs.Performing.{HasCommitted, HasCommittedSome}

@@ -3,7 +3,7 @@ use Rattle.phase_laws.specs.Numbers.{greatest_by}
 use Rattle.item_shards.specs.CommitNumbers.{last_number}
 use Rattle.item_shards.specs.ShardContents.{clock}
 use Rattle.shard_boxes.specs.Helds.{HeldState}
-use Rattle.phase_permits.specs.declared.fault.PermitFault.TheVariants.{NumberFull}
+use Rattle.phase_permits.specs.declared.transaction.PermitFault.TheVariants.{NumberFull}
 use Rattle.phase_permits.specs.Performing.{HasFailed}
 use Rattle.phase_permits.specs.Takens.{footprint_of, held_in, HasTakenAll}
 use Rattle.phase_permits.specs.Workers.{WorkerState, begun_of}

@@ -1,5 +1,5 @@
 use Rattle.std.proofs.Common.{◌≡◌, ℕ, ◌++◌, ◌∷◌, [], List, sym, ap, subst, ◌∙◌}
-use Rattle.phase_permits.specs.declared.counters.Counters.{Counters}
+use Rattle.phase_permits.specs.declared.worker.Counters.{Counters}
 use Rattle.phase_permits.specs.Workers.{IsLawful, begun_of, new_worker}
 use Rattle.phase_permits.proofs.StartLemmas.{start_lawful}
 use Rattle.phase_permits.proofs.worker.Worker.new.Goals as goal

@@ -1,8 +1,8 @@
 use Rattle.std.proofs.Common.{◌≡◌, length, sym, ap, subst, ◌∙◌}
 use Rattle.auction_rows.specs.StoreReplies.{reply_of}
 use Rattle.shard_boxes.specs.Keys.{KeyState}
-use Rattle.phase_permits.specs.declared.read_set.ReadSet.{ReadSet}
-use Rattle.phase_permits.specs.declared.putting.Written.{Written}
+use Rattle.phase_permits.specs.declared.transaction.ReadSet.{ReadSet}
+use Rattle.phase_permits.specs.declared.deeds.Written.{Written}
 use Rattle.phase_permits.specs.Begun.{step_of}
 use Rattle.phase_permits.specs.Deeds.{clocks_of, deal_of}
 use Rattle.phase_permits.specs.Homes.{IsWrittenAt}

@@ -1,9 +1,9 @@
 use Rattle.std.proofs.Common.{◌≡◌, [], ◌∷◌, sym, ap, subst, ◌∙◌}
 use Rattle.auction_rows.specs.declared.replies.Reply.{Reply}
-use Rattle.item_shards.specs.declared.acts.Act.TheVariants.{Look}
-use Rattle.item_shards.specs.declared.acts.Shown.TheVariants as shown
+use Rattle.item_shards.specs.declared.shard.acts.Act.TheVariants.{Look}
+use Rattle.item_shards.specs.declared.shard.acts.Shown.TheVariants as shown
 use Rattle.shard_boxes.specs.Keys.{KeyState}
-use Rattle.phase_permits.specs.declared.read_set.ReadSet.{ReadSet}
+use Rattle.phase_permits.specs.declared.transaction.ReadSet.{ReadSet}
 use Rattle.phase_permits.specs.Putting.{HasPutAll}
 use Rattle.phase_permits.specs.Begun.{step_of}
 use Rattle.phase_permits.specs.Takens.{held_in, numbers_of, is_one_of, dealt, line_among}

@@ -1,9 +1,9 @@
 use Rattle.std.proofs.Common.{◌≡◌, ℕ, true, Some, None, length, Result, Ok, Err, sym, ap, subst, ◌∙◌}
 use Rattle.std.specs.Prelude.{is_err, IfErr}
-use Rattle.auction_rows.specs.declared.ids.Object.TheVariants.{Item}
+use Rattle.auction_rows.specs.declared.requests.Object.TheVariants.{Item}
 use Rattle.auction_rows.specs.Refusals.{number_refusal}
 use Rattle.auction_rows.specs.StoreReplies.{reply_of}
-use Rattle.phase_permits.specs.declared.fault.PermitFault.TheVariants.{Memory}
+use Rattle.phase_permits.specs.declared.transaction.PermitFault.TheVariants.{Memory}
 use Rattle.phase_permits.specs.Begun.{step_of}
 use Rattle.phase_permits.specs.Performing.{HasCommitted, HasFailed, asks}
 use Rattle.phase_permits.specs.Takens.{footprint_of, is_one_of, AreBack}

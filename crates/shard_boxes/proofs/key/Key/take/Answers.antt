@@ -1,6 +1,6 @@
 use Rattle.std.proofs.Common.{ℕ, ◌<◌, ◌++◌, List, true, ap, sym, ◌∙◌, subst, arith, length}
 use Rattle.shard_boxes.specs.declared.line.Line.{Line}
-use Rattle.shard_boxes.specs.declared.rule.View.{View}
+use Rattle.shard_boxes.specs.declared.place.View.{View}
 use Rattle.shard_boxes.specs.States.{state_of}
 use Rattle.shard_boxes.specs.Lines.{IsHistory, lines_of}
 use Rattle.shard_boxes.specs.Passes.{LeaveState}

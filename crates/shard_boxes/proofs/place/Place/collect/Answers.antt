@@ -1,8 +1,7 @@
-use Rattle.std.proofs.Common.{sym, ap, ◌∙◌, subst}
-use Rattle.shard_boxes.specs.declared.rule.View.{View}
+use Rattle.std.proofs.Common.{sym, ap, ◌∙◌, subst, length, ◌+◌}
+use Rattle.shard_boxes.specs.declared.place.View.{View}
 use Rattle.shard_boxes.specs.Passes.{LeaveState}
 use Rattle.shard_boxes.specs.Rule.{Speaks}
-use Rattle.std.proofs.Common.{length, ◌+◌}
 use Rattle.shard_boxes.proofs.PassSteps.{merges}
 use Rattle.shard_boxes.proofs.place.Place.collect.Goals as goal
 

@@ -1,5 +1,5 @@
 use Rattle.std.proofs.Common.{sym, ap, ◌∙◌, subst}
-use Rattle.shard_boxes.specs.declared.rule.View.{View}
+use Rattle.shard_boxes.specs.declared.place.View.{View}
 use Rattle.shard_boxes.specs.States.{state_of, state_at}
 use Rattle.shard_boxes.specs.Lines.{after}
 use Rattle.shard_boxes.specs.Helds.{MayPut}

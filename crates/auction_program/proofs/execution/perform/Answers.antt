@@ -1,0 +1,26 @@
+use Rattle.std.proofs.Common.{subst}
+use Rattle.std.proofs.lemmas.Result.{IfOk-weaker}
+use Rattle.auction_run.specs.Phases.{lists}
+use Rattle.item_shards.specs.OpeningBooks as opened
+use Rattle.auction_program.specs.Execution.{IsNotPerformed, IsNotRun}
+use Rattle.auction_program.specs.declared.faults.Fault.TheVariants.{Run}
+use Rattle.auction_program.proofs.Answering.{error_is, not_run}
+use Rattle.auction_program.proofs.execution.perform.Goals as goal
+
+pub perform_watched-requires-clause-report : goal.perform_watched-requires-clause-report
+perform_watched-requires-clause-report g c = λ _ _. c.if-options.true
+
+pub returns-then-options-clause-unasked : goal.returns-then-options-clause-unasked
+returns-then-options-clause-unasked g c = IfOk-weaker c.perform_watched.result _ _ (λ performed is not. absurd (not c.if-options.true)) c.perform_watched.ensures.performs
+
+pub returns-in_err-outcome-clause-cause : goal.returns-in_err-outcome-clause-cause
+returns-in_err-outcome-clause-cause g c =
+    let options = c.args.options.now in
+    let rows = opened.rows_of c.args.book.now in
+    let scripts = lists c.args.scripts.items in
+    let fault = c.in_err-outcome.field-0.0 in
+    let refused = c.run.ensures.refused in
+    error_is c.from_residual.result (Run fault) (λ f. IsNotPerformed options f rows scripts) c.from_residual.ensures
+    (subst (λ p. IsNotRun p fault rows scripts) c.policy.ensures
+    (not_run c.policy.result rows scripts c.run.result fault c.in_err-outcome.was refused.workers refused.shards refused.quota refused.too_long
+    c.run.ensures.spawn))

@@ -1,0 +1,60 @@
+use Rattle.std.proofs.Common.{rules, ◌≡◌, ◌∙◌, [], List, length, ap, sym, subst, MatchOption}
+use Rattle.std.proofs.lemmas.Option.{IfSome_then}
+use base.Growing.{prefix_refl}
+use Rattle.auction_rows.specs.declared.rows.Row.{Row}
+use Rattle.auction_rows.specs.Book.{Book}
+use Rattle.auction_rows.specs.History.{book_after, ReplaysFrom}
+use Rattle.auction_rows.proofs.HistoryLemmas.{book_after-replays}
+use Rattle.auction_run.specs.Boards.{phase_rows}
+use Rattle.auction_run.specs.Phases.{lists}
+use Rattle.auction_run.proofs.BoardLemmas.{rows_length}
+use Rattle.auction_window.specs.Published.{book_of}
+use Rattle.item_shards.specs.OpeningBooks as opened
+use Rattle.phase_floor.specs.States.{StandsFor}
+use Rattle.auction_program.specs.Execution.{HasLastViews, IsNotPerformed, IsNotRun}
+use Rattle.auction_program.specs.Options.{opening_of}
+use Rattle.auction_program.specs.Report.{AreViews, IsEnd}
+use Rattle.auction_program.specs.declared.faults.Fault.TheVariants.{Run}
+use Rattle.auction_program.specs.declared.execution.Performed.{Performed}
+use Rattle.auction_program.proofs.Answering.{error_is, not_run}
+use Rattle.auction_program.proofs.execution.watch.Goals as goal
+
+pub returns-clause-performs : goal.returns-clause-performs
+returns-clause-performs g c =
+    let W = g.J.WindowName in
+    let options = c.args.options.now in
+    let rows = opened.rows_of c.args.book.now in
+    let outcome = c.in_ok-outcome.outcome in
+    let answers = c.in_ok-outcome.ensures in
+    let history = outcome.history.entries in
+    let shown = answers.board in
+    let all : List (List Row) = phase_rows (length outcome.hot.items) history in
+    let book : Book = book_after (opening_of options) rows history in
+    let replays = subst (λ o. ReplaysFrom o rows history) c.requires.options answers.outcome.replays in
+    let end : IsEnd W.opening W.rows all all outcome.state book = record {
+      known = prefix_refl all;
+      counted = rows_length (length outcome.hot.items) history ∙ sym answers.outcome.phases;
+      book_is = ap (λ (rs : Book). book_of rs all) (sym c.requires.rows) ∙ shown.book_is ∙ sym (book_after-replays (opening_of options) rows history replays);
+      opening_is = answers.outcome.opening_is ∙ c.requires.opening;
+      stands = subst (λ o. StandsFor outcome.state (book_after o rows history)) c.requires.options answers.outcome.stands;
+    } in
+    let told = subst (λ o. MatchOption o (all ≡ []) (λ last. last ≡ all)) (sym c.take-told.ensures.value) shown.has_them.told_last in
+    record {
+      allowed = search rules;
+      answer = search rules;
+      lines = subst (λ (told : Performed). HasLastViews options rows told.history.entries told.lines) (sym c.told_of.ensures)
+          (IfSome_then c.last_lines-lines.result c.last_lines-lines.ensures
+          (λ lines holds. subst (λ o. AreViews o book lines.categories.items lines.users.items) (sym c.requires.opening ∙ c.requires.options) (holds all book told end)));
+    }
+
+pub returns-in_err-outcome-clause-cause : goal.returns-in_err-outcome-clause-cause
+returns-in_err-outcome-clause-cause g c =
+    let options = c.args.options.now in
+    let rows = opened.rows_of c.args.book.now in
+    let scripts = lists c.args.scripts.items in
+    let fault = c.in_err-outcome.field-0.0 in
+    let refused = c.run_shown.ensures.refused in
+    error_is c.from_residual.result (Run fault) (λ f. IsNotPerformed options f rows scripts) c.from_residual.ensures
+    (subst (λ p. IsNotRun p fault rows scripts) c.policy.ensures
+    (not_run c.policy.result rows scripts c.run_shown.result fault c.in_err-outcome.was refused.workers refused.shards refused.quota refused.too_long
+    c.run_shown.ensures.spawn))

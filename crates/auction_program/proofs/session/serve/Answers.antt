@@ -1,0 +1,94 @@
+use Rattle.std.proofs.Common.{◌++◌, ◌⊎◌, List, inr, subst}
+use Rattle.std.proofs.lemmas.Option.{IfSome_then}
+use Rattle.std.proofs.lemmas.Result.{on_ok_weaker}
+use Rattle.auction_text.specs.Moved.{gone_by}
+use Rattle.auction_text.specs.Parts.{workers_of}
+use Rattle.auction_text.specs.Readable.{readable_of}
+use Rattle.item_shards.specs.OpeningRows.{opening_rows}
+use Rattle.item_shards.specs.declared.openings.Opened.{Opened}
+use Rattle.auction_program.specs.Options.{opening_of}
+use Rattle.auction_program.specs.PartRuns.{Opens, StartsAt}
+use Rattle.auction_program.specs.Serving.{ArePartTold, AreTold, IsNothingTold, nothing_gone}
+use Rattle.auction_program.specs.declared.parts.Start.TheVariants.{Book}
+use Rattle.auction_program.proofs.FirstPart.{first_not_served, first_opened, first_served}
+use Rattle.auction_program.proofs.ToldLemmas.{same_gone}
+use Rattle.auction_program.proofs.session.serve.Goals as goal
+
+pub returns-in_err-book-clause-logged : goal.returns-in_err-book-clause-logged
+returns-in_err-book-clause-logged g c =
+    let options = c.args.options.now in
+    let logged = c.args.source.logged.items in
+    let accepted = g.L.Log.accepted in
+    let contents = g.W.Write.contents in
+    IfSome_then (g.I.Read.remaining c.args.source.reader) c.in_ok-left.ensures.reads (λ input can.
+    let all = readable_of options.workers input in
+    first_opened g.I.Read.remaining accepted contents options logged all c.args.teller.now c.open.new.teller c.open.new.teller (workers_of c.in_ok-left.left) c.most_of_a_part.result c.in_ok-input.field-0
+    (c.in_ok-input.ensures.part all can)
+    (subst (λ (rs : List Opened). Opens options logged rs (ArePartTold accepted contents c.args.teller.now c.open.new.teller) ⊎ IsNothingTold accepted contents c.args.teller.now c.open.new.teller) c.as_slice.ensures.value c.open.ensures.first))
+
+pub returns-in_err-served-clause-logged : goal.returns-in_err-served-clause-logged
+returns-in_err-served-clause-logged g c =
+    let options = c.args.options.now in
+    let logged = c.args.source.logged.items in
+    let accepted = g.L.Log.accepted in
+    let contents = g.W.Write.contents in
+    IfSome_then (g.I.Read.remaining c.args.source.reader) c.in_ok-left.ensures.reads (λ input can.
+    let all = readable_of options.workers input in
+    first_not_served g.I.Read.remaining accepted contents options logged all c.args.teller.now c.open.new.teller c.serve_part.new.teller (workers_of c.in_ok-left.left) c.most_of_a_part.result c.in_ok-input.field-0
+    (c.in_ok-input.ensures.part all can)
+    c.most_of_a_part.ensures.asked c.in_ok-left.ensures.workers (record { start = Book c.in_ok-book.book; before = c.none.result })
+    (subst (λ (rs : List Opened). StartsAt options (Book c.in_ok-book.book) (opening_rows (opening_of options) (logged ++ rs))) c.as_slice.ensures.value c.in_ok-book.ensures.starts)
+    (same_gone (gone_by c.none.result) nothing_gone c.none.ensures.phases c.none.ensures.requests)
+    (subst (λ (rs : List Opened). Opens options logged rs (AreTold accepted contents c.args.teller.now c.open.new.teller)) c.as_slice.ensures.value c.in_ok-book.ensures.opens)
+    c.serve_part.ensures.first)
+
+pub returns-clause-all : goal.returns-clause-all
+returns-clause-all g c =
+    let options = c.args.options.now in
+    let logged = c.args.source.logged.items in
+    let accepted = g.L.Log.accepted in
+    let contents = g.W.Write.contents in
+    on_ok_weaker c.serve_rest.result (λ ensures. IfSome_then (g.I.Read.remaining c.args.source.reader) c.in_ok-left.ensures.reads (λ input can.
+    let all = readable_of options.workers input in
+    ensures logged all c.args.teller.now
+    (first_served g.I.Read.remaining accepted contents options logged all c.args.teller.now c.open.new.teller c.serve_part.new.teller (workers_of c.in_ok-left.left) c.most_of_a_part.result c.in_ok-input.field-0
+    (c.in_ok-input.ensures.part all can)
+    c.most_of_a_part.ensures.asked c.in_ok-left.ensures.workers (record { start = Book c.in_ok-book.book; before = c.none.result })
+    (subst (λ (rs : List Opened). StartsAt options (Book c.in_ok-book.book) (opening_rows (opening_of options) (logged ++ rs))) c.as_slice.ensures.value c.in_ok-book.ensures.starts)
+    (same_gone (gone_by c.none.result) nothing_gone c.none.ensures.phases c.none.ensures.requests)
+    (subst (λ (rs : List Opened). Opens options logged rs (AreTold accepted contents c.args.teller.now c.open.new.teller)) c.as_slice.ensures.value c.in_ok-book.ensures.opens)
+    c.in_ok-served.served c.in_ok-input.ensures.workers c.in_ok-served.ensures.serves))) c.serve_rest.ensures.all
+
+pub returns-clause-fault : goal.returns-clause-fault
+returns-clause-fault g c = λ fault is of_input.
+    let options = c.args.options.now in
+    let logged = c.args.source.logged.items in
+    let accepted = g.L.Log.accepted in
+    let contents = g.W.Write.contents in
+    IfSome_then (g.I.Read.remaining c.args.source.reader) c.in_ok-left.ensures.reads (λ input can.
+    let all = readable_of options.workers input in
+    c.serve_rest.ensures.fault fault is of_input logged all c.args.teller.now
+    (first_served g.I.Read.remaining accepted contents options logged all c.args.teller.now c.open.new.teller c.serve_part.new.teller (workers_of c.in_ok-left.left) c.most_of_a_part.result c.in_ok-input.field-0
+    (c.in_ok-input.ensures.part all can)
+    c.most_of_a_part.ensures.asked c.in_ok-left.ensures.workers (record { start = Book c.in_ok-book.book; before = c.none.result })
+    (subst (λ (rs : List Opened). StartsAt options (Book c.in_ok-book.book) (opening_rows (opening_of options) (logged ++ rs))) c.as_slice.ensures.value c.in_ok-book.ensures.starts)
+    (same_gone (gone_by c.none.result) nothing_gone c.none.ensures.phases c.none.ensures.requests)
+    (subst (λ (rs : List Opened). Opens options logged rs (AreTold accepted contents c.args.teller.now c.open.new.teller)) c.as_slice.ensures.value c.in_ok-book.ensures.opens)
+    c.in_ok-served.served c.in_ok-input.ensures.workers c.in_ok-served.ensures.serves))
+
+pub returns-clause-logged : goal.returns-clause-logged
+returns-clause-logged g c =
+    let options = c.args.options.now in
+    let logged = c.args.source.logged.items in
+    let accepted = g.L.Log.accepted in
+    let contents = g.W.Write.contents in
+    IfSome_then (g.I.Read.remaining c.args.source.reader) c.in_ok-left.ensures.reads (λ input can.
+    let all = readable_of options.workers input in
+    inr (c.serve_rest.ensures.logged logged all c.args.teller.now
+    (first_served g.I.Read.remaining accepted contents options logged all c.args.teller.now c.open.new.teller c.serve_part.new.teller (workers_of c.in_ok-left.left) c.most_of_a_part.result c.in_ok-input.field-0
+    (c.in_ok-input.ensures.part all can)
+    c.most_of_a_part.ensures.asked c.in_ok-left.ensures.workers (record { start = Book c.in_ok-book.book; before = c.none.result })
+    (subst (λ (rs : List Opened). StartsAt options (Book c.in_ok-book.book) (opening_rows (opening_of options) (logged ++ rs))) c.as_slice.ensures.value c.in_ok-book.ensures.starts)
+    (same_gone (gone_by c.none.result) nothing_gone c.none.ensures.phases c.none.ensures.requests)
+    (subst (λ (rs : List Opened). Opens options logged rs (AreTold accepted contents c.args.teller.now c.open.new.teller)) c.as_slice.ensures.value c.in_ok-book.ensures.opens)
+    c.in_ok-served.served c.in_ok-input.ensures.workers c.in_ok-served.ensures.serves)))

@@ -1,4 +1,0 @@
-use Rattle.auction_run.proofs.going_on.run_on.Goals as goal
-
-pub run_on_shown-requires : goal.run_on_shown-requires
-run_on_shown-requires g c = (c.type_bounds.sync-R, (c.type_bounds.sync-G, λ watched. absurd watched))

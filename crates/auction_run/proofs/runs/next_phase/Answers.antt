@@ -1,0 +1,27 @@
+use Rattle.std.proofs.Common.{ap, sym, List, ◌++◌, ◌∷◌, [], ◌∙◌}
+use Rattle.std.proofs.lemmas.List.{map-append}
+use Rattle.auction_rows.specs.declared.rows.Entry.{Entry}
+use Rattle.auction_run.specs.Phases.{lists, hot_sets}
+use Rattle.auction_run.proofs.RunLemmas.{stepped, may_perform}
+use Rattle.auction_run.proofs.StableLemmas.{may_still}
+use Rattle.auction_run.proofs.runs.next_phase.Goals as goal
+
+pub perform_phase-requires-clause-may : goal.perform_phase-requires-clause-may
+perform_phase-requires-clause-may g c κs within =
+    let policy = c.args.plan.policy in
+    let scripts = lists c.args.plan.round.scripts.now in
+    let hot = c.in_ok-hot_now.hot_now.keys in
+    may_still policy scripts c.args.running.state c.args.running.stashes.items hot c.requires.counted c.in_ok-hot_now.ensures.joined
+    (λ never. c.requires.running (λ on.
+    never (may_perform policy scripts c.args.running c.requires.shards.some on c.requires.counted hot c.in_ok-hot_now.ensures.joined c.in_ok-hot_now.ensures.split)))
+
+pub returns-clause-running : goal.returns-clause-running
+returns-clause-running g c = λ opening rows is_book run.
+    stepped c.requires.quotas is_book _ run c.requires.left.0 c.requires.left.1 c.in_ok-closed.ensures
+    (ap hot_sets c.in_ok-push.ensures.items ∙ map-append (λ set. set.keys) c.args.running.hot.items (c.in_ok-hot_now.hot_now ∷ []))
+    c.in_ok-hot_now.ensures.joined
+    c.in_ok-hot_now.ensures.split
+
+pub returns-clause-grown : goal.returns-clause-grown
+returns-clause-grown g c =
+    c.in_ok-closed.ensures.history ∙ ap (λ (es : List Entry). c.args.running.history.entries ++ es) (sym c.in_ok-closed.ensures.last)

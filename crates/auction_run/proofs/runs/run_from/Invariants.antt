@@ -1,0 +1,16 @@
+use Rattle.std.proofs.Common.{List}
+use Rattle.auction_rows.specs.declared.rows.Row.{Row}
+use Rattle.auction_rows.specs.Book.{Book}
+use Rattle.auction_window.specs.Published.{book_of}
+use Rattle.auction_run.specs.Boards.{HasShownAfter}
+use Rattle.auction_run.specs.GoingOn.{BeginsWith}
+use Rattle.auction_run.specs.Phases.{lists}
+use Rattle.auction_run.specs.Running.{IsRunning}
+use Rattle.auction_run.proofs.runs.run_from.Given as goal
+
+abbrev pub invariant-loop-phase : goal.invariant-loop-phase
+invariant-loop-phase g l = record {
+  running : (rows : Book) → BeginsWith l.fn.state rows l.policy (lists l.scripts) → IsRunning l.fn.state.opening rows l.policy (lists l.scripts) l._phase l.running;
+  shown : (rows : Book) (before : List (List Row)) → BeginsWith l.fn.state (book_of rows before) l.policy (lists l.scripts) → g.B.Board.has l.fn.board l.fn.state.opening rows before →
+      HasShownAfter g.B.Board.has l.fn.state.opening rows before l._phase l.running.history.entries l.board;
+}

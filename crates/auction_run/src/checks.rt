@@ -1,0 +1,236 @@
+//! What is checked before a run begins, why it is refused, and why a run that goes on stops.
+ghost use Rattle.std.specs.Prelude.{◌≡◌, ◌↔◌, ◌<◌, ◌≤◌, ℕ, length, slice_index, IsTrue, OnOk};
+ghost use Rattle.item_shards.specs.OpeningBooks.{rows_of};
+ghost use Rattle.item_shards.specs.OpeningRows.{rows_by};
+ghost use Rattle.auction_run.specs.Beginning.{HaveWorkers, HasShards, HasQuotas, AreShort, IsFirstToFail};
+ghost use Rattle.auction_run.specs.GoingOn.{AreShortOn, HasScripts, IsCheckedOn};
+ghost use Rattle.auction_run.specs.Phases.{lists};
+
+use auction_rows::{MOST_HOT, MOST_OF_A_WORKER, MOST_SHARDS, MOST_WORKERS, Policy, Request, Row};
+use item_shards::OpeningBook;
+use phase_floor::{FloorFault, Joined};
+use phase_permits::PermitFault;
+use phase_workers::ServingFault;
+use std::alloc::{AllocError, AllocFailed};
+use thiserror::Error;
+
+/// Why a run gives no outcome. The first four are found before it begins, in this order; after any
+/// fault every worker that was started has ended, and no part of a history is given.
+#[derive(Clone, Copy, Debug, PartialEq, Eq, Drop, Error)]
+pub enum RunFault {
+    /// There are not 1 to 16 scripts, or a row of the opening book is of a worker without one.
+    #[error("number of workers")]
+    Workers,
+    /// There are not 1 to 64 shards.
+    #[error("number of shards")]
+    Shards,
+    /// A quota or the threshold is 0, or more than 64 objects may be hot.
+    #[error("quota, threshold or hot limit")]
+    Quota,
+    /// A worker's script and its rows in the opening book have more than 1,000,000 together.
+    #[error("more than 1000000 requests for a worker")]
+    TooLong,
+    /// A worker's thread could not be started, whatever the cause.
+    #[error("thread not started")]
+    Spawn,
+    /// No memory was left.
+    #[error("no memory")]
+    Memory,
+    /// A worker found the end of commit numbers, 2^59.
+    #[error("commit numbers used up")]
+    NumberFull,
+}
+
+impl From<AllocError> for RunFault {
+    ghost use Rattle.auction_run.specs.declared.checks.RunFault.TheVariants.{Memory};
+
+    ghost from_gives = { λ _ fault. fault ≡ Memory };
+
+    fn from(_refused: AllocError) -> RunFault {
+        RunFault::Memory
+    }
+}
+
+impl<T: Drop> From<AllocFailed<T>> for RunFault {
+    ghost use Rattle.auction_run.specs.declared.checks.RunFault.TheVariants.{Memory};
+
+    ghost from_gives = { λ _ fault. fault ≡ Memory };
+
+    fn from(_refused: AllocFailed<T>) -> RunFault {
+        RunFault::Memory
+    }
+}
+
+impl From<ServingFault> for RunFault {
+    ghost use Rattle.auction_run.specs.Phases.{told};
+
+    ghost from_gives = { λ fault run. run ≡ told fault };
+
+    fn from(fault: ServingFault) -> RunFault {
+        match fault {
+            ServingFault::Spawn => RunFault::Spawn,
+            ServingFault::Memory | ServingFault::Worker(PermitFault::Memory) => RunFault::Memory,
+            ServingFault::Worker(PermitFault::NumberFull) => RunFault::NumberFull,
+        }
+    }
+}
+
+impl From<FloorFault> for RunFault {
+    ghost use Rattle.auction_run.specs.declared.checks.RunFault.TheVariants.{Memory};
+
+    ghost from_gives = { λ _ fault. fault ≡ Memory };
+
+    fn from(fault: FloorFault) -> RunFault {
+        match fault {
+            FloorFault::Memory => RunFault::Memory,
+        }
+    }
+}
+
+/// Why a run that goes on from a state gives no outcome.
+#[derive(Drop)]
+pub enum Stopped {
+    /// It did not begin: one of the first four faults was found. The state is given back as it was.
+    Refused(Joined, RunFault),
+    /// A phase met this fault. The state is gone.
+    Failed(RunFault),
+}
+
+impl From<RunFault> for Stopped {
+    ghost use Rattle.std.specs.Prelude.{◌≡◌};
+    ghost use Rattle.auction_run.specs.declared.checks.Stopped.TheVariants.{Failed};
+
+    ghost from_gives = { λ fault stopped. stopped ≡ Failed fault };
+
+    fn from(fault: RunFault) -> Stopped {
+        Stopped::Failed(fault)
+    }
+}
+
+/// Checks what a run is handed: the fault is that of the first that doesn't hold.
+pub(crate) fn check(
+    book: &OpeningBook,
+    scripts: &[Vec<Request>],
+    policy: Policy,
+) -> Result<(), RunFault>
+    ensures { IsFirstToFail result (HaveWorkers (rows_of book.now) (lists scripts.now))
+        (HasShards policy) (HasQuotas policy) (AreShort (rows_of book.now) (lists scripts.now)) }
+{
+    if !have_workers(book.rows(), scripts) {
+        return Err(RunFault::Workers);
+    }
+    if !has_shards(policy) {
+        return Err(RunFault::Shards);
+    }
+    if !has_quotas(policy) {
+        return Err(RunFault::Quota);
+    }
+    if !are_short(book, scripts) {
+        return Err(RunFault::TooLong);
+    }
+    Ok(())
+}
+
+/// Checks what a run that goes on from a state is handed: the fault is that of the first that
+/// doesn't hold.
+pub(crate) fn check_on(
+    state: &Joined,
+    scripts: &[Vec<Request>],
+    policy: Policy,
+) -> Result<(), RunFault>
+    ensures checked { IsCheckedOn result state.now policy (lists scripts.now) }
+    ensures few { OnOk result (length (lists scripts.now) ≤ MOST_WORKERS) }
+{
+    if !has_scripts(state, scripts) {
+        return Err(RunFault::Workers);
+    }
+    if policy.shards != state.shards() {
+        return Err(RunFault::Shards);
+    }
+    if !has_quotas(policy) {
+        return Err(RunFault::Quota);
+    }
+    if !are_short_on(state, scripts) {
+        return Err(RunFault::TooLong);
+    }
+    Ok(())
+}
+
+// Whether there is a script for each worker of a state.
+fn has_scripts(state: &Joined, scripts: &[Vec<Request>]) -> bool
+    ensures are { IsTrue result ↔ HasScripts state.now (lists scripts.now) }
+    ensures few { IsTrue result → length (lists scripts.now) ≤ MOST_WORKERS }
+{
+    scripts.len() == state.workers() as usize
+}
+
+// Whether no worker's rows and script have more than 1,000,000 together.
+fn are_short_on(state: &Joined, scripts: &[Vec<Request>]) -> bool
+    requires { HasScripts state.now (lists scripts.now) }
+    ensures { IsTrue result ↔ AreShortOn state.now (lists scripts.now) }
+{
+    for worker in 0..scripts.len() {
+        let stored = state.stored_by(worker) as usize;
+        if scripts[worker].len() > MOST_OF_A_WORKER as usize - stored {
+            return false;
+        }
+    }
+    true
+}
+
+// Whether there are 1 to 16 scripts, and each row is of a worker that has one.
+fn have_workers(rows: &[Row], scripts: &[Vec<Request>]) -> bool
+    ensures { IsTrue result ↔ HaveWorkers rows.now (lists scripts.now) }
+{
+    let workers = scripts.len();
+    if workers == 0 || workers > MOST_WORKERS {
+        return false;
+    }
+    rows.iter().all(|row| (row.worker() as usize) < workers)
+}
+
+// Whether there are 1 to 64 shards.
+fn has_shards(policy: Policy) -> bool
+    ensures { IsTrue result ↔ HasShards policy }
+{
+    policy.shards > 0 && policy.shards as usize <= MOST_SHARDS
+}
+
+// Whether neither quota is 0, nor is the threshold, and at most 64 objects may be hot.
+fn has_quotas(policy: Policy) -> bool
+    ensures { IsTrue result ↔ HasQuotas policy }
+{
+    policy.joined_quota > 0
+        && policy.split_quota > 0
+        && policy.threshold > 0
+        && policy.hot_max as usize <= MOST_HOT
+}
+
+// Whether no worker's rows and script have more than 1,000,000 together.
+fn are_short(book: &OpeningBook, scripts: &[Vec<Request>]) -> bool
+    requires { length scripts.now ≤ MOST_WORKERS }
+    ensures { IsTrue result ↔ AreShort (rows_of book.now) (lists scripts.now) }
+{
+    let counts = rows_by_each(book.rows());
+    for worker in 0..scripts.len() {
+        if scripts[worker].len() > MOST_OF_A_WORKER as usize - counts[worker] {
+            return false;
+        }
+    }
+    true
+}
+
+// How many rows are of each worker below 16.
+fn rows_by_each(rows: &[Row]) -> [usize; MOST_WORKERS]
+    ensures { (worker : ℕ) → worker < MOST_WORKERS →
+        slice_index result worker ≡ rows_by rows.now worker }
+{
+    let mut counts = [0; MOST_WORKERS];
+    for row in rows {
+        let worker = row.worker() as usize;
+        if worker < MOST_WORKERS {
+            counts[worker] += 1;
+        }
+    }
+    counts
+}

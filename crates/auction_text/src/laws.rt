@@ -1,0 +1,51 @@
+//! What holds of inputs, and of the texts that are written.
+ghost use Rattle.std.specs.Prelude.{◌≡◌, List, ◌≤◌, ℕ, false, length};
+ghost use Rattle.std.specs.List.Sorted.{IsPermutation, IsSorted, IsStable};
+ghost use Rattle.auction_rows.specs.declared.values.Opening.{Opening};
+ghost use Rattle.auction_rows.specs.declared.rows.Entry.{Entry as Commit};
+ghost use Rattle.auction_rows.specs.Book.{Book};
+ghost use Rattle.auction_rows.specs.History.{ReplaysFrom, book_after};
+ghost use Rattle.auction_text.specs.Moved.{Gone, all_moved};
+ghost use Rattle.auction_text.specs.Order.{in_order, precedence};
+ghost use Rattle.auction_text.specs.Replies.{lines, replies_text, reply_line};
+ghost use Rattle.auction_text.specs.RowLines.{row_line, rows_text};
+ghost use Rattle.auction_text.specs.declared.record.Record.{Record};
+ghost use Rattle.auction_text.specs.declared.scripts.TheConstants.{MOST_RECORDS};
+ghost use Rattle.auction_text.specs.Readable.{all_said, readable_of};
+ghost use Rattle.auction_text.specs.Scripts.{RowsComeFirst, read_records, records_of};
+
+/// The replies stand by worker, then index, then place, each once; entries that are in order
+/// already give a line each as they stand.
+pub fn replies_in_order()
+    ensures same { (entries : List Commit) → IsPermutation entries (in_order entries) }
+    ensures sorted { (entries : List Commit) → IsSorted precedence (in_order entries) }
+    ensures stable { (entries : List Commit) → IsStable precedence entries (in_order entries) }
+    ensures already { (entries : List Commit) → IsSorted precedence entries → replies_text entries ≡ lines reply_line entries }
+{}
+
+/// The rows written of a book, and of a history that replays from it, are the lines of the book
+/// that the history leaves.
+pub fn rows_of_histories()
+    ensures { (opening : Opening) (book : Book) (entries : List Commit) →
+        ReplaysFrom opening book entries →
+        rows_text book entries ≡ lines row_line (book_after opening book entries) }
+{}
+
+/// The entries of a part stand in the same order if they are moved to where they stand in the
+/// whole.
+pub fn moved_in_order()
+    ensures { (gone : Gone) (entries : List Commit) → in_order (all_moved gone entries) ≡ all_moved gone (in_order entries) }
+{}
+
+/// In an input without a fault the rows stand before all requests.
+pub fn rows_come_first()
+    ensures { (workers : ℕ) (text : List ℕ) (all : List Record) →
+        read_records workers 1 false (records_of text) ≡ Ok all → RowsComeFirst all }
+{}
+
+/// What can be read of an input of at most `MOST_RECORDS` records is what all of it says, or its
+/// first fault.
+pub fn all_is_readable()
+    ensures { (workers : ℕ) (text : List ℕ) → length (records_of text) ≤ MOST_RECORDS →
+        read_records workers 1 false (records_of text) ≡ all_said (readable_of workers text).said (readable_of workers text).fault }
+{}

@@ -1,5 +1,0 @@
-use Rattle.closing_laws.proofs.ListLemmas.{hold_the_entries}
-use Rattle.closing_laws.proofs.closing.lists_hold_the_entries.Goals as goal
-
-pub returns : goal.returns
-returns c = hold_the_entries

@@ -1,0 +1,117 @@
+//! The check of a whole history, line by line, and what holds of the lines of the product's
+//! histories.
+ghost use Rattle.std.specs.Prelude.{◌≡◌, ◌<◌, ◌≤◌, ◌+◌, length, IfNone, IfOk, IfSome, IsErrOf, ℕ, List};
+ghost use Rattle.std.specs.List.{AllByRecursion};
+ghost use Rattle.auction_rows.specs.declared.rows.Entry.{Entry};
+ghost use Rattle.item_shards.specs.OpeningBooks.{opening_of, rows_of};
+ghost use Rattle.auction_text.specs.Replies.{history_line, history_text, reply_text};
+ghost use Rattle.history_check.specs.declared.lines.CheckFault.TheVariants.{TooLong};
+ghost use Rattle.history_check.specs.declared.lines.Verdict.TheVariants.{Replays};
+ghost use Rattle.history_check.specs.Scripts.{lists};
+ghost use Rattle.history_check.specs.Texts.{lines_of, ReadsLine, ShowsName, history_lines};
+ghost use Rattle.history_check.specs.Checking.{IsAccepted, IsVerdict};
+ghost use Rattle.history_check.specs.Taking.{CanTake, ForEachReading, IsReading};
+ghost use Rattle.history_check.specs.Places.{line_at, place_of};
+
+use crate::lines::{CheckFault, Order, Verdict};
+use crate::replay::Replay;
+use auction_rows::{MOST_ROWS, MOST_WORKERS, Request};
+use item_shards::OpeningBook;
+use std::alloc::Global;
+use std::io::{BufRead, Error, ErrorKind};
+
+// Why a read failed.
+fn fault_of(error: &Error) -> CheckFault
+    ensures { result ≡ TooLong → ⊥ }
+{
+    if error.kind() == ErrorKind::OutOfMemory {
+        CheckFault::Memory
+    } else {
+        CheckFault::Read
+    }
+}
+
+// Reads the next line with its line feed, if there is one.
+fn read_next<R: BufRead>(reader: &mut R, line: &mut Vec<u8>) -> Result<bool, CheckFault>
+    ensures line { IfOk result (λ found. ReadsLine (R.remaining reader.old) (R.remaining reader.new) found line.new.items) }
+    ensures fault { IsErrOf result TooLong → ⊥ }
+{
+    line.clear();
+    match reader.read_until(b'\n', line) {
+        Ok(0) => Ok(false),
+        Ok(_) => Ok(true),
+        Err(error) => Err(fault_of(&error)),
+    }
+}
+
+// Reads the next line and performs it. What is found is known where there is no next line, and
+// where it is wrong.
+fn find_next<R: BufRead>(
+    replay: &mut Replay,
+    scripts: &[Vec<Request>],
+    number: usize,
+    reader: &mut R,
+    line: &mut Vec<u8>,
+) -> Result<Option<Verdict>, CheckFault>
+    requires workers { length scripts.now ≤ MOST_WORKERS }
+    requires number { number ≤ MOST_ROWS }
+    requires taken { CanTake (lists scripts.now) replay.old }
+    ensures goes_on { IfOk result (λ found. IfNone found (ForEachReading (lists scripts.now) (R.remaining reader.old) replay.old number
+        (λ opening start order first. IsReading opening start (lists scripts.now) order first (R.remaining reader.new) replay.new (number + 1)))) }
+    ensures verdict { IfOk result (λ found. IfSome found (λ verdict. ForEachReading (lists scripts.now) (R.remaining reader.old) replay.old number
+        (λ opening start order first. IfSome first (λ text. IsVerdict opening start (lists scripts.now) order text verdict)))) }
+    ensures too_long { IsErrOf result TooLong → ForEachReading (lists scripts.now) (R.remaining reader.old) replay.old number
+        (λ opening start order first. IfSome first (λ text. MOST_ROWS < length start + length (lines_of text))) }
+{
+    if !read_next(reader, line)? {
+        if let Some((worker, index)) = replay.lacks(scripts) {
+            return Ok(Some(Verdict::Lacks(worker, index)));
+        }
+        return Ok(Some(Verdict::Replays));
+    }
+    match replay.perform(scripts, line)? {
+        Some(wrong) => Ok(Some(Verdict::WrongAt(number + 1, wrong))),
+        None => Ok(None),
+    }
+}
+
+/// Replays a text, line by line, on an auction of one thread from the book that it is opened with,
+/// and compares each reply with that of the line. `scripts` are those of at most 16 workers. Where
+/// a line is wrong, `line` holds it. It takes time in proportion to the text, the rows, the
+/// requests, the users and the categories, and memory for the rows, the scripts and a line.
+pub fn check_history<R: BufRead>(
+    alloc: Global,
+    book: &OpeningBook,
+    scripts: &[Vec<Request>],
+    order: Order,
+    reader: &mut R,
+    line: &mut Vec<u8>,
+) -> Result<Verdict, CheckFault>
+    requires workers { length scripts.now ≤ MOST_WORKERS }
+    ensures verdict { IfOk result (λ verdict. IfSome (R.remaining reader.old) (λ text.
+        IsVerdict (opening_of book.now) (rows_of book.now) (lists scripts.now) order text verdict)) }
+    ensures accepted { IfOk result (λ verdict. IfSome (R.remaining reader.old) (λ text.
+        IsAccepted (opening_of book.now) (rows_of book.now) (lists scripts.now) order text → verdict ≡ Replays)) }
+    ensures too_long { IsErrOf result TooLong → IfSome (R.remaining reader.old) (λ text.
+        MOST_ROWS < length (rows_of book.now) + length (lines_of text)) }
+{
+    let mut replay = Replay::new(alloc, book, scripts, order)?;
+    for number in 0..MOST_ROWS + 1 {
+        if let Some(verdict) = find_next(&mut replay, scripts, number, reader, line)? {
+            return Ok(verdict);
+        }
+    }
+    Err(CheckFault::TooLong)
+}
+
+/// The line of an entry in a history is that of the text of its reply at its place.
+pub fn lines_are_placed()
+    ensures { (entry : Entry) → history_line entry ≡ line_at (place_of entry) (reply_text entry.reply) }
+{}
+
+/// A text whose lines are those of a history is the history's text; and where each name that a
+/// history shows is a name, as every `Name` is, the lines of its text are those of the history.
+pub fn texts_are_lines()
+    ensures text { (history : List Entry) (text : List ℕ) → history_lines history ≡ lines_of text → history_text history ≡ text }
+    ensures lines { (history : List Entry) → AllByRecursion (λ entry. ShowsName entry.reply) history → lines_of (history_text history) ≡ history_lines history }
+{}

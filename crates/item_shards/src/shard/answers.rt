@@ -1,0 +1,137 @@
+//! The items of a shard, and the bids and purchases, which the shard of their item answers.
+ghost use Rattle.std.specs.Prelude.{◌≡◌, ◌+◌, ◌<◌, ◌^◌, IfSome, OnOk, OnErr};
+ghost use Rattle.item_shards.specs.Answering.{refusal_with};
+
+use crate::shard::Shard;
+use crate::shard::records::ItemRecord;
+use auction_rows::{BidEntry, Facts, ItemId, Quantity, Refusal, Request, item_refusal};
+use std::alloc::AllocError;
+
+/// The first reason for which an item refuses a request, by its facts and how many are left, if it is stored.
+#[inline(always)]
+pub fn refusal_with(stock: &Option<(Facts, u32)>, request: &Request) -> Option<Refusal>
+    ensures { result ≡ refusal_with stock.now request.now }
+{
+    match *stock {
+        Some((facts, left)) => item_refusal(*request, Some(facts), left),
+        None => item_refusal(*request, None, 0),
+    }
+}
+
+impl Shard {
+    ghost use Rattle.auction_rows.specs.declared.requests.Object.TheVariants.{Item};
+    ghost use Rattle.auction_rows.specs.Book.{facts_of};
+    ghost use Rattle.item_shards.specs.Values.{left, left_in, stock, stock_in, HasLeft};
+    ghost use Rattle.item_shards.specs.Contents.{with_facts, bid_on, bought_of};
+    ghost use Rattle.item_shards.specs.ShardContents.{contents, kept, clock, rooms, with_room, LiesIn, HasRoom, HasChanged, IsSameShard, ForEachBook, KeepsBooks};
+
+    /// Makes room for an item, which no other call shows. This is the only growth after `new`. Without
+    /// memory nothing has changed.
+    pub fn prepare_item(&mut self, item: ItemId) -> Result<(), AllocError>
+        requires here { LiesIn self.old (Item item) }
+        ensures granted { OnOk result (rooms self.new ≡ with_room item (rooms self.old)) }
+        ensures refused { OnErr result (rooms self.new ≡ rooms self.old) }
+        ensures contents { contents self.new ≡ contents self.old }
+        ensures clock { clock self.new ≡ clock self.old }
+        ensures same { IsSameShard self.old self.new }
+        ensures books { KeepsBooks self.old self.new }
+    {
+        if self.parts.items.contains_key(&item) {
+            return Ok(());
+        }
+        let parts = &mut *self.parts;
+        let place = parts.items.len();
+        match parts.items.insert(item, ItemRecord::blank()) {
+            Ok(_) => {
+                parts.places.note(item, parts.shards, place);
+                Ok(())
+            }
+            Err(_) => Err(AllocError),
+        }
+    }
+
+    /// The facts of an item, if it is stored. A stored item has room.
+    pub fn facts(&self, item: ItemId) -> Option<Facts>
+        requires here { LiesIn self.now (Item item) }
+        ensures contents { result ≡ (contents self.now (Item item)).facts }
+        ensures book { ForEachBook self.now (Item item) (λ book. result ≡ facts_of book item) }
+        ensures room { IfSome result (λ _. HasRoom self.now item) }
+    {
+        match self.record(item) {
+            Some(record) => record.facts,
+            None => None,
+        }
+    }
+
+    /// How many of an item are left, if it is stored.
+    pub fn left_of(&self, item: ItemId) -> Option<u32>
+        requires here { LiesIn self.now (Item item) }
+        ensures contents { result ≡ left (contents self.now (Item item)) }
+        ensures book { ForEachBook self.now (Item item) (λ book. result ≡ left_in book item) }
+    {
+        match self.record(item) {
+            Some(record) => record.left(),
+            None => None,
+        }
+    }
+
+    /// The facts of an item and how many are left, if it is stored: by one look-up.
+    #[inline(always)]
+    pub fn stock(&self, item: ItemId) -> Option<(Facts, u32)>
+        requires here { LiesIn self.now (Item item) }
+        ensures contents { result ≡ stock (contents self.now (Item item)) }
+        ensures book { ForEachBook self.now (Item item) (λ book. result ≡ stock_in book item) }
+    {
+        match self.record(item) {
+            Some(record) => record.stock(),
+            None => None,
+        }
+    }
+
+    pub(crate) fn add_item(&mut self, item: ItemId, facts: Facts)
+        requires here { LiesIn self.old (Item item) }
+        requires room { HasRoom self.old item }
+        ensures contents { HasChanged self.old self.new (Item item) (with_facts facts) }
+        ensures clock { clock self.new ≡ clock self.old }
+        ensures rooms { rooms self.new ≡ rooms self.old }
+        ensures same { IsSameShard self.old self.new }
+    {
+        let place = self.place_of(item);
+        if let Some(record) = self.parts.items.get_index_mut(place) {
+            record.store(facts);
+        }
+    }
+
+    // Bids on an item, by code of its own: so an act is short enough to stand where it is done.
+    #[inline(never)]
+    pub(crate) fn bid(&mut self, item: ItemId, bid: BidEntry)
+        requires here { LiesIn self.old (Item item) }
+        requires room { HasRoom self.old item }
+        requires count { (kept self.old (Item item)).bids.bids + 1 < 2 ^ 64 }
+        ensures contents { HasChanged self.old self.new (Item item) (bid_on bid) }
+        ensures clock { clock self.new ≡ clock self.old }
+        ensures rooms { rooms self.new ≡ rooms self.old }
+        ensures same { IsSameShard self.old self.new }
+    {
+        let place = self.place_of(item);
+        if let Some(record) = self.parts.items.get_index_mut(place) {
+            record.bid(bid);
+        }
+    }
+
+    #[inline(never)]
+    pub(crate) fn buy(&mut self, item: ItemId, quantity: Quantity)
+        requires here { LiesIn self.old (Item item) }
+        requires room { HasRoom self.old item }
+        requires left { HasLeft (kept self.old (Item item)) quantity }
+        ensures contents { HasChanged self.old self.new (Item item) (bought_of quantity) }
+        ensures clock { clock self.new ≡ clock self.old }
+        ensures rooms { rooms self.new ≡ rooms self.old }
+        ensures same { IsSameShard self.old self.new }
+    {
+        let place = self.place_of(item);
+        if let Some(record) = self.parts.items.get_index_mut(place) {
+            record.buy(quantity);
+        }
+    }
+}

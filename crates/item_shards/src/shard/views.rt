@@ -1,0 +1,173 @@
+//! What a shard shows of its objects, and its users and categories.
+ghost use Rattle.std.specs.Prelude.{◌≡◌, ◌≤◌, length, map, ◌+◌, ◌<◌, ◌^◌, ◌+ℤ◌, FitsSigned};
+ghost use Rattle.std.specs.Int.{w64};
+ghost use Rattle.auction_rows.specs.Replies.{bid_shown, item_shown};
+
+use crate::shard::Shard;
+use crate::shard::slices::{CategorySlice, UserSlice};
+use auction_rows::{
+    BidEntry, BidShown, ItemEntry, ItemId, ItemShown, MOST_SHOWN, Refusal, Reply, Stars, Ten,
+};
+use split_records::Splittable;
+
+impl Shard {
+    ghost use Rattle.std.specs.Prelude.{ℕ};
+    ghost use Rattle.auction_rows.specs.declared.requests.Object.TheVariants.{Item, User, Category};
+    ghost use Rattle.auction_rows.specs.declared.requests.Request.TheVariants.{ViewItem, ViewBids, ViewCategory, ViewUser};
+    ghost use Rattle.auction_rows.specs.Replies.{reply};
+    ghost use Rattle.item_shards.specs.Views.{item_view, bids_view, category_reply, user_reply};
+    ghost use Rattle.item_shards.specs.ShardContents.{contents, opening, LiesIn, ForEachBook};
+
+    /// The item with its greatest bid, the number of its bids and what is left; NoSuchItem if it is not stored.
+    pub fn view_item(&self, item: ItemId) -> Reply
+        requires here { LiesIn self.now (Item item) }
+        ensures contents { result ≡ item_view (contents self.now (Item item)) }
+        ensures book { ForEachBook self.now (Item item) (λ book.
+            (worker : ℕ) → result ≡ reply (opening self.now) book worker (ViewItem item)) }
+    {
+        let Some(record) = self.record(item) else {
+            return Reply::Refused(Refusal::NoSuchItem);
+        };
+        let Some(facts) = record.facts else {
+            return Reply::Refused(Refusal::NoSuchItem);
+        };
+        Reply::ItemSeen {
+            seller: facts.seller,
+            category: facts.category,
+            name: facts.name,
+            start: facts.start,
+            closes: facts.closes,
+            highest: record.bids.highest.value(),
+            bidder: record.bids.bidder.value().map(|bid| bid.bidder),
+            bids: record.bids.bids.value(),
+            left: facts.quantity.value().saturating_sub(record.bought),
+        }
+    }
+
+    /// The ten greatest bids on the item, the greatest first; NoSuchItem if it is not stored.
+    pub fn view_bids(&self, item: ItemId) -> Reply
+        requires here { LiesIn self.now (Item item) }
+        ensures contents { result ≡ bids_view (contents self.now (Item item)) }
+        ensures book { ForEachBook self.now (Item item) (λ book.
+            (worker : ℕ) → result ≡ reply (opening self.now) book worker (ViewBids item)) }
+    {
+        match self.record(item) {
+            Some(record) if record.facts.is_some() => {
+                Reply::BidsSeen(shown_bids(record.bids.top.entries()))
+            }
+            _ => Reply::Refused(Refusal::NoSuchItem),
+        }
+    }
+
+    /// The ten latest items of the category, the latest first; NoSuchCategory if there is none.
+    pub fn view_category(&self, category: u32) -> Reply
+        requires here { LiesIn self.now (Category category) }
+        ensures contents { result
+            ≡ category_reply (opening self.now) category (contents self.now (Category category)) }
+        ensures book { ForEachBook self.now (Category category) (λ book.
+            (worker : ℕ) → result ≡ reply (opening self.now) book worker (ViewCategory category)) }
+    {
+        if category >= self.parts.opening.categories {
+            return Reply::Refused(Refusal::NoSuchCategory);
+        }
+        Reply::CategorySeen(shown_items(self.category_record(category).top.entries()))
+    }
+
+    /// The user's rating and number of comments; NoSuchUser if there is none.
+    pub fn view_user(&self, user: u32) -> Reply
+        requires here { LiesIn self.now (User user) }
+        ensures contents { result
+            ≡ user_reply (opening self.now) user (contents self.now (User user)) }
+        ensures book { ForEachBook self.now (User user) (λ book.
+            (worker : ℕ) → result ≡ reply (opening self.now) book worker (ViewUser user)) }
+    {
+        if user >= self.parts.opening.users {
+            return Reply::Refused(Refusal::NoSuchUser);
+        }
+        let record = self.user_record(user);
+        Reply::UserSeen {
+            rating: record.rating.value(),
+            comments: record.comments.value(),
+        }
+    }
+}
+
+fn shown_bids(entries: &[BidEntry]) -> Ten<BidShown>
+    requires { length entries.now ≤ MOST_SHOWN }
+    ensures { result ≡ map bid_shown entries.now }
+{
+    let mut shown = Ten::new();
+    for bid in entries {
+        shown.push(BidShown {
+            amount: bid.amount,
+            time: bid.time,
+            bidder: bid.bidder,
+            id: bid.id,
+        });
+    }
+    shown
+}
+
+fn shown_items(entries: &[ItemEntry]) -> Ten<ItemShown>
+    requires { length entries.now ≤ MOST_SHOWN }
+    ensures { result ≡ map item_shown entries.now }
+{
+    let mut shown = Ten::new();
+    for item in entries {
+        shown.push(ItemShown {
+            time: item.time,
+            id: item.id,
+        });
+    }
+    shown
+}
+
+impl Shard {
+    ghost use Rattle.auction_rows.specs.declared.requests.Object.TheVariants.{User, Category};
+    ghost use Rattle.item_shards.specs.Contents.{comment_about, item_listed};
+    ghost use Rattle.item_shards.specs.ShardContents.{contents, kept, clock, opening, rooms, LiesIn, HasChanged, IsSameShard};
+
+    /// What is kept of a user.
+    pub(crate) fn user_record(&self, user: u32) -> &UserSlice
+        requires here { LiesIn self.now (User user) }
+        requires known { user < (opening self.now).users }
+        ensures { result.now ≡ (contents self.now (User user)).comments }
+    {
+        &self.parts.users[(user / self.parts.shards) as usize]
+    }
+
+    /// What is kept of a category.
+    pub(crate) fn category_record(&self, category: u32) -> &CategorySlice
+        requires here { LiesIn self.now (Category category) }
+        requires known { category < (opening self.now).categories }
+        ensures { result.now ≡ (contents self.now (Category category)).items }
+    {
+        &self.parts.categories[(category / self.parts.shards) as usize]
+    }
+
+    pub(crate) fn comment(&mut self, user: u32, stars: Stars)
+        requires here { LiesIn self.old (User user) }
+        requires known { user < (opening self.old).users }
+        requires rating { FitsSigned w64 ((kept self.old (User user)).comments.rating +ℤ stars.value) }
+        requires count { (kept self.old (User user)).comments.comments + 1 < 2 ^ 64 }
+        ensures contents { HasChanged self.old self.new (User user) (comment_about stars) }
+        ensures clock { clock self.new ≡ clock self.old }
+        ensures rooms { rooms self.new ≡ rooms self.old }
+        ensures same { IsSameShard self.old self.new }
+    {
+        let place = (user / self.parts.shards) as usize;
+        self.parts.users[place].apply(stars);
+    }
+
+    pub(crate) fn list_item(&mut self, category: u32, item: ItemEntry)
+        requires here { LiesIn self.old (Category category) }
+        requires known { category < (opening self.old).categories }
+        ensures contents { HasChanged self.old self.new (Category category) (item_listed item) }
+        ensures clock { clock self.new ≡ clock self.old }
+        ensures rooms { rooms self.new ≡ rooms self.old }
+        ensures same { IsSameShard self.old self.new }
+    {
+        let place = (category / self.parts.shards) as usize;
+        self.parts.categories[place].apply(item);
+    }
+}

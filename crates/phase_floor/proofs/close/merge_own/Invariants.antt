@@ -1,0 +1,11 @@
+use Rattle.std.proofs.Common.{length, map}
+use Rattle.shard_boxes.specs.States.{state_of}
+use Rattle.phase_floor.specs.Closings.{from_the_last}
+use Rattle.phase_floor.proofs.Turns.{AreToMerge}
+use Rattle.phase_floor.proofs.close.merge_own.Given as goal
+
+abbrev pub invariant-loop-object : goal.invariant-loop-object
+invariant-loop-object l = AreToMerge (map state_of l.fn.shards.items) (map state_of l.shards.items) (from_the_last l.fn.slices) (from_the_last l.slices)
+
+abbrev pub decreases-loop-object : goal.decreases-loop-object
+decreases-loop-object l = length l.slices

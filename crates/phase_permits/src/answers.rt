@@ -1,0 +1,173 @@
+//! What a store is answered, by what it sees of the item that it needs, and what a view shows.
+ghost use Rattle.std.specs.Prelude.{◌≡◌, ℕ, None, Some, false, ◌∷◌, [], true, Option};
+ghost use Rattle.std.specs.List.{AllByRecursion};
+ghost use Rattle.auction_rows.specs.declared.requests.Object.{Object as ObjectValue};
+ghost use Rattle.auction_rows.specs.declared.requests.ItemId.{ItemId as ItemIdValue};
+ghost use Rattle.auction_rows.specs.Refusals.{number_refusal};
+ghost use Rattle.auction_rows.specs.Requests.{is_view, item_of};
+ghost use Rattle.auction_rows.specs.StoreReplies.{reply_of};
+ghost use Rattle.auction_rows.specs.declared.requests.Facts.{Facts as FactsValue};
+ghost use Rattle.auction_rows.specs.declared.requests.Object.TheVariants.{Item};
+ghost use Rattle.item_shards.specs.declared.shard.acts.Act.TheVariants.{Look};
+ghost use Rattle.item_shards.specs.declared.shard.acts.Shown.TheVariants as shown;
+ghost use Rattle.item_shards.specs.Looking.{IsTrueOf, view_like};
+ghost use Rattle.item_shards.specs.ShardContents.{LiesIn, contents};
+ghost use Rattle.item_shards.specs.Writing.{looks_of};
+ghost use Rattle.phase_permits.specs.declared.worker.Counters.{Counters as CountersValue};
+ghost use Rattle.phase_permits.specs.Begun.{CanView, IsOnOne, viewed};
+ghost use Rattle.phase_permits.specs.Takens.{held_in};
+ghost use Rattle.phase_permits.specs.Txns.{Answers, SuitsBids, SuitsItem};
+
+use crate::homes::{Home, Homes, Taken, stock_in};
+use crate::worker::Worker;
+use auction_rows::{
+    BidId, BuyId, CommentId, Facts, ItemId, Object, Reply, Request, StoreReply, item_of,
+};
+use item_shards::{Shard, refusal_with};
+use shard_boxes::PhaseName;
+
+impl<N: PhaseName> Worker<N> {
+    ghost use Rattle.phase_permits.specs.Begun.{FirstHas};
+    ghost use Rattle.phase_permits.specs.Deeds.{IsReplyBy, stock_on};
+    ghost use Rattle.phase_permits.specs.Homes.{IsHomeOf};
+    ghost use Rattle.phase_permits.specs.Slicing.{stocks_of, stock_of};
+    ghost use Rattle.phase_permits.specs.Takens.{shard_at};
+    ghost use Rattle.phase_permits.specs.Txns.{Answers};
+
+    /// What a store sees of the item that it needs: of a hot one what is fixed, of another one what
+    /// its shard has.
+    #[inline(always)]
+    pub(crate) fn seen(
+        &self,
+        taken: &Taken<N>,
+        request: &Request,
+        homes: &Homes,
+    ) -> Option<(Facts, u32)>
+        requires there { (item : ItemIdValue) → (t : ℕ) → item_of request.now ≡ Some item →
+            shard_at homes.now.item ≡ Some t → FirstHas taken.now item }
+        ensures fixed { (object : ObjectValue) → (shards : ℕ) →
+            IsHomeOf self.now.slices shards object homes.now.item → shard_at homes.now.item ≡ None
+            → result ≡ stock_of (stocks_of self.now.slices) object }
+        ensures found { (item : ItemIdValue) → (t : ℕ) → item_of request.now ≡ Some item →
+            shard_at homes.now.item ≡ Some t → result ≡ stock_on taken.now item }
+    {
+        match (homes.item, item_of(*request)) {
+            (Home::Shard(_), Some(item)) => stock_in(taken, item),
+            (home, _) => self.fixed(home),
+        }
+    }
+
+    /// What is fixed of an item with this home, where that is hot.
+    #[inline(always)]
+    pub(crate) fn fixed(&self, home: Home) -> Option<(Facts, u32)>
+        ensures { (object : ObjectValue) → (shards : ℕ) →
+            IsHomeOf self.now.slices shards object home → shard_at home ≡ None →
+            result ≡ stock_of (stocks_of self.now.slices) object }
+    {
+        if let Home::Slice(place) = home {
+            self.slices.stock_at(place)
+        } else {
+            None
+        }
+    }
+
+    /// The reply to a store that the opening does not refuse: the first reason of its item to
+    /// refuse it, by what was seen of that, or else the worker's next id of the kind.
+    #[inline(always)]
+    pub(crate) fn reply(&self, seen: &Option<(Facts, u32)>, request: &Request) -> StoreReply
+        requires allowed { number_refusal self.now.opening request.now ≡ None }
+        requires store { is_view request.now ≡ false }
+        ensures { IsReplyBy self.now seen.now request.now (reply_of result) }
+    {
+        match refusal_with(seen, request) {
+            Some(reason) => StoreReply::Refused(reason),
+            None => self.accept(request),
+        }
+    }
+
+    // The worker's next id of the kind of a store.
+    #[inline(always)]
+    fn accept(&self, request: &Request) -> StoreReply
+        requires store { is_view request.now ≡ false }
+        ensures { Answers self.now.counters self.now.journal.worker request.now (reply_of result) }
+    {
+        let worker = self.journal.worker();
+        match *request {
+            Request::StoreItem { .. } => StoreReply::ItemStored(ItemId {
+                worker,
+                serial: self.counters.items,
+            }),
+            Request::StoreBid { .. } => StoreReply::BidStored(BidId {
+                worker,
+                serial: self.counters.bids,
+            }),
+            Request::StoreComment { .. } => StoreReply::CommentStored(CommentId {
+                worker,
+                serial: self.counters.comments,
+            }),
+            Request::BuyNow { .. } => StoreReply::Bought(BuyId {
+                worker,
+                serial: self.counters.buys,
+            }),
+            _ => unreachable!(),
+        }
+    }
+}
+
+/// What the one shard that a view takes shows, and of which object.
+pub(crate) fn view_on<N: PhaseName>(taken: &Taken<N>, request: &Request) -> (Object, Reply)
+    requires view { is_view request.now ≡ true }
+    requires one { IsOnOne request.now taken.now }
+    ensures viewed { viewed request.now ≡ Some result.0 }
+    ensures looks { (seen : Option (FactsValue × ℕ)) →
+        looks_of seen result.1 request.now ≡ Look (shown.Reply result.0 result.1) ∷ [] }
+    ensures answers { (counters : CountersValue) → (worker : ℕ) →
+        Answers counters worker request.now result.1 }
+    ensures shown { AllByRecursion
+        (λ h. IsTrueOf (contents h.shard) (shown.Reply result.0 result.1)) (held_in taken.now) }
+{
+    match taken {
+        Taken::One(one) => view(one.shard(), request),
+        Taken::Nothing | Taken::Two(_, _) => unreachable!(),
+    }
+}
+
+// What a shard shows of an object that lies there.
+fn view(shard: &Shard, request: &Request) -> (Object, Reply)
+    requires view { is_view request.now ≡ true }
+    requires can { CanView shard.now request.now }
+    ensures viewed { viewed request.now ≡ Some result.0 }
+    ensures looks { (seen : Option (FactsValue × ℕ)) →
+        looks_of seen result.1 request.now ≡ Look (shown.Reply result.0 result.1) ∷ [] }
+    ensures answers { (counters : CountersValue) → (worker : ℕ) →
+        Answers counters worker request.now result.1 }
+    ensures shown { IsTrueOf (contents shard.now) (shown.Reply result.0 result.1) }
+{
+    match *request {
+        Request::ViewItem { item } => (Object::Item(item), item_seen(shard, item)),
+        Request::ViewBids { item } => (Object::Item(item), bids_seen(shard, item)),
+        Request::ViewCategory { category } => {
+            (Object::Category(category), shard.view_category(category))
+        }
+        Request::ViewUser { user } => (Object::User(user), shard.view_user(user)),
+        _ => unreachable!(),
+    }
+}
+
+// The reply to a view of an item, which is what its shard shows.
+fn item_seen(shard: &Shard, item: ItemId) -> Reply
+    requires { LiesIn shard.now (Item item) }
+    ensures shown { result ≡ view_like result (Item item) (contents shard.now (Item item)) }
+    ensures suits { SuitsItem result }
+{
+    shard.view_item(item)
+}
+
+// The reply to a view of an item's bids, which is what its shard shows.
+fn bids_seen(shard: &Shard, item: ItemId) -> Reply
+    requires { LiesIn shard.now (Item item) }
+    ensures shown { result ≡ view_like result (Item item) (contents shard.now (Item item)) }
+    ensures suits { SuitsBids result }
+{
+    shard.view_bids(item)
+}

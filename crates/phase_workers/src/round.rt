@@ -1,0 +1,256 @@
+//! The workers of a phase, each but the first on a thread of its own, but where the phase is short;
+//! and why they are not done.
+ghost use Rattle.std.specs.Prelude.{◌≡◌, ◌≤◌, Some, length, map, vec_len, vec_capacity, IfOk, IfErr, OnOk};
+ghost use Rattle.std.specs.List.{AllByRecursion, AllZip};
+ghost use Rattle.phase_workers.specs.Tasks.{lists, task, tasks, CanBeDone, IsDone, HasMetFault, without_fault, first_fault, IsFirstFault, IsFaultBy};
+ghost use Rattle.phase_workers.specs.Working.{IsPermitOf, ArePermitsOf};
+
+use crate::permit::Permit;
+use crate::threads::{Job, work};
+use crate::worker::{Gate, Post, perform_task};
+use auction_rows::{MOST_WORKERS, Request};
+use phase_permits::PermitFault;
+use shard_boxes::{Boxes, PhaseName};
+use std::alloc::{AllocError, AllocFailed, Global};
+use std::sync::Wait;
+use std::thread::Threads;
+use std::vec::IntoIter;
+use thiserror::Error;
+
+/// Why a phase's workers leave no receipts. Every worker that was started has ended, and all
+/// permits are spent.
+#[derive(Clone, Copy, Debug, PartialEq, Eq, Drop, Error)]
+pub enum ServingFault {
+    /// A worker met this fault, and none before it met one.
+    #[error("{0}")]
+    Worker(PermitFault),
+    /// A worker's thread could not be started, whatever the cause.
+    #[error("thread not started")]
+    Spawn,
+    /// No memory was left for the workers' tasks, threads or answers.
+    #[error("no memory")]
+    Memory,
+}
+
+impl From<AllocError> for ServingFault {
+    ghost use Rattle.phase_workers.specs.declared.round.ServingFault.TheVariants.{Memory};
+
+    ghost from_gives = { λ _ fault. fault ≡ Memory };
+
+    fn from(_refused: AllocError) -> ServingFault {
+        ServingFault::Memory
+    }
+}
+
+impl<T: Drop> From<AllocFailed<T>> for ServingFault {
+    ghost use Rattle.phase_workers.specs.declared.round.ServingFault.TheVariants.{Memory};
+
+    ghost from_gives = { λ _ fault. fault ≡ Memory };
+
+    fn from(_refused: AllocFailed<T>) -> ServingFault {
+        ServingFault::Memory
+    }
+}
+
+impl From<PermitFault> for ServingFault {
+    ghost use Rattle.phase_workers.specs.declared.round.ServingFault.TheVariants.{Worker};
+
+    ghost from_gives = { λ met fault. fault ≡ Worker met };
+
+    fn from(met: PermitFault) -> ServingFault {
+        ServingFault::Worker(met)
+    }
+}
+
+// A phase of at most so many requests takes no longer on one thread than the start of others takes.
+const SHORT_PHASE: u64 = 256;
+
+/// A phase, as its workers are told of it.
+#[derive(Drop)]
+pub struct Round<'a, G> {
+    /// A script for each worker.
+    pub scripts: &'a [Vec<Request>],
+    /// The index from which on each script is gone on with.
+    pub first: u64,
+    pub phase: u64,
+    /// What is told of each request, before and after it.
+    pub gate: &'a G,
+}
+
+/// What a worker gives at the end of a phase: the receipt of its permit, and the fault that stopped
+/// it, if any.
+#[derive(Drop)]
+pub(crate) struct WorkerAnswer<T> {
+    receipt: T,
+    done: Result<(), PermitFault>,
+}
+
+/// A worker's task in a phase, with all that it takes to do it. Let go, its permit is spent.
+pub(crate) struct WorkerTask<'a, N: PhaseName, P: Permit<N>, R, G> {
+    rt: &'a R,
+    post: Post<'a, N, G>,
+    permit: P,
+    script: &'a [Request],
+    first: usize,
+}
+
+impl<'a, N: PhaseName, P: Permit<N>, R, G> Drop for WorkerTask<'a, N, P, R, G> {
+    fn drop(self) {
+        let Self {
+            rt: _,
+            post: _,
+            permit,
+            script: _,
+            first: _,
+        } = self;
+        drop(permit.spend());
+    }
+}
+
+impl<'a, N: PhaseName, P: Permit<N>, R: Wait, G: Gate> Job for WorkerTask<'a, N, P, R, G> {
+    type Answer = WorkerAnswer<P::Receipt>;
+
+    ghost can_work = { λ own.
+        CanBeDone N.opening own.post.boxes.now (task (P.shows own.permit) own.script.now own.first)
+        × IsPermitOf own.post.phase own.post.worker (P.shows own.permit) };
+
+    ghost keeps = { λ own answer. OnOk answer.done (IsDone P.takes_stash
+        (task (P.shows own.permit) own.script.now own.first) (P.leaves answer.receipt))
+        × IfErr answer.done (HasMetFault P.takes_stash N.opening
+        (task (P.shows own.permit) own.script.now own.first) (P.leaves answer.receipt)) };
+
+    fn work(self) -> WorkerAnswer<P::Receipt> {
+        let WorkerTask {
+            rt,
+            post,
+            mut permit,
+            script,
+            first,
+        } = self;
+        let done = perform_task(rt, &post, &mut permit, script, first);
+        WorkerAnswer {
+            receipt: permit.spend(),
+            done,
+        }
+    }
+}
+
+/// Does the first worker's task of a round, and each other's by a thread of its own, or all in turn
+/// if the round is short and the gate needs no threads, and gives their receipts in order. If a
+/// thread can't be started the fault is `Spawn`, else that of the least worker that met one; all
+/// threads have ended, and all permits are spent.
+pub fn serve_all<N, P, R, G>(
+    rt: &R,
+    alloc: Global,
+    boxes: &Boxes<N>,
+    permits: Vec<P>,
+    round: Round<'_, G>,
+) -> Result<Vec<P::Receipt>, ServingFault>
+where
+    N: PhaseName + Send + Sync,
+    P: Permit<N> + Send,
+    P::Receipt: Send,
+    R: Threads + Wait + Sync,
+    G: Gate + Sync,
+    requires workers { vec_len permits ≡ length round.scripts.now }
+    requires few { length round.scripts.now ≤ MOST_WORKERS }
+    requires can { AllByRecursion (CanBeDone N.opening boxes.now)
+        (tasks (map P.shows permits.items) (lists round.scripts.now) round.first) }
+    requires of { ArePermitsOf round.phase 0 (map P.shows permits.items) }
+    ensures done { IfOk result (λ receipts.
+        AllZip (IsDone P.takes_stash)
+        (tasks (map P.shows permits.items) (lists round.entry.scripts.now) round.entry.first)
+        (map P.leaves receipts.items)) }
+    ensures fault { IfErr result (IsFaultBy (length (lists round.entry.scripts.now))
+        (IsFirstFault P.takes_stash N.opening
+        (tasks (map P.shows permits.items) (lists round.entry.scripts.now) round.entry.first))) }
+{
+    let gate = round.gate;
+    let own_tasks = own_tasks(rt, alloc, boxes, permits, round)?;
+    let room = Vec::with_capacity(alloc, own_tasks.len())?;
+    let in_turn = !gate.needs_threads() && requests_of(&own_tasks) <= SHORT_PHASE;
+    let answers = work(rt, alloc, own_tasks, in_turn)?;
+    Ok(receipts_of(answers, room)?)
+}
+
+// How many requests the tasks are to perform.
+fn requests_of<N: PhaseName, P: Permit<N>, R, G>(tasks: &[WorkerTask<'_, N, P, R, G>]) -> u64 {
+    let mut requests = 0u64;
+    for own in tasks {
+        requests = requests.saturating_add(own.permit.waiting() as u64);
+        requests = requests.saturating_add(u64::from(own.permit.quota_left()));
+    }
+    requests
+}
+
+// The task of each worker.
+fn own_tasks<'a, N: PhaseName, P: Permit<N>, R, G>(
+    rt: &'a R,
+    alloc: Global,
+    boxes: &'a Boxes<N>,
+    permits: Vec<P>,
+    round: Round<'a, G>,
+) -> Result<Vec<WorkerTask<'a, N, P, R, G>>, AllocError>
+    requires workers { vec_len permits ≡ length round.scripts.now }
+    requires few { length round.scripts.now ≤ MOST_WORKERS }
+    requires can { AllByRecursion (CanBeDone N.opening boxes.now)
+        (tasks (map P.shows permits.items) (lists round.scripts.now) round.first) }
+    requires of { ArePermitsOf round.phase 0 (map P.shows permits.items) }
+    ensures can { IfOk result (λ made. AllByRecursion (λ own.
+        CanBeDone N.opening own.post.boxes.now (task (P.shows own.permit) own.script.now own.first)
+        × IsPermitOf own.post.phase own.post.worker (P.shows own.permit)) made.items) }
+    ensures tasks { IfOk result (λ made.
+        map (λ own. task (P.shows own.permit) own.script.now own.first) made.items
+        ≡ tasks (map P.shows permits.items) (lists round.entry.scripts.now) round.entry.first) }
+{
+    let mut permits = permits.into_iter();
+    let Ok(mut made) = Vec::with_capacity(alloc, round.scripts.len()) else {
+        spend_all(permits);
+        return Err(AllocError);
+    };
+    while let Some(permit) = permits.next() {
+        let worker = made.len();
+        made.push_reserved(WorkerTask {
+            rt,
+            post: Post {
+                boxes,
+                gate: round.gate,
+                phase: round.phase,
+                worker: worker as u32,
+            },
+            permit,
+            script: round.scripts[worker].as_slice(),
+            first: round.first as usize,
+        });
+    }
+    permits.destroy_empty();
+    Ok(made)
+}
+
+// Spends the permits that are left.
+fn spend_all<N: PhaseName, P: Permit<N>>(mut permits: IntoIter<P>) {
+    while let Some(permit) = permits.next() {
+        drop(permit.spend());
+    }
+    permits.destroy_empty();
+}
+
+// The receipts, in order, or the first fault.
+fn receipts_of<T: Drop>(
+    answers: Vec<WorkerAnswer<T>>,
+    mut receipts: Vec<T>,
+) -> Result<Vec<T>, PermitFault>
+    requires empty { vec_len receipts ≡ 0 }
+    requires room { vec_len answers ≤ vec_capacity receipts }
+    ensures receipts { IfOk result (λ receipts. answers.items ≡ map without_fault receipts.items) }
+    ensures fault { IfErr result (λ fault. first_fault answers.items ≡ Some fault) }
+{
+    for answer in answers {
+        let WorkerAnswer { receipt, done } = answer;
+        match done {
+            Ok(()) => receipts.push_reserved(receipt),
+            Err(fault) => return Err(fault),
+        }
+    }
+    Ok(receipts)
+}

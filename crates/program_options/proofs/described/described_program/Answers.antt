@@ -1,8 +1,0 @@
-use Rattle.std.proofs.Common.{◌∙◌, true, ap}
-use Rattle.clap.specs.Simple.{app_of_fields, on_top}
-use Rattle.program_options.proofs.described.described_program.Goals as goal
-
-pub returns : goal.returns
-returns c =
-    ap app_of_fields c.after_help.ensures ∙ ap app_of_fields c.override_usage.ensures ∙ ap app_of_fields c.about.ensures ∙ ap app_of_fields c.version.ensures
-    ∙ ap (on_top (λ shape. record shape { has_version = true })) c.new.ensures.app

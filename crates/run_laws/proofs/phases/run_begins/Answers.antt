@@ -1,6 +1,0 @@
-use Rattle.run_laws.proofs.StepLemmas.{run_begins}
-use Rattle.run_laws.proofs.ClosedLemmas.{none_chosen, none_numbered}
-use Rattle.run_laws.proofs.phases.run_begins.Goals as goal
-
-pub returns : goal.returns
-returns c = record { run = run_begins; chosen = none_chosen; numbers = none_numbered }

@@ -1,5 +1,0 @@
-use Rattle.run_laws.proofs.ReachLemmas.{first_next}
-use Rattle.run_laws.proofs.reaching.phases_follow.Goals as goal
-
-pub returns : goal.returns
-returns c = λ joined split phase some. first_next joined split some phase

@@ -1,5 +1,0 @@
-use Rattle.run_laws.proofs.EndLemmas.{run_serves}
-use Rattle.run_laws.proofs.serving.run_serves.Goals as goal
-
-pub returns : goal.returns
-returns c = λ opening policy scripts phase hot history stashes some. run_serves opening policy some scripts phase hot history stashes

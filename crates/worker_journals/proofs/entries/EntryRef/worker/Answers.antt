@@ -1,0 +1,9 @@
+use Rattle.std.proofs.Common.{◌∙◌, sym}
+use Rattle.worker_journals.proofs.PlaceLemmas.{is_own}
+use Rattle.worker_journals.proofs.entries.EntryRef.worker.Goals as goal
+
+pub returns : goal.returns
+returns c =
+    let e = c.self.inside in
+    let own = is_own e.journal.now.phase e.journal.now.worker e.journal.now.entries e.place c.keeps_law.ensures.lawful.own c.self.invariant in
+    rw (← c.self.view_is) (c.worker.ensures ∙ sym own.1)

@@ -1,0 +1,199 @@
+//! An entry of a journal, where it lies, and the reply of a commit, in few bytes.
+ghost use Rattle.std.specs.Prelude.{◌≡◌, ◌+◌, ◌<◌, ◌^◌, ◌∷◌, ◌++◌, [], Some, OnOk, length, slice_get};
+ghost use Rattle.auction_rows.specs.Choosing.{written_by};
+ghost use Rattle.auction_rows.specs.History.{row_of_entry};
+ghost use Rattle.auction_rows.specs.StoreReplies.{is_refusal, store_reply, reply_of};
+
+use crate::journal::Journal;
+use auction_rows::{Entry, Object, Reply, Request, Row, StoreReply, row_of_store};
+use std::alloc::AllocError;
+use std::marker::Model;
+
+/// An entry of a journal, where it lies: what is asked of it makes no more than is answered. Contracts see the entry.
+#[derive(Drop)]
+pub struct EntryRef<'a> {
+    journal: &'a Journal,
+    place: usize,
+}
+
+impl<'a> Model for EntryRef<'a> {
+    ghost use Rattle.std.specs.Prelude.{◌<◌, length};
+    ghost use Rattle.auction_rows.specs.declared.rows.Entry.{Entry};
+    ghost use Rattle.worker_journals.specs.Places.{entry_at};
+
+    ghost Value = { Entry };
+
+    ghost view = { λ e. entry_at e.place e.journal.now.entries };
+
+    ghost invariant = { λ e. e.place < length e.journal.now.entries };
+}
+
+impl<'a> EntryRef<'a> {
+    /// The reference to a journal's entry at a place. The place after it is a `usize` too.
+    pub(crate) fn of(journal: &'a Journal, place: usize) -> EntryRef<'a>
+        requires { place < length journal.now.entries }
+        ensures entry { slice_get journal.now.entries place ≡ Some result }
+        ensures next { place + 1 < 2 ^ 64 }
+    {
+        journal.keeps_law();
+        EntryRef { journal, place }
+    }
+
+    /// The phase in which the entry was committed.
+    pub fn phase(&self) -> u64
+        ensures { result ≡ self.now.phase }
+    {
+        // A lawful journal is of one phase and one worker.
+        self.journal.keeps_law();
+        self.journal.phase()
+    }
+
+    /// The commit number of the entry.
+    pub fn number(&self) -> u64
+        ensures { result ≡ self.now.number }
+    {
+        self.journal.number(self.place)
+    }
+
+    /// The worker whose commit it is.
+    pub fn worker(&self) -> u32
+        ensures { result ≡ self.now.worker }
+    {
+        // A lawful journal is of one phase and one worker.
+        self.journal.keeps_law();
+        self.journal.worker()
+    }
+
+    /// The index of its request.
+    pub fn index(&self) -> u32
+        ensures { result ≡ self.now.index }
+    {
+        self.journal.index(self.place)
+    }
+
+    /// What was asked.
+    pub fn request(&self) -> Request
+        ensures { result ≡ self.now.request }
+    {
+        self.journal.request(self.place)
+    }
+
+    /// The reply, made whole.
+    pub fn reply(&self) -> Reply
+        ensures { result ≡ self.now.reply }
+    {
+        self.journal.reply(self.place)
+    }
+
+    /// The reply, if it is one to a store or a refusal: None if it shows what a view asked for.
+    pub fn store_reply(&self) -> Option<StoreReply>
+        ensures { result ≡ store_reply self.now.reply }
+    {
+        self.journal.store_reply(self.place)
+    }
+
+    /// Whether the entry is refused.
+    pub fn is_refused(&self) -> bool
+        ensures { result ≡ is_refusal self.now.reply }
+    {
+        self.journal.is_refused(self.place)
+    }
+
+    /// The object that the entry writes, if it is an accepted splittable store.
+    pub fn object_written(&self) -> Option<Object>
+        ensures { result ≡ written_by self.now }
+    {
+        self.journal.object_written(self.place)
+    }
+
+    /// The row that the entry adds, if it is an accepted store.
+    pub fn row(&self) -> Option<Row>
+        ensures { result ≡ row_of_entry self.now }
+    {
+        row_of_store(self.worker(), self.request(), self.store_reply()?)
+    }
+
+    /// The entry, made whole.
+    pub fn to_entry(&self) -> Entry
+        ensures { result ≡ self.now }
+    {
+        self.journal.to_entry(self.place)
+    }
+
+    /// Puts the entry, made whole, at the end of a list.
+    pub(crate) fn push_to(&self, entries: &mut Vec<Entry>) -> Result<(), AllocError>
+        ensures { OnOk result (entries.new.items ≡ entries.old.items ++ self.now ∷ []) }
+    {
+        // Field by field: then the check meets the types of its fields in this body.
+        entries.push(Entry {
+            phase: self.phase(),
+            number: self.number(),
+            worker: self.worker(),
+            index: self.index(),
+            request: self.request(),
+            reply: self.reply(),
+        })?;
+        Ok(())
+    }
+}
+
+/// The reply that a commit is told of, in few bytes: a whole reply has room for ten bids. Contracts see the reply.
+#[derive(Drop)]
+pub struct Answer<'a> {
+    /// How it is told.
+    pub told: Told<'a>,
+}
+
+/// How a reply is told: that of a store or a refusal as it is, a view's where it lies.
+#[derive(Clone, Copy)]
+pub enum Told<'a> {
+    /// The reply to a store, or a refusal.
+    Store(StoreReply),
+    /// A reply where it lies.
+    Whole(&'a Reply),
+}
+
+impl<'a> Model for Answer<'a> {
+    ghost use Rattle.auction_rows.specs.declared.replies.Reply.{Reply};
+    ghost use Rattle.worker_journals.specs.Answers.{reply_told};
+
+    ghost Value = { Reply };
+
+    ghost view = { λ a. reply_told a.told };
+}
+
+impl<'a> Answer<'a> {
+    /// A reply where it lies.
+    #[inline(always)]
+    pub fn of(reply: &'a Reply) -> Answer<'a>
+        ensures { result ≡ reply.now }
+    {
+        Answer {
+            told: Told::Whole(reply),
+        }
+    }
+
+    /// The whole reply.
+    #[inline(always)]
+    pub fn to_reply(&self) -> Reply
+        ensures { result ≡ self.now }
+    {
+        match self.told {
+            Told::Store(reply) => whole(reply),
+            Told::Whole(reply) => *reply,
+        }
+    }
+}
+
+#[inline(always)]
+fn whole(reply: StoreReply) -> Reply
+    ensures { result ≡ reply_of reply }
+{
+    match reply {
+        StoreReply::ItemStored(id) => Reply::ItemStored(id),
+        StoreReply::BidStored(id) => Reply::BidStored(id),
+        StoreReply::CommentStored(id) => Reply::CommentStored(id),
+        StoreReply::Bought(id) => Reply::Bought(id),
+        StoreReply::Refused(reason) => Reply::Refused(reason),
+    }
+}
