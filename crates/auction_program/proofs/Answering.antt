@@ -15,7 +15,7 @@ use Rattle.run_laws.specs.Answers.{IsAnswer}
 use Rattle.auction_rows.specs.declared.limits.Policy.{Policy}
 use Rattle.auction_text.specs.declared.output.WriteFault.{WriteFault}
 use Rattle.auction_program.specs.Execution.{added_text, commits_text, Answers, IsAllowed, IsCausedBy, IsNotPerformed, IsNotRun, IsRefused, OfInput, Performs}
-use Rattle.auction_program.specs.Options.{opening_of, policy_of}
+use Rattle.auction_program.specs.Options.{opening_asked, policy_of}
 use Rattle.auction_run.specs.Beginning.{HaveWorkers, HasShards, HasQuotas, AreShort}
 use Rattle.auction_run.specs.Phases.{hot_sets}
 use Rattle.auction_run.specs.declared.checks.RunFault.{RunFault}
@@ -73,14 +73,14 @@ module _ (options : Options) (rows : List Opened) (scripts : List (List Request)
       IfSome_then remaining reads (λ input asks. record { rows = rows; scripts = scripts; reads = asks; holds = holds })
 
   -- why the scripts were not performed
-  pub not_performed : (fault : Fault) → AreRows (opening_of options) rows → IsNotPerformed options fault (opening_rows (opening_of options) rows) scripts
+  pub not_performed : (fault : Fault) → AreRows (opening_asked options) rows → IsNotPerformed options fault (opening_rows (opening_asked options) rows) scripts
       → IfSome remaining (λ input. IsCausedBy options input fault)
   not_performed (Usage fault) are why = absurd why
   not_performed (Read fault) are why = absurd why
   not_performed (Resume fault) are why = absurd why
   not_performed (Make fault) are why =
-      IfSome_then remaining (of_input (λ rs ss. AreRows (opening_of options) rs) are) (λ input holds. (why, holds))
-  not_performed (Run fault) are why = of_input (λ rs ss. AreRows (opening_of options) rs × IsNotRun (policy_of options) fault (opening_rows (opening_of options) rs) ss) (are, why)
+      IfSome_then remaining (of_input (λ rs ss. AreRows (opening_asked options) rs) are) (λ input holds. (why, holds))
+  not_performed (Run fault) are why = of_input (λ rs ss. AreRows (opening_asked options) rs × IsNotRun (policy_of options) fault (opening_rows (opening_asked options) rs) ss) (are, why)
   not_performed (Write fault) are why = absurd why
   not_performed Report are why = absurd why
   not_performed OpenLog are why = absurd why
@@ -88,10 +88,10 @@ module _ (options : Options) (rows : List Opened) (scripts : List (List Request)
   not_performed (LogRecord fault) are why = absurd why
   not_performed (Log fault) are why = absurd why
 
-  module _ (start : Opening) (book shown : Book) (performed : Performed) (starts : start ≡ opening_of options)
+  module _ (start : Opening) (book shown : Book) (performed : Performed) (starts : start ≡ opening_asked options)
       (opens : book ≡ opening_rows start rows) (shows : shown ≡ book) (are : AreRows start rows)
       (few : ¬ IsTooLong rows) (performs : Performs options book scripts performed) where
-    opened : book ≡ opening_rows (opening_of options) rows
+    opened : book ≡ opening_rows (opening_asked options) rows
     opened = opens ∙ ap (λ o. opening_rows o rows) starts
 
     -- what holds of the texts, as what holds of the input
@@ -112,7 +112,7 @@ module _ (options : Options) (rows : List Opened) (scripts : List (List Request)
             asks = record { reads = asks; are_rows = subst (λ o. AreRows o rows) starts are };
             few = few;
             allowed = subst (λ (b : Book). IsAllowed (policy_of options) b scripts) opened performs.allowed;
-            runs = subst (λ (b : Book). IsAnswer (opening_of options) b (policy_of options) scripts hot history) opened performs.answer;
+            runs = subst (λ (b : Book). IsAnswer (opening_asked options) b (policy_of options) scripts hot history) opened performs.answer;
             text_is = ap (λ (b : Book). commits_text options b history) (shows ∙ opened);
             added_is = ap (λ (b : Book). added_text options b history hot) (shows ∙ opened);
           };

@@ -15,7 +15,7 @@ use Rattle.item_shards.specs.OpeningRows.{AreRows, IsTooLong, opening_rows}
 use Rattle.item_shards.specs.declared.openings.Opened.{Opened}
 use Rattle.part_log.specs.declared.log.Teller.{Teller}
 use Rattle.run_laws.specs.Serving.{lists}
-use Rattle.auction_program.specs.Options.{opening_of}
+use Rattle.auction_program.specs.Options.{opening_asked}
 use Rattle.auction_program.specs.PartRuns.{HasServed, IsPastReading, IsSession, Opens, RunsPart, ServesPart, StartsAt}
 use Rattle.auction_program.specs.Serving.{ArePartTold, AreTold, IsLoggedBefore, IsNothingTold, nothing_gone, opening_text, unlogged_rows}
 use Rattle.auction_program.specs.declared.faults.Fault.{Fault}
@@ -57,7 +57,7 @@ module _ {R L W : Type 0} (remaining : R → Option (List ℕ)) (accepted : L �
   first_opened opens = opened_first accepted contents old opened options logged part.input.rows.items all rows_are opens
 
   module _ (asked : 1 ≤ options.live → most ≡ options.live) (same : workers ≡ options.workers) (start : Served)
-      (starts : StartsAt options start.start (opening_rows (opening_of options) (logged ++ part.input.rows.items))) (none : gone_by start.before ≡ nothing_gone)
+      (starts : StartsAt options start.start (opening_rows (opening_asked options) (logged ++ part.input.rows.items))) (none : gone_by start.before ≡ nothing_gone)
       (opens : Opens options logged part.input.rows.items (AreTold accepted contents old opened)) where
     begun : HasServed options logged all.said [] start (AreTold accepted contents old opened)
     begun = opened_served options logged part.input.rows.items all.said start (AreTold accepted contents old opened) rows_are opens starts none
@@ -77,7 +77,7 @@ module _ {R L W : Type 0} (remaining : R → Option (List ℕ)) (accepted : L �
 
 -- the auction is opened, and its rows may not be told whole
 pub open_told : {L W : Type 0} (accepted : L → Option (List ℕ)) (contents : W → Option (List ℕ)) (old new : Teller L W) (options : Options) (logged read : List Opened) (known : ℕ) (book : Book)
-    → known ≡ length logged → book ≡ opening_rows (opening_of options) (logged ++ read) → AreRows (opening_of options) (logged ++ read) → ¬ IsTooLong (logged ++ read)
+    → known ≡ length logged → book ≡ opening_rows (opening_asked options) (logged ++ read) → AreRows (opening_asked options) (logged ++ read) → ¬ IsTooLong (logged ++ read)
     → ArePartTold accepted contents old new (unlogged_rows known book) (opening_text options book) ⊎ IsNothingTold accepted contents old new
     → Opens options logged read (ArePartTold accepted contents old new) ⊎ IsNothingTold accepted contents old new
 open_told accepted contents old new options logged read known book counted is are few (inl part) = inl (record {

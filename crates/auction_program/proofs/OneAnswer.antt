@@ -17,7 +17,7 @@ use Rattle.run_laws.specs.Answers.{IsAnswer}
 use Rattle.auction_rows.specs.declared.limits.Policy.{Policy}
 use Rattle.run_laws.proofs.OneWorkerLemmas.{same_history, same_hots}
 use Rattle.auction_program.specs.Execution.{added_text, commits_text, IsAnsweredBy}
-use Rattle.auction_program.specs.Options.{opening_of, policy_of}
+use Rattle.auction_program.specs.Options.{opening_asked, policy_of}
 use Rattle.auction_program.specs.declared.options.Options.{Options}
 
 asked_or_none : Result Asked ReadFault → Asked
@@ -59,16 +59,16 @@ module _ (options : Options) (input text added other more : List ℕ) (one : opt
   one_script =
       scripts_count options.workers (read_records options.workers 1 false (records_of input)) (record { rows = first.rows; scripts = first.scripts }) first.asks.reads ∙ one
 
-  second_run : IsAnswer (opening_of options) (opening_rows (opening_of options) first.rows) (policy_of options) first.scripts second.hot second.history
+  second_run : IsAnswer (opening_asked options) (opening_rows (opening_asked options) first.rows) (policy_of options) first.scripts second.hot second.history
   second_run =
-      subst (λ ss. IsAnswer (opening_of options) (opening_rows (opening_of options) first.rows) (policy_of options) ss second.hot second.history) (sym scripts_same)
-      (subst (λ rs. IsAnswer (opening_of options) (opening_rows (opening_of options) rs) (policy_of options) second.scripts second.hot second.history) (sym rows_same) second.runs)
+      subst (λ ss. IsAnswer (opening_asked options) (opening_rows (opening_asked options) first.rows) (policy_of options) ss second.hot second.history) (sym scripts_same)
+      (subst (λ rs. IsAnswer (opening_asked options) (opening_rows (opening_asked options) rs) (policy_of options) second.scripts second.hot second.history) (sym rows_same) second.runs)
 
   runs_same : (first.history ≡ second.history) × (first.hot ≡ second.hot)
-  runs_same = same_runs (opening_of options) (opening_rows (opening_of options) first.rows) (policy_of options) first.scripts first.hot second.hot first.history second.history one_script first.runs second_run
+  runs_same = same_runs (opening_asked options) (opening_rows (opening_asked options) first.rows) (policy_of options) first.scripts first.hot second.hot first.history second.history one_script first.runs second_run
 
   pub one_answer : (text ≡ other) × (added ≡ more)
   one_answer = (
-    first.text_is ∙ (λ i. commits_text options (opening_rows (opening_of options) (rows_same i)) (runs_same.0 i)) ∙ sym second.text_is,
-    first.added_is ∙ (λ i. added_text options (opening_rows (opening_of options) (rows_same i)) (runs_same.0 i) (runs_same.1 i)) ∙ sym second.added_is,
+    first.text_is ∙ (λ i. commits_text options (opening_rows (opening_asked options) (rows_same i)) (runs_same.0 i)) ∙ sym second.text_is,
+    first.added_is ∙ (λ i. added_text options (opening_rows (opening_asked options) (rows_same i)) (runs_same.0 i) (runs_same.1 i)) ∙ sym second.added_is,
   )

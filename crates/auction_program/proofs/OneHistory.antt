@@ -9,7 +9,7 @@ use Rattle.auction_text.specs.Moved.{Gone, all_moved}
 use Rattle.auction_text.specs.Replies.{history_line, history_text, replies_text}
 use Rattle.auction_text.specs.RowLines.{rows_text}
 use Rattle.auction_program.specs.Execution.{commits_text}
-use Rattle.auction_program.specs.Options.{opening_of}
+use Rattle.auction_program.specs.Options.{opening_asked}
 use Rattle.auction_program.specs.Serving.{ArePartRuns, PartRun, gone_past, part_texts, served_history}
 use Rattle.auction_program.specs.declared.options.Options.{Options}
 
@@ -27,11 +27,11 @@ goes_on : (opening : Opening) (book : Book) (first second : List Entry) → Repl
 goes_on opening book [] second one other = other
 goes_on opening book (entry ∷ first) second one other = (one.0, goes_on opening (after_entry opening book entry) first second one.1 other)
 
-pub one_history : (options : Options) (gone : Gone) (book : Book) (parts : List PartRun) → ArePartRuns options book parts → ReplaysFrom (opening_of options) book (served_history options gone parts)
+pub one_history : (options : Options) (gone : Gone) (book : Book) (parts : List PartRun) → ArePartRuns options book parts → ReplaysFrom (opening_asked options) book (served_history options gone parts)
 unfolding ArePartRuns served_history
 one_history options gone book [] are = tt
 one_history options gone book (part ∷ parts) are =
-    let opening = opening_of options in
+    let opening = opening_asked options in
     goes_on opening book (all_moved gone part.history) (served_history options (gone_past options gone part) parts)
     (moved_replays opening book gone part.history are.0.answer.replays)
     (subst (λ (b : Book). ReplaysFrom opening b (served_history options (gone_past options gone part) parts)) (sym (moved_leaves opening book gone part.history))

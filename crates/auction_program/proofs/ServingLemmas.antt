@@ -24,12 +24,12 @@ use Rattle.item_shards.specs.declared.openings.Opened.{Opened}
 use Rattle.part_log.specs.declared.log.Teller.{Teller}
 use Rattle.run_laws.specs.Serving.{lists}
 use Rattle.auction_program.specs.Execution.{commits_text}
-use Rattle.auction_program.specs.Options.{opening_of}
+use Rattle.auction_program.specs.Options.{opening_asked}
 use Rattle.auction_program.specs.PartRuns.{HasServed, IsSession, Opens, RunsPart, ServesPart, StartsAt, book_past, gone_with}
-use Rattle.auction_program.specs.Serving.{ArePartRuns, ArePartTold, AreTold, IsLoggedBefore, IsNothingTold, IsPartRun, IsServed, PartRun, Serves, ServesFirst, book_in, gone_past, nothing_gone, opening_text, part_texts, scripts_in, served_rows, served_text, unlogged_rows}
+use Rattle.auction_program.specs.Serving.{ArePartRuns, ArePartTold, AreTold, IsLoggedBefore, IsNothingTold, IsPartRun, IsServed, PartRun, ServesAll, ServesFirst, book_in, gone_past, nothing_gone, opening_text, part_texts, scripts_in, served_rows, served_text, unlogged_rows}
 use Rattle.auction_program.specs.declared.options.Options.{Options}
 use Rattle.auction_program.specs.declared.parts.Served.{Served}
-use Rattle.auction_program.specs.declared.parts.Start.{Start}
+use Rattle.auction_program.specs.declared.parts.RunStart.{RunStart}
 use Rattle.auction_program.proofs.WrittenLemmas.{part_of_added}
 
 -- what each part gives, with one part more
@@ -181,7 +181,7 @@ module _ {L W : Type 0} (accepted : L → Option (List ℕ)) (contents : W → O
 
 -- all that was served, as what was served first
 pub served_first : {L W : Type 0} (accepted : L → Option (List ℕ)) (contents : W → Option (List ℕ)) (start new : Teller L W) (options : Options) (logged : List Opened) (all : Readable)
-    (end : Option ReadFault) → Serves options logged all end (AreTold accepted contents start new) → ServesFirst options logged all (ArePartTold accepted contents start new)
+    (end : Option ReadFault) → ServesAll options logged all end (AreTold accepted contents start new) → ServesFirst options logged all (ArePartTold accepted contents start new)
 served_first accepted contents start new options logged all end serves = record {
   parts = serves.parts;
   rest = [];
@@ -191,12 +191,12 @@ served_first accepted contents start new options logged all end serves = record 
 
 -- the auction is opened, and no part is served
 pub opened_served : (options : Options) (logged read : List Opened) (all : List Record) (served : Served) (Holds : List ℕ → List ℕ → Type 0) → read ≡ rows all → Opens options logged read Holds
-    → StartsAt options served.start (opening_rows (opening_of options) (logged ++ read)) → (gone_by served.before) ≡ nothing_gone → HasServed options logged all [] served Holds
+    → StartsAt options served.start (opening_rows (opening_asked options) (logged ++ read)) → (gone_by served.before) ≡ nothing_gone → HasServed options logged all [] served Holds
 unfolding ArePartRuns part_texts
 opened_served options logged read all served Holds are opens starts before =
-    let opening : List Opened → Book = λ rs. opening_rows (opening_of options) (logged ++ rs) in
+    let opening : List Opened → Book = λ rs. opening_rows (opening_asked options) (logged ++ rs) in
     record {
-      are_rows = subst (λ (rs : List Opened). AreRows (opening_of options) (logged ++ rs)) are opens.are_rows;
+      are_rows = subst (λ (rs : List Opened). AreRows (opening_asked options) (logged ++ rs)) are opens.are_rows;
       few = subst (λ (rs : List Opened). ¬ IsTooLong (logged ++ rs)) are opens.few;
       parts = [];
       said_is = refl;
@@ -214,13 +214,13 @@ pub opened_first : {L W : Type 0} (accepted : L → Option (List ℕ)) (contents
 unfolding ArePartRuns part_texts
 opened_first accepted contents old new options logged read all are (inl opens) =
     let Holds : List ℕ → List ℕ → Type 0 = ArePartTold accepted contents old new in
-    let opening : List Opened → Book = λ rs. opening_rows (opening_of options) (logged ++ rs) in
+    let opening : List Opened → Book = λ rs. opening_rows (opening_asked options) (logged ++ rs) in
     let book : Book = book_in options logged all.said in
     inr (record {
       parts = [];
       rest = all.said;
       served = record {
-        are_rows = subst (λ (rs : List Opened). AreRows (opening_of options) (logged ++ rs)) are opens.are_rows;
+        are_rows = subst (λ (rs : List Opened). AreRows (opening_asked options) (logged ++ rs)) are opens.are_rows;
         few = subst (λ (rs : List Opened). ¬ IsTooLong (logged ++ rs)) are opens.few;
         parts_are = refl;
         runs = tt;

@@ -16,7 +16,7 @@ use Rattle.item_shards.specs.declared.openings.Opened.{Opened}
 use Rattle.part_log.specs.declared.log.Teller.{Teller}
 use Rattle.run_laws.specs.Serving.{lists}
 use Rattle.auction_program.specs.PartRuns.{HasServed, IsSession, RunsPart, ServesPart, StartsAt}
-use Rattle.auction_program.specs.Serving.{ArePartTold, AreTold, IsNothingTold, Serves, ServesFirst, scripts_in}
+use Rattle.auction_program.specs.Serving.{ArePartTold, AreTold, IsNothingTold, ServesAll, ServesFirst, scripts_in}
 use Rattle.auction_program.specs.declared.options.Options.{Options}
 use Rattle.auction_program.specs.declared.parts.Served.{Served}
 use Rattle.auction_program.proofs.ServingLemmas.{first_kept, first_more, goes_further, one_more, rest_of}
@@ -24,7 +24,7 @@ use Rattle.auction_program.proofs.ServingLemmas.{first_kept, first_more, goes_fu
 module _ {R L W : Type 0} (remaining : R → Option (List ℕ)) (accepted : L → Option (List ℕ)) (contents : W → Option (List ℕ)) (options : Options) (logged : List Opened) (all : Readable)
     (start old new : Teller L W) (served : Served) where
   -- the input has ended
-  pub all_served : IsSession remaining options logged all served All (AreTold accepted contents start old) → Serves options logged all None (AreTold accepted contents start old)
+  pub all_served : IsSession remaining options logged all served All (AreTold accepted contents start old) → ServesAll options logged all None (AreTold accepted contents start old)
   all_served session =
       let so_far = session.so_far in
       record {
@@ -36,7 +36,7 @@ module _ {R L W : Type 0} (remaining : R → Option (List ℕ)) (accepted : L �
 
   -- its next record has a fault
   pub fault_served : (fault : ReadFault) → IsSession remaining options logged all served (Fault fault) (AreTold accepted contents start old)
-      → Serves options logged all (Some fault) (AreTold accepted contents start old)
+      → ServesAll options logged all (Some fault) (AreTold accepted contents start old)
   fault_served fault session =
       let so_far = session.so_far in
       record {

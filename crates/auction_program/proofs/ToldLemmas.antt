@@ -26,7 +26,7 @@ use Rattle.auction_program.specs.Faults.{of_telling}
 use Rattle.auction_program.specs.declared.options.Options.{Options}
 use Rattle.auction_program.specs.PartRuns.{IsPastReading, RunsPart}
 use Rattle.auction_program.specs.Serving.{ArePartTold, IsNothingTold}
-use Rattle.auction_program.specs.Options.{opening_of, policy_of}
+use Rattle.auction_program.specs.Options.{opening_asked, policy_of}
 use Rattle.auction_program.specs.declared.faults.Fault.{Fault}
 use Rattle.auction_program.specs.declared.faults.Fault.TheVariants.{Log, Resume, Run, Write}
 use Rattle.auction_program.proofs.Answering.{error_is}
@@ -92,7 +92,7 @@ handed_on result fault is past = error_is result fault IsPastReading is past
 
 -- a part that was run may not be told whole
 pub run_told : {L W : Type 0} (accepted : L → Option (List ℕ)) (contents : W → Option (List ℕ)) (old new : Teller L W) (options : Options) (book : Book) (gone : Gone) (scripts : List (List Request))
-    (hot : List (List Object)) (history : List Entry) → IsAnswer (opening_of options) book (policy_of options) scripts hot history
+    (hot : List (List Object)) (history : List Entry) → IsAnswer (opening_asked options) book (policy_of options) scripts hot history
     → ArePartTold accepted contents old new (rows_text [] history) (commits_text options [] (all_moved gone history)) ⊎ IsNothingTold accepted contents old new
     → RunsPart options book gone scripts (ArePartTold accepted contents old new) ⊎ IsNothingTold accepted contents old new
 run_told accepted contents old new options book gone scripts hot history answer (inl part) = inl (record { hot = hot; history = history; answer = answer; holds = part })

@@ -19,7 +19,7 @@ use Rattle.item_shards.specs.declared.openings.ResumeFault.{ResumeFault}
 use Rattle.item_shards.specs.declared.openings.ResumeFault.TheVariants as resume
 use Rattle.run_laws.specs.Answers.{IsAnswer}
 use Rattle.auction_rows.specs.declared.limits.Policy.{Policy}
-use Rattle.auction_program.specs.Options.{opening_of, policy_of}
+use Rattle.auction_program.specs.Options.{opening_asked, policy_of}
 use Rattle.auction_program.specs.Report.{report_of, AreViews}
 use Rattle.auction_run.specs.Beginning.{HaveWorkers, HasShards, HasQuotas, AreShort}
 use Rattle.auction_run.specs.Phases.{hot_sets}
@@ -41,12 +41,12 @@ commits_text options book history =
 -- what is added to that: the report, where the options ask for it
 abbrev pub added_text : Options → Book → List Entry → List (List Object) → List ℕ
 added_text options book history hot =
-    if options.report then report_of (opening_of options) (book_after (opening_of options) book history) history hot else []
+    if options.report then report_of (opening_asked options) (book_after (opening_asked options) book history) history hot else []
 
 -- The input has no fault and asks for these rows, each a row at its place, and for these scripts.
 pub record AsksFor (options : Options) (input : List ℕ) (rows : List Opened) (scripts : List (List Request)) : Type 0 where
   pub reads : input_of options.workers input ≡ Ok (record { rows = rows; scripts = scripts })
-  pub are_rows : AreRows (opening_of options) rows
+  pub are_rows : AreRows (opening_asked options) rows
 
 -- A run of these scripts from a book is within the limits: none of the four causes for which one is refused.
 abbrev pub IsAllowed : Policy → Book → List (List Request) → Type 0
@@ -64,13 +64,13 @@ pub record IsAnsweredBy (options : Options) (input : List ℕ) (text added : Lis
   pub asks : AsksFor options input rows scripts
   -- neither the rows nor the run are past a limit
   pub few : ¬ IsTooLong rows
-  pub allowed : IsAllowed (policy_of options) (opening_rows (opening_of options) rows) scripts
+  pub allowed : IsAllowed (policy_of options) (opening_rows (opening_asked options) rows) scripts
   -- the run answers the scripts, from the book of the rows
-  pub runs : IsAnswer (opening_of options) (opening_rows (opening_of options) rows) (policy_of options) scripts hot history
+  pub runs : IsAnswer (opening_asked options) (opening_rows (opening_asked options) rows) (policy_of options) scripts hot history
   -- the first text is what the options ask for
-  pub text_is : text ≡ commits_text options (opening_rows (opening_of options) rows) history
+  pub text_is : text ≡ commits_text options (opening_rows (opening_asked options) rows) history
   -- the second is the report, or nothing
-  pub added_is : added ≡ added_text options (opening_rows (opening_of options) rows) history hot
+  pub added_is : added ≡ added_text options (opening_rows (opening_asked options) rows) history hot
 
 -- Two texts answer the input, and this holds of them.
 pub record Answers (options : Options) (input : List ℕ) (Holds : List ℕ → List ℕ → Type 0) : Type 0 where
@@ -118,17 +118,17 @@ IsNotRun policy run.NumberFull book scripts = Unit {0}
 -- the outcome of a run answers these scripts, from a book
 abbrev pub AnswersScripts : Options → Book → List (List Request) → Outcome → Type 0
 AnswersScripts options book scripts outcome =
-    IsAnswer (opening_of options) book (policy_of options) scripts (hot_sets outcome.hot.items) outcome.history.entries
+    IsAnswer (opening_asked options) book (policy_of options) scripts (hot_sets outcome.hot.items) outcome.history.entries
 
 -- the lines of its report, where there are some, are the views that the book at its end gives
 abbrev pub HasLastViews : Options → Book → List Entry → Option ReportLines → Type 0
 HasLastViews options book history lines = IfSome lines (λ shown.
-    AreViews (opening_of options) (book_after (opening_of options) book history) shown.categories.items shown.users.items)
+    AreViews (opening_asked options) (book_after (opening_asked options) book history) shown.categories.items shown.users.items)
 
 -- The scripts are performed from a book: the run is within the limits, its history answers them, and its lines are the last views.
 pub record Performs (options : Options) (book : Book) (scripts : List (List Request)) (performed : Performed) : Type 0 where
   pub allowed : IsAllowed (policy_of options) book scripts
-  pub answer : IsAnswer (opening_of options) book (policy_of options) scripts (hot_sets performed.hot.items) performed.history.entries
+  pub answer : IsAnswer (opening_asked options) book (policy_of options) scripts (hot_sets performed.hot.items) performed.history.entries
   pub lines : HasLastViews options book performed.history.entries performed.lines
 
 -- why scripts were not performed: no window could be made for a report, or the run was refused
@@ -164,10 +164,10 @@ IsUnwritten (Log fault) = Unit {0}
 abbrev pub IsCausedBy : Options → List ℕ → Fault → Type 0
 IsCausedBy options input (Usage fault) = ⊥
 IsCausedBy options input (Read fault) = IsInputFault fault → input_of options.workers input ≡ Err fault
-IsCausedBy options input (Resume fault) = OfInput options input (λ rows scripts. IsRefused (opening_of options) fault rows)
-IsCausedBy options input (Make fault) = IsTrue options.report × OfInput options input (λ rows scripts. AreRows (opening_of options) rows)
+IsCausedBy options input (Resume fault) = OfInput options input (λ rows scripts. IsRefused (opening_asked options) fault rows)
+IsCausedBy options input (Make fault) = IsTrue options.report × OfInput options input (λ rows scripts. AreRows (opening_asked options) rows)
 IsCausedBy options input (Run fault) = OfInput options input (λ rows scripts.
-    AreRows (opening_of options) rows × IsNotRun (policy_of options) fault (opening_rows (opening_of options) rows) scripts)
+    AreRows (opening_asked options) rows × IsNotRun (policy_of options) fault (opening_rows (opening_asked options) rows) scripts)
 IsCausedBy options input (Write fault) = Answers options input (λ text added. Unit {0})
 IsCausedBy options input Report = ⊥
 IsCausedBy options input OpenLog = ⊥

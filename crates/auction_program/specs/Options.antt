@@ -7,8 +7,8 @@ use Rattle.auction_rows.specs.declared.limits.Policy.{Policy}
 use Rattle.auction_program.specs.declared.options.Options.{Options}
 
 -- the users and categories
-abbrev pub opening_of : Options → Opening
-opening_of options = record { users = options.users; categories = options.categories }
+abbrev pub opening_asked : Options → Opening
+opening_asked options = record { users = options.users; categories = options.categories }
 
 -- how the run is divided
 abbrev pub policy_of : Options → Policy

@@ -18,7 +18,7 @@ use Rattle.item_shards.specs.declared.openings.Opened.{Opened}
 use Rattle.part_log.specs.declared.log.Teller.{Teller}
 use Rattle.run_laws.specs.Answers.{IsAnswer}
 use Rattle.auction_program.specs.Execution.{commits_text}
-use Rattle.auction_program.specs.Options.{opening_of, policy_of}
+use Rattle.auction_program.specs.Options.{opening_asked, policy_of}
 use Rattle.auction_program.specs.declared.options.Options.{Options}
 
 -- A part: what its records say, and the hot sets and the history of a run of them.
@@ -33,22 +33,22 @@ scripts_in options said = (asked_in options.workers said).scripts
 
 -- the book that rows of a log, and then those among records, open an auction with
 abbrev pub book_in : Options → List Opened → List Record → Book
-book_in options logged said = opening_rows (opening_of options) (logged ++ rows said)
+book_in options logged said = opening_rows (opening_asked options) (logged ++ rows said)
 
 -- A part is run from a book: its history and hot sets answer its scripts, and it has no more requests than are answered at a time.
 pub record IsPartRun (options : Options) (book : Book) (part : PartRun) : Type 0 where
   pub few : 1 ≤ options.live → requests_in part.said ≤ options.live
-  pub answer : IsAnswer (opening_of options) book (policy_of options) (scripts_in options part.said) part.hot part.history
+  pub answer : IsAnswer (opening_asked options) book (policy_of options) (scripts_in options part.said) part.hot part.history
 
 -- each part is run from the book that those before it leave
 unfoldable pub ArePartRuns : Options → Book → List PartRun → Type 0
 ArePartRuns options book [] = Unit {0}
-ArePartRuns options book (part ∷ more) = IsPartRun options book part × ArePartRuns options (book_after (opening_of options) book part.history) more
+ArePartRuns options book (part ∷ more) = IsPartRun options book part × ArePartRuns options (book_after (opening_asked options) book part.history) more
 
 -- Of these records some are served in parts, which are the first of them one after the other, and the rest are left.
 pub record IsServed (options : Options) (logged : List Opened) (all : List Record) (parts : List PartRun) (rest : List Record) : Type 0 where
   -- the rows open the auction
-  pub are_rows : AreRows (opening_of options) (logged ++ rows all)
+  pub are_rows : AreRows (opening_asked options) (logged ++ rows all)
   pub few : ¬ IsTooLong (logged ++ rows all)
   -- the parts are run one after the other
   pub parts_are : all ≡ flat_map (λ part. part.said) parts ++ rest
@@ -93,7 +93,7 @@ served_rows options logged all parts =
     unlogged_rows (length logged) (book_in options logged all) ++ flat_map (λ part. rows_text [] part.history) parts
 
 -- All that can be read of an input is served, it ends so, and this holds of the rows and of the text.
-pub record Serves (options : Options) (logged : List Opened) (all : Readable) (end : Option ReadFault) (Holds : List ℕ → List ℕ → Type 0) : Type 0 where
+pub record ServesAll (options : Options) (logged : List Opened) (all : Readable) (end : Option ReadFault) (Holds : List ℕ → List ℕ → Type 0) : Type 0 where
   pub parts : List PartRun
   pub served : IsServed options logged all.said parts []
   pub ends : all.fault ≡ end

@@ -8,7 +8,7 @@ ghost use Rattle.item_shards.specs.OpeningBooks as opened;
 ghost use Rattle.auction_run.specs.Phases.{lists};
 ghost use Rattle.auction_text.specs.declared.output.WriteFault.{WriteFault};
 ghost use Rattle.auction_program.specs.Execution.{Answers, ArePartWritten, AreWritten, IsCausedBy, IsOneWritten, IsUnwritten, IsNotPerformed, Performs, IsAnsweredBy};
-ghost use Rattle.auction_program.specs.Options.{opening_of};
+ghost use Rattle.auction_program.specs.Options.{opening_asked};
 ghost use Rattle.auction_program.specs.Report.{AreViews, IsEnd};
 ghost use Rattle.auction_program.specs.declared.options.Options.{Options as Asked};
 
@@ -92,11 +92,11 @@ pub fn perform<R: Threads + Wait + Sync>(
     scripts: Vec<Vec<Request>>,
     options: &Options,
 ) -> Result<Performed, Fault>
-    requires { opened.opening_of book.now ≡ opening_of options.now }
-    ensures performs { IfOk result (Performs options.now (opened.rows_of book.now) (lists scripts.items)) }
+    requires { opened.opening_of book.now ≡ opening_asked options.now }
+    ensures performs { IfOk result (Performs options.now (opened.rows_of_book book.now) (lists scripts.items)) }
     ensures unasked { IfOk result (λ performed. ¬ IsTrue options.now.report → performed.lines ≡ None) }
     ensures cause { IfErr result (λ fault.
-        IsNotPerformed options.now fault (opened.rows_of book.now) (lists scripts.items)) }
+        IsNotPerformed options.now fault (opened.rows_of_book book.now) (lists scripts.items)) }
 {
     if options.report {
         return perform_watched::<Brand, R>(rt, alloc, PhaseLog::new(), book, scripts, options);
@@ -116,12 +116,12 @@ fn perform_watched<J: WindowName, R: Threads + Wait + Sync>(
 ) -> Result<Performed, Fault>
     requires log { log ≡ J.log }
     requires opening { opened.opening_of book.now ≡ J.opening }
-    requires rows { opened.rows_of book.now ≡ J.rows }
-    requires options { opened.opening_of book.now ≡ opening_of options.now }
+    requires rows { opened.rows_of_book book.now ≡ J.rows }
+    requires options { opened.opening_of book.now ≡ opening_asked options.now }
     requires report { IsTrue options.now.report }
-    ensures performs { IfOk result (Performs options.now (opened.rows_of book.now) (lists scripts.items)) }
+    ensures performs { IfOk result (Performs options.now (opened.rows_of_book book.now) (lists scripts.items)) }
     ensures cause { IfErr result (λ fault.
-        IsNotPerformed options.now fault (opened.rows_of book.now) (lists scripts.items)) }
+        IsNotPerformed options.now fault (opened.rows_of_book book.now) (lists scripts.items)) }
 {
     let (publisher, mut windows) = Publisher::<J>::new(rt, alloc, log, book, 1)?;
     let mut board = WindowBoard::new(publisher);
@@ -145,11 +145,11 @@ fn watch<J: WindowName, R: Threads + Wait + Sync>(
     requires publisher { board.old.publisher ≡ record { phases = []; failed = false } }
     requires told { board.old.told ≡ None }
     requires opening { opened.opening_of book.now ≡ J.opening }
-    requires rows { opened.rows_of book.now ≡ J.rows }
-    requires options { opened.opening_of book.now ≡ opening_of options.now }
-    ensures performs { IfOk result (Performs options.now (opened.rows_of book.now) (lists scripts.items)) }
+    requires rows { opened.rows_of_book book.now ≡ J.rows }
+    requires options { opened.opening_of book.now ≡ opening_asked options.now }
+    ensures performs { IfOk result (Performs options.now (opened.rows_of_book book.now) (lists scripts.items)) }
     ensures cause { IfErr result (λ fault.
-        IsNotPerformed options.now fault (opened.rows_of book.now) (lists scripts.items)) }
+        IsNotPerformed options.now fault (opened.rows_of_book book.now) (lists scripts.items)) }
 {
     let outcome = run_shown(rt, alloc, book, scripts, options.policy(), &FreeGate, board)?;
     let told = board.told.take();

@@ -21,4 +21,4 @@ pub use opening::{OpenedLog, open_log};
 pub use options::{Invocation, Options, read_options};
 pub use part_log::{FileLog, LogFault, NoLog, Teller};
 pub use program_options::UsageFault;
-pub use session::{Source, parts_are_one_history, serve};
+pub use session::{LoggedInput, parts_are_one_history, serve};

@@ -1,10 +1,10 @@
 //! The opening of an auction whose parts are told, and the opening of a log.
 ghost use Rattle.std.specs.Prelude.{◌≡◌, ◌⊎◌, ◌++◌, IfErr, IfOk, OnOk};
 ghost use Rattle.item_shards.specs.OpeningRows.{opening_rows};
-ghost use Rattle.auction_program.specs.Options.{opening_of};
+ghost use Rattle.auction_program.specs.Options.{opening_asked};
 ghost use Rattle.auction_program.specs.PartRuns.{IsPastReading, Opens, StartsAt};
 ghost use Rattle.auction_program.specs.Serving.{ArePartTold, AreTold, IsNothingTold};
-ghost use Rattle.auction_program.specs.declared.parts.Start.{Start};
+ghost use Rattle.auction_program.specs.declared.parts.RunStart.{RunStart};
 
 use crate::faults::Fault;
 use crate::options::Options;
@@ -41,7 +41,7 @@ pub fn open<L: Log, W: Write>(
 ) -> Result<OpeningBook, Fault>
     ensures opens { OnOk result (Opens options.now logged.items rows.now (AreTold L.accepted W.contents teller.old teller.new)) }
     ensures starts { IfOk result (λ book.
-        StartsAt options.now (Start.Book book) (opening_rows (opening_of options.now) (logged.items ++ rows.now))) }
+        StartsAt options.now (RunStart.Book book) (opening_rows (opening_asked options.now) (logged.items ++ rows.now))) }
     ensures first { Opens options.now logged.items rows.now (ArePartTold L.accepted W.contents teller.old teller.new)
         ⊎ IsNothingTold L.accepted W.contents teller.old teller.new }
     ensures fault { IfErr result IsPastReading }

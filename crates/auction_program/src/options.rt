@@ -57,11 +57,11 @@ pub struct Invocation {
 }
 
 impl Options {
-    ghost use Rattle.auction_program.specs.Options.{opening_of, policy_of};
+    ghost use Rattle.auction_program.specs.Options.{opening_asked, policy_of};
 
     /// The users and categories of the auction.
     pub fn opening(&self) -> Opening
-        ensures { result ≡ opening_of self.now }
+        ensures { result ≡ opening_asked self.now }
     {
         Opening {
             users: self.users,

@@ -7,10 +7,10 @@ ghost use Rattle.auction_text.specs.Moved.{gone_by, all_moved};
 ghost use Rattle.auction_text.specs.RowLines.{rows_text};
 ghost use Rattle.auction_text.specs.Writing.{WritesText};
 ghost use Rattle.auction_program.specs.Execution.{AnswersScripts, commits_text};
-ghost use Rattle.auction_program.specs.Options.{opening_of};
+ghost use Rattle.auction_program.specs.Options.{opening_asked};
 ghost use Rattle.auction_program.specs.PartRuns.{IsPastReading, RunsPart, ServesPart, StartsAt};
 ghost use Rattle.auction_program.specs.Serving.{ArePartTold, AreTold, IsNothingTold, opening_text, unlogged_rows};
-ghost use Rattle.auction_program.specs.declared.parts.Start.{Start};
+ghost use Rattle.auction_program.specs.declared.parts.RunStart.{RunStart};
 
 use crate::faults::Fault;
 use crate::options::Options;
@@ -28,7 +28,7 @@ use worker_journals::History;
 
 /// Where the run of a part begins: at the opening book, or at what the part before left.
 #[derive(Drop)]
-pub enum Start {
+pub enum RunStart {
     Book(OpeningBook),
     State(Joined),
 }
@@ -36,7 +36,7 @@ pub enum Start {
 /// How far an input is served: where its next part begins, and what went before.
 #[derive(Drop)]
 pub struct Served {
-    pub start: Start,
+    pub start: RunStart,
     pub before: Before,
 }
 
@@ -51,19 +51,19 @@ pub struct NextPart {
 fn run_part<R: Threads + Wait + Sync>(
     rt: &R,
     alloc: Global,
-    start: Start,
+    start: RunStart,
     scripts: Vec<Vec<Request>>,
     options: &Options,
 ) -> Result<Outcome, RunFault>
     ensures answers { IfOk result (λ outcome. (book : Book) → StartsAt options.now start book →
         AnswersScripts options.now book (lists scripts.items) outcome) }
     ensures left { IfOk result (λ outcome. (book : Book) → StartsAt options.now start book →
-        StartsAt options.now (Start.State outcome.state) (book_after (opening_of options.now) book outcome.history.entries)) }
+        StartsAt options.now (RunStart.State outcome.state) (book_after (opening_asked options.now) book outcome.history.entries)) }
 {
     let policy = options.policy();
     match start {
-        Start::Book(book) => run(rt, alloc, &book, scripts, policy, &FreeGate),
-        Start::State(state) => match run_on(rt, alloc, state, scripts, policy, &FreeGate) {
+        RunStart::Book(book) => run(rt, alloc, &book, scripts, policy, &FreeGate),
+        RunStart::State(state) => match run_on(rt, alloc, state, scripts, policy, &FreeGate) {
             Ok(outcome) => Ok(outcome),
             Err(Stopped::Refused(_, fault) | Stopped::Failed(fault)) => Err(fault),
         },
@@ -98,7 +98,7 @@ pub fn serve_part<R: Threads + Wait + Sync, L: Log, W: Write>(
     };
     tell_part(alloc, teller, options, &before, &outcome.history)?;
     Ok(Served {
-        start: Start::State(outcome.state),
+        start: RunStart::State(outcome.state),
         before: next,
     })
 }

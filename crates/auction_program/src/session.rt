@@ -11,14 +11,14 @@ ghost use Rattle.auction_text.specs.Moved.{Gone};
 ghost use Rattle.auction_text.specs.Replies.{history_text};
 ghost use Rattle.part_log.specs.declared.log.Teller.{Teller as Told};
 ghost use Rattle.auction_program.specs.PartRuns.{IsSession};
-ghost use Rattle.auction_program.specs.Serving.{ArePartTold, AreTold, IsLoggedBefore, Serves, ServesFirst, ArePartRuns, PartRun, part_texts, served_history};
-ghost use Rattle.auction_program.specs.Options.{opening_of};
+ghost use Rattle.auction_program.specs.Serving.{ArePartTold, AreTold, IsLoggedBefore, ServesAll, ServesFirst, ArePartRuns, PartRun, part_texts, served_history};
+ghost use Rattle.auction_program.specs.Options.{opening_asked};
 ghost use Rattle.auction_program.specs.declared.options.Options.{Options as Asked};
 
 use crate::faults::Fault;
 use crate::opening::open;
 use crate::options::Options;
-use crate::parts::{NextPart, Served, Start, serve_part};
+use crate::parts::{NextPart, RunStart, Served, serve_part};
 use auction_text::{Before, Input, InputLeft, Part, PartEnd, ReadFault};
 use item_shards::Opened;
 use part_log::{Log, Teller};
@@ -29,7 +29,7 @@ use std::thread::Threads;
 
 /// What an auction is opened with and asked for: the rows that a log has, and then an input.
 #[derive(Drop)]
-pub struct Source<I> {
+pub struct LoggedInput<I> {
     /// The rows that a log has.
     pub logged: Vec<Opened>,
     /// The reader of the input.
@@ -60,28 +60,29 @@ fn most_of_a_part(options: &Options) -> u32
 pub fn serve<R: Threads + Wait + Sync, I: Read + Drop, L: Log, W: Write>(
     rt: &R,
     alloc: Global,
-    source: Source<I>,
+    source: LoggedInput<I>,
     teller: &mut Teller<L, W>,
     options: &Options,
 ) -> Result<(), Fault>
     ensures all { OnOk result (IfSome (I.remaining source.reader) (λ input.
-        Serves options.now source.logged.items (readable_of options.now.workers input) None
+        ServesAll options.now source.logged.items (readable_of options.now.workers input) None
         (AreTold L.accepted W.contents teller.old teller.new))) }
     ensures fault { (fault : ReadFault) → result ≡ Err (Fault.Read fault) → IsInputFault fault →
         IfSome (I.remaining source.reader) (λ input.
-        Serves options.now source.logged.items (readable_of options.now.workers input) (Some fault)
+        ServesAll options.now source.logged.items (readable_of options.now.workers input)
+        (Some fault)
         (AreTold L.accepted W.contents teller.old teller.new)) }
     ensures logged { IfSome (I.remaining source.reader) (λ input.
         IsLoggedBefore L.accepted W.contents teller.old teller.new options.now source.logged.items
         (readable_of options.now.workers input)) }
 {
-    let Source { logged, reader } = source;
+    let LoggedInput { logged, reader } = source;
     let left = InputLeft::of(alloc, reader, options.workers)?;
     let Part { input, end } = left.next_part(alloc, most_of_a_part(options))?;
     let Input { rows, scripts } = input;
     let book = open(alloc, teller, logged, rows.as_slice(), options)?;
     let served = Served {
-        start: Start::Book(book),
+        start: RunStart::Book(book),
         before: Before::none(),
     };
     let served = serve_part(rt, alloc, teller, NextPart { served, scripts }, options)?;
@@ -98,11 +99,11 @@ fn serve_rest<R: Threads + Wait + Sync, I: Read + Drop, L: Log, W: Write>(
 ) -> Result<(), Fault>
     ensures all { OnOk result ((logged : List Row) (all : Readable) (start : Told L W) →
         IsSession I.remaining options.now logged all session.served session.end (AreTold L.accepted W.contents start teller.old) →
-        Serves options.now logged all None (AreTold L.accepted W.contents start teller.new)) }
+        ServesAll options.now logged all None (AreTold L.accepted W.contents start teller.new)) }
     ensures fault { (fault : ReadFault) → result ≡ Err (Fault.Read fault) → IsInputFault fault →
         (logged : List Row) (all : Readable) (start : Told L W) →
         IsSession I.remaining options.now logged all session.served session.end (AreTold L.accepted W.contents start teller.old) →
-        Serves options.now logged all (Some fault) (AreTold L.accepted W.contents start teller.new) }
+        ServesAll options.now logged all (Some fault) (AreTold L.accepted W.contents start teller.new) }
     ensures logged { (logged : List Row) (all : Readable) (start : Told L W) →
         IsSession I.remaining options.now logged all session.served session.end (AreTold L.accepted W.contents start teller.old) →
         ServesFirst options.now logged all (ArePartTold L.accepted W.contents start teller.new) }
@@ -129,7 +130,7 @@ fn serve_rest<R: Threads + Wait + Sync, I: Read + Drop, L: Log, W: Write>(
 /// first part is run from, and is what is written if the options ask for the history.
 pub fn parts_are_one_history()
     ensures replays { (options : Asked) (gone : Gone) (book : Book) (parts : List PartRun) → ArePartRuns options book parts →
-        ReplaysFrom (opening_of options) book (served_history options gone parts) }
+        ReplaysFrom (opening_asked options) book (served_history options gone parts) }
     ensures text { (options : Asked) (gone : Gone) (parts : List PartRun) → options.rows ≡ false → options.history ≡ true →
         part_texts options gone parts ≡ history_text (served_history options gone parts) }
 {}

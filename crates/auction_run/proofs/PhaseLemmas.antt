@@ -18,12 +18,12 @@ use Rattle.run_laws.specs.Phases.{is_split, quota}
 use Rattle.run_laws.specs.Turns.{numbered}
 use Rattle.run_laws.proofs.PartLemmas.{all_of_parts}
 use Rattle.auction_rows.specs.declared.limits.Policy.{Policy}
-use Rattle.run_laws.specs.Run.{first_index, calls_of, calls_given, HasPerformed}
+use Rattle.run_laws.specs.Run.{first_index, calls_of, calls_given, IsPhasePerformed}
 use Rattle.run_laws.specs.Serving.{call_of, script_of}
 use Rattle.run_laws.proofs.ScriptLemmas.{lists_length, past_end}
 use Rattle.shard_boxes.specs.Keys.{BoxId}
 use Rattle.shard_boxes.specs.States.{ShardState, state_of}
-use Rattle.phase_permits.specs.Slicing.{objects_of, stocks_of, slices_of}
+use Rattle.phase_permits.specs.Slicing.{hot_objects, stocks_of, slices_of}
 use Rattle.phase_permits.specs.Stashes.{StashState}
 use Rattle.phase_permits.specs.declared.transaction.PermitFault.{PermitFault}
 use Rattle.phase_permits.specs.declared.transaction.PermitFault.TheVariants as permit
@@ -37,17 +37,17 @@ use Rattle.phase_floor.specs.declared.floor.BeginFault.{BeginFault}
 use Rattle.phase_floor.specs.declared.floor.BeginFault.TheVariants.{UnknownHot, TooLong, Memory}
 use Rattle.phase_floor.specs.Begins.{IsTooLong, empty_stash}
 use Rattle.phase_floor.specs.Closings.{AreReceiptsOf, Leaves, stash_of}
-use Rattle.phase_floor.specs.Floors.{FloorState, IsBegun, stash_at}
+use Rattle.phase_floor.specs.Floors.{FloorState, IsNewPermit, stash_at}
 use Rattle.phase_floor.specs.States.{JoinedState, states_of, StandsFor}
 use Rattle.auction_run.specs.declared.checks.RunFault.{RunFault}
 use Rattle.auction_run.specs.declared.phase.Closed.{Closed}
 use Rattle.auction_run.specs.Closed.{HasClosedPhase, HasPerformedPhase}
 use Rattle.auction_run.specs.Phases.{lists, told, IsMet, MayPerform, waiting_in, quota_of}
-use Rattle.auction_run.specs.Serving.{HasBegun}
+use Rattle.auction_run.specs.Serving.{HasBegunPhase}
 use Rattle.phase_workers.specs.declared.round.ServingFault.{ServingFault}
 use Rattle.phase_workers.specs.declared.round.ServingFault.TheVariants as serving
-use Rattle.phase_workers.specs.Tasks.{Task, task, tasks, to_do, calls_for, CanBeDone, IsDone, IsFaultBy}
-use Rattle.phase_workers.specs.Working.{committed, stashed, taken, kept, hot_for, put_off, not_put_off, AreOfPhase, IsSamePermit, IsPermitOf, ArePermitsOf}
+use Rattle.phase_workers.specs.Tasks.{Task, task, tasks, to_do, calls_for, CanBeDone, HasDoneTask, IsFaultBy}
+use Rattle.phase_workers.specs.Working.{committed, stashed, taken, still_waiting, hot_for, put_off, not_put_off, AreOfPhase, IsSamePermit, IsPermitOf, ArePermitsOf}
 use Rattle.phase_workers.proofs.WorkLemmas.{cold_kept, cold_off}
 use Rattle.auction_run.proofs.ScriptLemmas.{past_stashes}
 
@@ -128,7 +128,7 @@ stocks_back : (stocks : List (Object × Option (Facts × ℕ))) → stocks_of (s
 stocks_back [] = refl
 stocks_back (s ∷ ss) = ap (λ xs. s ∷ xs) (stocks_back ss)
 
-objects_back : (stocks : List (Object × Option (Facts × ℕ))) → objects_of (slices_of stocks []) ≡ objects_of stocks
+objects_back : (stocks : List (Object × Option (Facts × ℕ))) → hot_objects (slices_of stocks []) ≡ hot_objects stocks
 objects_back [] = refl
 objects_back (s ∷ ss) = ap (λ xs. s.0 ∷ xs) (objects_back ss)
 
@@ -148,7 +148,7 @@ all_are_taken : (takes : Bool) (permit : WorkerState) (waiting : List (ℕ × Re
 all_are_taken true permit waiting is none = is
 all_are_taken false permit waiting is none = sym (none refl)
 
-none_kept : (takes : Bool) (permit : WorkerState) (waiting : List (ℕ × Request)) → stashed permit ≡ waiting → (takes ≡ false → waiting ≡ []) → kept takes permit ≡ []
+none_kept : (takes : Bool) (permit : WorkerState) (waiting : List (ℕ × Request)) → stashed permit ≡ waiting → (takes ≡ false → waiting ≡ []) → still_waiting takes permit ≡ []
 none_kept true permit waiting is none = refl
 none_kept false permit waiting is none = is ∙ none refl
 
@@ -168,26 +168,26 @@ of_workers phase n (p ∷ ps) each =
     )
 
 -- Permits of a phase are ready to be served: each worker can perform what it is given of its script, from this index on.
-pub record AreReady (opening : List ShardState) (boxes : List BoxId) (phase first : ℕ) (scripts : List (List Request))
+pub record AreReady (initial : List ShardState) (boxes : List BoxId) (phase first : ℕ) (scripts : List (List Request))
     (permits : List WorkerState) : Type 0 where
-  pub can : AllByRecursion (CanBeDone opening boxes) (tasks permits scripts first)
+  pub can : AllByRecursion (CanBeDone initial boxes) (tasks permits scripts first)
   pub of : ArePermitsOf phase 0 permits
 
 -- permits show themselves
 pub shown : {policy : Policy} {scripts : List (List Request)} {state : JoinedState} {stashes : List StashState} {hot : List Object} {floor : FloorState} {permits : List WorkerState} →
-    HasBegun policy scripts state stashes hot floor permits → HasBegun policy scripts state stashes hot floor (map (λ permit. permit) permits)
-shown {policy} {scripts} {state} {stashes} {hot} {floor} {permits} begun = subst (HasBegun policy scripts state stashes hot floor) (sym (map-id permits)) begun
+    HasBegunPhase policy scripts state stashes hot floor permits → HasBegunPhase policy scripts state stashes hot floor (map (λ permit. permit) permits)
+shown {policy} {scripts} {state} {stashes} {hot} {floor} {permits} begun = subst (HasBegunPhase policy scripts state stashes hot floor) (sym (map-id permits)) begun
 
 module _ {policy : Policy} {scripts : List (List Request)} {state : JoinedState} {stashes : List StashState} {hot : List Object} {first : ℕ}
     (first_is : first ≡ first_index policy state.phase) (may : MayPerform policy scripts state stashes hot)
-    {floor : FloorState} {permits : List WorkerState} (begun : HasBegun policy scripts state stashes hot floor permits) where
+    {floor : FloorState} {permits : List WorkerState} (begun : HasBegunPhase policy scripts state stashes hot floor permits) where
   workers_are : length floor.counters ≡ length scripts
   workers_are = ap length begun.counters_are ∙ sym may.scripts_are
 
   pub as_many : length permits ≡ length scripts
   as_many = begun.new.0 ∙ workers_are
 
-  begins : (w : ℕ) → w < length scripts → IsBegun floor w (slice_index begun.quotas w) (stash_at begun.handed w) (receipt_at permits w)
+  begins : (w : ℕ) → w < length scripts → IsNewPermit floor w (slice_index begun.quotas w) (stash_at begun.handed w) (receipt_at permits w)
   begins w less = begun.new.1 w no_receipt (omega (arith, less, workers_are))
 
   left_is : (w : ℕ) → w < length scripts → (receipt_at permits w).left ≡ quota_of policy state.phase (script_of scripts w)
@@ -205,8 +205,8 @@ module _ {policy : Policy} {scripts : List (List Request)} {state : JoinedState}
       ∙ ap (λ n. take (quota_of policy state.phase (script_of scripts w)) (drop n (numbered 0 (script_of scripts w)))) first_is
 
   -- each worker can do its task
-  can_all : (opening : List ShardState) (boxes : List BoxId) → boxes ≡ floor.boxes → HaveOpening opening floor.opening → AllByRecursion (CanBeDone opening boxes) (tasks permits scripts first)
-  can_all opening boxes same have = tasks_all (CanBeDone opening boxes) permits scripts first as_many (λ w below.
+  can_all : (initial : List ShardState) (boxes : List BoxId) → boxes ≡ floor.boxes → HaveOpening initial floor.opening → AllByRecursion (CanBeDone initial boxes) (tasks permits scripts first)
+  can_all initial boxes same have = tasks_all (CanBeDone initial boxes) permits scripts first as_many (λ w below.
       let less : w < length scripts = omega (arith, below, as_many) in
       let left = left_is w less in
       let waits : length (stashed (receipt_at permits w)) ≡ length (waiting_in stashes w) = ap length (stash_is w less) in
@@ -214,17 +214,17 @@ module _ {policy : Policy} {scripts : List (List Request)} {state : JoinedState}
       let few = may.room w (omega (arith, less, may.scripts_are)) in
       let fits = within (cond (is_split state.phase) policy.split_quota policy.joined_quota) (length (script_of scripts w)) (first_index policy state.phase) first first_is in record {
         boxes_are = (begins w less).key.boxes_are ∙ sym same;
-        opening_is = subst (HaveOpening opening) (sym (ap (λ (p : WorkerState). p.opening) (begins w less).new)) have;
+        opening_is = subst (HaveOpening initial) (sym (ap (λ (p : WorkerState). p.opening) (begins w less).new)) have;
         short = may.short w;
         given = subst (λ n. n ≤ length (script_of scripts w) - first) (sym left) fits;
         tries = omega (arith, left, waits, tries, few);
       })
 
   -- the permits are ready to be served, in a round that has the phase's number
-  pub are_ready : {opening : List ShardState} {boxes : List BoxId} {phase : ℕ} → boxes ≡ floor.boxes → HaveOpening opening floor.opening → phase ≡ state.phase →
-      AreReady opening boxes phase first scripts permits
-  are_ready {opening} {boxes} {phase} same have now = record {
-    can = can_all opening boxes same have;
+  pub are_ready : {initial : List ShardState} {boxes : List BoxId} {phase : ℕ} → boxes ≡ floor.boxes → HaveOpening initial floor.opening → phase ≡ state.phase →
+      AreReady initial boxes phase first scripts permits
+  are_ready {initial} {boxes} {phase} same have now = record {
+    can = can_all initial boxes same have;
     of = of_workers phase 0 permits (λ w below.
         let less : w < length scripts = omega (arith, below, as_many) in record {
           phase_is = ap (λ (p : WorkerState). p.journal.phase) (begins w less).new ∙ begun.phase_is ∙ sym now;
@@ -285,7 +285,7 @@ module _ {policy : Policy} {scripts : List (List Request)} {state : JoinedState}
       waits_after w = ap (λ (s : StashState). s.requests) (get_or-map stash_of receipts w no_receipt)
 
       module _ (takes : Bool) (none : (w : ℕ) → takes ≡ false → waiting_in stashes w ≡ [])
-          (done : (w : ℕ) → w < length scripts → IsDone takes (task (receipt_at permits w) (script_of scripts w) first) (receipt_at receipts w)) where
+          (done : (w : ℕ) → w < length scripts → HasDoneTask takes (task (receipt_at permits w) (script_of scripts w) first) (receipt_at receipts w)) where
         -- what waited and what is given
         abbrev asked : ℕ → List (ℕ × Request)
         asked w = waiting_in stashes w ++ calls_given policy state.phase (script_of scripts w)
@@ -328,7 +328,7 @@ module _ {policy : Policy} {scripts : List (List Request)} {state : JoinedState}
                 ∙ ap (put_off hot) (asked_is w less)
             at (inr beyond) = waits_after w ∙ ap (λ (p : WorkerState). stashed p) (past w beyond) ∙ sym (ap (put_off hot) (none_asked w beyond))
 
-        performed : HasPerformed policy scripts state.phase hot (waiting_in stashes) (waiting_in (map stash_of receipts)) entries
+        performed : IsPhasePerformed policy scripts state.phase hot (waiting_in stashes) (waiting_in (map stash_of receipts)) entries
         performed = record {
           phases = of_phase;
           joined_calls = λ joined w. calls_done w ∙ ap (λ h. not_put_off h (asked w)) (may.joined joined) ∙ cold_kept (asked w);
@@ -338,15 +338,15 @@ module _ {policy : Policy} {scripts : List (List Request)} {state : JoinedState}
         }
 
   -- receipts show themselves
-  module _ (takes : Bool) (receipts : List WorkerState) (served : AllZip (IsDone takes) (tasks permits scripts first) (map (λ receipt. receipt) receipts)) where
-    all : AllZip (IsDone takes) (tasks permits scripts first) receipts
-    all = subst (AllZip (IsDone takes) (tasks permits scripts first)) (map-id receipts) served
+  module _ (takes : Bool) (receipts : List WorkerState) (served : AllZip (HasDoneTask takes) (tasks permits scripts first) (map (λ receipt. receipt) receipts)) where
+    all : AllZip (HasDoneTask takes) (tasks permits scripts first) receipts
+    all = subst (AllZip (HasDoneTask takes) (tasks permits scripts first)) (map-id receipts) served
 
     count : length receipts ≡ length permits
-    count = done_count (IsDone takes) permits receipts scripts first as_many all
+    count = done_count (HasDoneTask takes) permits receipts scripts first as_many all
 
-    done : (w : ℕ) → w < length scripts → IsDone takes (task (receipt_at permits w) (script_of scripts w) first) (receipt_at receipts w)
-    done w less = done_at (IsDone takes) permits receipts scripts first as_many all w (omega (arith, less, as_many))
+    done : (w : ℕ) → w < length scripts → HasDoneTask takes (task (receipt_at permits w) (script_of scripts w) first) (receipt_at receipts w)
+    done w less = done_at (HasDoneTask takes) permits receipts scripts first as_many all w (omega (arith, less, as_many))
 
     same : (w : ℕ) → w < length scripts → IsSamePermit (receipt_at permits w) (receipt_at receipts w)
     same w less = (done w less).same
@@ -355,19 +355,19 @@ module _ {policy : Policy} {scripts : List (List Request)} {state : JoinedState}
     receipts_are = are_receipts receipts count same
 
     -- all that a run knows of the phase, once it is closed
-    pub closed_phase : {opening : List ShardState} → states_of state ≡ opening → is_split state.phase ≡ not takes → (after : Closed) {entries : List Entry} →
-        Leaves opening floor receipts entries after.state after.stashes.items → HasClosedPhase policy scripts state stashes hot entries after
-    closed_phase {opening} named split after {entries} left =
+    pub closed_phase : {initial : List ShardState} → states_of state ≡ initial → is_split state.phase ≡ not takes → (after : Closed) {entries : List Entry} →
+        Leaves initial floor receipts entries after.state after.stashes.items → HasClosedPhase policy scripts state stashes hot entries after
+    closed_phase {initial} named split after {entries} left =
         let law = left.lawful.lawful in
-        let shards : length opening ≡ policy.shards = sym (ap length named) ∙ length-map state.shards state_of ∙ may.shards_are in record {
-          performed = subst (λ ss. HasPerformed policy scripts state.phase hot (waiting_in stashes) (waiting_in ss) entries) (sym left.stashes_are)
+        let shards : length initial ≡ policy.shards = sym (ap length named) ∙ length-map state.shards state_of ∙ may.shards_are in record {
+          performed = subst (λ ss. IsPhasePerformed policy scripts state.phase hot (waiting_in stashes) (waiting_in ss) entries) (sym left.stashes_are)
               (performed receipts count same entries law.parts takes (λ w no. may.split (split ∙ ap not no) w) done);
           numbered = subst (λ h. IsNumbered state.opening policy.shards h entries) begun.hot_are
-              (subst (λ n. IsNumbered state.opening n (objects_of floor.stocks) entries) shards
-              (subst (λ o. IsNumbered o (length opening) (objects_of floor.stocks) entries) begun.opening_is law.numbers));
+              (subst (λ n. IsNumbered state.opening n (hot_objects floor.stocks) entries) shards
+              (subst (λ o. IsNumbered o (length initial) (hot_objects floor.stocks) entries) begun.opening_is law.numbers));
           replays = λ book is here.
-              let stood : StandFor opening floor.counters book [] =
-              subst (λ cs. StandFor opening cs book []) (sym begun.counters_are) (subst (λ ss. StandFor ss state.counters book []) named here) in (
+              let stood : StandFor initial floor.counters book [] =
+              subst (λ cs. StandFor initial cs book []) (sym begun.counters_are) (subst (λ ss. StandFor ss state.counters book []) named here) in (
                 subst (λ o. ReplaysFrom o book entries) begun.opening_is (left.replays book stood),
                 subst (λ o. StandsFor after.state (book_after o book entries)) begun.opening_is (left.stands book stood),
               );

@@ -24,7 +24,7 @@ use Rattle.run_laws.proofs.TurnLemmas.{waiting_none}
 use Rattle.worker_journals.specs.Merged.{added, merged}
 use Rattle.auction_rows.specs.declared.limits.Policy.{Policy}
 use Rattle.run_laws.specs.Books.{HasReplayed, ReplaysOn}
-use Rattle.run_laws.specs.Run.{first_index, calls_of, calls_given, HasRun, HasPerformed, HasLeft, AreChosen}
+use Rattle.run_laws.specs.Run.{first_index, calls_of, calls_given, HasRun, IsPhasePerformed, HasLeft, AreChosen}
 use Rattle.run_laws.specs.Serving.{script_of, segment_of, hot_in, phase_reached, AreNumbered}
 use Rattle.run_laws.proofs.BookLemmas.{phase_replayed}
 use Rattle.run_laws.proofs.ClosedLemmas.{none_chosen, none_numbered, phase_chosen, phase_numbered, segment_now}
@@ -42,7 +42,7 @@ use Rattle.auction_run.proofs.HotThere.{chosen_exist}
 -- ---- what a worker committed, and what waits, after one phase more
 
 module _ (policy : Policy) (some : 0 < policy.joined_quota + policy.split_quota) (scripts : List (List Request)) (p : ℕ) (hot : List Object)
-    (waits after : ℕ → List (ℕ × Request)) (entries : List Entry) (performed : HasPerformed policy scripts p hot waits after entries) (worker : ℕ) where
+    (waits after : ℕ → List (ℕ × Request)) (entries : List Entry) (performed : IsPhasePerformed policy scripts p hot waits after entries) (worker : ℕ) where
   abbrev script : List Request
   script = script_of scripts worker
 
@@ -95,8 +95,8 @@ module _ {policy : Policy} (some : 0 < policy.joined_quota + policy.split_quota)
   abbrev grown : new.history.entries ≡ old.history.entries ++ entries
   grown = performed.history
 
-  here : HasPerformed policy scripts p hot_now (waiting_in old.stashes.items) (waiting_in new.stashes.items) entries
-  here = subst (λ n. HasPerformed policy scripts n hot_now (waiting_in old.stashes.items) (waiting_in new.stashes.items) entries) run.phase_is closed.performed
+  here : IsPhasePerformed policy scripts p hot_now (waiting_in old.stashes.items) (waiting_in new.stashes.items) entries
+  here = subst (λ n. IsPhasePerformed policy scripts n hot_now (waiting_in old.stashes.items) (waiting_in new.stashes.items) entries) run.phase_is closed.performed
 
   counted_next : (w : ℕ) → w < length scripts →
       (counters_at new.state.counters w).commits + length (waiting_in new.stashes.items w)

@@ -11,7 +11,7 @@ use Rattle.worker_journals.specs.Histories.{HistoryView}
 use Rattle.worker_journals.specs.Merged.{added, merged}
 use Rattle.auction_rows.specs.declared.limits.Policy.{Policy}
 use Rattle.run_laws.specs.Books.{ReplaysOn}
-use Rattle.run_laws.specs.Run.{HasPerformed, calls_of}
+use Rattle.run_laws.specs.Run.{IsPhasePerformed, calls_of}
 use Rattle.auction_run.specs.declared.checks.RunFault.{RunFault}
 use Rattle.auction_run.specs.declared.phase.Closed.{Closed}
 use Rattle.auction_run.specs.Phases.{waiting_in, IsMet}
@@ -22,7 +22,7 @@ pub record HasClosedPhase (policy : Policy) (scripts : List (List Request)) (sta
     (stashes : List StashState) (hot : List Object) (entries : List Entry) (closed : Closed)
     : Type 0 where
   -- each worker has performed what it was given, and what waits is in the stashes left
-  pub performed : HasPerformed policy scripts state.phase hot (waiting_in stashes)
+  pub performed : IsPhasePerformed policy scripts state.phase hot (waiting_in stashes)
       (waiting_in closed.stashes.items) entries
   -- the entries are numbered
   pub numbered : IsNumbered state.opening policy.shards hot entries

@@ -15,7 +15,7 @@ use Rattle.run_laws.specs.Serving.{script_of}
 use Rattle.phase_permits.specs.declared.transaction.PermitFault.TheVariants as worker_fault
 use Rattle.phase_workers.specs.declared.round.ServingFault.{ServingFault}
 use Rattle.phase_workers.specs.declared.round.ServingFault.TheVariants as serving
-use Rattle.auction_run.specs.declared.phase.Plan.{Plan}
+use Rattle.auction_run.specs.declared.phase.PhasePlan.{PhasePlan}
 pub use Rattle.run_laws.specs.Serving.{lists}
 use Rattle.auction_run.specs.declared.checks.RunFault.{RunFault}
 use Rattle.auction_run.specs.declared.checks.RunFault.TheVariants.{Workers, Shards, Quota, TooLong, Spawn, Memory, NumberFull}
@@ -34,7 +34,7 @@ quota_of policy phase script = quota policy.joined_quota policy.split_quota phas
 
 -- the plan's round is that of the phase, and goes on with each script at the first index that
 -- reaches it
-abbrev pub IsPlanOf : {G : Type 0} → Plan G → ℕ → Type 0
+abbrev pub IsPlanOf : {G : Type 0} → PhasePlan G → ℕ → Type 0
 IsPlanOf plan phase =
     (plan.round.phase ≡ phase) × (plan.round.first ≡ first_index plan.policy phase)
 

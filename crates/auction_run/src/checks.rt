@@ -1,6 +1,6 @@
 //! What is checked before a run begins, why it is refused, and why a run that goes on stops.
 ghost use Rattle.std.specs.Prelude.{◌≡◌, ◌↔◌, ◌<◌, ◌≤◌, ℕ, length, slice_index, IsTrue, OnOk};
-ghost use Rattle.item_shards.specs.OpeningBooks.{rows_of};
+ghost use Rattle.item_shards.specs.OpeningBooks.{rows_of_book};
 ghost use Rattle.item_shards.specs.OpeningRows.{rows_by};
 ghost use Rattle.auction_run.specs.Beginning.{HaveWorkers, HasShards, HasQuotas, AreShort, IsFirstToFail};
 ghost use Rattle.auction_run.specs.GoingOn.{AreShortOn, HasScripts, IsCheckedOn};
@@ -113,8 +113,9 @@ pub(crate) fn check(
     scripts: &[Vec<Request>],
     policy: Policy,
 ) -> Result<(), RunFault>
-    ensures { IsFirstToFail result (HaveWorkers (rows_of book.now) (lists scripts.now))
-        (HasShards policy) (HasQuotas policy) (AreShort (rows_of book.now) (lists scripts.now)) }
+    ensures { IsFirstToFail result (HaveWorkers (rows_of_book book.now) (lists scripts.now))
+        (HasShards policy) (HasQuotas policy)
+        (AreShort (rows_of_book book.now) (lists scripts.now)) }
 {
     if !have_workers(book.rows(), scripts) {
         return Err(RunFault::Workers);
@@ -209,7 +210,7 @@ fn has_quotas(policy: Policy) -> bool
 // Whether no worker's rows and script have more than 1,000,000 together.
 fn are_short(book: &OpeningBook, scripts: &[Vec<Request>]) -> bool
     requires { length scripts.now ≤ MOST_WORKERS }
-    ensures { IsTrue result ↔ AreShort (rows_of book.now) (lists scripts.now) }
+    ensures { IsTrue result ↔ AreShort (rows_of_book book.now) (lists scripts.now) }
 {
     let counts = rows_by_each(book.rows());
     for worker in 0..scripts.len() {

@@ -9,7 +9,7 @@ ghost use Rattle.phase_floor.specs.States.{states_of};
 ghost use Rattle.auction_run.specs.Phases.{lists, IsPlanOf, MayPerform, waiting_in};
 ghost use Rattle.auction_run.specs.declared.checks.RunFault.{RunFault};
 ghost use Rattle.auction_run.specs.Closed.{HasPerformedPhase};
-ghost use Rattle.auction_run.specs.Serving.{HasBegun};
+ghost use Rattle.auction_run.specs.Serving.{HasBegunPhase};
 
 use crate::checks::RunFault;
 use auction_rows::{Object, Policy, Request};
@@ -26,13 +26,13 @@ use worker_journals::History;
 
 /// A phase of a run: how the scripts are divided, and the round that goes on with each.
 #[derive(Drop)]
-pub(crate) struct Plan<'a, G> {
+pub(crate) struct PhasePlan<'a, G> {
     pub(crate) policy: Policy,
     // It goes on at the first index that reaches the phase.
     pub(crate) round: Round<'a, G>,
 }
 
-impl<'a, G> Plan<'a, G> {
+impl<'a, G> PhasePlan<'a, G> {
     ghost use Rattle.auction_run.specs.Phases.{IsPlanOf};
 
     /// The plan of a phase.
@@ -41,7 +41,7 @@ impl<'a, G> Plan<'a, G> {
         policy: Policy,
         gate: &'a G,
         phase: u64,
-    ) -> Plan<'a, G>
+    ) -> PhasePlan<'a, G>
         requires { phase < 2 ^ 31 }
         ensures scripts { result.round.scripts.now ≡ scripts.now }
         ensures policy { result.policy ≡ policy }
@@ -53,7 +53,7 @@ impl<'a, G> Plan<'a, G> {
             phase,
             gate,
         };
-        Plan { policy, round }
+        PhasePlan { policy, round }
     }
 }
 
@@ -107,7 +107,7 @@ pub(crate) fn perform_phase<R: Threads + Wait + Sync, G: Gate + Sync>(
     state: Joined,
     hot: &IndexSet<Object>,
     stashes: Vec<Stash>,
-    plan: Plan<'_, G>,
+    plan: PhasePlan<'_, G>,
 ) -> Result<Closed, RunFault>
     requires plan { IsPlanOf plan state.phase }
     requires may { MayPerform plan.policy (lists plan.round.scripts.now) state stashes.items
@@ -139,13 +139,13 @@ pub(crate) fn perform_joined_phase<N, R, G>(
     history: &mut History,
     state: Joined,
     stashes: Vec<Stash>,
-    plan: Plan<'_, G>,
+    plan: PhasePlan<'_, G>,
 ) -> Result<Closed, RunFault>
 where
     N: PhaseName + Send + Sync,
     R: Threads + Wait + Sync,
     G: Gate + Sync,
-    requires shards { states_of state ≡ N.opening }
+    requires shards { states_of state ≡ N.initial }
     requires workers { length state.counters ≡ N.workers }
     requires joined { is_split state.phase ≡ false }
     requires plan { IsPlanOf plan state.phase }
@@ -165,19 +165,19 @@ fn begin_joined_phase<N, R, G>(
     alloc: Global,
     state: Joined,
     stashes: Vec<Stash>,
-    plan: &Plan<'_, G>,
+    plan: &PhasePlan<'_, G>,
 ) -> Result<(JoinedFloor<N>, Vec<JoinedPermit<N>>), RunFault>
 where
     N: PhaseName,
     R: Wait,
-    requires shards { states_of state ≡ N.opening }
+    requires shards { states_of state ≡ N.initial }
     requires workers { length state.counters ≡ N.workers }
     requires joined { is_split state.phase ≡ false }
     requires first { plan.now.round.first ≡ first_index plan.now.policy state.phase }
     requires may { MayPerform plan.now.policy (lists plan.now.round.scripts.now) state
         stashes.items [] }
     ensures begun { IfOk result (λ begun.
-        HasBegun plan.entry.now.policy (lists plan.entry.now.round.scripts.now) state
+        HasBegunPhase plan.entry.now.policy (lists plan.entry.now.round.scripts.now) state
         stashes.items [] begun.0 begun.1.items) }
     ensures fault { IfErr result (λ fault. fault ≡ RunFault.Memory) }
 {
@@ -201,13 +201,13 @@ pub(crate) fn perform_split_phase<N, R, G>(
     state: Joined,
     hot: &IndexSet<Object>,
     stashes: Vec<Stash>,
-    plan: Plan<'_, G>,
+    plan: PhasePlan<'_, G>,
 ) -> Result<Closed, RunFault>
 where
     N: PhaseName + Send + Sync,
     R: Threads + Wait + Sync,
     G: Gate + Sync,
-    requires shards { states_of state ≡ N.opening }
+    requires shards { states_of state ≡ N.initial }
     requires workers { length state.counters ≡ N.workers }
     requires split { is_split state.phase ≡ true }
     requires plan { IsPlanOf plan state.phase }
@@ -230,19 +230,19 @@ fn begin_split_phase<N, R, G>(
     state: Joined,
     hot: &IndexSet<Object>,
     stashes: Vec<Stash>,
-    plan: &Plan<'_, G>,
+    plan: &PhasePlan<'_, G>,
 ) -> Result<(SplitFloor<N>, Vec<SplitPermit<N>>), RunFault>
 where
     N: PhaseName,
     R: Wait,
-    requires shards { states_of state ≡ N.opening }
+    requires shards { states_of state ≡ N.initial }
     requires workers { length state.counters ≡ N.workers }
     requires split { is_split state.phase ≡ true }
     requires first { plan.now.round.first ≡ first_index plan.now.policy state.phase }
     requires may { MayPerform plan.now.policy (lists plan.now.round.scripts.now) state
         stashes.items hot.now.keys }
     ensures begun { IfOk result (λ begun.
-        HasBegun plan.entry.now.policy (lists plan.entry.now.round.scripts.now) state
+        HasBegunPhase plan.entry.now.policy (lists plan.entry.now.round.scripts.now) state
         stashes.items hot.now.keys begun.0 begun.1.items) }
     ensures fault { IfErr result (λ fault. fault ≡ RunFault.Memory) }
 {

@@ -9,7 +9,7 @@ ghost use Rattle.auction_rows.specs.declared.rows.Row.{Row as Stored};
 ghost use Rattle.auction_rows.specs.Book.{Book};
 ghost use Rattle.auction_rows.specs.History.{IsBook, book_after, rows_of as stored_rows};
 ghost use Rattle.auction_rows.specs.declared.limits.Policy.{Policy as Rule};
-ghost use Rattle.item_shards.specs.OpeningBooks.{opening_of, rows_of};
+ghost use Rattle.item_shards.specs.OpeningBooks.{opening_of, rows_of_book};
 ghost use Rattle.worker_journals.specs.Merged.{merged};
 ghost use Rattle.phase_floor.specs.States.{IsBookOf};
 ghost use Rattle.auction_window.specs.Published.{book_of};
@@ -24,7 +24,7 @@ ghost use Rattle.auction_run.specs.Running.{IsRunning, CanGoOn};
 use crate::board::{Board, NoBoard};
 use crate::checks::{RunFault, check};
 use crate::choice::choose_hot_after;
-use crate::phase::{Closed, Plan, perform_phase};
+use crate::phase::{Closed, PhasePlan, perform_phase};
 use auction_rows::{MOST_OF_A_WORKER, Object, Policy, Request};
 use auction_window::last_rows;
 use indexmap::IndexSet;
@@ -73,10 +73,10 @@ pub fn run<R: Threads + Wait + Sync, G: Gate + Sync>(
     gate: &G,
 ) -> Result<Outcome, RunFault>
     ensures outcome { IfOk result
-        (IsOutcome (opening_of book.now) (rows_of book.now) policy (lists scripts.items)) }
+        (IsOutcome (opening_of book.now) (rows_of_book book.now) policy (lists scripts.items)) }
     ensures left { IfOk result (λ outcome. IsBookOf outcome.state
-        (book_after (opening_of book.now) (rows_of book.now) outcome.history.entries)) }
-    ensures refused { IsRefusedInOrder result policy (rows_of book.now) (lists scripts.items) }
+        (book_after (opening_of book.now) (rows_of_book book.now) outcome.history.entries)) }
+    ensures refused { IsRefusedInOrder result policy (rows_of_book book.now) (lists scripts.items) }
     ensures spawn { IsErrOf result Spawn → 1 < length (lists scripts.items) }
 {
     run_shown(rt, alloc, book, scripts, policy, gate, &mut NoBoard)
@@ -95,18 +95,18 @@ pub fn run_shown<R: Threads + Wait + Sync, G: Gate + Sync, B: Board>(
     gate: &G,
     board: &mut B,
 ) -> Result<Outcome, RunFault>
-    requires { B.has board.old (opening_of book.now) (rows_of book.now) [] }
+    requires { B.has board.old (opening_of book.now) (rows_of_book book.now) [] }
     ensures outcome { IfOk result
-        (IsOutcome (opening_of book.now) (rows_of book.now) policy (lists scripts.items)) }
+        (IsOutcome (opening_of book.now) (rows_of_book book.now) policy (lists scripts.items)) }
     ensures left { IfOk result (λ outcome. IsBookOf outcome.state
-        (book_after (opening_of book.now) (rows_of book.now) outcome.history.entries)) }
-    ensures refused { IsRefusedInOrder result policy (rows_of book.now) (lists scripts.items) }
+        (book_after (opening_of book.now) (rows_of_book book.now) outcome.history.entries)) }
+    ensures refused { IsRefusedInOrder result policy (rows_of_book book.now) (lists scripts.items) }
     ensures spawn { IsErrOf result Spawn → 1 < length (lists scripts.items) }
     ensures board { IfOk result
-        (HasShownAll B.has (opening_of book.now) (rows_of book.now) board.new) }
+        (HasShownAll B.has (opening_of book.now) (rows_of_book book.now) board.new) }
     ensures up_to_date { IfOk result (λ outcome. IsUpToDate B.has board.new outcome.state) }
     ensures board_after_fault { IfErr result (HasShownFirst B.has B.has_refused
-        (opening_of book.now) (rows_of book.now) policy (lists scripts.items) board.new) }
+        (opening_of book.now) (rows_of_book book.now) policy (lists scripts.items) board.new) }
 {
     check(book, &scripts, policy)?;
     run_checked(rt, alloc, book, &scripts, policy, gate, board)
@@ -131,20 +131,20 @@ fn run_checked<R: Threads + Wait + Sync, G: Gate + Sync, B: Board>(
     gate: &G,
     board: &mut B,
 ) -> Result<Outcome, RunFault>
-    requires board { B.has board.old (opening_of book.now) (rows_of book.now) [] }
-    requires workers { HaveWorkers (rows_of book.now) (lists scripts.now) }
+    requires board { B.has board.old (opening_of book.now) (rows_of_book book.now) [] }
+    requires workers { HaveWorkers (rows_of_book book.now) (lists scripts.now) }
     requires shards { HasShards policy }
     requires quotas { HasQuotas policy }
-    requires short { AreShort (rows_of book.now) (lists scripts.now) }
+    requires short { AreShort (rows_of_book book.now) (lists scripts.now) }
     ensures board { IfOk result
-        (HasShownAll B.has (opening_of book.now) (rows_of book.now) board.new) }
+        (HasShownAll B.has (opening_of book.now) (rows_of_book book.now) board.new) }
     ensures outcome { IfOk result
-        (IsOutcome (opening_of book.now) (rows_of book.now) policy (lists scripts.now)) }
+        (IsOutcome (opening_of book.now) (rows_of_book book.now) policy (lists scripts.now)) }
     ensures left { IfOk result (λ outcome. IsBookOf outcome.state
-        (book_after (opening_of book.now) (rows_of book.now) outcome.history.entries)) }
+        (book_after (opening_of book.now) (rows_of_book book.now) outcome.history.entries)) }
     ensures up_to_date { IfOk result (λ outcome. IsUpToDate B.has board.new outcome.state) }
     ensures board_after_fault { IfErr result (HasShownFirst B.has B.has_refused
-        (opening_of book.now) (rows_of book.now) policy (lists scripts.now) board.new) }
+        (opening_of book.now) (rows_of_book book.now) policy (lists scripts.now) board.new) }
     ensures fault { IfErr result (IsMet (lists scripts.now)) }
 {
     let state = Joined::resume(alloc, book, scripts.len() as u32, policy.shards)?;
@@ -183,7 +183,7 @@ pub(crate) fn run_from<R: Threads + Wait + Sync, G: Gate + Sync, B: Board>(
 {
     let mut running = begin(alloc, state, scripts)?;
     for _phase in 0..MOST_PHASES {
-        let plan = Plan::new(scripts, policy, gate, running.state.phase());
+        let plan = PhasePlan::new(scripts, policy, gate, running.state.phase());
         if !is_left(scripts, &running.stashes, plan.round.first) {
             let Running {
                 state,
@@ -259,7 +259,7 @@ fn next_phase<R: Threads + Wait + Sync, G: Gate + Sync>(
     rt: &R,
     alloc: Global,
     running: Running,
-    plan: Plan<'_, G>,
+    plan: PhasePlan<'_, G>,
 ) -> Result<Running, RunFault>
     requires shards { HasShards plan.policy }
     requires quotas { 0 < plan.policy.joined_quota + plan.policy.split_quota }

@@ -6,7 +6,7 @@ use Rattle.auction_rows.specs.declared.values.Opening.{Opening}
 use Rattle.auction_rows.specs.declared.rows.Row.{Row}
 use Rattle.auction_rows.specs.Book.{Book}
 use Rattle.item_shards.specs.declared.serial.SerialAuction.{SerialAuction}
-use Rattle.item_shards.specs.Serial.{CanFollow, CanAdd, HoldsBook, opening_of}
+use Rattle.item_shards.specs.Serial.{CanFollow, CanAdd, HoldsBook, serial_opening}
 use Rattle.auction_window.specs.Published.{book_of, HasPhases, IsLastPhase}
 use Rattle.auction_window.proofs.Prefixes.{prefix_shorter, prefix_whole}
 
@@ -29,7 +29,7 @@ module _ {opening : Opening} {rows : Book} {last : List Row} {new : List (List R
   same : phase.before ≡ old
   same = before_last old new phase.before last phase.phases_are begins len
 
-  follow : CanFollow (opening_of auction) (book_of rows old) last
+  follow : CanFollow (serial_opening auction) (book_of rows old) last
   follow =
       subst (λ (start : Opening). CanFollow start (book_of rows old) last) (sym held.0) (subst (λ (phases : List (List Row)). CanFollow opening (book_of rows phases) last) same phase.follow)
 
@@ -41,8 +41,8 @@ module _ {opening : Opening} {rows : Book} {last : List Row} {new : List (List R
   grows = sym (ap (book_of rows) (phase.phases_are ∙ ap (λ (phases : List (List Row)). phases ++ last ∷ []) same) ∙ book_of-snoc rows old last)
 
   -- once they are, it has the rows of the phase too
-  pub has_next : (more : SerialAuction) → opening_of more ≡ opening_of auction
-      → ((book : Book) → HoldsBook auction book → CanFollow (opening_of auction) book last → HoldsBook more (book ++ last)) → HasPhases opening rows (Some more) new
+  pub has_next : (more : SerialAuction) → serial_opening more ≡ serial_opening auction
+      → ((book : Book) → HoldsBook auction book → CanFollow (serial_opening auction) book last → HoldsBook more (book ++ last)) → HasPhases opening rows (Some more) new
   has_next more kept added = (kept ∙ held.0, subst (HoldsBook more) grows (added (book_of rows old) held.1 follow))
 
 -- what is taken in last is what is shown

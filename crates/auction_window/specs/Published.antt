@@ -5,7 +5,7 @@ use Rattle.auction_rows.specs.declared.values.Opening.{Opening}
 use Rattle.auction_rows.specs.declared.rows.Row.{Row}
 use Rattle.auction_rows.specs.Book.{Book}
 use Rattle.item_shards.specs.declared.serial.SerialAuction.{SerialAuction}
-use Rattle.item_shards.specs.Serial.{HoldsBook, CanFollow, opening_of}
+use Rattle.item_shards.specs.Serial.{HoldsBook, CanFollow, serial_opening}
 
 -- the book of these rows and of those of all phases, in order
 abbrev pub book_of : Book → List (List Row) → Book
@@ -21,7 +21,7 @@ pub record Published : Type 0 where
 -- an auction, where there is one, has the rows of these phases after those of the book
 abbrev pub HasPhases : Opening → Book → Option SerialAuction → List (List Row) → Type 0
 HasPhases opening rows auction phases =
-    IfSome auction (λ held. (opening_of held ≡ opening) × HoldsBook held (book_of rows phases))
+    IfSome auction (λ held. (serial_opening held ≡ opening) × HoldsBook held (book_of rows phases))
 
 -- these rows are the last of the phases
 pub record IsLastPhase (opening : Opening) (rows : Book) (last : List Row) (phases : List (List Row)) : Type 0 where

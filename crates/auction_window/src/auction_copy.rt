@@ -2,7 +2,7 @@
 ghost use Rattle.std.specs.Prelude.{◌≡◌, ◌++◌, ◌∷◌, [], List, IfOk, IfSome};
 ghost use mathlib.Core.List.{IsPrefix};
 ghost use Rattle.auction_rows.specs.Replies.{reply};
-ghost use Rattle.item_shards.specs.OpeningBooks.{opening_of, rows_of};
+ghost use Rattle.item_shards.specs.OpeningBooks.{opening_of, rows_of_book};
 ghost use Rattle.auction_window.specs.Published.{book_of, IsLastPhase};
 
 use crate::phases::{Prefix, WindowName};
@@ -69,7 +69,7 @@ impl<J: WindowName> AuctionCopy<J> {
         phases: Prefix<J>,
     ) -> Result<AuctionCopy<J>, AllocError>
         requires opening { opening_of book.now ≡ J.opening }
-        requires rows { rows_of book.now ≡ J.rows }
+        requires rows { rows_of_book book.now ≡ J.rows }
         requires phases { phases ≡ [] }
         ensures { IfOk result (λ copy. copy ≡ []) }
     {

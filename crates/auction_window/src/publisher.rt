@@ -1,6 +1,6 @@
 //! What publishes the rows of phases.
 ghost use Rattle.std.specs.Prelude.{◌≡◌, ◌++◌, ◌∷◌, ◌<◌, ◌≤◌, [], true, false, length, All, alloc_error, Err, IfOk, OnOk, OnErr};
-ghost use Rattle.item_shards.specs.OpeningBooks.{opening_of, rows_of};
+ghost use Rattle.item_shards.specs.OpeningBooks.{opening_of, rows_of_book};
 ghost use Rattle.item_shards.specs.Serial.{CanFollow};
 ghost use Rattle.auction_window.specs.Published.{book_of, AreComparable};
 
@@ -83,7 +83,7 @@ impl<J: WindowName> Publisher<J> {
     ) -> Result<(Publisher<J>, Vec<Window<J>>), MakeFault>
         requires log { log ≡ J.log }
         requires opening { opening_of book.now ≡ J.opening }
-        requires rows { rows_of book.now ≡ J.rows }
+        requires rows { rows_of_book book.now ≡ J.rows }
         requires count { (0 < windows) × (windows ≤ MOST_WORKERS) }
         ensures publisher { IfOk result (λ made. made.0 ≡ record { phases = []; failed = false }) }
         ensures windows { IfOk result (λ made. length made.1.items ≡ windows) }

@@ -1,6 +1,6 @@
 //! How fast windows are, alone and beside a run, and what a run pays for them.
 ghost use Rattle.std.specs.Prelude.{◌≡◌, ◌<◌, ◌≤◌, []};
-ghost use Rattle.item_shards.specs.OpeningBooks.{opening_of, rows_of};
+ghost use Rattle.item_shards.specs.OpeningBooks.{opening_of, rows_of_book};
 
 use crate::VIEW;
 use crate::timed::Timed;
@@ -92,7 +92,7 @@ fn time_run<R, B>(
 where
     R: Threads + Wait + Sync + Clock,
     B: Board,
-    requires { B.has board.old (opening_of book.now) (rows_of book.now) [] }
+    requires { B.has board.old (opening_of book.now) (rows_of_book book.now) [] }
 {
     let begun = Instant::now(rt)?;
     run_shown(rt, alloc, book, all, POLICY, &FreeGate, board)?;
@@ -198,7 +198,7 @@ fn view_alone<J: WindowName + Send + Sync + 'static, R: Threads + Wait + Sync>(
 ) -> Result<u64>
     requires log { log ≡ J.log }
     requires opening { opening_of book.now ≡ J.opening }
-    requires rows { rows_of book.now ≡ J.rows }
+    requires rows { rows_of_book book.now ≡ J.rows }
     requires windows { (0 < windows) × (windows ≤ MOST_WORKERS) }
 {
     let (publisher, windows) = Publisher::<J>::new(rt, alloc, log, book, windows)?;
@@ -247,7 +247,7 @@ where
     R: Threads + Wait + Sync + Clock + Print,
     requires log { log ≡ J.log }
     requires opening { opening_of book.now ≡ J.opening }
-    requires rows { rows_of book.now ≡ J.rows }
+    requires rows { rows_of_book book.now ≡ J.rows }
     requires windows { (0 < windows) × (windows ≤ MOST_WORKERS) }
 {
     let (publisher, made) = Publisher::<J>::new(rt, alloc, log, book, windows)?;

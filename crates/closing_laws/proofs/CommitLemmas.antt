@@ -16,7 +16,7 @@ use Rattle.closing_laws.proofs.ReceiptLemmas.{txns_by, counts, journal_entries}
 use Rattle.closing_laws.proofs.ReplayLemmas.{entries_replay}
 use Rattle.phase_laws.proofs.ListLemmas.{all-append}
 
-pub book_left : (p : Phase) (closed : HasClosed p) (book : Book) → StandFor p.opening p.counters book [] → IsBook p.setting.opening book
+pub book_left : (p : Phase) (closed : HasClosed p) (book : Book) → StandFor p.initial p.counters book [] → IsBook p.setting.opening book
     → IsBook p.setting.opening (book_after p.setting.opening book p.entries)
 book_left p closed book opens is =
     let replays = entries_replay p closed book opens in
@@ -50,7 +50,7 @@ stores_few p closed w known few =
     subst (λ (counters : Counters). stores counters ≤ counters.commits) (sym (counts p closed w known))
     (stores_after (counters_at p.counters w) (txns_by p closed w) few)
 
-pub workers_go_on : (p : Phase) (closed : HasClosed p) (book : Book) → StandFor p.opening p.counters book [] → AreOfWorkers (length p.counters) book
+pub workers_go_on : (p : Phase) (closed : HasClosed p) (book : Book) → StandFor p.initial p.counters book [] → AreOfWorkers (length p.counters) book
     → AreOfWorkers (length p.receipts) (book_after p.setting.opening book p.entries)
 workers_go_on p closed book opens own =
     subst (AreOfWorkers (length p.receipts)) (sym (book_after-replays p.setting.opening book p.entries (entries_replay p closed book opens)))

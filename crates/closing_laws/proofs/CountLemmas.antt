@@ -15,7 +15,7 @@ use Rattle.auction_rows.specs.declared.rows.Row.TheVariants as row
 use Rattle.auction_rows.specs.Book.{Book, as_item, as_bid, as_comment, as_buy, facts_of}
 use Rattle.auction_rows.specs.Replies.{answer, answer_unless, item_seen, row_of, row_if}
 use Rattle.phase_permits.specs.declared.worker.Counters.{Counters}
-use Rattle.phase_permits.specs.Txns.{counted}
+use Rattle.phase_permits.specs.Txns.{counters_after}
 use Rattle.phase_permits.specs.Replying.{CountsOf}
 
 -- the rows of one kind that pass a test, with one row more
@@ -123,7 +123,7 @@ module _ (book : Book) (worker : ℕ) (counters : Counters) (counts : CountsOf b
 
   -- a commit of the worker
   pub own_commit : (request : Request) (refused : Option Refusal)
-      → (let given = answer_unless refused (answer book worker request) in CountsOf (book ++ option_to_list (row_of worker request given)) worker (counted counters given))
+      → (let given = answer_unless refused (answer book worker request) in CountsOf (book ++ option_to_list (row_of worker request given)) worker (counters_after counters given))
   own_commit (StoreItem facts time) None = own_if (worker == worker) _ (eq-eqb worker worker refl) (eq-eqb worker worker refl)
   own_commit (StoreItem facts time) (Some reason) = uncounted
   own_commit (StoreBid bidder item amount time) None = own_if (worker == worker) _ (eq-eqb worker worker refl) (eq-eqb worker worker refl)
@@ -133,7 +133,7 @@ module _ (book : Book) (worker : ℕ) (counters : Counters) (counts : CountsOf b
   own_commit (BuyNow buyer item quantity time) None = own_if (worker == worker) _ (eq-eqb worker worker refl) (eq-eqb worker worker refl)
   own_commit (BuyNow buyer item quantity time) (Some reason) = uncounted
   own_commit (ViewItem item) None = at (facts_of book item) where
-    at : (facts : Option Facts) → CountsOf (book ++ option_to_list (row_of worker (ViewItem item) (item_seen book item facts))) worker (counted counters (item_seen book item facts))
+    at : (facts : Option Facts) → CountsOf (book ++ option_to_list (row_of worker (ViewItem item) (item_seen book item facts))) worker (counters_after counters (item_seen book item facts))
     at None = uncounted
     at (Some facts) = uncounted
   own_commit (ViewItem item) (Some reason) = uncounted

@@ -9,7 +9,7 @@ use Rattle.item_shards.specs.Standing.{ContentsStandsFor}
 use Rattle.shard_boxes.specs.Keys.{key_at, lines_at, holds_at}
 use Rattle.shard_boxes.specs.Lines.{lines_of}
 use Rattle.shard_boxes.specs.States.{state_at}
-use Rattle.phase_permits.specs.Txns.{hot_in, line_on, lines_owed}
+use Rattle.phase_permits.specs.Txns.{hot_of, line_on, lines_owed}
 use Rattle.phase_permits.specs.Replying.{CountsOf}
 use Rattle.closing_laws.specs.Phases.{HasClosed, IsReceiptOf, receipt_at}
 use Rattle.closing_laws.specs.Standing.{StandFor, counters_at}
@@ -25,7 +25,7 @@ module _ (facts : Facts) where
   lines zero = refl
   lines (suc n) = ap (λ b. map (line_on setting (suc n)) (cond (b || false) (txn facts ∷ []) [])) (sym (ne_eqb 0 (suc n) (λ same. omega (arith, same))))
 
-  distinct : IsDistinct same_object (hot_in setting)
+  distinct : IsDistinct same_object (hot_of setting)
   unfolding IsDistinct
   distinct = (tt, tt)
 
@@ -97,5 +97,5 @@ module _ (facts : Facts) where
   shards zero known = λ object here cold. refl
   shards (suc n) known = absurd (omega (arith, known))
 
-  pub has_stood : StandFor (example_phase facts).opening (example_phase facts).counters (example_book facts) []
+  pub has_stood : StandFor (example_phase facts).initial (example_phase facts).counters (example_book facts) []
   has_stood = record { shards = shards; counts = counts }

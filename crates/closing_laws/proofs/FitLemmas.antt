@@ -24,7 +24,7 @@ use Rattle.item_shards.specs.declared.shard.slices.Slice.TheVariants as slice
 use Rattle.item_shards.specs.Values.{Value, value}
 use Rattle.shard_boxes.specs.States.{ShardState, state_at}
 use Rattle.phase_permits.specs.Workers.{WorkerState}
-use Rattle.phase_permits.specs.Slicing.{objects_of, slices_in, slices_of, slice_of, HasAtMost, AreFew}
+use Rattle.phase_permits.specs.Slicing.{hot_objects, slices_in, slices_of, slice_of, HasAtMost, HaveAtMost}
 use Rattle.closing_laws.specs.Phases.{value_on}
 use Rattle.closing_laws.specs.Merging.{merged_with, with_slice, after_merge, slices_left, CanMerge}
 use Rattle.closing_laws.proofs.MergeLemmas.{value_merged}
@@ -123,20 +123,20 @@ in_turn hot (pair ∷ pairs) states some good room = (
 
 -- Of each worker an object has at most one slice.
 
-none_cold : (stocks : List (Object × Option (Facts × ℕ))) (rows : Book) (object : Object) → is_hot (objects_of stocks) object ≡ false → how_many object (slices_in (slices_of stocks rows)) ≡ 0
+none_cold : (stocks : List (Object × Option (Facts × ℕ))) (rows : Book) (object : Object) → is_hot (hot_objects stocks) object ≡ false → how_many object (slices_in (slices_of stocks rows)) ≡ 0
 none_cold [] rows object cold = refl
 none_cold (stock ∷ stocks) rows object cold =
-    let parts = or_parts (same_object stock.0 object) (is_hot (objects_of stocks) object) cold in
+    let parts = or_parts (same_object stock.0 object) (is_hot (hot_objects stocks) object) cold in
     other_counts object (stock.0, slice_of stock.0 (value rows stock.0)) (slices_in (slices_of stocks rows)) parts.0 ∙ none_cold stocks rows object parts.1
 
-at_most_one : (stocks : List (Object × Option (Facts × ℕ))) (rows : Book) (object : Object) → IsDistinct same_object (objects_of stocks) → how_many object (slices_in (slices_of stocks rows)) ≤ 1
+at_most_one : (stocks : List (Object × Option (Facts × ℕ))) (rows : Book) (object : Object) → IsDistinct same_object (hot_objects stocks) → how_many object (slices_in (slices_of stocks rows)) ≤ 1
 unfolding IsDistinct
 at_most_one [] rows object distinct = omega arith
 at_most_one (stock ∷ stocks) rows object distinct = at (same_object stock.0 object) refl (at_most_one stocks rows object distinct.1) where
   at : (b : Bool) → same_object stock.0 object ≡ b → how_many object (slices_in (slices_of stocks rows)) ≤ 1 → how_many object (slices_in (slices_of (stock ∷ stocks) rows)) ≤ 1
   at true same rest =
       let others : how_many object (slices_in (slices_of stocks rows)) ≡ 0 = none_cold stocks rows object
-      (subst (λ (o : Object). is_hot (objects_of stocks) o ≡ false) (same_object-true stock.0 object same) (apart_of stock.0 (objects_of stocks) distinct.0)) in
+      (subst (λ (o : Object). is_hot (hot_objects stocks) o ≡ false) (same_object-true stock.0 object same) (apart_of stock.0 (hot_objects stocks) distinct.0)) in
       omega (arith, others, one_counts object (stock.0, slice_of stock.0 (value rows stock.0)) (slices_in (slices_of stocks rows)) same)
   at false same rest = omega (arith, rest, other_counts object (stock.0, slice_of stock.0 (value rows stock.0)) (slices_in (slices_of stocks rows)) same)
 
@@ -145,20 +145,20 @@ kind_of (Item id) v = tt
 kind_of (User user) v = tt
 kind_of (Category category) v = tt
 
-good_from : (hot : List Object) (stocks : List (Object × Option (Facts × ℕ))) (rows : Book) → ((object : Object) → is_hot (objects_of stocks) object ≡ true → is_hot hot object ≡ true)
-    → AreFew 1000000 (slices_of stocks rows) → AllByRecursion (IsGood hot) (slices_in (slices_of stocks rows))
+good_from : (hot : List Object) (stocks : List (Object × Option (Facts × ℕ))) (rows : Book) → ((object : Object) → is_hot (hot_objects stocks) object ≡ true → is_hot hot object ≡ true)
+    → HaveAtMost 1000000 (slices_of stocks rows) → AllByRecursion (IsGood hot) (slices_in (slices_of stocks rows))
 good_from hot [] rows among few = tt
 good_from hot (stock ∷ stocks) rows among few = (
   record {
-    is_hot = among stock.0 (or_left (same_object stock.0 stock.0) (is_hot (objects_of stocks) stock.0) (same_object-own stock.0));
+    is_hot = among stock.0 (or_left (same_object stock.0 stock.0) (is_hot (hot_objects stocks) stock.0) (same_object-own stock.0));
     kind = kind_of stock.0 (value rows stock.0);
     few = few.0;
   },
-  good_from hot stocks rows (λ object is. among object (or_right (same_object stock.0 object) (is_hot (objects_of stocks) object) is)) few.1,
+  good_from hot stocks rows (λ object is. among object (or_right (same_object stock.0 object) (is_hot (hot_objects stocks) object) is)) few.1,
 )
 
 module _ (stocks : List (Object × Option (Facts × ℕ))) (rows_by : WorkerState → Book) where
-  pub all_once : (receipts : List WorkerState) → AllByRecursion (λ receipt. receipt.slices ≡ slices_of stocks (rows_by receipt)) receipts → IsDistinct same_object (objects_of stocks)
+  pub all_once : (receipts : List WorkerState) → AllByRecursion (λ receipt. receipt.slices ≡ slices_of stocks (rows_by receipt)) receipts → IsDistinct same_object (hot_objects stocks)
       → (object : Object) → how_many object (slices_left receipts) ≤ length receipts
   all_once [] sliced distinct object = omega arith
   all_once (receipt ∷ receipts) sliced distinct object =
@@ -171,12 +171,12 @@ module _ (stocks : List (Object × Option (Facts × ℕ))) (rows_by : WorkerStat
       )
 
   pub all_good : (receipts : List WorkerState) → AllByRecursion (λ receipt. receipt.slices ≡ slices_of stocks (rows_by receipt)) receipts
-      → AllByRecursion (λ receipt. AreFew 1000000 receipt.slices) receipts → AllByRecursion (IsGood (objects_of stocks)) (slices_left receipts)
+      → AllByRecursion (λ receipt. HaveAtMost 1000000 receipt.slices) receipts → AllByRecursion (IsGood (hot_objects stocks)) (slices_left receipts)
   all_good [] sliced few = tt
   all_good (receipt ∷ receipts) sliced few =
-      all-append (IsGood (objects_of stocks)) (slices_in receipt.slices) (slices_left receipts)
-      (subst (λ slices. AllByRecursion (IsGood (objects_of stocks)) (slices_in slices)) (sym sliced.0)
-      (good_from (objects_of stocks) stocks (rows_by receipt) (λ object is. is) (subst (AreFew 1000000) sliced.0 few.0)))
+      all-append (IsGood (hot_objects stocks)) (slices_in receipt.slices) (slices_left receipts)
+      (subst (λ slices. AllByRecursion (IsGood (hot_objects stocks)) (slices_in slices)) (sym sliced.0)
+      (good_from (hot_objects stocks) stocks (rows_by receipt) (λ object is. is) (subst (HaveAtMost 1000000) sliced.0 few.0)))
       (all_good receipts sliced.1 few.1)
 
 -- In any order each slice can be merged in its turn.

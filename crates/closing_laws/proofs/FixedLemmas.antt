@@ -20,7 +20,7 @@ use Rattle.item_shards.specs.Values.{Value, value, stock_in}
 use Rattle.item_shards.specs.Contents.{Contents, with_facts, bid_on, bought_of, after_acts}
 use Rattle.item_shards.specs.Writing.{writes_of}
 use Rattle.item_shards.proofs.RowLemmas.{value_next}
-use Rattle.phase_permits.specs.Txns.{Setting, hot_in, is_put_off}
+use Rattle.phase_permits.specs.Txns.{Setting, hot_of, is_put_off}
 use Rattle.phase_permits.specs.Slicing.{stock_of}
 use Rattle.phase_permits.proofs.HomeLemmas.{no_other}
 use Rattle.phase_permits.specs.Replying.{HasFixed}
@@ -98,18 +98,18 @@ no_purchase hot item is worker request given goes = tt
 
 -- the hot items have in a book these facts, and so many are bought
 abbrev pub HasItems : Setting → (ItemId → Option Facts × ℕ) → Book → Type 0
-HasItems z items book = (item : ItemId) → is_hot (hot_in z) (Item item) ≡ true → (facts_of book item ≡ (items item).0) × (bought book item ≡ (items item).1)
+HasItems z items book = (item : ItemId) → is_hot (hot_of z) (Item item) ≡ true → (facts_of book item ≡ (items item).0) × (bought book item ≡ (items item).1)
 
 -- so what is fixed of hot items stays
-pub fixed_next : (z : Setting) → ((item : ItemId) → is_hot (hot_in z) (Item item) ≡ true → IsSome (stock_of z.stocks (Item item)))
-    → (items : ItemId → Option Facts × ℕ) (book : Book) (worker : ℕ) (request : Request) (given : Reply) → is_put_off (hot_in z) request ≡ false
+pub fixed_next : (z : Setting) → ((item : ItemId) → is_hot (hot_of z) (Item item) ≡ true → IsSome (stock_of z.stocks (Item item)))
+    → (items : ItemId → Option Facts × ℕ) (book : Book) (worker : ℕ) (request : Request) (given : Reply) → is_put_off (hot_of z) request ≡ false
     → HasFixed z book × HasItems z items book
     → HasFixed z (book ++ option_to_list (row_of worker request given)) × HasItems z items (book ++ option_to_list (row_of worker request given))
 fixed_next z stocked items book worker request given goes has =
-    let kept : (item : ItemId) → is_hot (hot_in z) (Item item) ≡ true → HasKept (value book (Item item)) (value (book ++ option_to_list (row_of worker request given)) (Item item)) =
+    let kept : (item : ItemId) → is_hot (hot_of z) (Item item) ≡ true → HasKept (value book (Item item)) (value (book ++ option_to_list (row_of worker request given)) (Item item)) =
     λ item hot. kept_next book item (row_of worker request given)
     (stored_in book item (subst (λ (o : Option (Facts × ℕ)). IsSome o) (sym (has.0 item hot)) (stocked item hot)))
-    (no_purchase (hot_in z) item hot worker request given goes) in (
+    (no_purchase (hot_of z) item hot worker request given goes) in (
       λ item hot. (λ i. stock_with ((kept item hot).0 i) ((kept item hot).1 i)) ∙ has.0 item hot,
       λ item hot. ((kept item hot).0 ∙ (has.1 item hot).0, (kept item hot).1 ∙ (has.1 item hot).1),
     )

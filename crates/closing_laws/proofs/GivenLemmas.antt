@@ -14,9 +14,9 @@ use Rattle.item_shards.specs.Contents.{Contents, changed, target, after_act, aft
 use Rattle.item_shards.specs.Values.{Value}
 use Rattle.item_shards.specs.Writing.{acts_of, is_cold_in, is_done_on}
 use Rattle.item_shards.proofs.EntryLemmas.{padded_leaves, few_done}
-use Rattle.shard_boxes.specs.Lines.{acts_in, after, after_line}
+use Rattle.shard_boxes.specs.Lines.{acts_in, after_lines, after_line}
 use Rattle.shard_boxes.specs.States.{ShardState, state_at}
-use Rattle.phase_permits.specs.Txns.{Setting, Txn, hot_in, takes, line_on}
+use Rattle.phase_permits.specs.Txns.{Setting, Txn, hot_of, takes, line_on}
 use Rattle.closing_laws.specs.Phases.{Phase, HasClosed, value_on}
 use Rattle.closing_laws.specs.Histories.{worker_line}
 use Rattle.closing_laws.proofs.ListLemmas.{all_txns, box, list_is}
@@ -46,38 +46,38 @@ module _ (here : Object → Bool) (object : Object) (away : here object ≡ fals
     at false is rest = rest contents
 
 -- so a hot object has on a shard what it had, after any transactions
-pub hot_alone : (z : Setting) (s : ℕ) (object : Object) → is_hot (hot_in z) object ≡ true → (txns : List Txn) (contents : Contents)
+pub hot_alone : (z : Setting) (s : ℕ) (object : Object) → is_hot (hot_of z) object ≡ true → (txns : List Txn) (contents : Contents)
     → fold (λ t txn. after_acts t (acts_in (line_on z s txn).acts)) contents txns object ≡ contents object
 hot_alone z s object hot [] contents = refl
 hot_alone z s object hot (txn ∷ txns) contents =
     let all = acts_of z.opening txn.1.stock txn.0 in
     hot_alone z s object hot txns (after_acts contents (acts_in (line_on z s txn).acts))
-    ∙ ap (λ (t : Contents). t object) (padded_leaves contents (filter (is_done_on s z.shards (hot_in z)) all) (few_done s z.shards (hot_in z) z.opening txn.1.stock txn.0))
-    ∙ acts_alone (is_cold_in s z.shards (hot_in z)) object (ap (λ b. not b && (shard_of object z.shards == s)) hot) all contents
+    ∙ ap (λ (t : Contents). t object) (padded_leaves contents (filter (is_done_on s z.shards (hot_of z)) all) (few_done s z.shards (hot_of z) z.opening txn.1.stock txn.0))
+    ∙ acts_alone (is_cold_in s z.shards (hot_of z)) object (ap (λ b. not b && (shard_of object z.shards == s)) hot) all contents
 
 -- of a shard after the lines of transactions, its contents
 abbrev pub after_txns : Setting → ℕ → Contents → List Txn → Contents
 after_txns z s contents txns = fold (λ t txn. after_acts t (acts_in (line_on z s txn).acts)) contents txns
 
-contents_after : (z : Setting) (s : ℕ) (state : ShardState) (txns : List Txn) → (after state (map (worker_line z s) txns)).contents ≡ after_txns z s state.contents txns
+contents_after : (z : Setting) (s : ℕ) (state : ShardState) (txns : List Txn) → (after_lines state (map (worker_line z s) txns)).contents ≡ after_txns z s state.contents txns
 contents_after z s state [] = refl
 contents_after z s state (txn ∷ txns) = contents_after z s (after_line state (line_on z s txn)) txns
 
 module _ (p : Phase) (closed : HasClosed p) where
-  pub given_is : (s : ℕ) → s < length p.opening
-      → (state_at p.given s).contents ≡ after_txns p.setting s (state_at p.opening s).contents (filter (takes p.setting s) (all_txns p closed))
+  pub given_is : (s : ℕ) → s < length p.initial
+      → (state_at p.given s).contents ≡ after_txns p.setting s (state_at p.initial s).contents (filter (takes p.setting s) (all_txns p closed))
   given_is s known =
       ap (λ (state : ShardState). state.contents) (box p closed s known).history.state_is
-      ∙ ap (λ lines. (after (state_at p.opening s) lines).contents) (list_is p closed s known)
-      ∙ contents_after p.setting s (state_at p.opening s) (filter (takes p.setting s) (all_txns p closed))
+      ∙ ap (λ lines. (after_lines (state_at p.initial s) lines).contents) (list_is p closed s known)
+      ∙ contents_after p.setting s (state_at p.initial s) (filter (takes p.setting s) (all_txns p closed))
 
-  pub is_known : (object : Object) → shard_of object (length p.opening) < length p.opening
+  pub is_known : (object : Object) → shard_of object (length p.initial) < length p.initial
   is_known object = mod-lt (object_number object) closed.begun.some
 
   -- so a hot object is given back as it was
-  pub given_alone : (object : Object) → is_hot (hot_in p.setting) object ≡ true → value_on p.given object ≡ value_on p.opening object
+  pub given_alone : (object : Object) → is_hot (hot_of p.setting) object ≡ true → value_on p.given object ≡ value_on p.initial object
   given_alone object hot =
-      let s = shard_of object (length p.opening) in
+      let s = shard_of object (length p.initial) in
       ap (λ n. (state_at p.given (shard_of object n)).contents object) closed.boxes.0
       ∙ ap (λ (contents : Contents). contents object) (given_is s (is_known object))
-      ∙ hot_alone p.setting s object hot (filter (takes p.setting s) (all_txns p closed)) (state_at p.opening s).contents
+      ∙ hot_alone p.setting s object hot (filter (takes p.setting s) (all_txns p closed)) (state_at p.initial s).contents

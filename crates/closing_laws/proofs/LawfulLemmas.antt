@@ -7,9 +7,9 @@ use Rattle.auction_rows.specs.Footprint.{is_hot}
 use Rattle.auction_rows.specs.Requests.{number_of as object_number, shard_of}
 use Rattle.item_shards.specs.Contents.{Contents}
 use Rattle.shard_boxes.specs.declared.line.Line.{Line}
-use Rattle.shard_boxes.specs.Lines.{IsHistory}
+use Rattle.shard_boxes.specs.Lines.{IsShardHistory}
 use Rattle.shard_boxes.specs.States.{ShardState, state_at}
-use Rattle.phase_permits.specs.Txns.{hot_in}
+use Rattle.phase_permits.specs.Txns.{hot_of}
 use Rattle.closing_laws.specs.Phases.{Phase, HasClosed, value_on}
 use Rattle.closing_laws.specs.Merging.{after_merge, slices_left, IsReconciled}
 use Rattle.closing_laws.specs.Lawful.{with_slices_by, AreSliced, AreHotMerged, AreOthersAsGiven, ClosesLawfully}
@@ -27,13 +27,13 @@ module _ (p : Phase) (closed : HasClosed p) where
   are_sliced w known = sliced p closed w known
 
   -- whatever shards are left, where hot and other objects have what they shall
-  lawful : (closing : List ShardState) → length closing ≡ length p.opening → AreHotMerged p closing → AreOthersAsGiven p closing → ClosesLawfully p closing
+  lawful : (closing : List ShardState) → length closing ≡ length p.initial → AreHotMerged p closing → AreOthersAsGiven p closing → ClosesLawfully p closing
   lawful closing left merged others = record {
     numbers = record { ascending = closed.merged.ascending; follows = follow_what_they_share p closed };
     parts = λ w. part_is p closed w;
     txns = all_txns p closed;
     entries = (lift p closed).entries_are;
-    lists = λ s known. subst (λ (lines : List (ℕ × Line)). IsHistory p.opening (length p.receipts) s lines (state_at p.given s)) (list_is p closed s known) (box p closed s known).history;
+    lists = λ s known. subst (λ (lines : List (ℕ × Line)). IsShardHistory p.initial (length p.receipts) s lines (state_at p.given s)) (list_is p closed s known) (box p closed s known).history;
     given = closed.boxes.0;
     left = left;
     slices = are_sliced;
@@ -42,7 +42,7 @@ module _ (p : Phase) (closed : HasClosed p) where
   }
 
   -- where nothing is hot there is nothing to merge
-  pub joined_lawful : hot_in p.setting ≡ [] → ClosesLawfully p p.given
+  pub joined_lawful : hot_of p.setting ≡ [] → ClosesLawfully p p.given
   joined_lawful none = lawful p.given closed.boxes.0 (λ object hot. absurd (false≢true (ap (λ objects. is_hot objects object) (sym none) ∙ hot))) (λ object cold. refl)
 
   module _ (closing : List ShardState) (reconciled : IsReconciled p closing) where

@@ -15,7 +15,7 @@ use Rattle.shard_boxes.specs.declared.line.Line.{Line}
 use Rattle.shard_boxes.specs.Closed.{IsClosedBox}
 use Rattle.shard_boxes.specs.Lines.{lines_of}
 use Rattle.shard_boxes.specs.States.{state_at}
-use Rattle.phase_permits.specs.Txns.{Setting, Txn, hot_in, entry_of, number_of, clock_found, greatest_clock, takes, line_on, lines_owed}
+use Rattle.phase_permits.specs.Txns.{Setting, Txn, hot_of, entry_of, txn_number, clock_found, greatest_clock, takes, line_on, lines_owed}
 use Rattle.closing_laws.specs.Phases.{Phase, HasClosed, key_of}
 use Rattle.closing_laws.specs.Histories.{worker_line, HoldTheEntries, FollowWhatTheyShare}
 use Rattle.closing_laws.proofs.ReceiptLemmas.{txns_by, no_txns, own, numbered, entries_are, lines_are}
@@ -34,7 +34,7 @@ taken_known shards some s (object ∷ objects) is =
     (taken_known shards some s objects) is
 
 pub takes_known : (z : Setting) → 0 < z.shards → (s : ℕ) (txn : Txn) → takes z s txn ≡ true → s < z.shards
-takes_known z some s txn is = taken_known z.shards some s (objects_taken z.opening (hot_in z) txn.0) is
+takes_known z some s txn is = taken_known z.shards some s (objects_taken z.opening (hot_of z) txn.0) is
 
 none_taken : (z : Setting) → 0 < z.shards → (s : ℕ) → z.shards ≤ s → (txns : List Txn) → filter (takes z s) txns ≡ []
 none_taken z some s past [] = refl
@@ -95,12 +95,12 @@ module _ (p : Phase) (closed : HasClosed p) where
   abbrev pub all_txns : List Txn
   all_txns = lift.all
 
-  pub ascending : IsAscending number_of (λ txn. (entry_of txn).worker) all_txns
+  pub ascending : IsAscending txn_number (λ txn. (entry_of txn).worker) all_txns
   ascending = ordered_from_map entry_of (Precedes entry_number entry_worker) all_txns
       (subst (IsAscending entry_number entry_worker) (sym lift.entries_are) closed.merged.ascending)
 
-  module _ (s : ℕ) (known : s < length p.opening) where
-    abbrev pub box : IsClosedBox p.opening (length p.receipts) (map key_of p.receipts) s (state_at p.given s)
+  module _ (s : ℕ) (known : s < length p.initial) where
+    abbrev pub box : IsClosedBox p.initial (length p.receipts) (map key_of p.receipts) s (state_at p.given s)
     box = closed.boxes.1 s known
 
     -- the list's part of each worker is the lines of its transactions
@@ -116,30 +116,30 @@ module _ (p : Phase) (closed : HasClosed p) where
 
     pub list_is : box.lines ≡ map (worker_line z s) (filter (takes z s) all_txns)
     list_is = lines_in_order (λ txn. (entry_of txn).worker) (λ entry. entry.0) (worker_line z s) (λ txn. refl) (takes z s)
-        number_of (λ entry. entry.1.number) (λ txn. refl) all_txns box.lines ascending box.history.ascending list_part
+        txn_number (λ entry. entry.1.number) (λ txn. refl) all_txns box.lines ascending box.history.ascending list_part
 
-    list_linked : IsLinkedFrom number_of (clock_found s) 0 (filter (takes z s) all_txns)
+    list_linked : IsLinkedFrom txn_number (clock_found s) 0 (filter (takes z s) all_txns)
     list_linked = linked_from_map (worker_line z s) (λ entry. entry.1.number) (λ entry. entry.1.before) 0 (filter (takes z s) all_txns)
         (subst (IsLinkedFrom (λ (entry : ℕ × Line). entry.1.number) (λ (entry : ℕ × Line). entry.1.before) 0) list_is box.history.linked)
 
   -- where there is no shard, no transaction takes it
-  pub nowhere : (s : ℕ) → length p.opening ≤ s → filter (takes z s) all_txns ≡ []
+  pub nowhere : (s : ℕ) → length p.initial ≤ s → filter (takes z s) all_txns ≡ []
   nowhere s past = none_taken z some s (subst (λ n. n ≤ s) (sym closed.begun.shards) past) all_txns
 
-  linked : (s : ℕ) → IsLinkedFrom number_of (clock_found s) 0 (filter (takes z s) all_txns)
-  linked s = at (cases_lt s (length p.opening)) where
-    at : (s < length p.opening) ⊎ (length p.opening ≤ s) → IsLinkedFrom number_of (clock_found s) 0 (filter (takes z s) all_txns)
+  linked : (s : ℕ) → IsLinkedFrom txn_number (clock_found s) 0 (filter (takes z s) all_txns)
+  linked s = at (cases_lt s (length p.initial)) where
+    at : (s < length p.initial) ⊎ (length p.initial ≤ s) → IsLinkedFrom txn_number (clock_found s) 0 (filter (takes z s) all_txns)
     at (inl known) = list_linked s known
-    at (inr past) = subst (IsLinkedFrom number_of (clock_found s) 0) (sym (nowhere s past)) tt
+    at (inr past) = subst (IsLinkedFrom txn_number (clock_found s) 0) (sym (nowhere s past)) tt
 
   pub hold_the_entries : HoldTheEntries p closed
   hold_the_entries = record { txns = all_txns; entries = lift.entries_are; parts = lift.parts; lists = λ s known. list_is s known }
 
-  pub follow_what_they_share : FollowWhatTheyShare z.opening z.shards (hot_in z) p.entries
+  pub follow_what_they_share : FollowWhatTheyShare z.opening z.shards (hot_of z) p.entries
   follow_what_they_share =
-      subst (FollowWhatTheyShare z.opening z.shards (hot_in z)) lift.entries_are
-      (follows_map entry_of entry_number (shares entry_worker (footprint z.opening z.shards (hot_in z)) (λ shard entry. takes_shard z.opening z.shards (hot_in z) entry shard)) all_txns
-      (follows number_of (λ txn. (entry_of txn).worker) (λ txn. footprint z.opening z.shards (hot_in z) (entry_of txn)) (takes z) clock_found all_txns ascending
-      (λ w. subst (IsNumberedFrom number_of (greatest_clock z) 0) (sym (lift.parts w)) (numbered p closed w))
+      subst (FollowWhatTheyShare z.opening z.shards (hot_of z)) lift.entries_are
+      (follows_map entry_of entry_number (shares entry_worker (footprint z.opening z.shards (hot_of z)) (λ shard entry. takes_shard z.opening z.shards (hot_of z) entry shard)) all_txns
+      (follows txn_number (λ txn. (entry_of txn).worker) (λ txn. footprint z.opening z.shards (hot_of z) (entry_of txn)) (takes z) clock_found all_txns ascending
+      (λ w. subst (IsNumberedFrom txn_number (greatest_clock z) 0) (sym (lift.parts w)) (numbered p closed w))
       linked
-      (λ txn. each_taken (footprint z.opening z.shards (hot_in z) (entry_of txn)))))
+      (λ txn. each_taken (footprint z.opening z.shards (hot_of z) (entry_of txn)))))

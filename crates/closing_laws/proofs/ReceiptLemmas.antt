@@ -10,7 +10,7 @@ use Rattle.auction_rows.specs.History.{rows_of}
 use Rattle.worker_journals.specs.Merged.{entries_of}
 use Rattle.shard_boxes.specs.Keys.{key_at, lines_at}
 use Rattle.phase_permits.specs.declared.worker.Counters.{Counters}
-use Rattle.phase_permits.specs.Txns.{Setting, Txn, entry_of, number_of, greatest_clock, lines_owed, IsAnswered, after_txn}
+use Rattle.phase_permits.specs.Txns.{Setting, Txn, entry_of, txn_number, greatest_clock, lines_owed, IsAnswered, after_txn}
 use Rattle.phase_permits.specs.Workers.{WorkerState, work_of}
 use Rattle.phase_permits.specs.Slicing.{slices_of}
 use Rattle.phase_permits.specs.Works.{IsWorkOf}
@@ -64,9 +64,9 @@ module _ (p : Phase) (closed : HasClosed p) where
   pub own : (w : ℕ) → AllByRecursion (λ txn. (entry_of txn).worker ≡ w) (txns_by w)
   own = each_worker (λ w txns. AllByRecursion (λ txn. (entry_of txn).worker ≡ w) txns) (λ w. tt) (λ w known. (work w known).own)
 
-  pub numbered : (w : ℕ) → IsNumberedFrom number_of (greatest_clock p.setting) 0 (txns_by w)
-  numbered = each_worker (λ w txns. IsNumberedFrom number_of (greatest_clock p.setting) 0 txns) (λ w. tt)
-      (λ w known. subst (λ n. IsNumberedFrom number_of (greatest_clock p.setting) n (txns_by w)) (ap (λ (b : Counters × ℕ). b.1) (closed.receipts w known).begun) (work w known).numbered)
+  pub numbered : (w : ℕ) → IsNumberedFrom txn_number (greatest_clock p.setting) 0 (txns_by w)
+  numbered = each_worker (λ w txns. IsNumberedFrom txn_number (greatest_clock p.setting) 0 txns) (λ w. tt)
+      (λ w known. subst (λ n. IsNumberedFrom txn_number (greatest_clock p.setting) n (txns_by w)) (ap (λ (b : Counters × ℕ). b.1) (closed.receipts w known).begun) (work w known).numbered)
 
   pub answered : (w : ℕ) → w < workers → SawInTurn (IsAnswered p.setting) after_txn (counters_at p.counters w) (txns_by w)
   answered w known = subst (λ (c : Counters). SawInTurn (IsAnswered p.setting) after_txn c (txns_by w)) (ap (λ (b : Counters × ℕ). b.0) (closed.receipts w known).begun) (work w known).answered

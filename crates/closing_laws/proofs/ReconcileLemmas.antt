@@ -21,7 +21,7 @@ use Rattle.item_shards.specs.Standing.{ContentsStandsFor}
 use Rattle.item_shards.specs.Values.{Value, blank, value}
 use Rattle.worker_journals.specs.Journals.{entry_worker}
 use Rattle.shard_boxes.specs.States.{ShardState, state_at}
-use Rattle.phase_permits.specs.Txns.{Setting, hot_in}
+use Rattle.phase_permits.specs.Txns.{Setting, hot_of}
 use Rattle.phase_permits.specs.Workers.{WorkerState}
 use Rattle.phase_permits.specs.Slicing.{slices_of, slice_of}
 use Rattle.closing_laws.specs.Phases.{Phase, HasClosed, value_on, counters_of, journal_of, no_receipt}
@@ -82,18 +82,18 @@ module _ (p : Phase) (closed : HasClosed p) where
   by_parts f = sym (map-up_from (λ w. f (rows_of (part entry_worker w p.entries))) (λ receipt. f (rows_by receipt)) no_receipt 0 p.receipts
       (λ i less. ap (λ w. f (rows_of (part entry_worker w p.entries))) {x = 0 + i} {y = i} (omega arith) ∙ ap (λ entries. f (rows_of entries)) (part_is p closed i)))
 
-  module _ (book : Book) (opens : StandFor p.opening p.counters book []) where
+  module _ (book : Book) (opens : StandFor p.initial p.counters book []) where
     abbrev after : Book
     after = book ++ rows_of p.entries
 
     left_is : end p closed book opens ≡ after
     left_is = end_is p closed book opens ∙ book_after-replays z.opening book p.entries (entries_replay p closed book opens)
 
-    kept : (item : ItemId) → is_hot (hot_in z) (Item item) ≡ true → (facts_of after item ≡ facts_of book item) × (bought after item ≡ bought book item)
+    kept : (item : ItemId) → is_hot (hot_of z) (Item item) ≡ true → (facts_of after item ≡ facts_of book item) × (bought after item ≡ bought book item)
     kept item hot = subst (λ b. (facts_of b item ≡ facts_of book item) × (bought b item ≡ bought book item)) left_is (items_kept p closed book opens item hot)
 
     -- a hot object's value merged with the slices is its value in the end
-    hot_value : (object : Object) → is_hot (hot_in z) object ≡ true
+    hot_value : (object : Object) → is_hot (hot_of z) object ≡ true
         → fold (λ u receipt. merged_with (slice_of object (value (rows_by receipt) object)) u) (value book object) p.receipts ≡ value after object
     hot_value (Item id) hot =
         let bids = ap (fold with_bids (value book (Item id)).bids) (by_parts (λ rows. (value rows (Item id)).bids))
@@ -113,16 +113,16 @@ module _ (p : Phase) (closed : HasClosed p) where
     some = subst (λ n. 0 < n) (sym closed.boxes.0) closed.begun.some
 
     -- what the boxes gave back of a hot object is what the phase began with, and of another one what it has in the end
-    given_hot : (object : Object) → is_hot (hot_in z) object ≡ true → value_on p.given object ≡ value book object
+    given_hot : (object : Object) → is_hot (hot_of z) object ≡ true → value_on p.given object ≡ value book object
     given_hot object hot = given_alone p closed object hot ∙ opening_value p closed book opens object
 
-    given_cold : (object : Object) → is_hot (hot_in z) object ≡ false → value_on p.given object ≡ value after object
+    given_cold : (object : Object) → is_hot (hot_of z) object ≡ false → value_on p.given object ≡ value after object
     given_cold object cold =
         ap (λ n. (state_at p.given (shard_of object n)).contents object) closed.boxes.0
-        ∙ given_stands p closed book opens (shard_of object (length p.opening)) (is_known p closed object) object refl cold
+        ∙ given_stands p closed book opens (shard_of object (length p.initial)) (is_known p closed object) object refl cold
         ∙ ap (λ b. value b object) left_is
 
-    all_merged : (object : Object) (b : Bool) → is_hot (hot_in z) object ≡ b → fold (merge_at object) (value_on p.given object) (slices_left p.receipts) ≡ value after object
+    all_merged : (object : Object) (b : Bool) → is_hot (hot_of z) object ≡ b → fold (merge_at object) (value_on p.given object) (slices_left p.receipts) ≡ value after object
     all_merged object true hot =
         all_hot z.stocks rows_by object p.receipts all_sliced closed.begun.distinct hot (value_on p.given object)
         ∙ ap (λ v. fold (λ u receipt. merged_with (slice_of object (value (rows_by receipt) object)) u) v p.receipts) (given_hot object hot)
@@ -134,7 +134,7 @@ module _ (p : Phase) (closed : HasClosed p) where
       merged_value object =
           value_after_all reconciled.order p.given object some
           ∙ fold_permuted (merge_at object) (merge_at-commutes object) (slices_left p.receipts) reconciled.order reconciled.each (value_on p.given object)
-          ∙ all_merged object (is_hot (hot_in z) object) refl
+          ∙ all_merged object (is_hot (hot_of z) object) refl
 
       closing_stands : (s : ℕ) → s < length closing → ContentsStandsFor s (length closing) (state_at closing s).contents after []
       closing_stands s known object here cold =
@@ -150,5 +150,5 @@ module _ (p : Phase) (closed : HasClosed p) where
       }
 
     -- where nothing is hot there is nothing to merge
-    pub joined_stand : hot_in z ≡ [] → StandFor p.given (map counters_of p.receipts) (book_after z.opening book p.entries) []
+    pub joined_stand : hot_of z ≡ [] → StandFor p.given (map counters_of p.receipts) (book_after z.opening book p.entries) []
     joined_stand none = subst (StandFor p.given (map counters_of p.receipts) (book_after z.opening book p.entries)) none (replays_and_stands p closed book opens).stand

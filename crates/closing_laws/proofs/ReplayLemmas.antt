@@ -20,7 +20,7 @@ use Rattle.shard_boxes.specs.declared.line.Line.{Line}
 use Rattle.shard_boxes.specs.Lines.{acts_in, AreTrueOf, after_line}
 use Rattle.shard_boxes.specs.States.{ShardState, state_at}
 use Rattle.phase_permits.specs.declared.worker.Counters.{Counters}
-use Rattle.phase_permits.specs.Txns.{Setting, Txn, hot_in, entry_of, takes, line_on, IsAnswered, after_txn}
+use Rattle.phase_permits.specs.Txns.{Setting, Txn, hot_of, entry_of, takes, line_on, IsAnswered, after_txn}
 use Rattle.phase_permits.specs.Replying.{CountsOf}
 use Rattle.closing_laws.specs.Phases.{Phase, HasClosed, counters_of, value_on}
 use Rattle.closing_laws.specs.Standing.{ShardsStandFor, StandFor, counters_at}
@@ -49,15 +49,15 @@ stays s (txn ∷ txns) = stays s txns
 abbrev counters_in : Book → ℕ → Counters
 counters_in book w = record { items = items_stored book w; bids = bids_stored book w; comments = comments_stored book w; buys = buys_stored book w; commits = 0 }
 
-module _ (p : Phase) (closed : HasClosed p) (book : Book) (opens : StandFor p.opening p.counters book []) where
+module _ (p : Phase) (closed : HasClosed p) (book : Book) (opens : StandFor p.initial p.counters book []) where
   abbrev z : Setting
   z = p.setting
 
-  shards_are : z.shards ≡ length p.opening
+  shards_are : z.shards ≡ length p.initial
   shards_are = closed.begun.shards
 
-  pub opening_value : (object : Object) → value_on p.opening object ≡ value book object
-  opening_value object = opens.shards (shard_of object (length p.opening)) (is_known p closed object) object refl refl
+  pub opening_value : (object : Object) → value_on p.initial object ≡ value book object
+  opening_value object = opens.shards (shard_of object (length p.initial)) (is_known p closed object) object refl refl
 
   -- what the places hold as the phase begins: a worker that is none of the phase's has what the book says
   abbrev counters_then : (w : ℕ) → (w < length p.receipts) ⊎ (length p.receipts ≤ w) → Counters
@@ -65,7 +65,7 @@ module _ (p : Phase) (closed : HasClosed p) (book : Book) (opens : StandFor p.op
   counters_then w (inr past) = counters_in book w
 
   abbrev opening_at : (q : Place) → State q
-  opening_at (shard s) = (state_at p.opening s).contents
+  opening_at (shard s) = (state_at p.initial s).contents
   opening_at (worker w) = counters_then w (cases_lt w (length p.receipts))
   opening_at fixed = λ item. (facts_of book item, bought book item)
 
@@ -75,23 +75,23 @@ module _ (p : Phase) (closed : HasClosed p) (book : Book) (opens : StandFor p.op
 
   opening_stands : (q : Place) → Stands_at z q (opening_at q) book
   opening_stands (shard s) = λ object here cold.
-      subst (λ (t : ℕ). (state_at p.opening t).contents object ≡ value book object) (ap (shard_of object) (sym shards_are) ∙ here) (opening_value object)
+      subst (λ (t : ℕ). (state_at p.initial t).contents object ≡ value book object) (ap (shard_of object) (sym shards_are) ∙ here) (opening_value object)
   opening_stands (worker w) = counts_then w (cases_lt w (length p.receipts))
   opening_stands fixed = (
-    λ item hot. sym (stock_is book item) ∙ ap stock (sym (opening_value (Item item))) ∙ sym (read_of p.opening z.stocks closed.begun.read item hot),
+    λ item hot. sym (stock_is book item) ∙ ap stock (sym (opening_value (Item item))) ∙ sym (read_of p.initial z.stocks closed.begun.read item hot),
     λ item hot. (refl, refl),
   )
 
   -- what the transactions saw of each place, in turn
-  saw_shard : (s : ℕ) → (s < length p.opening) ⊎ (length p.opening ≤ s)
-      → SawInTurn (Saw_at z (shard s)) (step_at z (shard s)) (state_at p.opening s).contents (filter (takes z s) (all_txns p closed))
+  saw_shard : (s : ℕ) → (s < length p.initial) ⊎ (length p.initial ≤ s)
+      → SawInTurn (Saw_at z (shard s)) (step_at z (shard s)) (state_at p.initial s).contents (filter (takes z s) (all_txns p closed))
   saw_shard s (inl known) =
-      saw_contents z s (state_at p.opening s) (filter (takes z s) (all_txns p closed))
-      (saw_from_map (worker_line z s) (λ (found : ShardState) entry. AreTrueOf found.contents (acts_in entry.1.acts)) (λ found entry. after_line found entry.1) (state_at p.opening s) (filter (takes z s) (all_txns p closed))
-      (subst (SawInTurn (λ (found : ShardState) (entry : ℕ × Line). AreTrueOf found.contents (acts_in entry.1.acts)) (λ found entry. after_line found entry.1) (state_at p.opening s))
+      saw_contents z s (state_at p.initial s) (filter (takes z s) (all_txns p closed))
+      (saw_from_map (worker_line z s) (λ (found : ShardState) entry. AreTrueOf found.contents (acts_in entry.1.acts)) (λ found entry. after_line found entry.1) (state_at p.initial s) (filter (takes z s) (all_txns p closed))
+      (subst (SawInTurn (λ (found : ShardState) (entry : ℕ × Line). AreTrueOf found.contents (acts_in entry.1.acts)) (λ found entry. after_line found entry.1) (state_at p.initial s))
       (list_is p closed s known) (box p closed s known).history.looks))
   saw_shard s (inr past) =
-      subst (SawInTurn (Saw_at z (shard s)) (step_at z (shard s)) (state_at p.opening s).contents) (sym (nowhere p closed s past)) tt
+      subst (SawInTurn (Saw_at z (shard s)) (step_at z (shard s)) (state_at p.initial s).contents) (sym (nowhere p closed s past)) tt
 
   saw_worker : (w : ℕ) (case : (w < length p.receipts) ⊎ (length p.receipts ≤ w))
       → SawInTurn (IsAnswered z) after_txn (counters_then w case) (filter (takes_at z (worker w)) (all_txns p closed))
@@ -100,7 +100,7 @@ module _ (p : Phase) (closed : HasClosed p) (book : Book) (opens : StandFor p.op
       subst (SawInTurn (IsAnswered z) after_txn (counters_in book w)) (sym ((lift p closed).parts w ∙ no_txns p closed w past)) tt
 
   saw : (q : Place) → SawInTurn (Saw_at z q) (step_at z q) (opening_at q) (filter (takes_at z q) (all_txns p closed))
-  saw (shard s) = saw_shard s (cases_lt s (length p.opening))
+  saw (shard s) = saw_shard s (cases_lt s (length p.initial))
   saw (worker w) = saw_worker w (cases_lt w (length p.receipts))
   saw fixed = saw_nothing (λ items txn. items) (opening_at fixed) (filter (λ txn. true) (all_txns p closed))
 
@@ -122,10 +122,10 @@ module _ (p : Phase) (closed : HasClosed p) (book : Book) (opens : StandFor p.op
   pub items_kept : HasItems z (λ item. (facts_of book item, bought book item)) end
   items_kept = subst (λ (items : ItemId → Option Facts × ℕ). HasItems z items end) (stays (opening_at fixed) (filter (λ txn. true) (all_txns p closed))) (replay.1 fixed).1
 
-  pub given_stands : (s : ℕ) → s < length p.opening → ContentsStandsFor s (length p.opening) (state_at p.given s).contents end (hot_in z)
+  pub given_stands : (s : ℕ) → s < length p.initial → ContentsStandsFor s (length p.initial) (state_at p.given s).contents end (hot_of z)
   given_stands s known =
-      subst (λ n. ContentsStandsFor s n (state_at p.given s).contents end (hot_in z)) shards_are
-      (subst (λ (contents : Contents). ContentsStandsFor s z.shards contents end (hot_in z)) (sym (given_is p closed s known)) (replay.1 (shard s)))
+      subst (λ n. ContentsStandsFor s n (state_at p.given s).contents end (hot_of z)) shards_are
+      (subst (λ (contents : Contents). ContentsStandsFor s z.shards contents end (hot_of z)) (sym (given_is p closed s known)) (replay.1 (shard s)))
 
   -- the counters after the phase count the book in the end
   counted_then : (w : ℕ) → w < length p.receipts → (case : (w < length p.receipts) ⊎ (length p.receipts ≤ w))
@@ -142,8 +142,8 @@ module _ (p : Phase) (closed : HasClosed p) (book : Book) (opens : StandFor p.op
   replays_and_stands = record {
     replays = entries_replay;
     stand = record {
-      shards = subst (λ b. ShardsStandFor p.given b (hot_in z)) end_is
-          (λ s known. subst (λ n. ContentsStandsFor s n (state_at p.given s).contents end (hot_in z)) (sym closed.boxes.0) (given_stands s (subst (λ n. s < n) closed.boxes.0 known)));
+      shards = subst (λ b. ShardsStandFor p.given b (hot_of z)) end_is
+          (λ s known. subst (λ n. ContentsStandsFor s n (state_at p.given s).contents end (hot_of z)) (sym closed.boxes.0) (given_stands s (subst (λ n. s < n) closed.boxes.0 known)));
       counts = λ w known. subst (λ b. CountsOf b w (counters_at (map counters_of p.receipts) w)) end_is (counts_end w (subst (λ n. w < n) (length-map p.receipts counters_of) known));
     };
   }

@@ -12,9 +12,9 @@ use Rattle.auction_rows.specs.Footprint.{is_hot}
 use Rattle.auction_rows.specs.Requests.{shard_of}
 use Rattle.item_shards.specs.declared.shard.slices.Slice.{Slice}
 use Rattle.item_shards.specs.Values.{Value, stock}
-use Rattle.shard_boxes.specs.States.{state_at, IsOpened, AreOpened}
-use Rattle.phase_permits.specs.Txns.{hot_in}
-use Rattle.phase_permits.specs.Slicing.{AreFew}
+use Rattle.shard_boxes.specs.States.{state_at, IsInitial, AreInitial}
+use Rattle.phase_permits.specs.Txns.{hot_of}
+use Rattle.phase_permits.specs.Slicing.{HaveAtMost}
 use Rattle.closing_laws.specs.Phases.{Phase, HasClosed, value_on}
 use Rattle.closing_laws.specs.Merging.{after_merge, slices_left, CanMerge}
 use Rattle.closing_laws.proofs.FitLemmas.{HasRoomFor, how_many, all_once, all_good, all_in_turn}
@@ -28,16 +28,16 @@ stored_by v some = at v.facts some where
   at None some = some
   at (Some facts) some = refl
 
-module _ (p : Phase) (closed : HasClosed p) (opened : AreOpened p.opening) where
-  home_opened : (object : Object) → IsOpened (length p.opening) (shard_of object (length p.opening)) (state_at p.opening (shard_of object (length p.opening)))
-  home_opened object = opened (shard_of object (length p.opening)) (is_known p closed object)
+module _ (p : Phase) (closed : HasClosed p) (opened : AreInitial p.initial) where
+  home_opened : (object : Object) → IsInitial (length p.initial) (shard_of object (length p.initial)) (state_at p.initial (shard_of object (length p.initial)))
+  home_opened object = opened (shard_of object (length p.initial)) (is_known p closed object)
 
-  item_stored : (item : ItemId) → is_hot (hot_in p.setting) (Item item) ≡ true → IsSome (value_on p.opening (Item item)).facts
+  item_stored : (item : ItemId) → is_hot (hot_of p.setting) (Item item) ≡ true → IsSome (value_on p.initial (Item item)).facts
   item_stored item hot =
-      stored_by (value_on p.opening (Item item))
-      (subst (λ (o : Option (Facts × ℕ)). IsSome o) (read_of p.opening p.setting.stocks closed.begun.read item hot) (stocked_of p.setting.stocks closed.begun.stocked item hot))
+      stored_by (value_on p.initial (Item item))
+      (subst (λ (o : Option (Facts × ℕ)). IsSome o) (read_of p.initial p.setting.stocks closed.begun.read item hot) (stocked_of p.setting.stocks closed.begun.stocked item hot))
 
-  room_opened : (object : Object) (n : ℕ) → n ≤ 16 → is_hot (hot_in p.setting) object ≡ true → HasRoomFor object (value_on p.opening object) n
+  room_opened : (object : Object) (n : ℕ) → n ≤ 16 → is_hot (hot_of p.setting) object ≡ true → HasRoomFor object (value_on p.initial object) n
   room_opened (Item item) n few hot = (item_stored item hot, omega (arith, few, (home_opened (Item item)).within.bids item, (home_opened (Item item)).clock_is))
   room_opened (User user) n few hot = (
     omega (arith, few, (home_opened (User user)).within.comments user, (home_opened (User user)).clock_is),
@@ -45,10 +45,10 @@ module _ (p : Phase) (closed : HasClosed p) (opened : AreOpened p.opening) where
   )
   room_opened (Category category) n few hot = tt
 
-  pub merges_can_be_done : length p.receipts ≤ 16 → AllByRecursion (λ receipt. AreFew 1000000 receipt.slices) p.receipts
+  pub merges_can_be_done : length p.receipts ≤ 16 → AllByRecursion (λ receipt. HaveAtMost 1000000 receipt.slices) p.receipts
       → (order : List (Object × Slice)) → IsPermutation (slices_left p.receipts) order → SawInTurn CanMerge after_merge p.given order
   merges_can_be_done workers few order moved =
-      all_in_turn (hot_in p.setting) (slices_left p.receipts) order p.given (subst (λ n. 0 < n) (sym closed.boxes.0) closed.begun.some) moved
+      all_in_turn (hot_of p.setting) (slices_left p.receipts) order p.given (subst (λ n. 0 < n) (sym closed.boxes.0) closed.begun.some) moved
       (all_good p.setting.stocks rows_by p.receipts (all_sliced p closed) few)
       (λ object hot. subst (λ (v : Value). HasRoomFor object v (how_many object (slices_left p.receipts))) (sym (given_alone p closed object hot))
       (room_opened object (how_many object (slices_left p.receipts))

@@ -18,7 +18,7 @@ use Rattle.item_shards.specs.declared.shard.slices.CategorySlice.{CategorySlice}
 use Rattle.item_shards.specs.SliceLaws.{item_laws, user_laws, category_laws}
 use Rattle.item_shards.specs.Values.{Value, value}
 use Rattle.phase_permits.specs.Workers.{WorkerState}
-use Rattle.phase_permits.specs.Slicing.{objects_of, slices_in, slices_of, slice_of}
+use Rattle.phase_permits.specs.Slicing.{hot_objects, slices_in, slices_of, slice_of}
 use Rattle.closing_laws.specs.Merging.{merged_with, slices_left}
 
 -- a slice that is an object's is merged into its value
@@ -57,11 +57,11 @@ first_if : (b : Bool) (v : Value) (x : Slice) → b ≡ false → cond b (merged
 first_if true v x is = absurd (false≢true (sym is))
 first_if false v x is = refl
 
-pub cold_slices : (stocks : List (Object × Option (Facts × ℕ))) (rows : Book) (object : Object) (v : Value) → is_hot (objects_of stocks) object ≡ false
+pub cold_slices : (stocks : List (Object × Option (Facts × ℕ))) (rows : Book) (object : Object) (v : Value) → is_hot (hot_objects stocks) object ≡ false
     → fold (merge_at object) v (slices_in (slices_of stocks rows)) ≡ v
 cold_slices [] rows object v cold = refl
 cold_slices (stock ∷ stocks) rows object v cold =
-    let parts = or_parts (same_object stock.0 object) (is_hot (objects_of stocks) object) cold in
+    let parts = or_parts (same_object stock.0 object) (is_hot (hot_objects stocks) object) cold in
     ap (λ u. fold (merge_at object) u (slices_in (slices_of stocks rows))) (first_if (same_object stock.0 object) v (slice_of stock.0 (value rows stock.0)) parts.0)
     ∙ cold_slices stocks rows object v parts.1
 
@@ -72,28 +72,28 @@ apart_of one (other ∷ objects) apart = at (same_object other one) refl (apart_
   at true same rest = absurd (false≢true (sym apart.0 ∙ (same_objects one other).1 (sym (same_object-true other one same))))
   at false same rest = rest
 
-pub hot_slices : (stocks : List (Object × Option (Facts × ℕ))) (rows : Book) (object : Object) (v : Value) → IsDistinct same_object (objects_of stocks) → is_hot (objects_of stocks) object ≡ true
+pub hot_slices : (stocks : List (Object × Option (Facts × ℕ))) (rows : Book) (object : Object) (v : Value) → IsDistinct same_object (hot_objects stocks) → is_hot (hot_objects stocks) object ≡ true
     → fold (merge_at object) v (slices_in (slices_of stocks rows)) ≡ merged_with (slice_of object (value rows object)) v
 unfolding IsDistinct
 hot_slices [] rows object v distinct hot = absurd (false≢true hot)
 hot_slices (stock ∷ stocks) rows object v distinct hot =
     at (same_object stock.0 object) refl (λ is. hot_slices stocks rows object v distinct.1 is) where
       at : (b : Bool) → same_object stock.0 object ≡ b
-          → (is_hot (objects_of stocks) object ≡ true → fold (merge_at object) v (slices_in (slices_of stocks rows)) ≡ merged_with (slice_of object (value rows object)) v)
+          → (is_hot (hot_objects stocks) object ≡ true → fold (merge_at object) v (slices_in (slices_of stocks rows)) ≡ merged_with (slice_of object (value rows object)) v)
           → fold (merge_at object) (cond b (merged_with (slice_of stock.0 (value rows stock.0)) v) v) (slices_in (slices_of stocks rows)) ≡ merged_with (slice_of object (value rows object)) v
       at true same rest =
           let is = same_object-true stock.0 object same in
           cold_slices stocks rows object (merged_with (slice_of stock.0 (value rows stock.0)) v)
-          (subst (λ (o : Object). is_hot (objects_of stocks) o ≡ false) is (apart_of stock.0 (objects_of stocks) distinct.0))
+          (subst (λ (o : Object). is_hot (hot_objects stocks) o ≡ false) is (apart_of stock.0 (hot_objects stocks) distinct.0))
           ∙ ap (λ (o : Object). merged_with (slice_of o (value rows o)) v) is
-      at false same rest = rest (subst (λ b. (b || is_hot (objects_of stocks) object) ≡ true) same hot)
+      at false same rest = rest (subst (λ b. (b || is_hot (hot_objects stocks) object) ≡ true) same hot)
 
 -- The slices of all workers, each made by its rows.
 module _ (stocks : List (Object × Option (Facts × ℕ))) (rows_by : WorkerState → Book) (object : Object) where
   abbrev AreSliced : List WorkerState → Type 0
   AreSliced receipts = AllByRecursion (λ receipt. receipt.slices ≡ slices_of stocks (rows_by receipt)) receipts
 
-  pub all_cold : (receipts : List WorkerState) → AreSliced receipts → is_hot (objects_of stocks) object ≡ false → (v : Value) → fold (merge_at object) v (slices_left receipts) ≡ v
+  pub all_cold : (receipts : List WorkerState) → AreSliced receipts → is_hot (hot_objects stocks) object ≡ false → (v : Value) → fold (merge_at object) v (slices_left receipts) ≡ v
   all_cold [] sliced cold v = refl
   all_cold (receipt ∷ receipts) sliced cold v =
       fold-append (merge_at object) v (slices_in receipt.slices) (slices_left receipts)
@@ -101,7 +101,7 @@ module _ (stocks : List (Object × Option (Facts × ℕ))) (rows_by : WorkerStat
       (ap (λ slices. fold (merge_at object) v (slices_in slices)) sliced.0 ∙ cold_slices stocks (rows_by receipt) object v cold)
       ∙ all_cold receipts sliced.1 cold v
 
-  pub all_hot : (receipts : List WorkerState) → AreSliced receipts → IsDistinct same_object (objects_of stocks) → is_hot (objects_of stocks) object ≡ true → (v : Value)
+  pub all_hot : (receipts : List WorkerState) → AreSliced receipts → IsDistinct same_object (hot_objects stocks) → is_hot (hot_objects stocks) object ≡ true → (v : Value)
       → fold (merge_at object) v (slices_left receipts) ≡ fold (λ u receipt. merged_with (slice_of object (value (rows_by receipt) object)) u) v receipts
   all_hot [] sliced distinct hot v = refl
   all_hot (receipt ∷ receipts) sliced distinct hot v =

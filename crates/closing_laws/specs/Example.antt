@@ -105,7 +105,7 @@ module _ (facts : Facts) where
   abbrev pub example_phase : Phase
   example_phase = record {
     setting = setting;
-    opening = opened ∷ [];
+    initial = opened ∷ [];
     counters = counters ∷ [];
     receipts = receipt ∷ [];
     given = after_line opened line ∷ [];

@@ -10,7 +10,7 @@ use Rattle.auction_rows.specs.Footprint.{footprint, takes_shard}
 use Rattle.auction_rows.specs.History.{ReplaysFrom, book_after}
 use Rattle.worker_journals.specs.Journals.{entry_number, entry_worker}
 use Rattle.shard_boxes.specs.declared.line.Line.{Line}
-use Rattle.phase_permits.specs.Txns.{Setting, Txn, hot_in, entry_of, takes, line_on}
+use Rattle.phase_permits.specs.Txns.{Setting, Txn, hot_of, entry_of, takes, line_on}
 use Rattle.closing_laws.specs.Phases.{Phase, HasClosed, counters_of, txns_of, receipt_at}
 use Rattle.closing_laws.specs.Standing.{StandFor}
 
@@ -19,7 +19,7 @@ abbrev pub worker_line : Setting → ℕ → Txn → ℕ × Line
 worker_line z shard txn = ((entry_of txn).worker, line_on z shard txn)
 
 -- a shard's list of lines, as its box tells once it is closed
-abbrev pub list_at : (p : Phase) → HasClosed p → (s : ℕ) → s < length p.opening → List (ℕ × Line)
+abbrev pub list_at : (p : Phase) → HasClosed p → (s : ℕ) → s < length p.initial → List (ℕ × Line)
 list_at p closed s known = (closed.boxes.1 s known).lines
 
 -- the lines that transactions put on a shard, in order
@@ -35,7 +35,7 @@ pub record HoldTheEntries (p : Phase) (closed : HasClosed p) : Type 0 where
   pub parts : (w : ℕ) →
       part (λ txn. (entry_of txn).worker) w txns ≡ txns_of (receipt_at p.receipts w)
   -- each shard's list holds the lines of these transactions
-  pub lists : (s : ℕ) (known : s < length p.opening) →
+  pub lists : (s : ℕ) (known : s < length p.initial) →
       list_at p closed s known ≡ lines_on p.setting s txns
 
 -- each number is 1 + the greatest of the entries before it that are of its worker or share a shard with it, and 1 if there is none
@@ -54,4 +54,4 @@ pub record ReplaysAndStands (p : Phase) (book : Book) : Type 0 where
   -- from the book the entries replay
   pub replays : ReplaysFrom p.setting.opening book p.entries
   -- shards and counters stand for the book to which the entries lead, but for hot objects
-  pub stand : StandFor p.given (map counters_of p.receipts) (book_left p book) (hot_in p.setting)
+  pub stand : StandFor p.given (map counters_of p.receipts) (book_left p book) (hot_of p.setting)

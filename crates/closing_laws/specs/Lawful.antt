@@ -8,9 +8,9 @@ use Rattle.auction_rows.specs.Phases.{IsNumbered}
 use Rattle.item_shards.specs.declared.shard.slices.Slice.{Slice}
 use Rattle.item_shards.specs.Values.{Value, value}
 use Rattle.worker_journals.specs.Journals.{entry_worker}
-use Rattle.shard_boxes.specs.Lines.{IsHistory}
+use Rattle.shard_boxes.specs.Lines.{IsShardHistory}
 use Rattle.shard_boxes.specs.States.{ShardState, state_at}
-use Rattle.phase_permits.specs.Txns.{Txn, hot_in, entry_of}
+use Rattle.phase_permits.specs.Txns.{Txn, hot_of, entry_of}
 use Rattle.phase_permits.specs.Slicing.{slice_of, slices_of}
 use Rattle.phase_permits.specs.Workers.{WorkerState}
 use Rattle.closing_laws.specs.Phases.{Phase, value_on, journal_of, receipt_at}
@@ -34,31 +34,32 @@ AreSliced p = (w : ℕ) → w < length p.receipts →
 
 -- each hot object has what it had as the phase began, with one slice of each worker merged
 abbrev pub AreHotMerged : Phase → List ShardState → Type 0
-AreHotMerged p closing = (object : Object) → is_hot (hot_in p.setting) object ≡ true →
-    value_on closing object ≡ with_slices_by p.receipts object (value_on p.opening object)
+AreHotMerged p closing = (object : Object) → is_hot (hot_of p.setting) object ≡ true →
+    value_on closing object ≡ with_slices_by p.receipts object (value_on p.initial object)
 
 -- each other object has what its shard had of it as the boxes gave it back
 abbrev pub AreOthersAsGiven : Phase → List ShardState → Type 0
-AreOthersAsGiven p closing = (object : Object) → is_hot (hot_in p.setting) object ≡ false →
+AreOthersAsGiven p closing = (object : Object) → is_hot (hot_of p.setting) object ≡ false →
     value_on closing object ≡ value_on p.given object
 
 -- a phase closes lawfully, and leaves these shards
 pub record ClosesLawfully (p : Phase) (closing : List ShardState) : Type 0 where
   -- the entries ascend, and each number is 1 + the greatest that it follows
-  pub numbers : IsNumbered p.setting.opening p.setting.shards (hot_in p.setting) p.entries
+  pub numbers : IsNumbered p.setting.opening p.setting.shards (hot_of p.setting) p.entries
   -- the part of each worker is its journal
   pub parts : (w : ℕ) →
       part entry_worker w p.entries ≡ (journal_of (receipt_at p.receipts w)).entries
   -- the transactions of the entries
   pub txns : List Txn
   pub entries : map entry_of txns ≡ p.entries
-  -- the lines of exactly these transactions lead from each opening shard to the one given back
-  pub lists : (s : ℕ) → s < length p.opening →
-      IsHistory p.opening (length p.receipts) s (lines_on p.setting s txns) (state_at p.given s)
+  -- the lines of exactly these transactions lead from each initial shard to the one given back
+  pub lists : (s : ℕ) → s < length p.initial →
+      IsShardHistory p.initial (length p.receipts) s (lines_on p.setting s txns)
+      (state_at p.given s)
   -- as many shards are given back as the phase opened with
-  pub given : length p.given ≡ length p.opening
+  pub given : length p.given ≡ length p.initial
   -- as many shards are left
-  pub left : length closing ≡ length p.opening
+  pub left : length closing ≡ length p.initial
   -- each worker has one slice of each hot object
   pub slices : AreSliced p
   -- hot objects have these slices merged

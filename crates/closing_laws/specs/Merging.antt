@@ -46,17 +46,18 @@ abbrev pub slices_left : List WorkerState → List (Object × Slice)
 slices_left receipts = flat_map (λ receipt. slices_in receipt.slices) receipts
 
 -- a slice can be merged into a value of its object: it is of the object's kind, an item is stored, and the sums fit their types
-abbrev pub CanTake : Value → Object × Slice → Type 0
-CanTake value (Item id, slice.Item s) = IsSome value.facts × (value.bids.bids + s.bids < 2 ^ 64)
-CanTake value (User user, slice.User s) =
+abbrev pub CanMergeInto : Value → Object × Slice → Type 0
+CanMergeInto value (Item id, slice.Item s) =
+    IsSome value.facts × (value.bids.bids + s.bids < 2 ^ 64)
+CanMergeInto value (User user, slice.User s) =
     FitsSigned w64 (value.comments.rating +ℤ s.rating)
     × (value.comments.comments + s.comments < 2 ^ 64)
-CanTake value (Category category, slice.Category s) = ⊤
-CanTake value pair = ⊥
+CanMergeInto value (Category category, slice.Category s) = ⊤
+CanMergeInto value pair = ⊥
 
 -- a slice can be merged into the shard in which its object lies
 abbrev pub CanMerge : List ShardState → Object × Slice → Type 0
-CanMerge states pair = CanTake (value_on states (sliced_object pair)) pair
+CanMerge states pair = CanMergeInto (value_on states (sliced_object pair)) pair
 
 -- all slices of all workers are merged into the shards that the boxes gave back; clocks don't matter
 pub record IsReconciled (p : Phase) (closing : List ShardState) : Type 0 where

@@ -14,7 +14,7 @@ use Rattle.shard_boxes.specs.Closed.{AreClosed}
 use Rattle.shard_boxes.specs.Keys.{KeyState, no_key}
 use Rattle.shard_boxes.specs.States.{ShardState, state_at}
 use Rattle.phase_permits.specs.declared.worker.Counters.{Counters}
-use Rattle.phase_permits.specs.Txns.{Setting, Txn, hot_in}
+use Rattle.phase_permits.specs.Txns.{Setting, Txn, hot_of}
 use Rattle.phase_permits.specs.Workers.{WorkerState, IsExplained, no_counters, new_worker, setting_of}
 use Rattle.phase_permits.specs.Slicing.{IsStocked}
 use Rattle.closing_laws.specs.Standing.{counters_at}
@@ -24,7 +24,7 @@ pub record Phase : Type 0 where
   -- what the phase is run with
   pub setting : Setting
   -- the shards as the phase began
-  pub opening : List ShardState
+  pub initial : List ShardState
   -- each worker's counters as the phase began
   pub counters : List Counters
   -- each worker's receipt
@@ -73,17 +73,17 @@ IsReadFrom states (Category category, fixed) = ⊤
 -- how a phase begins
 pub record IsBegun (p : Phase) : Type 0 where
   -- the phase has a shard
-  pub some : 0 < length p.opening
+  pub some : 0 < length p.initial
   -- the phase has as many shards as its setting says
-  pub shards : p.setting.shards ≡ length p.opening
+  pub shards : p.setting.shards ≡ length p.initial
   -- each worker has counters and a receipt
   pub workers : length p.counters ≡ length p.receipts
   -- no object is hot twice
-  pub distinct : IsDistinct same_object (hot_in p.setting)
+  pub distinct : IsDistinct same_object (hot_of p.setting)
   -- each hot item is stored, and its facts are fixed
   pub stocked : AllByRecursion IsStocked p.setting.stocks
   -- what is fixed was read from the shards
-  pub read : AllByRecursion (IsReadFrom p.opening) p.setting.stocks
+  pub read : AllByRecursion (IsReadFrom p.initial) p.setting.stocks
 
 -- a worker's receipt, in a phase that the worker began with these counters and with clock 0
 pub record IsReceiptOf (z : Setting) (worker : ℕ) (opened : Counters)
@@ -116,6 +116,6 @@ pub record HasClosed (p : Phase) : Type 0 where
   -- what permits tell
   pub receipts : AreReceipts p
   -- what boxes tell
-  pub boxes : AreClosed p.opening (length p.receipts) (map key_of p.receipts) p.given
+  pub boxes : AreClosed p.initial (length p.receipts) (map key_of p.receipts) p.given
   -- what journals tell
   pub merged : AreMerged p

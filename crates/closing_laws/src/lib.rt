@@ -17,10 +17,10 @@ ghost use Rattle.auction_rows.specs.History.{IsBook};
 ghost use Rattle.auction_rows.specs.declared.requests.Object.{Object};
 ghost use Rattle.auction_rows.specs.declared.requests.Facts.{Facts};
 ghost use Rattle.item_shards.specs.declared.shard.slices.Slice.{Slice};
-ghost use Rattle.shard_boxes.specs.States.{ShardState, AreOpened};
-ghost use Rattle.phase_permits.specs.Txns.{hot_in};
+ghost use Rattle.shard_boxes.specs.States.{ShardState, AreInitial};
+ghost use Rattle.phase_permits.specs.Txns.{hot_of};
 ghost use Rattle.phase_permits.specs.Workers.{WorkerState};
-ghost use Rattle.phase_permits.specs.Slicing.{AreFew, slices_in};
+ghost use Rattle.phase_permits.specs.Slicing.{HaveAtMost, slices_in};
 
 use auction_rows::{MOST_OF_A_WORKER, MOST_WORKERS};
 
@@ -34,23 +34,23 @@ pub fn lists_hold_the_entries()
 /// and 1 if there is none.
 pub fn numbers_follow_what_entries_share()
     ensures { (p : Phase) → HasClosed p →
-        FollowWhatTheyShare p.setting.opening p.setting.shards (hot_in p.setting) p.entries }
+        FollowWhatTheyShare p.setting.opening p.setting.shards (hot_of p.setting) p.entries }
 {}
 
 /// From every book for which the shards and the counters stood as the phase began, the entries replay, and the
 /// shards that the boxes gave back stand for the book after them, but for hot objects, as do the counters.
 pub fn entries_replay()
-    ensures { (p : Phase) → HasClosed p → (book : Book) → StandFor p.opening p.counters book [] →
+    ensures { (p : Phase) → HasClosed p → (book : Book) → StandFor p.initial p.counters book [] →
         ReplaysAndStands p book }
 {}
 
 /// A book of the opening leaves one. Its rows are of the phase's workers, if those of the book are.
 pub fn books_go_on()
     ensures books { (p : Phase) → HasClosed p →
-        (book : Book) → StandFor p.opening p.counters book [] →
+        (book : Book) → StandFor p.initial p.counters book [] →
         IsBook p.setting.opening book → IsBook p.setting.opening (book_left p book) }
     ensures workers { (p : Phase) → HasClosed p →
-        (book : Book) → StandFor p.opening p.counters book [] →
+        (book : Book) → StandFor p.initial p.counters book [] →
         AreOfWorkers (length p.counters) book →
         AreOfWorkers (length p.receipts) (book_left p book) }
 {}
@@ -73,10 +73,10 @@ pub fn commits_grow()
 pub fn reconciled_shards_stand()
     ensures split { (p : Phase) → HasClosed p →
         (closing : List ShardState) → IsReconciled p closing →
-        (book : Book) → StandFor p.opening p.counters book [] →
+        (book : Book) → StandFor p.initial p.counters book [] →
         StandFor closing (map counters_of p.receipts) (book_left p book) [] }
-    ensures joined { (p : Phase) → HasClosed p → hot_in p.setting ≡ [] →
-        (book : Book) → StandFor p.opening p.counters book [] →
+    ensures joined { (p : Phase) → HasClosed p → hot_of p.setting ≡ [] →
+        (book : Book) → StandFor p.initial p.counters book [] →
         StandFor p.given (map counters_of p.receipts) (book_left p book) [] }
 {}
 
@@ -95,15 +95,15 @@ pub fn phases_close_lawfully()
     ensures split { (p : Phase) → HasClosed p →
         (closing : List ShardState) → IsReconciled p closing →
         ClosesLawfully p closing }
-    ensures joined { (p : Phase) → HasClosed p → hot_in p.setting ≡ [] → ClosesLawfully p p.given }
+    ensures joined { (p : Phase) → HasClosed p → hot_of p.setting ≡ [] → ClosesLawfully p p.given }
 {}
 
 /// In whatever order the slices are merged into the shards that the boxes gave back, each can be merged in its turn:
 /// its object is of its kind, an item is stored, and the sums fit. There are at most 16 workers, and each slice has at
 /// most 1,000,000 operations.
 pub fn slices_can_be_merged()
-    ensures { (p : Phase) → HasClosed p → AreOpened p.opening → length p.receipts ≤ MOST_WORKERS →
-        AllByRecursion (λ receipt. AreFew MOST_OF_A_WORKER receipt.slices) p.receipts →
+    ensures { (p : Phase) → HasClosed p → AreInitial p.initial → length p.receipts ≤ MOST_WORKERS →
+        AllByRecursion (λ receipt. HaveAtMost MOST_OF_A_WORKER receipt.slices) p.receipts →
         (order : List (Object × Slice)) → IsPermutation (slices_left p.receipts) order →
         SawInTurn CanMerge after_merge p.given order }
 {}
@@ -119,5 +119,5 @@ pub fn slices_may_be_popped()
 pub fn a_phase_closes()
     ensures closed { (facts : Facts) → HasClosed (example_phase facts) }
     ensures stood { (facts : Facts) →
-        let p = example_phase facts in StandFor p.opening p.counters (example_book facts) [] }
+        let p = example_phase facts in StandFor p.initial p.counters (example_book facts) [] }
 {}

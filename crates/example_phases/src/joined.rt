@@ -25,7 +25,7 @@ pub fn joined_phase<N, R>(rt: &R, alloc: Global, auction: Auction) -> anyhow::Re
 where
     N: PhaseName + Send + Sync,
     R: Threads + Wait + Sync,
-    requires shards { states_of auction.state ≡ N.opening }
+    requires shards { states_of auction.state ≡ N.initial }
     requires workers { length auction.state.counters ≡ N.workers }
     requires two { IsOfTwo auction }
     requires phase { auction.state.phase + 1 < 2 ^ 64 }
@@ -71,7 +71,7 @@ fn begin<N: PhaseName, R: Wait>(
     state: Joined,
     stashes: Vec<Stash>,
 ) -> anyhow::Result<(JoinedFloor<N>, JoinedPermit<N>, JoinedPermit<N>)>
-    requires shards { states_of state ≡ N.opening }
+    requires shards { states_of state ≡ N.initial }
     requires workers { length state.counters ≡ N.workers }
     requires two { length state.counters ≡ 2 }
     requires stashes { vec_len stashes ≡ 2 }

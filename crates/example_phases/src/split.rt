@@ -31,7 +31,7 @@ pub fn split_phase<N, R>(
 where
     N: PhaseName + Send + Sync,
     R: Threads + Wait + Sync,
-    requires shards { states_of auction.state ≡ N.opening }
+    requires shards { states_of auction.state ≡ N.initial }
     requires workers { length auction.state.counters ≡ N.workers }
     requires two { IsOfTwo auction }
     requires phase { auction.state.phase + 1 < 2 ^ 64 }
@@ -77,7 +77,7 @@ fn begin<N: PhaseName, R: Wait>(
     state: Joined,
     hot: &IndexSet<Object>,
 ) -> anyhow::Result<(SplitFloor<N>, SplitPermit<N>, SplitPermit<N>)>
-    requires shards { states_of state ≡ N.opening }
+    requires shards { states_of state ≡ N.initial }
     requires workers { length state.counters ≡ N.workers }
     requires two { length state.counters ≡ 2 }
     requires phase { state.phase + 1 < 2 ^ 64 }

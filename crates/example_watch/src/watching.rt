@@ -1,6 +1,6 @@
 //! A run, and a thread that views it through a window.
 ghost use Rattle.std.specs.Prelude.{◌≡◌};
-ghost use Rattle.item_shards.specs.OpeningBooks.{opening_of, rows_of};
+ghost use Rattle.item_shards.specs.OpeningBooks.{opening_of, rows_of_book};
 
 use crate::VIEW;
 use anyhow::{Result, bail};
@@ -68,7 +68,7 @@ fn perform<J: WindowName + Send + Sync + 'static, R: Threads + Wait + Sync>(
 ) -> Result<Vec<Seen>>
     requires log { log ≡ J.log }
     requires opening { opening_of book.now ≡ J.opening }
-    requires rows { rows_of book.now ≡ J.rows }
+    requires rows { rows_of_book book.now ≡ J.rows }
 {
     let (publisher, mut windows) = Publisher::<J>::new(rt, alloc, log, book, 1)?;
     let window = windows.remove(0);

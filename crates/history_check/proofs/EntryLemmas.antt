@@ -17,7 +17,7 @@ use Rattle.auction_rows.specs.Replies.{reply, row_of, next}
 use Rattle.history_check.specs.declared.lines.Order.{Order}
 use Rattle.history_check.specs.Scripts.{request_at, is_of}
 use Rattle.history_check.specs.Orders.{MayPrecede}
-use Rattle.history_check.specs.Places.{Fits, place_of}
+use Rattle.history_check.specs.CommitIds.{Fits, commit_id_of}
 use Rattle.history_check.specs.Checking.{GoWell}
 
 pub counted : (worker index : ℕ) (history : List Entry) (e : Entry) → count_by (is_of worker index) (history ++ e ∷ []) ≡ count_by (is_of worker index) history + cond (is_of worker index e) 1 0
@@ -46,12 +46,12 @@ module _ (opening : Opening) (start : Book) (scripts : List (List Request)) (ord
       let row = row_of e.worker e.request (reply opening book e.worker e.request) in
       omega (arith, ap length book_more, length-append book (option_to_list row), short row)
 
-  pub well_more : GoWell opening start scripts order history → request_at scripts e.worker e.index ≡ Some e.request → Fits (place_of e)
+  pub well_more : GoWell opening start scripts order history → request_at scripts e.worker e.index ≡ Some e.request → Fits (commit_id_of e)
       → count_by (is_of e.worker e.index) history ≡ 0 → AllByRecursion (λ d. MayPrecede order d e) history
       → e.reply ≡ reply opening (book_after opening start history) e.worker e.request → GoWell opening start scripts order (history ++ e ∷ [])
   well_more well there fits new may right = record {
     requests = all_push (λ e. request_at scripts e.worker e.index ≡ Some e.request) history e well.requests there;
-    fits = all_push (λ e. Fits (place_of e)) history e well.fits fits;
+    fits = all_push (λ e. Fits (commit_id_of e)) history e well.fits fits;
     at_most_once = once;
     in_order = ordered_push (MayPrecede order) history e well.in_order may;
     replays = replays_append (IsRight opening) (after_entry opening) start history (e ∷ []) well.replays (right, tt);

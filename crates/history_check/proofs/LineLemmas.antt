@@ -5,8 +5,8 @@ use Rattle.std.specs.Io.BufRead.{take_through, drop_through, DropsThrough}
 use Rattle.std.proofs.lemmas.List.{length-append}
 use Rattle.auction_rows.specs.declared.rows.Entry.{Entry}
 use Rattle.auction_text.specs.Replies.{history_line, reply_text}
-use Rattle.history_check.specs.declared.lines.Place.{Place}
-use Rattle.history_check.specs.Places.{line_at, Fits, place_of}
+use Rattle.history_check.specs.declared.lines.CommitId.{CommitId}
+use Rattle.history_check.specs.CommitIds.{line_at, Fits, commit_id_of}
 use Rattle.history_check.specs.Texts.{with_byte, lines_of, history_lines, ReadsLine, HasRead}
 use Rattle.history_check.proofs.NumberLemmas.{numbers_apart, take_front}
 
@@ -105,7 +105,7 @@ feed_apart t u same =
     sym (take_front t (10 ∷ [])) ∙ (λ k. take (longs k) (same k)) ∙ take_front u (10 ∷ [])
 
 -- a line is of one place and one text
-pub line_apart : (p q : Place) (t u : List ℕ) → Fits p → Fits q → line_at p t ≡ line_at q u → (p ≡ q) × (t ≡ u)
+pub line_apart : (p q : CommitId) (t u : List ℕ) → Fits p → Fits q → line_at p t ≡ line_at q u → (p ≡ q) × (t ≡ u)
 line_apart p q t u f g same =
     let phase = numbers_apart p.phase q.phase
     (decimal p.number ++ 32 ∷ (decimal p.worker ++ 32 ∷ (decimal p.index ++ 32 ∷ (t ++ 10 ∷ []))))
@@ -128,5 +128,5 @@ in_turn a b c d r s =
     ∙ append_assoc (a ++ 32 ∷ b) (32 ∷ c) (32 ∷ (d ++ 32 ∷ (r ++ s)))
     ∙ append_assoc a (32 ∷ b) (32 ∷ (c ++ 32 ∷ (d ++ 32 ∷ (r ++ s))))
 
-pub entry_line : (e : Entry) → history_line e ≡ line_at (place_of e) (reply_text e.reply)
+pub entry_line : (e : Entry) → history_line e ≡ line_at (commit_id_of e) (reply_text e.reply)
 entry_line e = in_turn (decimal e.phase) (decimal e.number) (decimal e.worker) (decimal e.index) (reply_text e.reply) (codes "\n")

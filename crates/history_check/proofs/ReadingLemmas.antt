@@ -13,9 +13,9 @@ use Rattle.history_check.specs.declared.lines.Order.{Order}
 use Rattle.history_check.specs.declared.lines.Verdict.{Verdict}
 use Rattle.history_check.specs.declared.lines.Verdict.TheVariants.{Replays, WrongAt, Lacks}
 use Rattle.history_check.specs.declared.lines.Wrong.{Wrong}
-use Rattle.history_check.specs.declared.lines.Place.{Place}
+use Rattle.history_check.specs.declared.lines.CommitId.{CommitId}
 use Rattle.history_check.specs.declared.replay.Replay.{Replay}
-use Rattle.history_check.specs.Places.{IsLineOf, line_at, place_of}
+use Rattle.history_check.specs.CommitIds.{IsLineOf, line_at, commit_id_of}
 use Rattle.history_check.specs.Scripts.{lists}
 use Rattle.history_check.specs.Texts.{history_lines, lines_of, ReadsLine, HasRead}
 use Rattle.history_check.specs.Checking.{IsAccepted, IsWrong, IsVerdict}
@@ -25,13 +25,13 @@ use Rattle.history_check.proofs.LineLemmas.{entry_line, one_read, left_read, all
 use Rattle.history_check.proofs.VerdictLemmas.{accepted, found}
 
 -- what holds of an entry at the place of a line, with the line's text as its reply's, holds of the line
-module _ (scripts : List (List Request)) (old new : Replay) (line text : List ℕ) (place : Place) (read : IsLineOf line place text) where
-  line_is : (e : Entry) → place_of e ≡ place → text ≡ reply_text e.reply → history_line e ≡ line
+module _ (scripts : List (List Request)) (old new : Replay) (line text : List ℕ) (commit_id : CommitId) (read : IsLineOf line commit_id text) where
+  line_is : (e : Entry) → commit_id_of e ≡ commit_id → text ≡ reply_text e.reply → history_line e ≡ line
   line_is e at_place told = entry_line e ∙ (λ k. line_at (at_place k) (sym told k)) ∙ sym read.line_is
 
   pub right_line : (result : Result (Option Wrong) CheckFault)
       → IfOk result (λ found. IfNone found ((opening : Opening) (start : Book) (order : Order) (history : List Entry) → HasTaken opening start scripts order history old
-      → (entry : Entry) × (place_of entry ≡ place) × (text ≡ reply_text entry.reply) × HasTaken opening start scripts order (history ++ entry ∷ []) new))
+      → (entry : Entry) × (commit_id_of entry ≡ commit_id) × (text ≡ reply_text entry.reply) × HasTaken opening start scripts order (history ++ entry ∷ []) new))
       → IfOk result (λ found. IfNone found ((opening : Opening) (start : Book) (order : Order) (history : List Entry) → HasTaken opening start scripts order history old
       → (entry : Entry) × (history_line entry ≡ line) × HasTaken opening start scripts order (history ++ entry ∷ []) new))
   right_line (Err fault) right = tt

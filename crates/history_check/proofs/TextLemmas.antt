@@ -5,8 +5,8 @@ use Rattle.std.specs.List.{AllByRecursion, list_all}
 use Rattle.std.proofs.lemmas.Bool.{false≢true, and_parts}
 use Rattle.auction_rows.specs.declared.rows.Entry.{Entry}
 use Rattle.auction_text.specs.Replies.{history_line, history_text, reply_text}
-use Rattle.history_check.specs.declared.lines.Place.{Place}
-use Rattle.history_check.specs.Places.{placed, place_of}
+use Rattle.history_check.specs.declared.lines.CommitId.{CommitId}
+use Rattle.history_check.specs.CommitIds.{with_commit_id, commit_id_of}
 use Rattle.history_check.specs.Texts.{with_byte, lines_of, history_lines, ShowsName}
 use Rattle.history_check.proofs.OneLineLemmas.{no_feed, IsOneLine, both, number_one, reply_one}
 use Rattle.history_check.proofs.LineLemmas.{entry_line}
@@ -42,22 +42,22 @@ text_is history text same = joined_history history ∙ ap joined same ∙ joined
 one_number : (n : ℕ) (rest : List ℕ) → IsOneLine rest → IsOneLine (decimal n ++ 32 ∷ rest)
 one_number n rest one = both (decimal n) (32 ∷ rest) (number_one n) one
 
-placed_one_line : (place : Place) (text : List ℕ) → IsOneLine text → IsOneLine (placed place text)
-placed_one_line place text one =
-    let index = one_number place.index text one in
-    let worker = one_number place.worker (decimal place.index ++ 32 ∷ text) index in
-    let number = one_number place.number (decimal place.worker ++ 32 ∷ (decimal place.index ++ 32 ∷ text)) worker in
-    one_number place.phase (decimal place.number ++ 32 ∷ (decimal place.worker ++ 32 ∷ (decimal place.index ++ 32 ∷ text))) number
+placed_one_line : (commit_id : CommitId) (text : List ℕ) → IsOneLine text → IsOneLine (with_commit_id commit_id text)
+placed_one_line commit_id text one =
+    let index = one_number commit_id.index text one in
+    let worker = one_number commit_id.worker (decimal commit_id.index ++ 32 ∷ text) index in
+    let number = one_number commit_id.number (decimal commit_id.worker ++ 32 ∷ (decimal commit_id.index ++ 32 ∷ text)) worker in
+    one_number commit_id.phase (decimal commit_id.number ++ 32 ∷ (decimal commit_id.worker ++ 32 ∷ (decimal commit_id.index ++ 32 ∷ text))) number
 
 number_before : (n : ℕ) (rest more : List ℕ) → decimal n ++ 32 ∷ (rest ++ more) ≡ (decimal n ++ 32 ∷ rest) ++ more
 number_before n rest more = sym (append_assoc (decimal n) (32 ∷ rest) more)
 
-placed_more : (place : Place) (text more : List ℕ) → placed place (text ++ more) ≡ placed place text ++ more
-placed_more place text more =
-    ap (λ t. decimal place.phase ++ 32 ∷ (decimal place.number ++ 32 ∷ (decimal place.worker ++ 32 ∷ t))) (number_before place.index text more)
-    ∙ ap (λ t. decimal place.phase ++ 32 ∷ (decimal place.number ++ 32 ∷ t)) (number_before place.worker (decimal place.index ++ 32 ∷ text) more)
-    ∙ ap (λ t. decimal place.phase ++ 32 ∷ t) (number_before place.number (decimal place.worker ++ 32 ∷ (decimal place.index ++ 32 ∷ text)) more)
-    ∙ number_before place.phase (decimal place.number ++ 32 ∷ (decimal place.worker ++ 32 ∷ (decimal place.index ++ 32 ∷ text))) more
+placed_more : (commit_id : CommitId) (text more : List ℕ) → with_commit_id commit_id (text ++ more) ≡ with_commit_id commit_id text ++ more
+placed_more commit_id text more =
+    ap (λ t. decimal commit_id.phase ++ 32 ∷ (decimal commit_id.number ++ 32 ∷ (decimal commit_id.worker ++ 32 ∷ t))) (number_before commit_id.index text more)
+    ∙ ap (λ t. decimal commit_id.phase ++ 32 ∷ (decimal commit_id.number ++ 32 ∷ t)) (number_before commit_id.worker (decimal commit_id.index ++ 32 ∷ text) more)
+    ∙ ap (λ t. decimal commit_id.phase ++ 32 ∷ t) (number_before commit_id.number (decimal commit_id.worker ++ 32 ∷ (decimal commit_id.index ++ 32 ∷ text)) more)
+    ∙ number_before commit_id.phase (decimal commit_id.number ++ 32 ∷ (decimal commit_id.worker ++ 32 ∷ (decimal commit_id.index ++ 32 ∷ text))) more
 
 feed_false : (byte : ℕ) → no_feed byte ≡ true → (byte == 10) ≡ false
 feed_false byte none = at (byte == 10) refl where
@@ -74,11 +74,11 @@ cut_line (byte ∷ line) rest one =
 
 line_then : (e : Entry) (rest : List ℕ) → ShowsName e.reply → lines_of (history_line e ++ rest) ≡ history_line e ∷ lines_of rest
 line_then e rest named =
-    let place = place_of e in
-    let front = placed place (reply_text e.reply) in
-    let whole : history_line e ≡ front ++ 10 ∷ [] = entry_line e ∙ placed_more place (reply_text e.reply) (10 ∷ []) in
+    let commit_id = commit_id_of e in
+    let front = with_commit_id commit_id (reply_text e.reply) in
+    let whole : history_line e ≡ front ++ 10 ∷ [] = entry_line e ∙ placed_more commit_id (reply_text e.reply) (10 ∷ []) in
     ap (λ line. lines_of (line ++ rest)) whole ∙ ap lines_of (append_assoc front (10 ∷ []) rest)
-    ∙ cut_line front rest (placed_one_line place (reply_text e.reply) (reply_one e.reply named)) ∙ ap (λ line. line ∷ lines_of rest) (sym whole)
+    ∙ cut_line front rest (placed_one_line commit_id (reply_text e.reply) (reply_one e.reply named)) ∙ ap (λ line. line ∷ lines_of rest) (sym whole)
 
 pub lines_are : (history : List Entry) → AllByRecursion (λ e. ShowsName e.reply) history → lines_of (history_text history) ≡ history_lines history
 lines_are [] all = refl

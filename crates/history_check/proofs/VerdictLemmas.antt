@@ -20,9 +20,9 @@ use Rattle.history_check.specs.declared.lines.Verdict.{Verdict}
 use Rattle.history_check.specs.declared.lines.Verdict.TheVariants.{Replays, WrongAt, Lacks}
 use Rattle.history_check.specs.declared.lines.Wrong.{Wrong}
 use Rattle.history_check.specs.declared.lines.Wrong.TheVariants.{Unreadable, NoRequest, Again, Late, Due}
-use Rattle.history_check.specs.declared.lines.Place.{Place}
+use Rattle.history_check.specs.declared.lines.CommitId.{CommitId}
 use Rattle.history_check.specs.Orders.{MayPrecede}
-use Rattle.history_check.specs.Places.{Fits, entry_at, place_of}
+use Rattle.history_check.specs.CommitIds.{Fits, entry_with_id, commit_id_of}
 use Rattle.history_check.specs.Scripts.{request_at, is_of}
 use Rattle.history_check.specs.Texts.{history_lines, lines_of}
 use Rattle.history_check.specs.Checking.{GoWell, IsAccepted, OfLine, OfRequest, IsWrong, IsVerdict}
@@ -45,9 +45,9 @@ middle P [] x ys all = all.0
 middle P (y ∷ xs) x ys all = middle P xs x ys all.1
 
 -- the place and the text of a line are those of the entry whose line it is
-of_entry : (line : List ℕ) (e : Entry) (Holds : Place → List ℕ → Type 0) → OfLine line Holds → history_line e ≡ line → Fits (place_of e) → Holds (place_of e) (reply_text e.reply)
+of_entry : (line : List ℕ) (e : Entry) (Holds : CommitId → List ℕ → Type 0) → OfLine line Holds → history_line e ≡ line → Fits (commit_id_of e) → Holds (commit_id_of e) (reply_text e.reply)
 of_entry line e Holds of is fits =
-    let apart = line_apart of.0 (place_of e) of.1 (reply_text e.reply) of.2.fits fits (sym of.2.line_is ∙ sym is ∙ entry_line e) in
+    let apart = line_apart of.0 (commit_id_of e) of.1 (reply_text e.reply) of.2.fits fits (sym of.2.line_is ∙ sym is ∙ entry_line e) in
     subst (λ p. Holds p (reply_text e.reply)) apart.0 (subst (Holds of.0) apart.1 of.3)
 
 -- an entry's request is the one that its script has
@@ -55,17 +55,17 @@ abbrev HasItsRequest : List (List Request) → Entry → Type 0
 HasItsRequest scripts e = request_at scripts e.worker e.index ≡ Some e.request
 
 module _ (opening : Opening) (scripts : List (List Request)) where
-  same_entry : (start : Book) (x y : Entry) → HasItsRequest scripts x → HasItsRequest scripts y → Fits (place_of x) → Fits (place_of y)
+  same_entry : (start : Book) (x y : Entry) → HasItsRequest scripts x → HasItsRequest scripts y → Fits (commit_id_of x) → Fits (commit_id_of y)
       → x.reply ≡ reply opening start x.worker x.request → y.reply ≡ reply opening start y.worker y.request → history_line x ≡ history_line y → x ≡ y
   same_entry start x y has_x has_y fits_x fits_y right_x right_y lines =
-      let place = (line_apart (place_of x) (place_of y) (reply_text x.reply) (reply_text y.reply) fits_x fits_y (sym (entry_line x) ∙ lines ∙ entry_line y)).0 in
-      let request : x.request ≡ y.request = same_Some x.request y.request (sym has_x ∙ (λ k. request_at scripts (place k).worker (place k).index) ∙ has_y) in
-      let answer : x.reply ≡ y.reply = right_x ∙ (λ k. reply opening start (place k).worker (request k)) ∙ sym right_y in
-      (λ k. entry_at (place k) (request k) (answer k))
+      let commit_id = (line_apart (commit_id_of x) (commit_id_of y) (reply_text x.reply) (reply_text y.reply) fits_x fits_y (sym (entry_line x) ∙ lines ∙ entry_line y)).0 in
+      let request : x.request ≡ y.request = same_Some x.request y.request (sym has_x ∙ (λ k. request_at scripts (commit_id k).worker (commit_id k).index) ∙ has_y) in
+      let answer : x.reply ≡ y.reply = right_x ∙ (λ k. reply opening start (commit_id k).worker (request k)) ∙ sym right_y in
+      (λ k. entry_with_id (commit_id k) (request k) (answer k))
 
   -- a history whose first lines are those of another begins with its entries
   front : (start : Book) (whole before : List Entry) (tail : List (List ℕ)) → AllByRecursion (HasItsRequest scripts) whole → AllByRecursion (HasItsRequest scripts) before
-      → AllByRecursion (λ e. Fits (place_of e)) whole → AllByRecursion (λ e. Fits (place_of e)) before
+      → AllByRecursion (λ e. Fits (commit_id_of e)) whole → AllByRecursion (λ e. Fits (commit_id_of e)) before
       → ReplaysFrom opening start whole → ReplaysFrom opening start before → history_lines whole ≡ history_lines before ++ tail
       → (after : List Entry) × (whole ≡ before ++ after) × (history_lines after ≡ tail)
   front start whole [] tail has_x has_y fits_x fits_y right_x right_y lines = (whole, refl, lines)
@@ -115,8 +115,8 @@ module _ (opening : Opening) (start : Book) (scripts : List (List Request)) (ord
     well : GoWell opening start scripts order (before ++ e ∷ after)
     well = subst (GoWell opening start scripts order) split ok.go_well
 
-    fits : Fits (place_of e)
-    fits = middle (λ e. Fits (place_of e)) before e after well.fits
+    fits : Fits (commit_id_of e)
+    fits = middle (λ e. Fits (commit_id_of e)) before e after well.fits
 
     has : request_at scripts e.worker e.index ≡ Some e.request
     has = middle (λ e. request_at scripts e.worker e.index ≡ Some e.request) before e after well.requests
@@ -125,10 +125,10 @@ module _ (opening : Opening) (start : Book) (scripts : List (List Request)) (ord
     right = (replays_parts opening start before (e ∷ after) well.replays).1.0
 
     at : (why : Wrong) → IsWrong opening start scripts order before line why → ⊥
-    at Unreadable wrong = wrong (place_of e) (reply_text e.reply) (record { line_is = sym is ∙ entry_line e; fits = fits })
-    at NoRequest wrong = none-some e.request (sym (of_entry line e (λ place text. request_at scripts place.worker place.index ≡ None) wrong is fits) ∙ has)
+    at Unreadable wrong = wrong (commit_id_of e) (reply_text e.reply) (record { line_is = sym is ∙ entry_line e; fits = fits })
+    at NoRequest wrong = none-some e.request (sym (of_entry line e (λ commit_id text. request_at scripts commit_id.worker commit_id.index ≡ None) wrong is fits) ∙ has)
     at Again wrong =
-        let here = of_entry line e (λ place text. count_by (is_of place.worker place.index) before ≡ 1) wrong is fits in
+        let here = of_entry line e (λ commit_id text. count_by (is_of commit_id.worker commit_id.index) before ≡ 1) wrong is fits in
         let w = e.worker in
         let i = e.index in
         absurd (omega (
@@ -139,14 +139,14 @@ module _ (opening : Opening) (start : Book) (scripts : List (List Request)) (ord
           here,
         ))
     at Late wrong =
-        let here = of_entry line e (λ place text. OfRequest scripts place (λ request.
-        (reply : Reply) → ¬ AllByRecursion (λ d. MayPrecede order d (entry_at place request reply)) before)) wrong is fits in
+        let here = of_entry line e (λ commit_id text. OfRequest scripts commit_id (λ request.
+        (reply : Reply) → ¬ AllByRecursion (λ d. MayPrecede order d (entry_with_id commit_id request reply)) before)) wrong is fits in
         let same : e.request ≡ here.0 = same_Some e.request here.0 (sym has ∙ here.1) in
-        here.2 e.reply (subst (λ request. AllByRecursion (λ d. MayPrecede order d (entry_at (place_of e) request e.reply)) before) same
+        here.2 e.reply (subst (λ request. AllByRecursion (λ d. MayPrecede order d (entry_with_id (commit_id_of e) request e.reply)) before) same
         (ordered_before (MayPrecede order) before e after well.in_order))
     at (Due due) wrong =
-        let here = of_entry line e (λ place text. OfRequest scripts place (λ request.
-        (due ≡ reply opening (book_after opening start before) place.worker request) × ¬ (text ≡ reply_text due))) wrong is fits in
+        let here = of_entry line e (λ commit_id text. OfRequest scripts commit_id (λ request.
+        (due ≡ reply opening (book_after opening start before) commit_id.worker request) × ¬ (text ≡ reply_text due))) wrong is fits in
         let same : e.request ≡ here.0 = same_Some e.request here.0 (sym has ∙ here.1) in
         here.2.1 (ap reply_text (right ∙ ap (reply opening (book_after opening start before) e.worker) same ∙ sym here.2.0))
 

@@ -16,9 +16,9 @@ use Rattle.history_check.specs.declared.lines.Verdict.{Verdict}
 use Rattle.history_check.specs.declared.lines.Verdict.TheVariants.{Replays, WrongAt, Lacks}
 use Rattle.history_check.specs.declared.lines.Wrong.{Wrong}
 use Rattle.history_check.specs.declared.lines.Wrong.TheVariants.{Unreadable, NoRequest, Again, Late, Due}
-use Rattle.history_check.specs.declared.lines.Place.{Place}
+use Rattle.history_check.specs.declared.lines.CommitId.{CommitId}
 use Rattle.history_check.specs.Orders.{MayPrecede}
-use Rattle.history_check.specs.Places.{Fits, IsLineOf, entry_at, place_of}
+use Rattle.history_check.specs.CommitIds.{Fits, IsLineOf, entry_with_id, commit_id_of}
 use Rattle.history_check.specs.Scripts.{request_at, is_of}
 use Rattle.history_check.specs.Texts.{history_lines, lines_of}
 
@@ -27,7 +27,7 @@ pub record GoWell (opening : Opening) (start : Book) (scripts : List (List Reque
   -- each has the request of its script
   pub requests : AllByRecursion (λ e. request_at scripts e.worker e.index ≡ Some e.request) history
   -- and a place that can be written
-  pub fits : AllByRecursion (λ e. Fits (place_of e)) history
+  pub fits : AllByRecursion (λ e. Fits (commit_id_of e)) history
   -- none stands twice
   pub at_most_once : (worker index : ℕ) → count_by (is_of worker index) history ≤ 1
   -- they stand in the order that is asked for
@@ -45,22 +45,23 @@ pub record IsAccepted (opening : Opening) (start : Book) (scripts : List (List R
   pub once : (worker index : ℕ) → count_by (is_of worker index) history ≡ (if nat_lt index (length (script_of scripts worker)) then 1 else 0)
 
 -- a line is of a place and a text of which this holds
-abbrev pub OfLine : List ℕ → (Place → List ℕ → Type 0) → Type 0
-OfLine line Holds = (place : Place) × (text : List ℕ) × IsLineOf line place text × Holds place text
+abbrev pub OfLine : List ℕ → (CommitId → List ℕ → Type 0) → Type 0
+OfLine line Holds =
+    (commit_id : CommitId) × (text : List ℕ) × IsLineOf line commit_id text × Holds commit_id text
 
 -- the scripts have the request of a place, and this holds of it
-abbrev pub OfRequest : List (List Request) → Place → (Request → Type 0) → Type 0
-OfRequest scripts place Holds = (request : Request) × (request_at scripts place.worker place.index ≡ Some request) × Holds request
+abbrev pub OfRequest : List (List Request) → CommitId → (Request → Type 0) → Type 0
+OfRequest scripts commit_id Holds = (request : Request) × (request_at scripts commit_id.worker commit_id.index ≡ Some request) × Holds request
 
 -- why a line is wrong after the entries before it
 abbrev pub IsWrong : Opening → Book → List (List Request) → Order → List Entry → List ℕ → Wrong → Type 0
-IsWrong opening start scripts order before line Unreadable = (place : Place) (text : List ℕ) → ¬ IsLineOf line place text
-IsWrong opening start scripts order before line NoRequest = OfLine line (λ place text. request_at scripts place.worker place.index ≡ None)
-IsWrong opening start scripts order before line Again = OfLine line (λ place text. count_by (is_of place.worker place.index) before ≡ 1)
-IsWrong opening start scripts order before line Late = OfLine line (λ place text. OfRequest scripts place (λ request.
-    (reply : Reply) → ¬ AllByRecursion (λ d. MayPrecede order d (entry_at place request reply)) before))
-IsWrong opening start scripts order before line (Due due) = OfLine line (λ place text. OfRequest scripts place (λ request.
-    (due ≡ reply opening (book_after opening start before) place.worker request) × ¬ (text ≡ reply_text due)))
+IsWrong opening start scripts order before line Unreadable = (commit_id : CommitId) (text : List ℕ) → ¬ IsLineOf line commit_id text
+IsWrong opening start scripts order before line NoRequest = OfLine line (λ commit_id text. request_at scripts commit_id.worker commit_id.index ≡ None)
+IsWrong opening start scripts order before line Again = OfLine line (λ commit_id text. count_by (is_of commit_id.worker commit_id.index) before ≡ 1)
+IsWrong opening start scripts order before line Late = OfLine line (λ commit_id text. OfRequest scripts commit_id (λ request.
+    (reply : Reply) → ¬ AllByRecursion (λ d. MayPrecede order d (entry_with_id commit_id request reply)) before))
+IsWrong opening start scripts order before line (Due due) = OfLine line (λ commit_id text. OfRequest scripts commit_id (λ request.
+    (due ≡ reply opening (book_after opening start before) commit_id.worker request) × ¬ (text ≡ reply_text due)))
 
 -- The line with this number, from 1, is the first that is wrong.
 pub record IsFirstWrong (opening : Opening) (start : Book) (scripts : List (List Request)) (order : Order) (text : List ℕ)

@@ -1,6 +1,6 @@
 pub mod Scripts
 pub mod Marks
-pub mod Places
+pub mod CommitIds
 pub mod Texts
 pub mod Orders
 pub mod Checking

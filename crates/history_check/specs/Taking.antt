@@ -6,7 +6,7 @@ use Rattle.auction_rows.specs.declared.requests.Request.{Request}
 use Rattle.auction_rows.specs.declared.rows.Entry.{Entry}
 use Rattle.auction_rows.specs.Book.{Book}
 use Rattle.auction_rows.specs.History.{book_after}
-use Rattle.item_shards.specs.Serial.{HoldsBook, opening_of}
+use Rattle.item_shards.specs.Serial.{HoldsBook, serial_opening}
 use Rattle.run_laws.specs.Serving.{script_of}
 use Rattle.history_check.specs.declared.lines.Order.{Order}
 use Rattle.history_check.specs.declared.replay.Replay.{Replay}
@@ -21,7 +21,7 @@ use Rattle.history_check.specs.Texts.{HasRead}
 pub record HasTaken (opening : Opening) (start : Book) (scripts : List (List Request)) (order : Order) (history : List Entry)
     (replay : Replay) : Type 0 where
   pub go_well : GoWell opening start scripts order history
-  pub opening_is : opening_of replay.auction ≡ opening
+  pub opening_is : serial_opening replay.auction ≡ opening
   pub order_is : replay.order ≡ order
   pub holds : HoldsBook replay.auction (book_after opening start history)
   pub few : length (book_after opening start history) ≤ replay.rows

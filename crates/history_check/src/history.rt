@@ -3,7 +3,7 @@
 ghost use Rattle.std.specs.Prelude.{◌≡◌, ◌<◌, ◌≤◌, ◌+◌, length, IfNone, IfOk, IfSome, IsErrOf, ℕ, List};
 ghost use Rattle.std.specs.List.{AllByRecursion};
 ghost use Rattle.auction_rows.specs.declared.rows.Entry.{Entry};
-ghost use Rattle.item_shards.specs.OpeningBooks.{opening_of, rows_of};
+ghost use Rattle.item_shards.specs.OpeningBooks.{opening_of, rows_of_book};
 ghost use Rattle.auction_text.specs.Replies.{history_line, history_text, reply_text};
 ghost use Rattle.history_check.specs.declared.lines.CheckFault.TheVariants.{TooLong};
 ghost use Rattle.history_check.specs.declared.lines.Verdict.TheVariants.{Replays};
@@ -11,7 +11,7 @@ ghost use Rattle.history_check.specs.Scripts.{lists};
 ghost use Rattle.history_check.specs.Texts.{lines_of, ReadsLine, ShowsName, history_lines};
 ghost use Rattle.history_check.specs.Checking.{IsAccepted, IsVerdict};
 ghost use Rattle.history_check.specs.Taking.{CanTake, ForEachReading, IsReading};
-ghost use Rattle.history_check.specs.Places.{line_at, place_of};
+ghost use Rattle.history_check.specs.CommitIds.{line_at, commit_id_of};
 
 use crate::lines::{CheckFault, Order, Verdict};
 use crate::replay::Replay;
@@ -89,11 +89,11 @@ pub fn check_history<R: BufRead>(
 ) -> Result<Verdict, CheckFault>
     requires workers { length scripts.now ≤ MOST_WORKERS }
     ensures verdict { IfOk result (λ verdict. IfSome (R.remaining reader.old) (λ text.
-        IsVerdict (opening_of book.now) (rows_of book.now) (lists scripts.now) order text verdict)) }
+        IsVerdict (opening_of book.now) (rows_of_book book.now) (lists scripts.now) order text verdict)) }
     ensures accepted { IfOk result (λ verdict. IfSome (R.remaining reader.old) (λ text.
-        IsAccepted (opening_of book.now) (rows_of book.now) (lists scripts.now) order text → verdict ≡ Replays)) }
+        IsAccepted (opening_of book.now) (rows_of_book book.now) (lists scripts.now) order text → verdict ≡ Replays)) }
     ensures too_long { IsErrOf result TooLong → IfSome (R.remaining reader.old) (λ text.
-        MOST_ROWS < length (rows_of book.now) + length (lines_of text)) }
+        MOST_ROWS < length (rows_of_book book.now) + length (lines_of text)) }
 {
     let mut replay = Replay::new(alloc, book, scripts, order)?;
     for number in 0..MOST_ROWS + 1 {
@@ -104,9 +104,9 @@ pub fn check_history<R: BufRead>(
     Err(CheckFault::TooLong)
 }
 
-/// The line of an entry in a history is that of the text of its reply at its place.
+/// The line of an entry in a history is that of the text of its reply after its id.
 pub fn lines_are_placed()
-    ensures { (entry : Entry) → history_line entry ≡ line_at (place_of entry) (reply_text entry.reply) }
+    ensures { (entry : Entry) → history_line entry ≡ line_at (commit_id_of entry) (reply_text entry.reply) }
 {}
 
 /// A text whose lines are those of a history is the history's text; and where each name that a

@@ -9,5 +9,5 @@ mod lines;
 mod replay;
 
 pub use history::{check_history, lines_are_placed, texts_are_lines};
-pub use lines::{CheckFault, Order, Place, Verdict, Wrong, read_line};
+pub use lines::{CheckFault, CommitId, Order, Verdict, Wrong, read_line};
 pub use replay::Replay;

@@ -1,18 +1,18 @@
-//! The place of a commit, which a line of a history begins with, the text after it, and what is
+//! The id of a commit, which a line of a history begins with, the text after it, and what is
 //! found of the lines.
 ghost use Rattle.std.specs.Prelude.{◌≡◌, ◌++◌, ◌∷◌, [], ◌<◌, ◌^◌, ℕ, List, decimal, length, IfSome, IfNone, IsSomeAnd};
 ghost use Rattle.std.specs.List.{position};
-ghost use Rattle.history_check.specs.declared.lines.Place.{Place as CommitPlace};
-ghost use Rattle.history_check.specs.Places.{is_space, placed, Fits, IsLineOf};
+ghost use Rattle.history_check.specs.declared.lines.CommitId.{CommitId as CommitIdValue};
+ghost use Rattle.history_check.specs.CommitIds.{is_space, with_commit_id, Fits, IsLineOf};
 
 use auction_rows::Reply;
 use auction_text::read_u64;
 use std::alloc::{AllocError, AllocFailed};
 use thiserror::Error;
 
-/// Where a commit stands: its phase and number, its worker and the index of its request.
+/// What names a commit: its phase and number, its worker and the index of its request.
 #[derive(Clone, Copy)]
-pub struct Place {
+pub struct CommitId {
     pub phase: u64,
     pub number: u64,
     pub worker: u32,
@@ -51,24 +51,24 @@ fn read_short_number(bytes: &[u8]) -> Option<(u32, &[u8])>
     Some((number as u32, rest))
 }
 
-// The place that a text begins with, and what is after the space that follows it.
-fn read_place(text: &[u8]) -> Option<(Place, &[u8])>
-    ensures read { IfSome result (λ found. text.now ≡ placed found.0 found.1.now) }
+// The id of the commit that a text begins with, and what is after the space that follows it.
+fn read_commit_id(text: &[u8]) -> Option<(CommitId, &[u8])>
+    ensures read { IfSome result (λ found. text.now ≡ with_commit_id found.0 found.1.now) }
     ensures fits { IfSome result (λ found. Fits found.0) }
-    ensures all { (place : CommitPlace) (rest : List ℕ) → Fits place → text.now ≡ placed place rest →
-        IsSomeAnd result (λ found. (found.0 ≡ place) × (found.1.now ≡ rest)) }
+    ensures all { (commit_id : CommitIdValue) (rest : List ℕ) → Fits commit_id → text.now ≡ with_commit_id commit_id rest →
+        IsSomeAnd result (λ found. (found.0 ≡ commit_id) × (found.1.now ≡ rest)) }
 {
     let (phase, text) = read_number(text)?;
     let (number, text) = read_number(text)?;
     let (worker, text) = read_short_number(text)?;
     let (index, rest) = read_short_number(text)?;
-    let place = Place {
+    let commit_id = CommitId {
         phase,
         number,
         worker,
         index,
     };
-    Some((place, rest))
+    Some((commit_id, rest))
 }
 
 // A line without the line feed at its end.
@@ -82,15 +82,15 @@ fn without_line_feed(line: &[u8]) -> Option<&[u8]>
     }
 }
 
-/// The place that a line begins with, and the text of the reply after it, if there is a line feed
+/// The id of the commit that a line begins with, and the text of the reply after it, if there is a line feed
 /// at its end.
-pub fn read_line(line: &[u8]) -> Option<(Place, &[u8])>
+pub fn read_line(line: &[u8]) -> Option<(CommitId, &[u8])>
     ensures read { IfSome result (λ found. IsLineOf line.now found.0 found.1.now) }
-    ensures none { IfNone result ((place : CommitPlace) (text : List ℕ) → ¬ IsLineOf line.now place text) }
+    ensures none { IfNone result ((commit_id : CommitIdValue) (text : List ℕ) → ¬ IsLineOf line.now commit_id text) }
 {
-    let (place, rest) = read_place(line)?;
+    let (commit_id, rest) = read_commit_id(line)?;
     let text = without_line_feed(rest)?;
-    Some((place, text))
+    Some((commit_id, text))
 }
 
 /// The order in which the entries of each worker are to stand.

@@ -5,17 +5,17 @@ ghost use Rattle.run_laws.specs.Serving.{script_of};
 ghost use Rattle.auction_rows.specs.Book.{Book as Rows};
 ghost use Rattle.auction_rows.specs.declared.values.Opening.{Opening};
 ghost use Rattle.auction_rows.specs.declared.rows.Entry.{Entry};
-ghost use Rattle.item_shards.specs.OpeningBooks.{opening_of, rows_of};
+ghost use Rattle.item_shards.specs.OpeningBooks.{opening_of, rows_of_book};
 ghost use Rattle.auction_text.specs.Replies.{reply_text, history_line};
 ghost use Rattle.history_check.specs.Scripts.{lists, request_at};
 ghost use Rattle.history_check.specs.Marks.{is_marked, HasPlaces, AreWide};
 ghost use Rattle.history_check.specs.Orders.{is_bound, is_late};
 ghost use Rattle.history_check.specs.declared.lines.CheckFault.TheVariants.{TooLong};
 ghost use Rattle.history_check.specs.declared.lines.Order.{Order as Asked};
-ghost use Rattle.history_check.specs.Places.{Fits, IsLineOf, place_of};
+ghost use Rattle.history_check.specs.CommitIds.{Fits, IsLineOf, commit_id_of};
 ghost use Rattle.history_check.specs.Checking.{IsWrong};
 
-use crate::lines::{CheckFault, Order, Place, Wrong, read_line};
+use crate::lines::{CheckFault, CommitId, Order, Wrong, read_line};
 use auction_rows::{MOST_ROWS, MOST_WORKERS, Reply, Request, is_splittable};
 use auction_text::push_reply;
 use item_shards::{OpeningBook, SerialAuction};
@@ -178,7 +178,7 @@ impl Replay {
         scripts: &[Vec<Request>],
         order: Order,
     ) -> Result<Replay, AllocError>
-        ensures { IfOk result (HasTaken (opening_of book.now) (rows_of book.now) (lists scripts.now) order []) }
+        ensures { IfOk result (HasTaken (opening_of book.now) (rows_of_book book.now) (lists scripts.now) order []) }
     {
         Ok(Replay {
             auction: SerialAuction::resume(alloc, book)?,
@@ -209,58 +209,65 @@ impl Replay {
         ensures too_long { IsErrOf result TooLong → MOST_ROWS ≤ self.old.rows }
     {
         match read_line(line) {
-            Some((place, text)) => self.perform_at(scripts, place, text),
+            Some((commit_id, text)) => self.perform_at(scripts, commit_id, text),
             None => Ok(Some(Wrong::Unreadable)),
         }
     }
 
-    // Whether a line of a later request of the script stands before the request of a place, and may
+    // Whether a line of a later request of the script stands before the request of a commit, and may
     // not.
-    fn is_late(&self, place: Place, request: Request) -> bool
-        requires { place.worker < MOST_WORKERS }
-        ensures { result ≡ is_late self.now.order request place.index (get_or self.now.turns.next place.worker 0) }
+    fn is_late(&self, commit_id: CommitId, request: Request) -> bool
+        requires { commit_id.worker < MOST_WORKERS }
+        ensures { result ≡ is_late self.now.order request commit_id.index (get_or self.now.turns.next commit_id.worker 0) }
     {
-        is_bound(self.order, request) && self.turns.is_late(place.worker as usize, place.index)
+        is_bound(self.order, request)
+            && self
+                .turns
+                .is_late(commit_id.worker as usize, commit_id.index)
     }
 
-    // Performs the request of a place, where a line tells of it in its turn, and compares the reply
+    // Performs the request of a commit, where a line tells of it in its turn, and compares the reply
     // with a text.
     fn perform_at(
         &mut self,
         scripts: &[Vec<Request>],
-        place: Place,
+        commit_id: CommitId,
         text: &[u8],
     ) -> Result<Option<Wrong>, CheckFault>
         requires workers { length scripts.now ≤ MOST_WORKERS }
         requires taken { CanTake (lists scripts.now) self.old }
-        requires fits { Fits place }
+        requires fits { Fits commit_id }
         ensures right { IfOk result (λ found. IfNone found ((opening : Opening) (start : Rows) (order : Asked) (history : List Entry) →
             HasTaken opening start (lists scripts.now) order history self.old →
-            (entry : Entry) × (place_of entry ≡ place) × (text.now ≡ reply_text entry.reply)
+            (entry : Entry) × (commit_id_of entry ≡ commit_id) × (text.now ≡ reply_text entry.reply)
             × HasTaken opening start (lists scripts.now) order (history ++ entry ∷ []) self.new)) }
         ensures wrong { IfOk result (λ found. IfSome found (λ why. (opening : Opening) (start : Rows) (order : Asked) (history : List Entry) (line : List ℕ) →
-            HasTaken opening start (lists scripts.now) order history self.old → IsLineOf line place text.now →
+            HasTaken opening start (lists scripts.now) order history self.old → IsLineOf line commit_id text.now →
             IsWrong opening start (lists scripts.now) order history line why)) }
         ensures too_long { IsErrOf result TooLong → MOST_ROWS ≤ self.old.rows }
     {
-        let Some(request) = request_of(scripts, place.worker, place.index) else {
+        let Some(request) = request_of(scripts, commit_id.worker, commit_id.index) else {
             return Ok(Some(Wrong::NoRequest));
         };
-        if self.marks.has(place.worker as usize, place.index as usize) {
+        if self
+            .marks
+            .has(commit_id.worker as usize, commit_id.index as usize)
+        {
             return Ok(Some(Wrong::Again));
         }
-        if self.is_late(place, request) {
+        if self.is_late(commit_id, request) {
             return Ok(Some(Wrong::Late));
         }
         if self.rows >= MOST_ROWS {
             return Err(CheckFault::TooLong);
         }
-        let due = self.auction.perform(place.worker, request)?;
+        let due = self.auction.perform(commit_id.worker, request)?;
         if !is_text_of(&mut self.due, &due, text)? {
             return Ok(Some(Wrong::Due(due)));
         }
-        self.marks.mark(place.worker as usize, place.index as usize);
-        self.turns.pass(place.worker as usize, place.index);
+        self.marks
+            .mark(commit_id.worker as usize, commit_id.index as usize);
+        self.turns.pass(commit_id.worker as usize, commit_id.index);
         self.rows += 1;
         Ok(None)
     }
@@ -270,7 +277,7 @@ impl Replay {
         requires workers { length scripts.now ≤ MOST_WORKERS }
         requires taken { CanTake (lists scripts.now) self.now }
         ensures none { IfNone result (AreMarked (lists scripts.now) self.now.marks.rows.items) }
-        ensures some { IfSome result (λ place. IsUnmarked (lists scripts.now) self.now.marks.rows.items place.0 place.1) }
+        ensures some { IfSome result (λ commit_id. IsUnmarked (lists scripts.now) self.now.marks.rows.items commit_id.0 commit_id.1) }
     {
         for worker in 0..scripts.len() {
             if let Some(index) = self.marks.lacks(worker, scripts[worker].len()) {

@@ -29,7 +29,7 @@ use Rattle.auction_rows.specs.Replies.{answer, answer_unless, reply, row_of, row
 use Rattle.auction_rows.specs.Requests.{shard_of}
 use Rattle.auction_rows.proofs.RefusalLemmas.{enough, in_range, not_by_number, is_stored}
 use Rattle.item_shards.specs.declared.shard.acts.Act.{Act}
-use Rattle.item_shards.specs.Values.{Value, value, HasLeft}
+use Rattle.item_shards.specs.Values.{Value, value, HasInStock}
 use Rattle.item_shards.specs.Contents.{Contents, after_act}
 use Rattle.item_shards.specs.Standing.{ContentsStandsFor}
 use Rattle.item_shards.specs.Writing.{looks_of, writes_of, writes_if, acts_of, is_cold_in, is_done_on, acts_owed}
@@ -41,9 +41,9 @@ use Rattle.item_shards.proofs.TurnLemmas.{owed_in_turn}
 
 -- where a purchase isn't refused, as many are left as are bought
 enough_left : (book : Book) (item : ItemId) (quantity : ℕ) → is_none (facts_of book item) ≡ false → of_stored (facts_of book item) (λ facts. nat_lt (left_of book item) quantity) ≡ false
-    → HasLeft (value book (Item item)) quantity
+    → HasInStock (value book (Item item)) quantity
 enough_left book item quantity stored few = at (facts_of book item) refl stored few where
-  at : (o : Option Facts) → facts_of book item ≡ o → is_none o ≡ false → of_stored o (λ facts. nat_lt (left_of book item) quantity) ≡ false → HasLeft (value book (Item item)) quantity
+  at : (o : Option Facts) → facts_of book item ≡ o → is_none o ≡ false → of_stored o (λ facts. nat_lt (left_of book item) quantity) ≡ false → HasInStock (value book (Item item)) quantity
   at None e stored few = absurd (false≢true (sym stored))
   at (Some facts) e stored few =
       let up = ap (λ (p : Option Facts). unwrap_or (option_map (λ (f : Facts). f.quantity) p) 0) e in
@@ -117,10 +117,10 @@ module _ (opening : Opening) (number shards : ℕ) (rooms : ItemId → Bool) (co
           fits : here (User about) ≡ true → (contents (User about)).comments.comments + 1 < 2 ^ 64
           fits h = omega (arith, few, comments_at_most book about, ap (λ (v : Value). v.comments.comments) (at_object (User about) h))
     accepted_can (BuyNow buyer item quantity time) e room = row_if_can (worker == worker) _ (λ h. (lies (Item item) h, enough_here h), tt) where
-      enough_here : here (Item item) ≡ true → HasLeft (contents (Item item)) quantity
+      enough_here : here (Item item) ≡ true → HasInStock (contents (Item item)) quantity
       enough_here h =
           let is = enough opening book (BuyNow buyer item quantity time) e in
-          subst (λ (v : Value). HasLeft v quantity) (sym (at_object (Item item) h)) (enough_left book item quantity is.0 is.1)
+          subst (λ (v : Value). HasInStock v quantity) (sym (at_object (Item item) h)) (enough_left book item quantity is.0 is.1)
     accepted_can (ViewItem item) e room = tt
     accepted_can (ViewBids item) e room = tt
     accepted_can (ViewCategory category) e room = tt

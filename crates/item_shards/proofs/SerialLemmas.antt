@@ -30,7 +30,7 @@ use Rattle.item_shards.specs.declared.shard.acts.Act.TheVariants.{AddItem, ListI
 use Rattle.item_shards.specs.declared.shard.Shard.{Shard}
 use Rattle.auction_rows.specs.declared.replies.Reply.{Reply}
 use Rattle.item_shards.specs.declared.serial.SerialAuction.{SerialAuction}
-use Rattle.item_shards.specs.Serial.{HoldsBook, opening_of}
+use Rattle.item_shards.specs.Serial.{HoldsBook, serial_opening}
 use Rattle.item_shards.specs.ShardContents.{contents as contents_of, opening, shard_count, shard_number, with_room, LiesIn, IsSameShard}
 use Rattle.item_shards.specs.Contents.{Contents, after_acts}
 use Rattle.item_shards.specs.Standing.{ContentsStandsFor}
@@ -237,11 +237,11 @@ counted_in auction b worker holds below = get_or_from_slice_get auction.stored w
 
 -- a store that is not refused is answered by the count of its worker's stores of its kind
 pub stored_reply : (auction : SerialAuction) (worker : ℕ) (request : Request) (answered : StoreCounts → Reply) (result : Reply) → worker < 16
-    → ((b : Book) → HoldsBook auction b → result ≡ answer_unless (refusal (opening_of auction) b request) (answered (get_or auction.stored worker none_counted)))
+    → ((b : Book) → HoldsBook auction b → result ≡ answer_unless (refusal (serial_opening auction) b request) (answered (get_or auction.stored worker none_counted)))
     → ((b : Book) → answer b worker request ≡ answered (stored_by b worker))
-    → (b : Book) → HoldsBook auction b → result ≡ reply (opening_of auction) b worker request
+    → (b : Book) → HoldsBook auction b → result ≡ reply (serial_opening auction) b worker request
 stored_reply auction worker request answered result below is told b holds =
-    is b holds ∙ ap (answer_unless (refusal (opening_of auction) b request)) (ap answered (counted_in auction b worker holds below) ∙ sym (told b))
+    is b holds ∙ ap (answer_unless (refusal (serial_opening auction) b request)) (ap answered (counted_in auction b worker holds below) ∙ sym (told b))
 
 -- ---- the empty book
 

@@ -9,5 +9,5 @@ abbrev pub opening_of : OpeningBook → Opening
 opening_of book = book.opening
 
 -- the rows, in commit order
-abbrev pub rows_of : OpeningBook → Book
-rows_of book = rows_in book.rows
+abbrev pub rows_of_book : OpeningBook → Book
+rows_of_book book = rows_in book.rows

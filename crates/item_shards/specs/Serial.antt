@@ -8,16 +8,16 @@ use Rattle.auction_rows.specs.History.{GoOn, IsBook}
 use Rattle.item_shards.specs.declared.serial.SerialAuction.{SerialAuction}
 use Rattle.item_shards.specs.Counting.{stored_by, worker_of}
 use Rattle.item_shards.specs.Limits.{IsWithinLimits}
-use Rattle.item_shards.specs.ShardContents.{opening, StandsFor}
+use Rattle.item_shards.specs.ShardContents.{opening, ShardStandsFor}
 
 -- the users and categories of the auction
-abbrev pub opening_of : SerialAuction → Opening
-opening_of auction = opening auction.shard
+abbrev pub serial_opening : SerialAuction → Opening
+serial_opening auction = opening auction.shard
 
 -- what the auction keeps is what a book within limits says
 pub record HoldsBook (auction : SerialAuction) (book : Book) : Type 0 where
   -- the auction's shard stands for the book, with nothing hot
-  pub records : StandsFor auction.shard book []
+  pub records : ShardStandsFor auction.shard book []
   -- the auction's counts are those of each worker's stores
   pub counts : (worker : ℕ) → worker < MOST_WORKERS →
       slice_get auction.stored worker ≡ Some (stored_by book worker)
@@ -44,7 +44,7 @@ pub record CanStore (auction : SerialAuction) (row : Row) : Type 0 where
   -- the book is not full
   pub not_full : IsNotFull book
   -- the row goes on the book
-  pub goes_on : GoOn (opening_of auction) book (row ∷ [])
+  pub goes_on : GoOn (serial_opening auction) book (row ∷ [])
   -- the row's worker is one of 16
   pub worker : worker_of row < MOST_WORKERS
 
@@ -63,7 +63,7 @@ pub record CanAdd (auction : SerialAuction) (rows : List Row) : Type 0 where
   pub book : Book
   pub holds : HoldsBook auction book
   -- the rows can be stored after it
-  pub follow : CanFollow (opening_of auction) book rows
+  pub follow : CanFollow (serial_opening auction) book rows
 
 -- the auction holds a book and then the first so many of these rows
 pub record HoldsFirst (auction : SerialAuction) (book : Book) (rows : List Row) : Type 0 where

@@ -69,8 +69,8 @@ abbrev pub rooms : Shard → ItemId → Bool
 rooms shard = rooms_in shard.parts.value.items
 
 -- the shard has room for this item
-abbrev pub HasRoom : Shard → ItemId → Type 0
-HasRoom shard id = IsTrue (rooms shard id)
+abbrev pub HasItemRoom : Shard → ItemId → Type 0
+HasItemRoom shard id = IsTrue (rooms shard id)
 
 -- the record of an item, if the shard has room for it
 abbrev pub record_in : Shard → ItemId → Option ItemRecord
@@ -102,20 +102,20 @@ pub record IsSameShard (old new : Shard) : Type 0 where
   pub opening : opening new ≡ opening old
 
 -- the shard stands for a book, but for hot objects
-abbrev pub StandsFor : Shard → Book → List Object → Type 0
-StandsFor shard book hot =
+abbrev pub ShardStandsFor : Shard → Book → List Object → Type 0
+ShardStandsFor shard book hot =
     ContentsStandsFor (shard_number shard) (shard_count shard) (contents shard) book hot
 
 -- each book that the shard stands for has the property, if the object is not hot
 abbrev pub ForEachBook : Shard → Object → (Book → Type 0) → Type 0
 ForEachBook shard object P =
-    (book : Book) (hot : List Object) → StandsFor shard book hot → is_hot hot object ≡ false →
+    (book : Book) (hot : List Object) → ShardStandsFor shard book hot → is_hot hot object ≡ false →
     P book
 
 -- the new shard stands for each book that the old one stood for
 abbrev pub KeepsBooks : Shard → Shard → Type 0
 KeepsBooks old new =
-    (book : Book) (hot : List Object) → StandsFor old book hot → StandsFor new book hot
+    (book : Book) (hot : List Object) → ShardStandsFor old book hot → ShardStandsFor new book hot
 
 -- a shard in which nothing is stored
 pub record IsNewShard (number shards : ℕ) (start : Opening) (shard : Shard) : Type 0 where
@@ -132,4 +132,4 @@ pub record IsNewShard (number shards : ℕ) (start : Opening) (shard : Shard) : 
   -- nothing is known of any object
   pub nothing : (object : Object) → contents shard object ≡ blank
   -- the shard stands for the empty book
-  pub stands : (hot : List Object) → StandsFor shard [] hot
+  pub stands : (hot : List Object) → ShardStandsFor shard [] hot

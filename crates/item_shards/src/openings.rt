@@ -71,12 +71,12 @@ pub struct OpeningBook {
 impl OpeningBook {
     ghost use Rattle.item_shards.specs.declared.openings.ResumeFault.TheVariants.{TooLong, BadRow, Memory};
     ghost use Rattle.item_shards.specs.OpeningRows.{opening_rows, AreRows, IsFirstBad};
-    ghost use Rattle.item_shards.specs.OpeningBooks.{opening_of, rows_of};
+    ghost use Rattle.item_shards.specs.OpeningBooks.{opening_of, rows_of_book};
 
     /// No rows. It takes no memory.
     pub fn empty(opening: Opening) -> OpeningBook
         ensures opening { opening_of result ≡ opening }
-        ensures rows { rows_of result ≡ [] }
+        ensures rows { rows_of_book result ≡ [] }
     {
         OpeningBook {
             opening,
@@ -92,7 +92,7 @@ impl OpeningBook {
         opening: Opening,
         rows: Vec<Opened>,
     ) -> Result<OpeningBook, ResumeFault>
-        ensures rows { IfOk result (λ book. rows_of book ≡ opening_rows opening rows.items) }
+        ensures rows { IfOk result (λ book. rows_of_book book ≡ opening_rows opening rows.items) }
         ensures opening { IfOk result (λ book. opening_of book ≡ opening) }
         ensures accepted { OnOk result (AreRows opening rows.items) }
         ensures ok { AreRows opening rows.items → ¬ IsTooLong rows.items →
@@ -126,11 +126,11 @@ impl OpeningBook {
 
     /// The rows, in commit order.
     pub fn rows(&self) -> &[Row]
-        ensures rows { result.now ≡ rows_of self.now }
-        ensures book { IsBook (opening_of self.now) (rows_of self.now) }
-        ensures workers { All (λ row. worker_of row < MOST_WORKERS) (rows_of self.now) }
-        ensures few { AreFewOfEach (rows_of self.now) }
-        ensures limits { IsWithinLimits (rows_of self.now) }
+        ensures rows { result.now ≡ rows_of_book self.now }
+        ensures book { IsBook (opening_of self.now) (rows_of_book self.now) }
+        ensures workers { All (λ row. worker_of row < MOST_WORKERS) (rows_of_book self.now) }
+        ensures few { AreFewOfEach (rows_of_book self.now) }
+        ensures limits { IsWithinLimits (rows_of_book self.now) }
     {
         match &self.rows {
             Some(rows) => rows,
@@ -163,15 +163,16 @@ fn is_too_long(rows: &[Opened]) -> bool
 
 impl SerialAuction {
     ghost use Rattle.auction_rows.specs.Book.{Book};
-    ghost use Rattle.item_shards.specs.Serial.{HoldsBook, IsNotFull, CanGrow, opening_of};
+    ghost use Rattle.item_shards.specs.Serial.{HoldsBook, IsNotFull, CanGrow, serial_opening};
     ghost use Rattle.item_shards.specs.OpeningRows.{with_opened, IsRow};
     ghost use Rattle.item_shards.specs.OpeningBooks as opened;
 
     /// The auction that holds a book. It costs in proportion to the rows, the users and the categories, and errs
     /// if the auction can't be made or grow for want of memory.
     pub fn resume(alloc: Global, book: &OpeningBook) -> Result<SerialAuction, AllocError>
-        ensures book { IfOk result (λ auction. HoldsBook auction (opened.rows_of book.now)) }
-        ensures opening { IfOk result (λ auction. opening_of auction ≡ opened.opening_of book.now) }
+        ensures book { IfOk result (λ auction. HoldsBook auction (opened.rows_of_book book.now)) }
+        ensures opening { IfOk result
+            (λ auction. serial_opening auction ≡ opened.opening_of book.now) }
     {
         SerialAuction::of_book(alloc, book.opening(), book.rows())
     }
@@ -179,16 +180,16 @@ impl SerialAuction {
     // Adds the row of a request that is handed in, if it is one at its place.
     fn add_opened(&mut self, opened: &Opened) -> Result<Option<Row>, AllocError>
         requires { opened.now.worker < MOST_WORKERS → CanGrow self.old }
-        ensures opening { opening_of self.new ≡ opening_of self.old }
+        ensures opening { serial_opening self.new ≡ serial_opening self.old }
         ensures bad { IfOk result (λ added. IfNone added ((book : Book) → HoldsBook self.old book →
-            ¬ IsRow (opening_of self.old) book opened.now)) }
+            ¬ IsRow (serial_opening self.old) book opened.now)) }
         ensures row { IfOk result (λ added. IfSome added (λ row.
             (book : Book) → HoldsBook self.old book →
-            IsRow (opening_of self.old) book opened.now
-            × (with_opened (opening_of self.old) book opened.now ≡ book ++ row ∷ []))) }
+            IsRow (serial_opening self.old) book opened.now
+            × (with_opened (serial_opening self.old) book opened.now ≡ book ++ row ∷ []))) }
         ensures book { IfOk result (λ added. OnSome added (
             (book : Book) → HoldsBook self.old book → IsNotFull book →
-            HoldsBook self.new (with_opened (opening_of self.old) book opened.now))) }
+            HoldsBook self.new (with_opened (serial_opening self.old) book opened.now))) }
     {
         if opened.worker as usize >= MOST_WORKERS {
             return Ok(None);

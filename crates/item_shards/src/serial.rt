@@ -28,12 +28,12 @@ impl SerialAuction {
     ghost use Rattle.auction_rows.specs.History.{IsBook};
     ghost use Rattle.item_shards.specs.Counting.{worker_of};
     ghost use Rattle.item_shards.specs.Limits.{IsWithinLimits};
-    ghost use Rattle.item_shards.specs.Serial.{HoldsBook, IsNotFull, CanGrow, CanStore, CanFollow, CanAdd, HoldsFirst, opening_of};
+    ghost use Rattle.item_shards.specs.Serial.{HoldsBook, IsNotFull, CanGrow, CanStore, CanFollow, CanAdd, HoldsFirst, serial_opening};
 
     /// An auction in which nothing is stored. It errs if the shard can't be made for want of memory.
     pub fn new(alloc: Global, opening: Opening) -> Result<SerialAuction, AllocError>
         ensures book { IfOk result (λ auction. HoldsBook auction []) }
-        ensures opening { IfOk result (λ auction. opening_of auction ≡ opening) }
+        ensures opening { IfOk result (λ auction. serial_opening auction ≡ opening) }
     {
         let none = StoreCounts {
             items: 0,
@@ -57,7 +57,7 @@ impl SerialAuction {
         requires limits { IsWithinLimits rows.now }
         requires workers { All (λ row. worker_of row < MOST_WORKERS) rows.now }
         ensures book { IfOk result (λ auction. HoldsBook auction rows.now) }
-        ensures opening { IfOk result (λ auction. opening_of auction ≡ opening) }
+        ensures opening { IfOk result (λ auction. serial_opening auction ≡ opening) }
     {
         let mut auction = SerialAuction::new(alloc, opening)?;
         auction.add_rows(rows)?;
@@ -69,10 +69,11 @@ impl SerialAuction {
     pub fn add_rows(&mut self, rows: &[Row]) -> Result<(), AllocError>
         requires { CanAdd self.old rows.now }
         ensures book { OnOk result ((book : Book) → HoldsBook self.old book →
-            CanFollow (opening_of self.old) book rows.now → HoldsBook self.new (book ++ rows.now)) }
+            CanFollow (serial_opening self.old) book rows.now →
+            HoldsBook self.new (book ++ rows.now)) }
         ensures refused { OnErr result ((book : Book) → HoldsBook self.old book →
-            CanFollow (opening_of self.old) book rows.now → HoldsFirst self.new book rows.now) }
-        ensures opening { opening_of self.new ≡ opening_of self.old }
+            CanFollow (serial_opening self.old) book rows.now → HoldsFirst self.new book rows.now) }
+        ensures opening { serial_opening self.new ≡ serial_opening self.old }
     {
         for row in rows {
             self.store(row)?;
@@ -84,7 +85,7 @@ impl SerialAuction {
     pub fn reply_to(&self, worker: u32, request: Request) -> Reply
         requires { worker < MOST_WORKERS }
         ensures { (book : Book) → HoldsBook self.now book →
-            result ≡ reply (opening_of self.now) book worker request }
+            result ≡ reply (serial_opening self.now) book worker request }
     {
         let stored = self.stored[worker as usize];
         let request = &request;
@@ -115,7 +116,7 @@ impl SerialAuction {
     // The refusal of a request, or else the reply.
     fn unless_refused(&self, request: &Request, reply: Reply) -> Reply
         ensures { (book : Book) → HoldsBook self.now book →
-            result ≡ answer_unless (refusal (opening_of self.now) book request.now) reply }
+            result ≡ answer_unless (refusal (serial_opening self.now) book request.now) reply }
     {
         match self.refusal(request) {
             Some(reason) => Reply::Refused(reason),
@@ -125,7 +126,7 @@ impl SerialAuction {
 
     fn refusal(&self, request: &Request) -> Option<Refusal>
         ensures { (book : Book) → HoldsBook self.now book →
-            result ≡ refusal (opening_of self.now) book request.now }
+            result ≡ refusal (serial_opening self.now) book request.now }
     {
         if let Some(reason) = number_refusal(self.shard.parts.opening, *request) {
             return Some(reason);
@@ -141,7 +142,7 @@ impl SerialAuction {
             HoldsBook self.new (book ++ row.now ∷ [])) }
         ensures refused { OnErr result (
             (book : Book) → HoldsBook self.old book → HoldsBook self.new book) }
-        ensures opening { opening_of self.new ≡ opening_of self.old }
+        ensures opening { serial_opening self.new ≡ serial_opening self.old }
     {
         self.shard.write(row)?;
         let worker = row.worker() as usize;
@@ -157,12 +158,12 @@ impl SerialAuction {
         requires worker { worker < MOST_WORKERS }
         requires room { CanGrow self.old }
         ensures reply { IfOk result (λ answered. (book : Book) → HoldsBook self.old book →
-            answered ≡ reply (opening_of self.old) book worker request) }
+            answered ≡ reply (serial_opening self.old) book worker request) }
         ensures book { OnOk result ((book : Book) → HoldsBook self.old book → IsNotFull book →
-            HoldsBook self.new (next (opening_of self.old) book worker request)) }
+            HoldsBook self.new (next (serial_opening self.old) book worker request)) }
         ensures refused { OnErr result (
             (book : Book) → HoldsBook self.old book → HoldsBook self.new book) }
-        ensures opening { opening_of self.new ≡ opening_of self.old }
+        ensures opening { serial_opening self.new ≡ serial_opening self.old }
     {
         let request = &request;
         let reply = self.reply_to(worker, *request);

@@ -7,7 +7,7 @@ use Rattle.auction_rows.specs.declared.rows.Row.{Row}
 use Rattle.auction_text.specs.RowLines.{row_line, rows_text}
 use Rattle.std.specs.Io.KnownBytes.{Appends}
 use Rattle.std.specs.List.{flat_map}
-use Rattle.load_program.specs.declared.load.Line.{Line}
+use Rattle.load_program.specs.declared.load.ScriptLine.{ScriptLine}
 use Rattle.load_program.specs.declared.plan.Counts.{Counts}
 use Rattle.load_program.specs.declared.plan.Plan.{Plan}
 use Rattle.load_program.specs.Lines.{line_text}
@@ -32,7 +32,7 @@ module _ {A : Type 0} (Holds : ℕ → A → Type 0) where
 pub no_lines : (plan : Plan) (old : Option (List ℕ)) → WritesLines plan 0 old old
 no_lines plan old = record { lines = []; number = refl; each = tt; written = Appends-nil old }
 
-pub more_lines : (plan : Plan) (count total : ℕ) (old mid new : Option (List ℕ)) (more : List Line)
+pub more_lines : (plan : Plan) (count total : ℕ) (old mid new : Option (List ℕ)) (more : List ScriptLine)
     → WritesLines plan count old mid → count + length more ≡ total → EachFrom (IsLineAt plan) count more
     → Appends mid new (flat_map line_text more) → WritesLines plan total old new
 more_lines plan count total old mid new more before number each written = record {

@@ -8,7 +8,7 @@ use Rattle.auction_rows.specs.declared.requests.Request.{Request}
 use Rattle.auction_rows.specs.declared.requests.Request.TheVariants.{StoreItem, StoreBid, StoreComment, BuyNow, ViewItem, ViewBids, ViewCategory, ViewUser}
 use Rattle.auction_text.specs.Replies.{labelled, labelled_id}
 use Rattle.auction_text.specs.RowLines.{quoted}
-use Rattle.load_program.specs.declared.load.Line.{Line}
+use Rattle.load_program.specs.declared.load.ScriptLine.{ScriptLine}
 
 -- what an item's request says after its worker
 abbrev pub item_text : Facts → ℕ → List ℕ
@@ -45,5 +45,5 @@ request_text (ViewCategory category) = labelled (codes ",viewcategory,") categor
 request_text (ViewUser user) = labelled (codes ",viewuser,") user
 
 -- the line of a request
-abbrev pub line_text : Line → List ℕ
+abbrev pub line_text : ScriptLine → List ℕ
 line_text line = decimal line.worker ++ request_text line.request ++ codes "\n"

@@ -4,7 +4,7 @@ use Rattle.std.specs.Io.KnownBytes.{Appends}
 use Rattle.std.specs.List.{flat_map}
 use Rattle.auction_rows.specs.declared.rows.Row.{Row}
 use Rattle.auction_text.specs.RowLines.{rows_text}
-use Rattle.load_program.specs.declared.load.Line.{Line}
+use Rattle.load_program.specs.declared.load.ScriptLine.{ScriptLine}
 use Rattle.load_program.specs.declared.plan.Counts.{Counts}
 use Rattle.load_program.specs.declared.plan.Plan.{Plan}
 use Rattle.load_program.specs.Lines.{line_text}
@@ -24,7 +24,7 @@ pub record WritesRows (counts : Counts) (count : ℕ) (old new : Option (List �
 
 -- The text of so many requests is written, dealt out to the workers in turn.
 pub record WritesLines (plan : Plan) (count : ℕ) (old new : Option (List ℕ)) : Type 0 where
-  pub lines : List Line
+  pub lines : List ScriptLine
   pub number : length lines ≡ count
   pub each : EachFrom (IsLineAt plan) 0 lines
   pub written : Appends old new (flat_map line_text lines)

@@ -7,7 +7,7 @@ use Rattle.auction_rows.specs.declared.rows.ItemRow.{ItemRow}
 use Rattle.auction_rows.specs.declared.rows.Row.{Row}
 use Rattle.auction_rows.specs.declared.rows.Row.TheVariants.{Item, Bid, Comment, Buy}
 use Rattle.auction_rows.specs.Requests.{users_of, categories_of, item_of}
-use Rattle.load_program.specs.declared.load.Line.{Line}
+use Rattle.load_program.specs.declared.load.ScriptLine.{ScriptLine}
 use Rattle.load_program.specs.declared.plan.Counts.{Counts}
 use Rattle.load_program.specs.declared.plan.Mix.{Mix}
 use Rattle.load_program.specs.declared.plan.Plan.{Plan}
@@ -40,7 +40,7 @@ HasShare mix (ViewCategory category) = 0 < mix.views
 HasShare mix (ViewUser user) = 0 < mix.views
 
 -- The line at an index is of the worker whose turn it is, what it names is there, and its kind has a share.
-pub record IsLineAt (plan : Plan) (index : ℕ) (line : Line) : Type 0 where
+pub record IsLineAt (plan : Plan) (index : ℕ) (line : ScriptLine) : Type 0 where
   pub worker : line.worker ≡ index % plan.counts.workers
   pub names : NamesStored plan.counts line.request
   pub share : HasShare plan.mix line.request

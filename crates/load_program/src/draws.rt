@@ -4,7 +4,7 @@ ghost use Rattle.auction_rows.specs.declared.limits.TheConstants.{MOST_QUANTITY}
 ghost use Rattle.load_program.specs.Loads.{EachFrom};
 ghost use Rattle.load_program.specs.Stored.{HasShare, IsLineAt, IsRowAt, IsStored, NamesStored, item_at};
 
-use crate::load::Line;
+use crate::load::ScriptLine;
 use crate::plan::{Counts, Plan, Popularity};
 use auction_rows::{Facts, ItemId, ItemRow, MOST_QUANTITY, Name, Quantity, Request, Row, Stars};
 use rand::RngExt;
@@ -232,7 +232,7 @@ impl Market {
         rng: &mut Xoshiro256PlusPlus,
         first: u32,
         end: u32,
-    ) -> Result<Vec<Line>, AllocError>
+    ) -> Result<Vec<ScriptLine>, AllocError>
         requires { first ≤ end }
         ensures count { IfOk result (λ lines. first + length lines.items ≡ end) }
         ensures each { IfOk result (λ lines. EachFrom (IsLineAt self.now.plan) first lines.items) }
@@ -241,7 +241,7 @@ impl Market {
         let mut lines = Vec::with_capacity(alloc, (end - first) as usize)?;
         for index in first..end {
             let request = self.request(rng, u64::from(counts.items) + u64::from(index));
-            lines.push(Line {
+            lines.push(ScriptLine {
                 worker: index % counts.workers,
                 request,
             })?;

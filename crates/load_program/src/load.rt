@@ -27,7 +27,7 @@ const ROOM_OF_A_LINE: usize = 40;
 
 /// A request and the worker whose script it is in.
 #[derive(Clone, Copy)]
-pub struct Line {
+pub struct ScriptLine {
     /// The worker.
     pub worker: u32,
     /// Its request.
@@ -136,7 +136,7 @@ fn push_request(text: &mut Vec<u8>, request: &Request) -> Result<(), AllocError>
     }
 }
 
-fn push_line(text: &mut Vec<u8>, line: &Line) -> Result<(), AllocError>
+fn push_line(text: &mut Vec<u8>, line: &ScriptLine) -> Result<(), AllocError>
     ensures { OnOk result (text.new.items ≡ text.old.items ++ line_text line.now) }
 {
     push_number(text, u64::from(line.worker))?;
@@ -144,7 +144,7 @@ fn push_line(text: &mut Vec<u8>, line: &Line) -> Result<(), AllocError>
     push_text(text, b"\n")
 }
 
-fn push_lines(text: &mut Vec<u8>, lines: &[Line]) -> Result<(), AllocError>
+fn push_lines(text: &mut Vec<u8>, lines: &[ScriptLine]) -> Result<(), AllocError>
     ensures { OnOk result (text.new.items ≡ text.old.items ++ flat_map line_text lines.now) }
 {
     for line in lines {
@@ -154,7 +154,7 @@ fn push_lines(text: &mut Vec<u8>, lines: &[Line]) -> Result<(), AllocError>
 }
 
 /// The text of lines, each with its line feed.
-pub fn lines_text(alloc: Global, lines: &[Line]) -> Result<Vec<u8>, AllocError>
+pub fn lines_text(alloc: Global, lines: &[ScriptLine]) -> Result<Vec<u8>, AllocError>
     ensures { IfOk result (λ text. text.items ≡ flat_map line_text lines.now) }
 {
     let mut text = Vec::with_capacity(alloc, lines.len().saturating_mul(ROOM_OF_A_LINE))?;
@@ -189,7 +189,11 @@ fn write_items<W: Write>(
 }
 
 // Writes the text of some lines.
-fn write_lines<W: Write>(alloc: Global, writer: &mut W, lines: &[Line]) -> Result<(), WriteFault>
+fn write_lines<W: Write>(
+    alloc: Global,
+    writer: &mut W,
+    lines: &[ScriptLine],
+) -> Result<(), WriteFault>
     ensures { OnOk result (Appends (W.contents writer.old) (W.contents writer.new) (flat_map line_text lines.now)) }
 {
     let Ok(text) = lines_text(alloc, lines) else {

@@ -23,7 +23,7 @@ use Rattle.closing_laws.specs.Standing.{counters_at}
 use Rattle.phase_floor.specs.declared.floor.BeginFault.TheVariants.{UnknownHot, TooLong, Memory}
 use Rattle.phase_floor.specs.declared.start.Kit.{Kit}
 use Rattle.phase_floor.specs.Begins.{IsTooLong, asked_in_all, empty_stash, IsKit, AreKits, start_of, HasNoSlices, HaveStashRoom, HasRefusedJoined, HasRefusedSplit}
-use Rattle.phase_floor.specs.Floors.{FloorState, IsOpen, IsBegun, AreBegun, no_stash, stash_at}
+use Rattle.phase_floor.specs.Floors.{FloorState, IsOpen, IsNewPermit, AreBegun, no_stash, stash_at}
 use Rattle.phase_floor.specs.States.{JoinedState, DoAllExist, states_of}
 use Rattle.phase_floor.proofs.HotItems.{objects_of_slices, hot_is_stored}
 use Rattle.phase_floor.proofs.StoredItems.{stored_before}
@@ -34,7 +34,7 @@ pub begun_next : (floor : FloorState) (workers w : ℕ) (quotas : List ℕ) (key
     → AreNewKeys floor.boxes workers keys → AreKits floor.phase floor.stocks stashes quotas workers kits → w < workers
     → (key : KeyState) (kit : Kit) (stash : StashState) → key ∷ keys_left ≡ drop w keys → kit ∷ kits_left ≡ drop w kits → stash ∷ stashes_left ≡ drop w stashes
     → (opening : Opening) (counters : Counters) → opening ≡ floor.opening → counters ≡ counters_at floor.counters w
-    → IsBegun floor w (get_or quotas w 0) (stash_at stashes w) (start_of key opening counters kit.journal stash kit.slices (get_or quotas w 0))
+    → IsNewPermit floor w (get_or quotas w 0) (stash_at stashes w) (start_of key opening counters kit.journal stash kit.slices (get_or quotas w 0))
 begun_next floor workers w quotas keys keys_left kits kits_left stashes stashes_left new made below key kit stash next_key next_kit next_stash opening counters openings counts =
     let quota = get_or quotas w 0 in
     let kit_is = subst (IsKit floor.phase floor.stocks w (length (stash_at stashes w).requests + quota)) (at_head kits w kit kits_left kit next_kit) (made w kit below) in
@@ -119,9 +119,9 @@ passed_on done now left next all x made pushed same took was =
     ap (λ l. l ++ next) (pushed ∙ ap (λ one. done ++ one ∷ []) same) ∙ append_assoc done (x ∷ []) next ∙ ap (λ l. done ++ l) (sym took) ∙ was
 
 -- a worker can start with what is begun, where it asks for no more than 1,000,000
-pub can_start : (opening : List ShardState) (workers : ℕ) (floor : FloorState) → IsOpen opening workers floor → (w quota : ℕ) (stash : StashState) (start : WorkerState) → w < workers
-    → (counters_at floor.counters w).commits + length stash.requests + quota ≤ 1000000 → HasStashRoom (slices_of floor.stocks []) quota stash.room → IsBegun floor w quota stash start → CanStart start
-can_start opening workers floor is_open w quota stash start below fits room begun =
+pub can_start : (initial : List ShardState) (workers : ℕ) (floor : FloorState) → IsOpen initial workers floor → (w quota : ℕ) (stash : StashState) (start : WorkerState) → w < workers
+    → (counters_at floor.counters w).commits + length stash.requests + quota ≤ 1000000 → HasStashRoom (slices_of floor.stocks []) quota stash.room → IsNewPermit floor w quota stash start → CanStart start
+can_start initial workers floor is_open w quota stash start below fits room begun =
     let low : w < length floor.counters = omega (arith, below, is_open.workers_are) in
     let limit = is_open.kept.limits w low in
     subst CanStart (sym begun.new) (record {
@@ -134,9 +134,9 @@ can_start opening workers floor is_open w quota stash start below fits room begu
       limit = fits;
       counted = record { items = omega (arith, limit.stored); bids = omega (arith, limit.stored); comments = omega (arith, limit.stored); buys = omega (arith, limit.stored) };
       stored = λ item hot own.
-          let some = hot_is_stored opening floor.stocks is_open.stocks_are.stocked is_open.stocks_are.read item
+          let some = hot_is_stored initial floor.stocks is_open.stocks_are.stocked is_open.stocks_are.read item
           (sym (ap (λ os. is_hot os (Item item)) (objects_of_slices floor.stocks [])) ∙ hot) in
-          let before = stored_before floor.opening opening floor.counters is_open.kept item some (omega (arith, own, low)) in
+          let before = stored_before floor.opening initial floor.counters is_open.kept item some (omega (arith, own, low)) in
           omega (arith, before, ap (λ v. (counters_at floor.counters v).items) own);
     })
 

@@ -8,7 +8,7 @@ use Rattle.item_shards.specs.declared.shard.Shard.{Shard}
 use Rattle.item_shards.specs.ShardContents.{IsNewShard}
 use Rattle.item_shards.specs.Values.{Value}
 use Rattle.item_shards.proofs.StandingLemmas.{blank_of_none}
-use Rattle.shard_boxes.specs.States.{ShardState, state_of, state_at, IsOpened}
+use Rattle.shard_boxes.specs.States.{ShardState, state_of, state_at, IsInitial}
 use Rattle.phase_permits.specs.declared.worker.Counters.{Counters}
 use Rattle.phase_permits.specs.Replying.{CountsOf}
 use Rattle.phase_permits.specs.Workers.{no_counters}
@@ -21,7 +21,7 @@ blank_of_new opening count n shard new =
     record { number_is = new.number_is; shards_is = new.shards_is; opening_is = new.opening_is; clock_is = new.clock_is; nothing = new.nothing }
 
 -- a blank shard may open a phase
-opened_of_blank : (opening : Opening) (count n : ℕ) (state : ShardState) → IsBlank opening count n state → IsOpened count n state
+opened_of_blank : (opening : Opening) (count n : ℕ) (state : ShardState) → IsBlank opening count n state → IsInitial count n state
 opened_of_blank opening count n state h = record {
   number_is = h.number_is;
   shards_is = h.shards_is;
@@ -62,7 +62,7 @@ module _ (opening : Opening) (shards : List Shard) (counters : List Counters) (c
     few_shards = omega (arith, same, len, some);
     some_workers = omega (arith, few, many);
     few_workers = omega (arith, few, many);
-    opened = λ s below. subst (λ n. IsOpened n s (state_at (map state_of shards) s)) (sym (same ∙ len)) (opened_of_blank opening count s (state_at (map state_of shards) s) (blank s (here s below)));
+    opened = λ s below. subst (λ n. IsInitial n s (state_at (map state_of shards) s)) (sym (same ∙ len)) (opened_of_blank opening count s (state_at (map state_of shards) s) (blank s (here s below)));
     opening_is = λ s below. (blank s (here s below)).opening_is;
     limits = λ w below. subst IsWithinLimit (nothing w) (record { stored = omega arith; commits = omega arith });
     of_a_book = λ none. none [] tt tt blank_stands;

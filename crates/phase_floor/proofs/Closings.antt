@@ -35,10 +35,10 @@ by_worker (r ∷ receipts) from h =
     let rest = λ (w : ℕ) (below : w < length receipts). let next = h (suc w) (omega (arith, below)) in let e : (journal_of (receipt_at receipts w)).worker ≡ from + 1 + w = omega (arith, next) in e in
     (all_later (journal_of r).worker receipts (from + 1) (omega (arith, first)) rest, by_worker receipts (from + 1) rest)
 
-module _ (opening : List ShardState) (workers : ℕ) (floor : FloorState) (is_open : IsOpen opening workers floor) (receipts : List WorkerState) (are : AreReceiptsOf floor receipts)
-    (all : AllByRecursion (IsFinished (length opening)) receipts) where
-  pub finished : (w : ℕ) → w < length receipts → IsFinished (length opening) (receipt_at receipts w)
-  finished w below = at_place (IsFinished (length opening)) receipts all w no_receipt below
+module _ (initial : List ShardState) (workers : ℕ) (floor : FloorState) (is_open : IsOpen initial workers floor) (receipts : List WorkerState) (are : AreReceiptsOf floor receipts)
+    (all : AllByRecursion (IsFinished (length initial)) receipts) where
+  pub finished : (w : ℕ) → w < length receipts → IsFinished (length initial) (receipt_at receipts w)
+  finished w below = at_place (IsFinished (length initial)) receipts all w no_receipt below
 
   known : (w : ℕ) → w < length receipts → w < length floor.counters
   known w below = omega (arith, below, are.0)
@@ -60,9 +60,9 @@ module _ (opening : List ShardState) (workers : ℕ) (floor : FloorState) (is_op
       )
 
   -- what the parts tell of the phase, once its boxes are closed and its journals merged
-  pub has_closed : (given : List ShardState) (entries : List Entry) → AreClosed opening workers (map key_of receipts) given
+  pub has_closed : (given : List ShardState) (entries : List Entry) → AreClosed initial workers (map key_of receipts) given
       → IsAscending entry_number entry_worker entries → ((w : ℕ) → part entry_worker w entries ≡ entries_of w (map journal_of receipts))
-      → HasClosed (phase_of opening floor receipts given entries)
+      → HasClosed (phase_of initial floor receipts given entries)
   has_closed given entries boxes ascending parts = record {
     begun = record {
       some = is_open.kept.some_shards;
@@ -76,9 +76,9 @@ module _ (opening : List ShardState) (workers : ℕ) (floor : FloorState) (is_op
         let receipt = are.1 w (known w below) in record {
           explained = (finished w below).explained;
           worker_is = receipt.worker_is;
-          setting = (λ i. record { opening = receipt.opening_is i; shards = length opening; stocks = receipt.stocks_are i });
+          setting = (λ i. record { opening = receipt.opening_is i; shards = length initial; stocks = receipt.stocks_are i });
           begun = receipt.begun;
         };
-    boxes = subst (λ n. AreClosed opening n (map key_of receipts) given) (sym is_open.workers_are ∙ sym are.0) boxes;
+    boxes = subst (λ n. AreClosed initial n (map key_of receipts) given) (sym is_open.workers_are ∙ sym are.0) boxes;
     merged = record { ascending = ascending; parts = parts };
   }

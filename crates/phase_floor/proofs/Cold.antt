@@ -24,9 +24,9 @@ none_left : (receipts : List WorkerState) → AllByRecursion (λ receipt. stocks
 none_left [] none = refl
 none_left (receipt ∷ receipts) none = ap (λ l. l ++ slices_left receipts) (none_held receipt.slices none.0) ∙ none_left receipts none.1
 
-pub has_settled : (opening : List ShardState) (floor : FloorState) (receipts : List WorkerState) (states : List ShardState) (entries : List Entry)
-    → floor.stocks ≡ [] → AreReceiptsOf floor receipts → HasReconciled opening floor receipts states entries → HasSettled opening floor receipts states entries
-has_settled opening floor receipts states entries cold are reconciled =
+pub has_settled : (initial : List ShardState) (floor : FloorState) (receipts : List WorkerState) (states : List ShardState) (entries : List Entry)
+    → floor.stocks ≡ [] → AreReceiptsOf floor receipts → HasReconciled initial floor receipts states entries → HasSettled initial floor receipts states entries
+has_settled initial floor receipts states entries cold are reconciled =
     let each : AllByRecursion (λ receipt. stocks_of receipt.slices ≡ []) receipts =
     every_from (λ receipt. stocks_of receipt.slices ≡ []) receipts no_receipt (λ w below. (are.1 w (omega (arith, below, are.0))).stocks_are ∙ cold) in
     let none : reconciled.order ≡ [] =

@@ -15,7 +15,7 @@ use Rattle.item_shards.specs.declared.shard.Shard.{Shard}
 use Rattle.item_shards.specs.ShardContents.{kept}
 use Rattle.item_shards.specs.Values.{Value, blank, value}
 use Rattle.item_shards.proofs.CountLemmas.{bids_at_most, comments_at_most, rating_at_most}
-use Rattle.shard_boxes.specs.States.{ShardState, state_of, state_at, IsWithin, AreOpened}
+use Rattle.shard_boxes.specs.States.{ShardState, state_of, state_at, IsWithin, AreInitial}
 use Rattle.phase_permits.specs.declared.worker.Counters.{Counters}
 use Rattle.phase_permits.specs.Workers.{WorkerState}
 use Rattle.closing_laws.specs.Phases.{HasClosed, receipt_at, counters_of}
@@ -77,7 +77,7 @@ module _ (opening : Opening) (shards : List Shard) (counters : List Counters) (r
     ratings = λ user. let m = measured s below (User user) (λ v. unsigned_abs v.comments.rating) 80000000 (omega (arith, ints)) (λ book small. let most = rating_at_most book user in omega (arith, most, small)) in omega (arith, m);
   }
 
-  pub are_opened : AreOpened (map state_of shards)
+  pub are_opened : AreInitial (map state_of shards)
   are_opened = λ s below. record {
     number_is = (ready.numbered s below).0;
     shards_is = (ready.numbered s below).1;
@@ -85,8 +85,8 @@ module _ (opening : Opening) (shards : List Shard) (counters : List Counters) (r
     within = within s below;
   }
 
-module _ (opening : List ShardState) (workers : ℕ) (floor : FloorState) (is_open : IsOpen opening workers floor) (receipts : List WorkerState) (are : AreReceiptsOf floor receipts)
-    (given : List ShardState) (entries : List Entry) (closed : HasClosed (phase_of opening floor receipts given entries))
+module _ (initial : List ShardState) (workers : ℕ) (floor : FloorState) (is_open : IsOpen initial workers floor) (receipts : List WorkerState) (are : AreReceiptsOf floor receipts)
+    (given : List ShardState) (entries : List Entry) (closed : HasClosed (phase_of initial floor receipts given entries))
     (limit : (w : ℕ) → w < length receipts → (counters_of (receipt_at receipts w)).commits ≤ 1000000) where
   -- the counters of a worker after the phase
   pub counted : (w : ℕ) → w < length receipts → counters_of (receipt_at receipts w) ≡ counters_at (map counters_of receipts) w
@@ -99,16 +99,16 @@ module _ (opening : List ShardState) (workers : ℕ) (floor : FloorState) (is_op
   limits_after w low =
       let below : w < length receipts = omega (arith, low, many) in
       subst IsWithinLimit (counted w below) (record {
-        stored = stores_few (phase_of opening floor receipts given entries) closed w below (is_open.kept.limits w (omega (arith, below, are.0))).stored;
+        stored = stores_few (phase_of initial floor receipts given entries) closed w below (is_open.kept.limits w (omega (arith, below, are.0))).stored;
         commits = limit w below;
       })
 
-  module _ (shards : List Shard) (as_many : length (map state_of shards) ≡ length opening) (ready : AreReady floor.opening (map state_of shards))
-      (stand : (book : Book) → StandFor opening floor.counters book [] → StandFor (map state_of shards) (map counters_of receipts) (book_after floor.opening book entries) []) where
+  module _ (shards : List Shard) (as_many : length (map state_of shards) ≡ length initial) (ready : AreReady floor.opening (map state_of shards))
+      (stand : (book : Book) → StandFor initial floor.counters book [] → StandFor (map state_of shards) (map counters_of receipts) (book_after floor.opening book entries) []) where
     of_a_book_after : AreOfABook floor.opening (map state_of shards) (map counters_of receipts)
     of_a_book_after = λ none. is_open.kept.of_a_book (λ book is own holds.
-        none (book_after floor.opening book entries) (book_left (phase_of opening floor receipts given entries) closed book holds is)
-        (subst (λ n. AreOfWorkers n (book_after floor.opening book entries)) (sym many) (workers_go_on (phase_of opening floor receipts given entries) closed book holds own))
+        none (book_after floor.opening book entries) (book_left (phase_of initial floor receipts given entries) closed book holds is)
+        (subst (λ n. AreOfWorkers n (book_after floor.opening book entries)) (sym many) (workers_go_on (phase_of initial floor receipts given entries) closed book holds own))
         (stand book holds))
 
     pub kept_after : IsKept floor.opening (map state_of shards) (map counters_of receipts)

@@ -38,10 +38,10 @@ started p states lawful = record {
 left : (p : Phase) (states closing : List ShardState) → closing ≡ map at_start states → ClosesLawfully p states → ClosesLawfully p closing
 left p states closing are lawful = subst (ClosesLawfully p) (sym are) (started p states lawful)
 
-module _ (opening : List ShardState) (floor : FloorState) (receipts : List WorkerState) (states : List ShardState) (entries : List Entry) where
-  pub reconciled_lawful : HasReconciled opening floor receipts states entries → HasClosedLawfully opening floor receipts states entries
+module _ (initial : List ShardState) (floor : FloorState) (receipts : List WorkerState) (states : List ShardState) (entries : List Entry) where
+  pub reconciled_lawful : HasReconciled initial floor receipts states entries → HasClosedLawfully initial floor receipts states entries
   reconciled_lawful reconciled =
-      let p = phase_of opening floor receipts reconciled.given entries in
+      let p = phase_of initial floor receipts reconciled.given entries in
       let merged = fold after_merge reconciled.given reconciled.order in record {
         given = reconciled.given;
         lawful = left p merged states reconciled.states_are (split_lawful p reconciled.closed merged

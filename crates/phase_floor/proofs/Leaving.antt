@@ -12,7 +12,7 @@ use Rattle.shard_boxes.specs.Closed.{AreClosed}
 use Rattle.shard_boxes.specs.Keys.{KeyState}
 use Rattle.shard_boxes.specs.States.{ShardState, state_of}
 use Rattle.worker_journals.specs.Histories.{HistoryView, with_phase}
-use Rattle.worker_journals.specs.Journals.{JournalView, IsLawful}
+use Rattle.worker_journals.specs.Journals.{JournalView, IsLawfulJournal}
 use Rattle.worker_journals.specs.Merged.{AreByWorker, added, entries_of}
 use Rattle.worker_journals.proofs.AddedLemmas.{added_ascends, added_parts}
 use Rattle.phase_permits.specs.declared.worker.Counters.{Counters}
@@ -33,29 +33,29 @@ use Rattle.phase_floor.proofs.Lawfully.{reconciled_lawful}
 use Rattle.phase_floor.proofs.Reconciled.{order_of, all_once, given_one, given_known, given_can, as_many, ready, stand_after}
 
 -- what the parts of the receipts, the boxes and the history tell: the phase has reconciled
-module _ (opening : List ShardState) (workers : ℕ) (floor : FloorState) (is_open : IsOpen opening workers floor) (receipts : List WorkerState) (are : AreReceiptsOf floor receipts)
-    (all : AllByRecursion (IsFinished (length opening)) receipts) (given : List ShardState) (old new : HistoryView) (journals : List JournalView) (stashes : List StashState) (keys : List KeyState)
+module _ (initial : List ShardState) (workers : ℕ) (floor : FloorState) (is_open : IsOpen initial workers floor) (receipts : List WorkerState) (are : AreReceiptsOf floor receipts)
+    (all : AllByRecursion (IsFinished (length initial)) receipts) (given : List ShardState) (old new : HistoryView) (journals : List JournalView) (stashes : List StashState) (keys : List KeyState)
     (counters : List Counters) (slices : List (List (Object × Hot))) (parts : ArePartsOf receipts journals stashes keys counters slices) (is : new ≡ with_phase old journals)
-    (lawful : AllByRecursion IsLawful journals) (boxes : AreClosed opening workers keys given) where
-  closed : HasClosed (phase_of opening floor receipts given (added old.entries new.entries))
+    (lawful : AllByRecursion IsLawfulJournal journals) (boxes : AreClosed initial workers keys given) where
+  closed : HasClosed (phase_of initial floor receipts given (added old.entries new.entries))
   closed =
-      let up = subst AreByWorker (sym parts.journals_are) (in_order opening workers floor is_open receipts are all) in
-      has_closed opening workers floor is_open receipts are all given (added old.entries new.entries)
-      (subst (λ (keys : List KeyState). AreClosed opening workers keys given) parts.keys_are boxes) (added_ascends old new journals is up lawful)
+      let up = subst AreByWorker (sym parts.journals_are) (in_order initial workers floor is_open receipts are all) in
+      has_closed initial workers floor is_open receipts are all given (added old.entries new.entries)
+      (subst (λ (keys : List KeyState). AreClosed initial workers keys given) parts.keys_are boxes) (added_ascends old new journals is up lawful)
       (λ w. added_parts old new journals is up lawful w ∙ ap (entries_of w) parts.journals_are)
 
   pub shards_one : AreOfOne given
-  shards_one = given_one opening workers floor is_open receipts are given (added old.entries new.entries) closed
+  shards_one = given_one initial workers floor is_open receipts are given (added old.entries new.entries) closed
 
   pub slices_known : AreKnown given (flat_map from_the_last slices)
-  slices_known = subst (AreKnown given) (sym parts.slices_are) (given_known opening workers floor is_open receipts are given (added old.entries new.entries) closed)
+  slices_known = subst (AreKnown given) (sym parts.slices_are) (given_known initial workers floor is_open receipts are given (added old.entries new.entries) closed)
 
   pub slices_can : SawInTurn CanMerge after_merge given (flat_map from_the_last slices)
   slices_can =
       subst (SawInTurn CanMerge after_merge given) (sym parts.slices_are)
-      (given_can opening workers floor is_open receipts are given (added old.entries new.entries) closed (λ w below. (finished opening workers floor is_open receipts are all w below).few))
+      (given_can initial workers floor is_open receipts are given (added old.entries new.entries) closed (λ w below. (finished initial workers floor is_open receipts are all w below).few))
 
-  pub reconciled : (states : List ShardState) → states ≡ map at_start (fold after_merge given (flat_map from_the_last slices)) → HasReconciled opening floor receipts states (added old.entries new.entries)
+  pub reconciled : (states : List ShardState) → states ≡ map at_start (fold after_merge given (flat_map from_the_last slices)) → HasReconciled initial floor receipts states (added old.entries new.entries)
   reconciled states states_are = record {
     given = given;
     closed = closed;
@@ -64,30 +64,30 @@ module _ (opening : List ShardState) (workers : ℕ) (floor : FloorState) (is_op
     states_are = states_are ∙ ap (λ (order : List (Object × Slice)). map at_start (fold after_merge given order)) parts.slices_are;
   }
 
-module _ (opening : List ShardState) (workers : ℕ) (floor : FloorState) (is_open : IsOpen opening workers floor) (receipts : List WorkerState) (are : AreReceiptsOf floor receipts)
-    (all : AllByRecursion (IsFinished (length opening)) receipts) (entries : List Entry) (shards : List Shard)
-    (e : HasReconciled opening floor receipts (map state_of shards) entries) (start : Opening) (counters : List Counters) (start_is : start ≡ floor.opening) (counters_are : counters ≡ map counters_of receipts) where
+module _ (initial : List ShardState) (workers : ℕ) (floor : FloorState) (is_open : IsOpen initial workers floor) (receipts : List WorkerState) (are : AreReceiptsOf floor receipts)
+    (all : AllByRecursion (IsFinished (length initial)) receipts) (entries : List Entry) (shards : List Shard)
+    (e : HasReconciled initial floor receipts (map state_of shards) entries) (start : Opening) (counters : List Counters) (start_is : start ≡ floor.opening) (counters_are : counters ≡ map counters_of receipts) where
   pub kept_left : IsKept start (map state_of shards) counters
   kept_left =
       let states = map state_of shards in
-      let kept = kept_after opening workers floor is_open receipts are e.given entries e.closed (λ w below. (finished opening workers floor is_open receipts are all w below).limit) shards
-      (as_many opening workers floor is_open receipts are e.given entries e.closed e.order e.each states e.states_are)
-      (ready opening workers floor is_open receipts are e.given entries e.closed e.order e.each states e.states_are)
-      (stand_after opening workers floor is_open receipts are e.given entries e.closed e.order e.each states e.states_are) in
+      let kept = kept_after initial workers floor is_open receipts are e.given entries e.closed (λ w below. (finished initial workers floor is_open receipts are all w below).limit) shards
+      (as_many initial workers floor is_open receipts are e.given entries e.closed e.order e.each states e.states_are)
+      (ready initial workers floor is_open receipts are e.given entries e.closed e.order e.each states e.states_are)
+      (stand_after initial workers floor is_open receipts are e.given entries e.closed e.order e.each states e.states_are) in
       subst (λ (o : Opening). IsKept o states counters) (sym start_is) (subst (λ (cs : List Counters). IsKept floor.opening states cs) (sym counters_are) kept)
 
-  pub leaves : (phase : ℕ) (stashes : List StashState) → phase ≡ floor.phase + 1 → stashes ≡ map stash_of receipts → Leaves opening floor receipts entries (joined_of start phase shards counters) stashes
+  pub leaves : (phase : ℕ) (stashes : List StashState) → phase ≡ floor.phase + 1 → stashes ≡ map stash_of receipts → Leaves initial floor receipts entries (joined_of start phase shards counters) stashes
   leaves phase stashes phase_is stashes_are = record {
     opening_is = start_is;
     phase_is = phase_is;
     counters_are = counters_are;
     stashes_are = stashes_are;
-    lawful = reconciled_lawful opening floor receipts (map state_of shards) entries e;
+    lawful = reconciled_lawful initial floor receipts (map state_of shards) entries e;
     commits = λ w below.
         ap (λ (cs : List Counters). (counters_at cs w).commits) counters_are
-        ∙ sym (ap (λ (cs : Counters). cs.commits) (counted opening workers floor is_open receipts are e.given entries e.closed (λ v low. (finished opening workers floor is_open receipts are all v low).limit) w below))
-        ∙ commits_grow (phase_of opening floor receipts e.given entries) e.closed w below;
-    replays = λ book holds. entries_replay (phase_of opening floor receipts e.given entries) e.closed book holds;
+        ∙ sym (ap (λ (cs : Counters). cs.commits) (counted initial workers floor is_open receipts are e.given entries e.closed (λ v low. (finished initial workers floor is_open receipts are all v low).limit) w below))
+        ∙ commits_grow (phase_of initial floor receipts e.given entries) e.closed w below;
+    replays = λ book holds. entries_replay (phase_of initial floor receipts e.given entries) e.closed book holds;
     stands = λ book holds. subst (λ (cs : List Counters). StandFor (map state_of shards) cs (book_after floor.opening book entries) []) (sym counters_are)
-        (stand_after opening workers floor is_open receipts are e.given entries e.closed e.order e.each (map state_of shards) e.states_are book holds);
+        (stand_after initial workers floor is_open receipts are e.given entries e.closed e.order e.each (map state_of shards) e.states_are book holds);
   }

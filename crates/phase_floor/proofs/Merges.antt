@@ -13,7 +13,7 @@ use Rattle.item_shards.specs.declared.shard.Shard.{Shard}
 use Rattle.item_shards.specs.declared.shard.slices.Slice.{Slice}
 use Rattle.item_shards.specs.Contents.{changed}
 use Rattle.item_shards.specs.Records.{item_value}
-use Rattle.item_shards.specs.ShardContents.{IsSameShard, LiesIn, HasRoom, clock, contents, opening, shard_count, shard_number}
+use Rattle.item_shards.specs.ShardContents.{IsSameShard, LiesIn, HasItemRoom, clock, contents, opening, shard_count, shard_number}
 use Rattle.item_shards.specs.Values.{blank}
 use Rattle.shard_boxes.specs.States.{ShardState, state_of, state_at}
 use Rattle.closing_laws.specs.Merging.{merged_with, with_slice, after_merge}
@@ -51,7 +51,7 @@ module _ (states : List ShardState) (pair : Object × Slice) where
   }
 
 -- where there are facts of a stored item, there is room for it
-pub room_of : (shard : Shard) (id : ItemId) → IsSome (contents shard (Item id)).facts → HasRoom shard id
+pub room_of : (shard : Shard) (id : ItemId) → IsSome (contents shard (Item id)).facts → HasItemRoom shard id
 room_of shard id = at (shard_of (Item id) (shard_count shard) == shard_number shard) (get same_item shard.parts.value.items id) where
   at : (b : Bool) (found : Option ItemRecord) → IsSome (cond b (item_value found) blank).facts → is_some found ≡ true
   at b (Some r) some = refl

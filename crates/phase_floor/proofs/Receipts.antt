@@ -9,16 +9,16 @@ use Rattle.shard_boxes.specs.States.{ShardState}
 use Rattle.phase_permits.specs.Slicing.{stocks_of}
 use Rattle.phase_permits.specs.Stashes.{StashState}
 use Rattle.phase_permits.proofs.Places.{stocks_of_rows}
-use Rattle.phase_permits.specs.Workers.{with_first_called, with_try, WorkerState}
+use Rattle.phase_permits.specs.Workers.{with_first_unstashed, with_try, WorkerState}
 use Rattle.phase_permits.specs.Performing.{HasPerformedFirst, HasDealtWith, HasCommitted}
 use Rattle.phase_permits.proofs.PermitLemmas.{stocks-acts}
 use Rattle.phase_permits.specs.declared.transaction.Done.{Done}
 use Rattle.phase_permits.specs.declared.transaction.Done.TheVariants.{Committed, Stashed}
 use Rattle.closing_laws.specs.Phases.{no_receipt}
 use Rattle.phase_floor.specs.Closings.{IsReceipt, AreReceiptsOf}
-use Rattle.phase_floor.specs.Floors.{FloorState, IsBegun, AreBegun}
+use Rattle.phase_floor.specs.Floors.{FloorState, IsNewPermit, AreBegun}
 
-begun_receipt : (floor : FloorState) (w quota : ℕ) (stash : StashState) (permit : WorkerState) → IsBegun floor w quota stash permit → IsReceipt floor w permit
+begun_receipt : (floor : FloorState) (w quota : ℕ) (stash : StashState) (permit : WorkerState) → IsNewPermit floor w quota stash permit → IsReceipt floor w permit
 begun_receipt floor w quota stash permit begun = record {
   boxes_are = begun.key.boxes_are;
   worker_is = begun.key.worker_is;
@@ -45,21 +45,21 @@ still_receipt floor w old new was boxes worker opening phase begun stocks = reco
   begun = begun ∙ was.begun;
 }
 
-module _ (opening : List ShardState) (floor : FloorState) (w : ℕ) (old new : WorkerState) (was : IsReceipt floor w old) (request : Request) (index : ℕ) where
-  pub committed : (answer : Reply) → HasCommitted opening (with_try old) new request index answer → IsReceipt floor w new
+module _ (initial : List ShardState) (floor : FloorState) (w : ℕ) (old new : WorkerState) (was : IsReceipt floor w old) (request : Request) (index : ℕ) where
+  pub committed : (answer : Reply) → HasCommitted initial (with_try old) new request index answer → IsReceipt floor w new
   committed answer h =
       still_receipt floor w old new was h.transacted.put.boxes h.transacted.put.worker (ap (λ (d : WorkerState). d.opening) h.worker) (ap (λ (d : WorkerState). d.journal.phase) h.worker) (ap (λ (d : WorkerState). d.begun) h.worker)
       (ap (λ (d : WorkerState). stocks_of d.slices) h.worker ∙ stocks-acts old.slices (writes_if (row_of old.journal.worker request answer)))
 
-  pub dealt : (done : Done) → HasDealtWith opening (with_try old) new request index done → IsReceipt floor w new
+  pub dealt : (done : Done) → HasDealtWith initial (with_try old) new request index done → IsReceipt floor w new
   dealt (Committed answer) h = committed answer h
   dealt Stashed h =
       still_receipt floor w old new was (ap (λ (d : WorkerState). d.key.boxes) h.worker) (ap (λ (d : WorkerState). d.key.worker) h.worker) (ap (λ (d : WorkerState). d.opening) h.worker) (ap (λ (d : WorkerState). d.journal.phase) h.worker) (ap (λ (d : WorkerState). d.begun) h.worker)
       (ap (λ (d : WorkerState). stocks_of d.slices) h.worker)
 
 -- the permit that has performed what waited longest, if anything did
-pub performed_first : (opening : List ShardState) (floor : FloorState) (w : ℕ) (old new : WorkerState) → IsReceipt floor w old → (answer : Option Reply)
-    → IfNone answer (new ≡ with_try old) → IfSome answer (HasPerformedFirst opening (with_try old) new) → IsReceipt floor w new
-performed_first opening floor w old new was None unchanged done = subst (IsReceipt floor w) (sym unchanged) (still_receipt floor w old (with_try old) was refl refl refl refl refl refl)
-performed_first opening floor w old new was (Some answer) unchanged done =
-    committed opening floor w (with_first_called old) new (still_receipt floor w old (with_first_called old) was refl refl refl refl refl refl) done.request done.index answer done.committed
+pub performed_first : (initial : List ShardState) (floor : FloorState) (w : ℕ) (old new : WorkerState) → IsReceipt floor w old → (answer : Option Reply)
+    → IfNone answer (new ≡ with_try old) → IfSome answer (HasPerformedFirst initial (with_try old) new) → IsReceipt floor w new
+performed_first initial floor w old new was None unchanged done = subst (IsReceipt floor w) (sym unchanged) (still_receipt floor w old (with_try old) was refl refl refl refl refl refl)
+performed_first initial floor w old new was (Some answer) unchanged done =
+    committed initial floor w (with_first_unstashed old) new (still_receipt floor w old (with_first_unstashed old) was refl refl refl refl refl refl) done.request done.index answer done.committed

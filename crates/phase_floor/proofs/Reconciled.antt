@@ -16,7 +16,7 @@ use Rattle.auction_rows.specs.History.{book_after}
 use Rattle.item_shards.specs.declared.shard.slices.Slice.{Slice}
 use Rattle.shard_boxes.specs.States.{ShardState, state_at}
 use Rattle.phase_permits.specs.declared.slices.Hot.{Hot}
-use Rattle.phase_permits.specs.Slicing.{objects_of, stocks_of, slices_in, AreFew}
+use Rattle.phase_permits.specs.Slicing.{hot_objects, stocks_of, slices_in, HaveAtMost}
 use Rattle.phase_permits.specs.Workers.{WorkerState}
 use Rattle.closing_laws.specs.Phases.{HasClosed, receipt_at, no_receipt, counters_of}
 use Rattle.closing_laws.specs.Standing.{StandFor}
@@ -49,24 +49,24 @@ exists_known opening states (Item id) exists = tt
 exists_known opening states (User user) exists = exists
 exists_known opening states (Category category) exists = exists
 
-slices_numbered : (opening : Opening) (states : List ShardState) (slices : List (Object × Hot)) → DoAllExist opening states (objects_of (stocks_of slices))
+slices_numbered : (opening : Opening) (states : List ShardState) (slices : List (Object × Hot)) → DoAllExist opening states (hot_objects (stocks_of slices))
     → AllByRecursion (λ pair. IsKnown opening pair.0) (slices_in slices)
 slices_numbered opening states [] exist = tt
 slices_numbered opening states (hot ∷ hots) exist = (exists_known opening states hot.0 exist.0, slices_numbered opening states hots exist.1)
 
-all_numbered : (opening : Opening) (states : List ShardState) (stocks : List (Object × Option (Facts × ℕ))) → DoAllExist opening states (objects_of stocks)
+all_numbered : (opening : Opening) (states : List ShardState) (stocks : List (Object × Option (Facts × ℕ))) → DoAllExist opening states (hot_objects stocks)
     → (receipts : List WorkerState) → AllByRecursion (λ receipt. stocks_of receipt.slices ≡ stocks) receipts → AllByRecursion (λ pair. IsKnown opening pair.0) (slices_left receipts)
 all_numbered opening states stocks exist [] are = tt
 all_numbered opening states stocks exist (receipt ∷ receipts) are =
     all-append (λ (pair : Object × Slice). IsKnown opening pair.0) (slices_in receipt.slices) (slices_left receipts)
-    (slices_numbered opening states receipt.slices (subst (λ s. DoAllExist opening states (objects_of s)) (sym are.0) exist))
+    (slices_numbered opening states receipt.slices (subst (λ s. DoAllExist opening states (hot_objects s)) (sym are.0) exist))
     (all_numbered opening states stocks exist receipts are.1)
 
-module _ (opening : List ShardState) (workers : ℕ) (floor : FloorState) (is_open : IsOpen opening workers floor) (receipts : List WorkerState) (are : AreReceiptsOf floor receipts)
-    (given : List ShardState) (entries : List Entry) (closed : HasClosed (phase_of opening floor receipts given entries)) where
+module _ (initial : List ShardState) (workers : ℕ) (floor : FloorState) (is_open : IsOpen initial workers floor) (receipts : List WorkerState) (are : AreReceiptsOf floor receipts)
+    (given : List ShardState) (entries : List Entry) (closed : HasClosed (phase_of initial floor receipts given entries)) where
   given_opening : (s : ℕ) → s < length given → (state_at given s).opening ≡ floor.opening
   given_opening s below =
-      let inside : s < length opening = omega (arith, below, closed.boxes.0) in
+      let inside : s < length initial = omega (arith, below, closed.boxes.0) in
       (closed.boxes.1 s inside).history.opening_is ∙ is_open.kept.opening_is s inside
 
   first : opening_in given ≡ floor.opening
@@ -87,13 +87,13 @@ module _ (opening : List ShardState) (workers : ℕ) (floor : FloorState) (is_op
       let stocks : AllByRecursion (λ receipt. stocks_of receipt.slices ≡ floor.stocks) receipts =
       every_from (λ receipt. stocks_of receipt.slices ≡ floor.stocks) receipts no_receipt (λ w below. (are.1 w (omega (arith, below, are.0))).stocks_are) in
       let left = subst (λ (o : Opening). AllByRecursion (λ (pair : Object × Slice). IsKnown o pair.0) (slices_left receipts)) (sym first)
-      (all_numbered floor.opening opening floor.stocks is_open.stocks_are.exist receipts stocks) in
+      (all_numbered floor.opening initial floor.stocks is_open.stocks_are.exist receipts stocks) in
       recursion_from_All P (order_of receipts) (All-permutation P (slices_left receipts) (order_of receipts) (all_once receipts) (All-from_recursion P (slices_left receipts) left))
 
-  pub given_can : ((w : ℕ) → w < length receipts → AreFew 1000000 (receipt_at receipts w).slices) → SawInTurn CanMerge after_merge given (order_of receipts)
+  pub given_can : ((w : ℕ) → w < length receipts → HaveAtMost 1000000 (receipt_at receipts w).slices) → SawInTurn CanMerge after_merge given (order_of receipts)
   given_can few =
-      merges_can_be_done (phase_of opening floor receipts given entries) closed is_open.kept.opened (omega (arith, are.0, is_open.kept.few_workers))
-      (every_from (λ receipt. AreFew 1000000 receipt.slices) receipts no_receipt few) (order_of receipts) (all_once receipts)
+      merges_can_be_done (phase_of initial floor receipts given entries) closed is_open.kept.opened (omega (arith, are.0, is_open.kept.few_workers))
+      (every_from (λ receipt. HaveAtMost 1000000 receipt.slices) receipts no_receipt few) (order_of receipts) (all_once receipts)
 
   -- merged in any order
   module _ (order : List (Object × Slice)) (each : IsPermutation (slices_left receipts) order) (states : List ShardState) (states_are : states ≡ map at_start (fold after_merge given order)) where
@@ -103,7 +103,7 @@ module _ (opening : List ShardState) (workers : ℕ) (floor : FloorState) (is_op
     known : (s : ℕ) → s < length states → s < length merged
     known s below = omega (arith, below, same_length merged states states_are)
 
-    pub as_many : length states ≡ length opening
+    pub as_many : length states ≡ length initial
     as_many = same_length merged states states_are ∙ as_many_merged order given ∙ closed.boxes.0
 
     pub ready : AreReady floor.opening states
@@ -118,8 +118,8 @@ module _ (opening : List ShardState) (workers : ℕ) (floor : FloorState) (is_op
           clock_is = λ s below. ap (λ (state : ShardState). state.clock) (at s (known s below));
         }
 
-    pub stand_after : (book : Book) → StandFor opening floor.counters book [] → StandFor states (map counters_of receipts) (book_after floor.opening book entries) []
+    pub stand_after : (book : Book) → StandFor initial floor.counters book [] → StandFor states (map counters_of receipts) (book_after floor.opening book entries) []
     stand_after book holds =
         start_stands merged states states_are (map counters_of receipts) (book_after floor.opening book entries)
-        (reconciled_stand (phase_of opening floor receipts given entries) closed book holds merged
+        (reconciled_stand (phase_of initial floor receipts given entries) closed book holds merged
         (record { order = order; each = each; count = as_many_merged order given; contents = λ s below. refl }))

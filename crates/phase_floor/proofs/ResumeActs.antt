@@ -19,7 +19,7 @@ use Rattle.auction_rows.proofs.HistoryLemmas.{own_row}
 use Rattle.item_shards.specs.declared.shard.acts.Act.{Act}
 use Rattle.item_shards.specs.declared.shard.acts.Act.TheVariants.{AddItem, ListItem}
 use Rattle.item_shards.specs.declared.shard.Shard.{Shard}
-use Rattle.item_shards.specs.ShardContents.{IsSameShard, LiesIn, HasRoom, clock, contents, shard_number, shard_count, opening as opening_of}
+use Rattle.item_shards.specs.ShardContents.{IsSameShard, LiesIn, HasItemRoom, clock, contents, shard_number, shard_count, opening as opening_of}
 use Rattle.item_shards.specs.Acting.{CanActOn}
 use Rattle.item_shards.specs.Limits.{IsWithinLimits}
 use Rattle.item_shards.specs.Contents.{Contents, target, after_act, after_acts}
@@ -129,12 +129,12 @@ numbered_next old new acts numbered done = λ s low.
     )
 
 -- once there is room for an item in the shard at its place, there is in the shard in which it lies
-pub room_there : (shards : List Shard) (id : ItemId) (place : ℕ) → place < length shards → shard_of (Item id) (length shards) ≡ place → (prepared : Shard) → HasRoom prepared id
+pub room_there : (shards : List Shard) (id : ItemId) (place : ℕ) → place < length shards → shard_of (Item id) (length shards) ≡ place → (prepared : Shard) → HasItemRoom prepared id
     → HasRoomIn (set shards place prepared) id
 room_there shards id place low lies prepared room shard is =
     let there : shard ≡ prepared =
     is ∙ ap (λ k. get_or (set shards place prepared) k shard) (ap (shard_of (Item id)) (length-set shards place prepared) ∙ lies) ∙ get_or-set_same shards place prepared shard low in
-    subst (λ (s : Shard). HasRoom s id) (sym there) room
+    subst (λ (s : Shard). HasItemRoom s id) (sym there) room
 
 module _ (shards : List Shard) (numbered : AreNumbered (map state_of shards)) (some : 0 < length shards) (object : Object) (shard : Shard) (is : IsShardOf shards object shard) where
   -- an act of a row can be done where its object lies

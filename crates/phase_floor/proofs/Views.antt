@@ -10,7 +10,7 @@ use Rattle.auction_rows.specs.Book.{Book}
 use Rattle.auction_rows.specs.Replies.{reply}
 use Rattle.auction_rows.specs.Requests.{number_of, shard_of}
 use Rattle.item_shards.specs.declared.shard.Shard.{Shard}
-use Rattle.item_shards.specs.ShardContents.{LiesIn, opening, contents, ForEachBook, StandsFor as ShardStandsFor}
+use Rattle.item_shards.specs.ShardContents.{LiesIn, opening, contents, ForEachBook, ShardStandsFor}
 use Rattle.shard_boxes.specs.States.{ShardState, state_of}
 use Rattle.closing_laws.specs.Phases.{value_on}
 use Rattle.phase_floor.specs.Resuming.{AreNumbered}

@@ -9,7 +9,7 @@ use Rattle.shard_boxes.specs.States.{ShardState}
 use Rattle.worker_journals.specs.Journals.{JournalView, empty_journal}
 use Rattle.phase_permits.specs.declared.worker.Counters.{Counters}
 use Rattle.phase_permits.specs.declared.slices.Hot.{Hot}
-use Rattle.phase_permits.specs.Slicing.{objects_of, slices_of}
+use Rattle.phase_permits.specs.Slicing.{hot_objects, slices_of}
 use Rattle.phase_permits.specs.Workers.{HasStashRoom, new_worker, WorkerState}
 use Rattle.phase_permits.specs.Stashes.{StashState}
 use Rattle.closing_laws.specs.Standing.{counters_at}
@@ -41,10 +41,10 @@ HaveStashRoom stocks stashes quotas = (w : ℕ) → w < length quotas →
 -- ---- what is asked for
 
 -- A phase of these shards and so many workers can begin with this state and these quotas.
-pub record CanBegin (opening : List ShardState) (count : ℕ) (state : JoinedState)
+pub record CanBegin (initial : List ShardState) (count : ℕ) (state : JoinedState)
     (given : List ℕ) : Type 0 where
   -- they are the state's shards
-  pub shards : states_of state ≡ opening
+  pub shards : states_of state ≡ initial
   -- and its workers
   pub workers : length state.counters ≡ count
   -- there is a quota for each worker
@@ -92,7 +92,7 @@ pub record OpensSplit (state : JoinedState) (given : List ℕ) (objects : List O
   -- it goes on from the state, and each worker has an empty stash and its quota
   pub opens : OpensPhase state given (map empty_stash given) floor begun
   -- these objects are hot
-  pub hot : objects_of floor.stocks ≡ objects
+  pub hot : hot_objects floor.stocks ≡ objects
   -- they exist
   pub known : DoAllExist state.opening (states_of state) objects
   -- no worker has more than 1,000,000 commits and given requests together

@@ -15,7 +15,7 @@ use Rattle.shard_boxes.specs.States.{ShardState, state_at}
 use Rattle.worker_journals.specs.Journals.{JournalView}
 use Rattle.phase_permits.specs.declared.worker.Counters.{Counters}
 use Rattle.phase_permits.specs.declared.slices.Hot.{Hot}
-use Rattle.phase_permits.specs.Slicing.{stocks_of, slices_in, AreFew}
+use Rattle.phase_permits.specs.Slicing.{stocks_of, slices_in, HaveAtMost}
 use Rattle.phase_permits.specs.Stashes.{StashState}
 use Rattle.phase_permits.specs.Workers.{WorkerState, IsExplained}
 use Rattle.phase_permits.specs.Performing.{HaveOpening}
@@ -55,7 +55,7 @@ pub record IsFinished (shards : ℕ) (receipt : WorkerState) : Type 0 where
   -- it has at most 1,000,000 commits
   pub limit : (counters_of receipt).commits ≤ MOST_OF_A_WORKER
   -- and as many operations in a slice
-  pub few : AreFew MOST_OF_A_WORKER receipt.slices
+  pub few : HaveAtMost MOST_OF_A_WORKER receipt.slices
 
 abbrev pub stash_of : WorkerState → StashState
 stash_of receipt = receipt.stash
@@ -67,9 +67,9 @@ sliced_of receipt = receipt.slices
 -- entries
 abbrev pub phase_of : List ShardState → FloorState → List WorkerState → List ShardState →
     List Entry → Phase
-phase_of opening floor receipts given entries = record {
-  setting = record { opening = floor.opening; shards = length opening; stocks = floor.stocks };
-  opening = opening;
+phase_of initial floor receipts given entries = record {
+  setting = record { opening = floor.opening; shards = length initial; stocks = floor.stocks };
+  initial = initial;
   counters = floor.counters;
   receipts = receipts;
   given = given;
@@ -82,33 +82,33 @@ at_start state = record state { clock = 0 }
 
 -- The phase has closed: the boxes gave back shards, and the states left are these with their clocks
 -- at 0.
-pub record HasSettled (opening : List ShardState) (floor : FloorState)
+pub record HasSettled (initial : List ShardState) (floor : FloorState)
     (receipts : List WorkerState) (states : List ShardState) (entries : List Entry) : Type 0 where
   pub given : List ShardState
-  pub closed : HasClosed (phase_of opening floor receipts given entries)
+  pub closed : HasClosed (phase_of initial floor receipts given entries)
   pub states_are : states ≡ map at_start given
 
 -- The phase has closed: the boxes gave back shards, into these the slices of all workers were
 -- merged, each once, in some order, and the states left are what came of it, with their clocks at
 -- 0.
-pub record HasReconciled (opening : List ShardState) (floor : FloorState)
+pub record HasReconciled (initial : List ShardState) (floor : FloorState)
     (receipts : List WorkerState) (states : List ShardState) (entries : List Entry) : Type 0 where
   pub given : List ShardState
-  pub closed : HasClosed (phase_of opening floor receipts given entries)
+  pub closed : HasClosed (phase_of initial floor receipts given entries)
   pub order : List (Object × Slice)
   pub each : IsPermutation (slices_left receipts) order
   pub states_are : states ≡ map at_start (fold after_merge given order)
 
 -- The phase closes lawfully with these receipts and entries, by the shards that its boxes gave
 -- back, and leaves these states.
-pub record HasClosedLawfully (opening : List ShardState) (floor : FloorState)
+pub record HasClosedLawfully (initial : List ShardState) (floor : FloorState)
     (receipts : List WorkerState) (states : List ShardState) (entries : List Entry) : Type 0 where
   pub given : List ShardState
-  pub lawful : ClosesLawfully (phase_of opening floor receipts given entries) states
+  pub lawful : ClosesLawfully (phase_of initial floor receipts given entries) states
 
 -- What a phase that closes with these receipts and entries leaves: the state after it, and the
 -- stashes.
-pub record Leaves (opening : List ShardState) (floor : FloorState) (receipts : List WorkerState)
+pub record Leaves (initial : List ShardState) (floor : FloorState) (receipts : List WorkerState)
     (entries : List Entry) (state : JoinedState) (stashes : List StashState) : Type 0 where
   -- it is the next phase of the same auction
   pub opening_is : state.opening ≡ floor.opening
@@ -117,16 +117,16 @@ pub record Leaves (opening : List ShardState) (floor : FloorState) (receipts : L
   pub counters_are : state.counters ≡ map counters_of receipts
   pub stashes_are : stashes ≡ map stash_of receipts
   -- the phase closed lawfully
-  pub lawful : HasClosedLawfully opening floor receipts (states_of state) entries
+  pub lawful : HasClosedLawfully initial floor receipts (states_of state) entries
   -- each worker's commits grow by its journal
   pub commits : (w : ℕ) → w < length receipts →
       (counters_at state.counters w).commits
       ≡ (counters_at floor.counters w).commits + length (journal_of (receipt_at receipts w)).entries
   -- the entries replay from each book for which the state before stood
-  pub replays : (book : Book) → StandFor opening floor.counters book [] →
+  pub replays : (book : Book) → StandFor initial floor.counters book [] →
       ReplaysFrom floor.opening book entries
   -- and the state after stands for the book after them
-  pub stands : (book : Book) → StandFor opening floor.counters book [] →
+  pub stands : (book : Book) → StandFor initial floor.counters book [] →
       StandsFor state (book_after floor.opening book entries)
 
 -- the users and categories of shards

@@ -9,7 +9,7 @@ use Rattle.shard_boxes.specs.Keys.{BoxId, KeyState, IsNewKey}
 use Rattle.shard_boxes.specs.States.{ShardState}
 use Rattle.worker_journals.specs.Journals.{empty_journal}
 use Rattle.phase_permits.specs.declared.worker.Counters.{Counters}
-use Rattle.phase_permits.specs.Slicing.{objects_of, slices_of, IsStocked}
+use Rattle.phase_permits.specs.Slicing.{hot_objects, slices_of, IsStocked}
 use Rattle.phase_permits.specs.Workers.{new_worker, WorkerState}
 use Rattle.phase_permits.specs.Stashes.{StashState}
 use Rattle.closing_laws.specs.Phases.{IsReadFrom}
@@ -36,8 +36,8 @@ pub record FloorState : Type 0 where
 -- the hot objects exist, none is named twice, and what is fixed of each is what the shards show
 pub record AreStocksOf (opening : Opening) (states : List ShardState) (stocks : Stocks)
     : Type 0 where
-  pub exist : DoAllExist opening states (objects_of stocks)
-  pub distinct : IsDistinct same_object (objects_of stocks)
+  pub exist : DoAllExist opening states (hot_objects stocks)
+  pub distinct : IsDistinct same_object (hot_objects stocks)
   pub stocked : AllByRecursion IsStocked stocks
   pub read : AllByRecursion (IsReadFrom states) stocks
 
@@ -62,7 +62,7 @@ new_permit floor worker quota stash key =
     (slices_of floor.stocks []) quota 0
 
 -- the worker's permit is such a new one, with a new key to the phase's boxes
-pub record IsBegun (floor : FloorState) (worker quota : ℕ) (stash : StashState)
+pub record IsNewPermit (floor : FloorState) (worker quota : ℕ) (stash : StashState)
     (permit : WorkerState) : Type 0 where
   pub new : permit ≡ new_permit floor worker quota stash permit.key
   pub key : IsNewKey floor.boxes worker permit.key
@@ -78,4 +78,4 @@ abbrev pub AreBegun : FloorState → List ℕ → List StashState → List Worke
 AreBegun floor quotas stashes permits =
     (length permits ≡ length floor.counters)
     × ((w : ℕ) (d : WorkerState) → w < length floor.counters →
-    IsBegun floor w (slice_index quotas w) (stash_at stashes w) (slice_index_or permits w d))
+    IsNewPermit floor w (slice_index quotas w) (stash_at stashes w) (slice_index_or permits w d))

@@ -15,7 +15,7 @@ use Rattle.item_shards.specs.declared.shard.Shard.{Shard}
 use Rattle.item_shards.specs.Acting.{CanActOn, CanAct}
 use Rattle.item_shards.specs.OpeningRows.{rows_by}
 use Rattle.item_shards.specs.Contents.{after_acts}
-use Rattle.item_shards.specs.ShardContents.{HasRoom}
+use Rattle.item_shards.specs.ShardContents.{HasItemRoom}
 use Rattle.item_shards.specs.Writing.{writes_of, is_done_on, done_on}
 use Rattle.shard_boxes.specs.States.{ShardState, state_at}
 use Rattle.phase_permits.specs.declared.worker.Counters.{Counters}
@@ -50,7 +50,8 @@ CanActIn shards object act = (shard : Shard) → IsShardOf shards object shard �
 
 -- there is room for the item in the shard in which it lies
 abbrev pub HasRoomIn : List Shard → ItemId → Type 0
-HasRoomIn shards id = (shard : Shard) → IsShardOf shards (object.Item id) shard → HasRoom shard id
+HasRoomIn shards id = (shard : Shard) → IsShardOf shards (object.Item id) shard →
+    HasItemRoom shard id
 
 -- a shard after those of the acts that are about its objects
 abbrev pub with_acts : ℕ → List Act → ShardState → ShardState

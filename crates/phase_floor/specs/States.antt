@@ -9,7 +9,7 @@ use Rattle.auction_rows.specs.Book.{Book, worker_of}
 use Rattle.auction_rows.specs.History.{IsBook}
 use Rattle.item_shards.specs.declared.shard.Shard.{Shard}
 use Rattle.item_shards.specs.Values.{stock}
-use Rattle.shard_boxes.specs.States.{ShardState, state_of, AreOpened}
+use Rattle.shard_boxes.specs.States.{ShardState, state_of, AreInitial}
 use Rattle.phase_permits.specs.declared.worker.Counters.{Counters}
 use Rattle.phase_permits.specs.Performing.{HaveOpening}
 use Rattle.closing_laws.specs.Phases.{value_on}
@@ -83,7 +83,7 @@ pub record IsKept (opening : Opening) (states : List ShardState) (counters : Lis
   pub some_workers : 0 < length counters
   pub few_workers : length counters ≤ MOST_WORKERS
   -- a phase may open with the shards
-  pub opened : AreOpened states
+  pub opened : AreInitial states
   -- they are of the opening
   pub opening_is : HaveOpening states opening
   -- nobody has more than 1,000,000 commits

@@ -3,7 +3,7 @@
 ghost use Rattle.std.specs.Prelude.{◌≡◌, [], length, IfSome, IfNone, ◌+◌, ◌<◌, ◌≤◌, ◌++◌, ◌∷◌, map, IfOk, OnOk, vec_len, vec_capacity, fold, OnErr};
 ghost use Rattle.std.specs.List.{AllByRecursion, flat_map};
 ghost use Rattle.phase_laws.specs.Replay.{SawInTurn};
-ghost use Rattle.closing_laws.specs.Merging.{CanMerge, CanTake, after_merge, with_slice};
+ghost use Rattle.closing_laws.specs.Merging.{CanMerge, CanMergeInto, after_merge, with_slice};
 ghost use Rattle.item_shards.specs.ShardContents.{LiesIn, contents, opening};
 ghost use Rattle.worker_journals.specs.Merged.{added, merged};
 ghost use Rattle.shard_boxes.specs.States.{state_of};
@@ -35,7 +35,7 @@ pub(crate) trait Receipt<N: PhaseName>: Drop {
         ensures stash { result.2 ≡ (shows self).stash }
         ensures key { result.3 ≡ (shows self).key }
         ensures counters { result.4 ≡ (shows self).counters }
-        ensures finished { IsFinished (length N.opening) (shows self) };
+        ensures finished { IsFinished (length N.initial) (shows self) };
 }
 
 impl<N: PhaseName> Receipt<N> for JoinedReceipt<N> {
@@ -74,7 +74,7 @@ impl<N: PhaseName> Parts<N> {
             parts.journals.items parts.stashes.items parts.keys.items parts.counters.items
             parts.slices.items) }
         ensures finished { OnOk result
-            (AllByRecursion (IsFinished (length N.opening)) (map R.shows receipts.items)) }
+            (AllByRecursion (IsFinished (length N.initial)) (map R.shows receipts.items)) }
     {
         let workers = receipts.len();
         let mut journals = Vec::with_capacity(alloc, workers)?;
@@ -129,7 +129,7 @@ pub(crate) fn merge(shards: &mut Vec<Shard>, object: Object, slice: Slice)
 fn merge_into(shard: &mut Shard, object: Object, slice: Slice)
     requires lies { LiesIn shard.old object }
     requires known { IsKnown (opening shard.old) object }
-    requires can { CanTake (contents shard.old object) (object, slice) }
+    requires can { CanMergeInto (contents shard.old object) (object, slice) }
     ensures { state_of shard.new ≡ with_slice (state_of shard.old) (object, slice) }
 {
     match (object, slice) {
@@ -197,10 +197,10 @@ impl<N: PhaseName> Floor<N> {
         ensures last { OnOk result
             (merged history.new.last ≡ added history.old.entries history.new.entries) }
         ensures closed { IfOk result (λ closed.
-            HasReconciled N.opening self (map T.shows receipts.items) (states_of closed.0)
+            HasReconciled N.initial self (map T.shows receipts.items) (states_of closed.0)
             (added history.old.entries history.new.entries)) }
         ensures leaves { IfOk result (λ closed.
-            Leaves N.opening self (map T.shows receipts.items)
+            Leaves N.initial self (map T.shows receipts.items)
             (added history.old.entries history.new.entries) closed.0 closed.1.items) }
     {
         let Floor {
@@ -249,10 +249,10 @@ impl<N: PhaseName> JoinedFloor<N> {
         ensures last { OnOk result
             (merged history.new.last ≡ added history.old.entries history.new.entries) }
         ensures closed { IfOk result (λ closed.
-            HasSettled N.opening self receipts.items (states_of closed.0)
+            HasSettled N.initial self receipts.items (states_of closed.0)
             (added history.old.entries history.new.entries)) }
         ensures leaves { IfOk result (λ closed.
-            Leaves N.opening self receipts.items (added history.old.entries history.new.entries)
+            Leaves N.initial self receipts.items (added history.old.entries history.new.entries)
             closed.0 closed.1.items) }
     {
         self.floor.close(rt, alloc, history, receipts)
@@ -278,10 +278,10 @@ impl<N: PhaseName> SplitFloor<N> {
         ensures last { OnOk result
             (merged history.new.last ≡ added history.old.entries history.new.entries) }
         ensures closed { IfOk result (λ closed.
-            HasReconciled N.opening self receipts.items (states_of closed.0)
+            HasReconciled N.initial self receipts.items (states_of closed.0)
             (added history.old.entries history.new.entries)) }
         ensures leaves { IfOk result (λ closed.
-            Leaves N.opening self receipts.items (added history.old.entries history.new.entries)
+            Leaves N.initial self receipts.items (added history.old.entries history.new.entries)
             closed.0 closed.1.items) }
     {
         self.floor.close(rt, alloc, history, receipts)

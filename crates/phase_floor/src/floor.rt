@@ -65,7 +65,7 @@ impl<N: PhaseName> Model for Floor<N> {
       boxes = f.boxes;
     } };
 
-    ghost invariant = { λ f. IsOpen N.opening N.workers (record {
+    ghost invariant = { λ f. IsOpen N.initial N.workers (record {
       opening = f.opening;
       phase = f.phase;
       counters = f.counters.items;
@@ -78,7 +78,7 @@ impl<N: PhaseName> Floor<N> {
     // The boxes to which the permits' keys are.
     fn boxes(&self) -> &Boxes<N>
         ensures boxes { result.now ≡ self.now.boxes }
-        ensures opening { HaveOpening N.opening self.now.opening }
+        ensures opening { HaveOpening N.initial self.now.opening }
     {
         &self.boxes
     }
@@ -105,7 +105,7 @@ impl<N: PhaseName> JoinedFloor<N> {
     /// The boxes to which the permits' keys are. Their shards are of the phase's auction.
     pub fn boxes(&self) -> &Boxes<N>
         ensures boxes { result.now ≡ self.now.boxes }
-        ensures opening { HaveOpening N.opening self.now.opening }
+        ensures opening { HaveOpening N.initial self.now.opening }
     {
         self.floor.boxes()
     }
@@ -129,7 +129,7 @@ impl<N: PhaseName> SplitFloor<N> {
     /// The boxes to which the permits' keys are. Their shards are of the phase's auction.
     pub fn boxes(&self) -> &Boxes<N>
         ensures boxes { result.now ≡ self.now.boxes }
-        ensures opening { HaveOpening N.opening self.now.opening }
+        ensures opening { HaveOpening N.initial self.now.opening }
     {
         self.floor.boxes()
     }

@@ -48,7 +48,7 @@ impl Joined {
     ghost use Rattle.auction_rows.specs.Book.{Book};
     ghost use Rattle.auction_rows.specs.Replies.{reply};
     ghost use Rattle.auction_rows.specs.Requests.{is_view};
-    ghost use Rattle.item_shards.specs.ShardContents.{LiesIn, opening, contents, StandsFor as ShardStandsFor};
+    ghost use Rattle.item_shards.specs.ShardContents.{LiesIn, opening, contents, ShardStandsFor};
     ghost use Rattle.closing_laws.specs.Phases.{value_on};
     ghost use Rattle.phase_floor.specs.States.{states_of, StandsFor};
 

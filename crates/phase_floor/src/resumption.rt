@@ -6,7 +6,7 @@ ghost use Rattle.auction_rows.specs.History.{IsBook};
 ghost use Rattle.auction_rows.specs.Book.{worker_of};
 ghost use Rattle.item_shards.specs.Contents.{target};
 ghost use Rattle.item_shards.specs.Limits.{IsWithinLimits};
-ghost use Rattle.item_shards.specs.OpeningBooks.{opening_of, rows_of};
+ghost use Rattle.item_shards.specs.OpeningBooks.{opening_of, rows_of_book};
 ghost use Rattle.item_shards.specs.Writing.{writes_of};
 ghost use Rattle.shard_boxes.specs.States.{state_of};
 ghost use Rattle.phase_permits.specs.Workers.{no_counters};
@@ -91,15 +91,15 @@ impl Joined {
     ) -> Result<Joined, AllocError>
         requires workers { (0 < workers) × (workers ≤ MOST_WORKERS) }
         requires shards { (0 < shards) × (shards ≤ MOST_SHARDS) }
-        requires own { All (λ row. worker_of row < workers) (rows_of book.now) }
+        requires own { All (λ row. worker_of row < workers) (rows_of_book book.now) }
         ensures opening { IfOk result (λ joined. joined.opening ≡ opening_of book.now) }
         ensures phase { IfOk result (λ joined. joined.phase ≡ 0) }
         ensures shards { IfOk result (λ joined. length joined.shards ≡ shards) }
         ensures workers { IfOk result (λ joined. length joined.counters ≡ workers) }
         ensures counters { IfOk result (λ joined. (w : ℕ) → w < workers →
-            counters_at joined.counters w ≡ counters_in (rows_of book.now) w) }
-        ensures stands { IfOk result (λ joined. StandsFor joined (rows_of book.now)) }
-        ensures book { IfOk result (λ joined. IsBookOf joined (rows_of book.now)) }
+            counters_at joined.counters w ≡ counters_in (rows_of_book book.now) w) }
+        ensures stands { IfOk result (λ joined. StandsFor joined (rows_of_book book.now)) }
+        ensures book { IfOk result (λ joined. IsBookOf joined (rows_of_book book.now)) }
     {
         let rows = book.rows();
         let counters = count_rows(alloc, workers, rows)?;

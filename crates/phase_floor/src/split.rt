@@ -15,7 +15,7 @@ use std::sync::Wait;
 impl Joined {
     ghost use Rattle.std.specs.List.{AllByRecursion};
     ghost use Rattle.closing_laws.specs.Phases.{IsReadFrom};
-    ghost use Rattle.phase_permits.specs.Slicing.{objects_of, IsStocked};
+    ghost use Rattle.phase_permits.specs.Slicing.{hot_objects, IsStocked};
     ghost use Rattle.phase_floor.specs.States.{DoesExist, DoAllExist, states_of};
 
     /// Begins a split phase: a permit for each worker to perform its quota, with a slice of each
@@ -30,7 +30,7 @@ impl Joined {
         quotas: &[u32],
         hot: &IndexSet<Object>,
     ) -> Result<(SplitFloor<N>, Vec<SplitPermit<N>>), (Joined, BeginFault)>
-        requires can { CanBegin N.opening N.workers self quotas.now }
+        requires can { CanBegin N.initial N.workers self quotas.now }
         ensures begun { IfOk result (λ begun.
             OpensSplit self quotas.now hot.now.keys begun.0 begun.1.items) }
         ensures refused { IfErr result (λ refused.
@@ -102,7 +102,7 @@ impl Joined {
     // What is fixed of each object while it is hot: of an item its facts and how many are left.
     fn stocks_of(&self, alloc: Global, objects: &[Object]) -> Result<Stocks, AllocError>
         requires exist { DoAllExist self.now.opening (states_of self.now) objects.now }
-        ensures objects { IfOk result (λ stocks. objects_of stocks.items ≡ objects.now) }
+        ensures objects { IfOk result (λ stocks. hot_objects stocks.items ≡ objects.now) }
         ensures stocked { IfOk result (λ stocks. AllByRecursion IsStocked stocks.items) }
         ensures read { IfOk result (λ stocks.
             AllByRecursion (IsReadFrom (states_of self.now)) stocks.items) }

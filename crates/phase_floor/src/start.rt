@@ -4,7 +4,7 @@ ghost use Rattle.std.specs.Prelude.{◌≡◌, ◌+◌, ◌<◌, length, IsTrue,
 ghost use Rattle.std.specs.List.{AllByRecursion, IsDistinct};
 ghost use Rattle.auction_rows.specs.Requests.{same_object};
 ghost use Rattle.shard_boxes.specs.Keys.{AreNewKeys};
-ghost use Rattle.phase_permits.specs.Slicing.{objects_of, IsStocked};
+ghost use Rattle.phase_permits.specs.Slicing.{hot_objects, IsStocked};
 ghost use Rattle.phase_floor.specs.Begins.{IsTooLong, AreKits, empty_stash, HasNoSlices, asked_in_all, CanBegin, CanBeGiven, HasRefusedJoined, HaveStashRoom, OpensJoined, OpensPhase};
 ghost use Rattle.phase_floor.specs.Floors.{stash_at, AreBegun};
 
@@ -63,7 +63,7 @@ pub(crate) fn new_kits(
     requires few { length quotas.now ≤ MOST_WORKERS }
     requires fit { (w : ℕ) → w < length quotas.now →
         length (stash_at stashes.now w).requests + slice_index quotas.now w ≤ MOST_OF_A_WORKER }
-    requires distinct { IsDistinct same_object (objects_of stocks.now.items) }
+    requires distinct { IsDistinct same_object (hot_objects stocks.now.items) }
     requires stocked { AllByRecursion IsStocked stocks.now.items }
     ensures len { IfOk result (λ kits. vec_len kits ≡ length quotas.now) }
     ensures each { IfOk result (λ kits. AreKits phase stocks.now.items stashes.now quotas.now
@@ -94,7 +94,7 @@ pub(crate) fn new_stashes(alloc: Global, quotas: &[u32]) -> Result<Vec<Stash>, A
 /// What a worker starts a phase with, of either kind. It shows what the permit shows that is made
 /// of it.
 #[derive(Drop)]
-pub(crate) struct Start<N: PhaseName> {
+pub(crate) struct PermitStart<N: PhaseName> {
     pub(crate) key: Key<N>,
     pub(crate) opening: Opening,
     pub(crate) counters: Counters,
@@ -104,7 +104,7 @@ pub(crate) struct Start<N: PhaseName> {
     pub(crate) quota: u32,
 }
 
-impl<N: PhaseName> Model for Start<N> {
+impl<N: PhaseName> Model for PermitStart<N> {
     ghost use Rattle.phase_permits.specs.Workers.{WorkerState, CanStart};
     ghost use Rattle.phase_floor.specs.Begins.{start_of};
 
@@ -116,7 +116,7 @@ impl<N: PhaseName> Model for Start<N> {
         CanStart (start_of s.key s.opening s.counters s.journal s.stash s.slices s.quota) };
 }
 
-impl<N: PhaseName> Start<N> {
+impl<N: PhaseName> PermitStart<N> {
     // The permit of a joined phase.
     fn joined(self) -> JoinedPermit<N>
         requires { HasNoSlices self }
@@ -153,7 +153,7 @@ impl<N: PhaseName> Start<N> {
 // The permits of a joined phase.
 pub(crate) fn joined_permits<N: PhaseName>(
     mut permits: Vec<JoinedPermit<N>>,
-    starts: Vec<Start<N>>,
+    starts: Vec<PermitStart<N>>,
 ) -> Vec<JoinedPermit<N>>
     requires empty { permits.items ≡ [] }
     requires room { vec_len starts ≤ vec_capacity permits }
@@ -169,7 +169,7 @@ pub(crate) fn joined_permits<N: PhaseName>(
 // The permits of a split phase.
 pub(crate) fn split_permits<N: PhaseName>(
     mut permits: Vec<SplitPermit<N>>,
-    starts: Vec<Start<N>>,
+    starts: Vec<PermitStart<N>>,
 ) -> Vec<SplitPermit<N>>
     requires empty { permits.items ≡ [] }
     requires room { vec_len starts ≤ vec_capacity permits }
@@ -193,7 +193,7 @@ impl Joined {
         quotas: &[u32],
         stashes: Vec<Stash>,
     ) -> Result<(JoinedFloor<N>, Vec<JoinedPermit<N>>), (Joined, Vec<Stash>, BeginFault)>
-        requires can { CanBegin N.opening N.workers self quotas.now }
+        requires can { CanBegin N.initial N.workers self quotas.now }
         requires stashes { vec_len stashes ≡ N.workers }
         ensures begun { IfOk result (λ begun.
             OpensJoined self quotas.now stashes.items begun.0 begun.1.items) }
@@ -227,8 +227,8 @@ impl Joined {
         stocks: Stocks,
         quotas: &[u32],
         stashes: Vec<Stash>,
-    ) -> Result<(Floor<N>, Vec<Start<N>>), (Joined, Vec<Stash>)>
-        requires can { CanBegin N.opening N.workers self quotas.now }
+    ) -> Result<(Floor<N>, Vec<PermitStart<N>>), (Joined, Vec<Stash>)>
+        requires can { CanBegin N.initial N.workers self quotas.now }
         requires stashes { vec_len stashes ≡ N.workers }
         requires given { CanBeGiven self stocks.items stashes.items quotas.now }
         ensures begun { IfOk result (λ begun.
@@ -263,12 +263,12 @@ impl<N: PhaseName> Floor<N> {
     // What each worker starts with, by the keys.
     fn give(
         &self,
-        mut starts: Vec<Start<N>>,
+        mut starts: Vec<PermitStart<N>>,
         keys: Vec<Key<N>>,
         kits: Vec<Kit>,
         stashes: Vec<Stash>,
         quotas: &[u32],
-    ) -> Vec<Start<N>>
+    ) -> Vec<PermitStart<N>>
         requires empty { vec_len starts ≡ 0 }
         requires room { N.workers ≤ vec_capacity starts }
         requires keys { AreNewKeys self.now.boxes N.workers keys.items }
@@ -292,7 +292,7 @@ impl<N: PhaseName> Floor<N> {
                 unreachable!();
             };
             let counters = self.counters[w];
-            starts.push_reserved(Start {
+            starts.push_reserved(PermitStart {
                 key,
                 opening: self.opening,
                 counters,

@@ -32,9 +32,9 @@ use Rattle.phase_permits.specs.declared.slices.Hot.{Hot}
 use Rattle.phase_permits.specs.Deeds.{IsReplyBy}
 use Rattle.phase_permits.specs.Homes.{IsHomeOf, AreHomesOf, HasHomes, IsWrittenAt}
 use Rattle.phase_permits.specs.Performing.{HasStoredOrIsFull, HasStoredSome}
-use Rattle.phase_permits.specs.Slicing.{objects_of, stocks_of, stock_of, after_acts}
+use Rattle.phase_permits.specs.Slicing.{hot_objects, stocks_of, stock_of, slices_after_acts}
 use Rattle.phase_permits.specs.Takens.{shard_at}
-use Rattle.phase_permits.specs.Txns.{refusal_by, refusal_seen, reason_seen, stock_seen, is_put_off, Answers, IsAnswered, IsOwn}
+use Rattle.phase_permits.specs.Txns.{refusal_by, refusal_seen, reason_seen, stock_seen, is_put_off, IsReplyTo, IsAnswered, IsOwn}
 use Rattle.phase_permits.specs.Workers.{WorkerState, setting_of, txn_of, hot_txn, nothing, with_entry, after_commit}
 use Rattle.phase_permits.proofs.HomeLemmas.{same_objects_of}
 
@@ -43,7 +43,7 @@ next_of_own : (a n : ℕ) → n ≡ suc (max a 0) → n ≡ suc a
 next_of_own a n is = omega (arith, is)
 
 -- an id in a reply to a store is one of the worker
-own_answer : (counters : Counters) (worker : ℕ) (request : Request) (reply : Reply) → Answers counters worker request reply → is_view request ≡ false → IsOwn worker reply
+own_answer : (counters : Counters) (worker : ℕ) (request : Request) (reply : Reply) → IsReplyTo counters worker request reply → is_view request ≡ false → IsOwn worker reply
 own_answer counters worker (StoreItem facts time) reply is store = subst (IsOwn worker) (sym is) refl
 own_answer counters worker (StoreBid bidder item amount time) reply is store = subst (IsOwn worker) (sym is) refl
 own_answer counters worker (StoreComment author about item stars) reply is store = subst (IsOwn worker) (sym is) refl
@@ -53,7 +53,7 @@ own_answer counters worker (ViewBids item) reply is store = absurd (true≢false
 own_answer counters worker (ViewCategory category) reply is store = absurd (true≢false store)
 own_answer counters worker (ViewUser user) reply is store = absurd (true≢false store)
 
-own_by : (counters : Counters) (worker : ℕ) (request : Request) (reply : Reply) (refused : Option Refusal) → MatchOption refused (Answers counters worker request reply) (λ reason. reply ≡ Refused reason)
+own_by : (counters : Counters) (worker : ℕ) (request : Request) (reply : Reply) (refused : Option Refusal) → MatchOption refused (IsReplyTo counters worker request reply) (λ reason. reply ≡ Refused reason)
     → is_view request ≡ false → IsOwn worker reply
 own_by counters worker request reply None is store = own_answer counters worker request reply is store
 own_by counters worker request reply (Some reason) is store = subst (IsOwn worker) (sym is) tt
@@ -100,17 +100,17 @@ written_at w (ViewCategory category) homes has = (has.0, tt)
 written_at w (ViewUser user) homes has = (has.0, tt)
 
 -- an object whose home is no shard is hot
-hot_home : (hots : List (Object × Hot)) (shards : ℕ) (object : Object) (h : Home) → IsHomeOf hots shards object h → shard_at h ≡ None → is_hot (objects_of hots) object ≡ true
+hot_home : (hots : List (Object × Hot)) (shards : ℕ) (object : Object) (h : Home) → IsHomeOf hots shards object h → shard_at h ≡ None → is_hot (hot_objects hots) object ≡ true
 hot_home hots shards object home.Nowhere is none = absurd is
 hot_home hots shards object (home.Slice place) is none = is.1
 hot_home hots shards object (home.Shard shard) is none = absurd (cc)
 
-pub in_setting : {hot : Bool} (hots : List (Object × Hot)) (object : Object) → is_hot (objects_of hots) object ≡ hot → is_hot (objects_of (stocks_of hots)) object ≡ hot
+pub in_setting : {hot : Bool} (hots : List (Object × Hot)) (object : Object) → is_hot (hot_objects hots) object ≡ hot → is_hot (hot_objects (stocks_of hots)) object ≡ hot
 in_setting hots object is = ap (λ objects. is_hot objects object) (same_objects_of hots) ∙ is
 
 -- the reply to a store by what was seen is the answer
 pub store_answered : (w : WorkerState) (shards number index : ℕ) (request : Request) (reply : Reply) (found : ReadSet) (seen : Option (Facts × ℕ))
-    → is_view request ≡ false → is_put_off (objects_of w.slices) request ≡ false → IsReplyBy w seen request reply
+    → is_view request ≡ false → is_put_off (hot_objects w.slices) request ≡ false → IsReplyBy w seen request reply
     → ((item : ItemId) → item_of request ≡ Some item → seen ≡ stock_seen (setting_of w shards) (txn_of w number request index reply found) item)
     → IsAnswered (setting_of w shards) w.counters (txn_of w number request index reply found)
 store_answered w shards number index request reply found seen store goes is same =
@@ -119,13 +119,13 @@ store_answered w shards number index request reply found seen store goes is same
     let reasons : refusal_by w.opening seen request ≡ reason_seen z txn =
     refusal_as w.opening request seen (stock_seen z txn) store same ∙ sym (ap (λ b. cond b (number_refusal w.opening request) (refusal_seen z txn)) store) in
     record {
-      answered = subst (λ refused. MatchOption refused (Answers w.counters w.journal.worker request reply) (λ reason. reply ≡ Refused reason)) reasons is;
+      answered = subst (λ refused. MatchOption refused (IsReplyTo w.counters w.journal.worker request reply) (λ reason. reply ≡ Refused reason)) reasons is;
       not_put_off = ap (λ objects. is_put_off objects request) (same_objects_of w.slices) ∙ goes;
     }
 
 -- so is that to a store on a hot item
 pub hot_answered : (w : WorkerState) (shards known index : ℕ) (request : Request) (homes : Homes) (reply : Reply) (seen : Option (Facts × ℕ))
-    → is_view request ≡ false → is_put_off (objects_of w.slices) request ≡ false → AreHomesOf w known request homes → shard_at homes.item ≡ None
+    → is_view request ≡ false → is_put_off (hot_objects w.slices) request ≡ false → AreHomesOf w known request homes → shard_at homes.item ≡ None
     → ((object : Object) (some : ℕ) → IsHomeOf w.slices some object homes.item → shard_at homes.item ≡ None → seen ≡ stock_of (stocks_of w.slices) object)
     → IsReplyBy w seen request reply → IsAnswered (setting_of w shards) w.counters (hot_txn w request index reply)
 hot_answered w shards known index request homes reply seen store goes are none fixed is =
@@ -149,7 +149,7 @@ either_reason : (b : Bool) (first by_item : Option Refusal) (reason : Refusal) �
 either_reason true first by_item reason is = is
 either_reason false first by_item reason is = ap (λ one. option_or one by_item) is
 
-pub refusal_stored : (w new : WorkerState) (number index : ℕ) (request : Request) (reason : Refusal) (found : ReadSet) → number_refusal w.opening request ≡ Some reason → is_put_off (objects_of w.slices) request ≡ false
+pub refusal_stored : (w new : WorkerState) (number index : ℕ) (request : Request) (reason : Refusal) (found : ReadSet) → number_refusal w.opening request ≡ Some reason → is_put_off (hot_objects w.slices) request ≡ false
     → number ≡ suc (max w.clock 0) → number ≤ last_number → found ≡ nothing → new ≡ with_entry w number index request (Refused reason) found → HasStoredOrIsFull w new request index (Ok tt)
 refusal_stored w new number index request reason found refused goes next within none is = (
   omega (arith, next, within),
@@ -159,14 +159,14 @@ refusal_stored w new number index request reason found refused goes next within 
       worker =
           is
           ∙ (λ i. with_entry w (next_of_own w.clock number next i) index request (Refused reason) (none i))
-          ∙ (λ i. record (with_entry w (suc w.clock) index request (Refused reason) nothing) { slices = after_acts w.slices (writes_if (sym (no_row w.journal.worker request reason) i)) });
+          ∙ (λ i. record (with_entry w (suc w.clock) index request (Refused reason) nothing) { slices = slices_after_acts w.slices (writes_if (sym (no_row w.journal.worker request reason) i)) });
       answered = λ shards.
           let z = setting_of w shards in
           let txn = hot_txn w request index (Refused reason) in
           let seen = option_and_then (stock_seen z txn) (item_of request) in
           let by_item = item_refusal request (option_map (λ s. s.0) seen) (unwrap_or (option_map (λ s. s.1) seen) 0) in
           record {
-            answered = subst (λ reasons. MatchOption reasons (Answers w.counters w.journal.worker request (Refused reason)) (λ why. Refused reason ≡ Refused why))
+            answered = subst (λ reasons. MatchOption reasons (IsReplyTo w.counters w.journal.worker request (Refused reason)) (λ why. Refused reason ≡ Refused why))
                 (sym (either_reason (is_view request) (number_refusal w.opening request) by_item reason refused)) refl;
             not_put_off = ap (λ objects. is_put_off objects request) (same_objects_of w.slices) ∙ goes;
           };

@@ -39,19 +39,19 @@ module _ {step : Step} {w : WorkerState} {seen : Option (Facts × ℕ)} {held : 
       → AreGoodOn (shard_at step.homes.item) (shard_at step.homes.item) (Look (shown.Left item seen)) (Bid item entry) held
   bid_arm bidder item amount time id entry is told =
       let on = at (StoreBid bidder item amount time) (BidStored id) is told in
-      bid_good step.opening step.workers w.key held w.slices w.opening on.taken on.opened on.below bidder item amount time entry seen step.homes.item on.homes_are.0 (on.found item refl) (free _ _ (BidStored id) (no_bid id) on.answered)
+      bid_good step.initial step.workers w.key held w.slices w.opening on.taken on.opened on.below bidder item amount time entry seen step.homes.item on.homes_are.0 (on.found item refl) (free _ _ (BidStored id) (no_bid id) on.answered)
 
   pub buy_arm : (buyer : ℕ) (item : ItemId) (quantity time : ℕ) (id : BuyId) → request ≡ BuyNow buyer item quantity time → reply ≡ Bought id
       → AreGoodOn (shard_at step.homes.item) (shard_at step.homes.item) (Look (shown.Left item seen)) (Buy item quantity) held
   buy_arm buyer item quantity time id is told =
       let on = at (BuyNow buyer item quantity time) (Bought id) is told in
-      buy_good step.opening step.workers w.key held w.slices w.opening on.taken on.opened on.below buyer item quantity time seen step.homes.item on.homes_are.0 (on.found item refl) (free _ _ (Bought id) (no_buy id) on.answered)
+      buy_good step.initial step.workers w.key held w.slices w.opening on.taken on.opened on.below buyer item quantity time seen step.homes.item on.homes_are.0 (on.found item refl) (free _ _ (Bought id) (no_buy id) on.answered)
 
   pub comment_arm : (author about : ℕ) (item : ItemId) (stars : Stars) → request ≡ StoreComment author about item stars
       → AreGoodOn (shard_at step.homes.item) (shard_at step.homes.other) (Look (shown.Facts item (option_map (λ s. s.0) seen))) (Comment about stars) held
   comment_arm author about item stars is =
       let on = at (StoreComment author about item stars) reply is refl in
-      comment_good step.opening step.workers w.key held w.slices w.opening on.taken on.opened on.below author about item stars seen step.homes.item step.homes.other on.homes_are.1 (on.found item refl) on.allowed
+      comment_good step.initial step.workers w.key held w.slices w.opening on.taken on.opened on.below author about item stars seen step.homes.item step.homes.other on.homes_are.1 (on.found item refl) on.allowed
 
   -- and so is the look of one that is refused
   pub bid_looks : (bidder : ℕ) (item : ItemId) (amount time : ℕ) → request ≡ StoreBid bidder item amount time → AreGoodOn (shard_at step.homes.item) (shard_at step.homes.item) (Look (shown.Left item seen)) (Look shown.Nothing) held

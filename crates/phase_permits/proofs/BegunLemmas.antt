@@ -16,7 +16,7 @@ use Rattle.auction_rows.specs.declared.requests.Request.TheVariants.{StoreItem, 
 use Rattle.auction_rows.specs.Footprint.{is_hot, objects_of as objects_named}
 use Rattle.auction_rows.specs.Refusals.{number_refusal}
 use Rattle.auction_rows.specs.Requests.{item_of, is_view}
-use Rattle.item_shards.specs.ShardContents.{HasRoom, clock, contents}
+use Rattle.item_shards.specs.ShardContents.{HasItemRoom, clock, contents}
 use Rattle.item_shards.specs.Values.{stock}
 use Rattle.shard_boxes.specs.Helds.{HeldState}
 use Rattle.shard_boxes.specs.Keys.{KeyState}
@@ -31,21 +31,21 @@ use Rattle.phase_permits.specs.declared.slices.Hot.{Hot}
 use Rattle.phase_permits.specs.declared.homes.Begun.{Begun}
 use Rattle.phase_permits.specs.declared.homes.Taken.{Taken}
 use Rattle.phase_permits.specs.Begun.{Step, HasBegun, HasFirst, HasRoomFor, IsAnsweredOn, IsSeen}
-use Rattle.phase_permits.specs.Deeds.{IsReplyBy, IsNextIf, AreDeedsOf, AreGoodOn, acts_for, clocks_of, deal_of, footprint_on}
+use Rattle.phase_permits.specs.Deeds.{IsReplyBy, IsNextIf, AreDeedsOf, AreGoodOn, acts_for, clocks_of, written_of, footprint_on}
 use Rattle.phase_permits.specs.Homes.{IsHomeOf}
 use Rattle.phase_permits.specs.Performing.{HasCommitted, HasFailed, HaveOpening, StoresItem}
-use Rattle.phase_permits.specs.Slicing.{objects_of, stocks_of, stock_of}
+use Rattle.phase_permits.specs.Slicing.{hot_objects, stocks_of, stock_of}
 use Rattle.phase_permits.specs.Putting.{written_acts, HasPutAll, IsAsTaken}
 use Rattle.phase_permits.specs.Takens.{shard_at, footprint_of, held_in, numbers_of, is_one_of, dealt, line_among, CanBeDoneOnAll, AreBack}
-use Rattle.phase_permits.specs.Txns.{Answers, IsAnswered, refusal_by}
-use Rattle.phase_permits.specs.Workers.{WorkerState, IsLawful, setting_of, next_item, txn_of, after_commit}
+use Rattle.phase_permits.specs.Txns.{IsReplyTo, IsAnswered, refusal_by}
+use Rattle.phase_permits.specs.Workers.{WorkerState, IsLawfulWorker, setting_of, next_item, txn_of, after_commit}
 use Rattle.phase_permits.proofs.AnswerLemmas.{in_setting, item_home, store_answered}
 use Rattle.phase_permits.proofs.CanLemmas.{can_deal}
 use Rattle.phase_permits.proofs.ChainLemmas.{store_commits, store_fails}
 use Rattle.phase_permits.proofs.FirstLemmas.{first_has, found_there, room_there, clocks_below}
 
 -- an item that is stored is the worker's next
-item_next : (w : WorkerState) (request : Request) (reply : Reply) → Answers w.counters w.journal.worker request reply → is_view request ≡ false → IsNextIf w reply
+item_next : (w : WorkerState) (request : Request) (reply : Reply) → IsReplyTo w.counters w.journal.worker request reply → is_view request ≡ false → IsNextIf w reply
 item_next w (StoreItem facts time) reply is store = subst (IsNextIf w) (sym is) refl
 item_next w (StoreBid bidder item amount time) reply is store = subst (IsNextIf w) (sym is) tt
 item_next w (StoreComment author about item stars) reply is store = subst (IsNextIf w) (sym is) tt
@@ -55,7 +55,7 @@ item_next w (ViewBids item) reply is store = absurd (true≢false store)
 item_next w (ViewCategory category) reply is store = absurd (true≢false store)
 item_next w (ViewUser user) reply is store = absurd (true≢false store)
 
-next_by : (w : WorkerState) (request : Request) (reply : Reply) (refused : Option Refusal) → MatchOption refused (Answers w.counters w.journal.worker request reply) (λ reason. reply ≡ Refused reason) → is_view request ≡ false → IsNextIf w reply
+next_by : (w : WorkerState) (request : Request) (reply : Reply) (refused : Option Refusal) → MatchOption refused (IsReplyTo w.counters w.journal.worker request reply) (λ reason. reply ≡ Refused reason) → is_view request ≡ false → IsNextIf w reply
 next_by w request reply None is store = item_next w request reply is store
 next_by w request reply (Some reason) is store = subst (IsNextIf w) (sym is) tt
 
@@ -77,22 +77,22 @@ same_named w shards number index (ViewCategory category) reply found allowed ans
 same_named w shards number index (ViewUser user) reply found allowed answered = refl
 
 -- the item that a worker stores next is not hot
-next_cold : (w : WorkerState) (b : Bool) → is_hot (objects_of w.slices) (Item (next_item w)) ≡ b → IsLawful w → b ≡ false
+next_cold : (w : WorkerState) (b : Bool) → is_hot (hot_objects w.slices) (Item (next_item w)) ≡ b → IsLawfulWorker w → b ≡ false
 next_cold w true hot lawful = let less = lawful.stored (next_item w) hot refl in absurd (omega (arith, less))
 next_cold w false cold lawful = refl
 
-cold_shard : (hots : List (Object × Hot)) (shards : ℕ) (item : ItemId) (h : Home) → IsHomeOf hots shards (Item item) h → is_hot (objects_of hots) (Item item) ≡ false → (t : ℕ) × (shard_at h ≡ Some t)
+cold_shard : (hots : List (Object × Hot)) (shards : ℕ) (item : ItemId) (h : Home) → IsHomeOf hots shards (Item item) h → is_hot (hot_objects hots) (Item item) ≡ false → (t : ℕ) × (shard_at h ≡ Some t)
 cold_shard hots shards item home.Nowhere at cold = absurd at
 cold_shard hots shards item (home.Slice place) at cold = absurd (true≢false (sym at.1 ∙ cold))
 cold_shard hots shards item (home.Shard shard) at cold = (shard, refl)
 
 -- so it lies in the first shard that was taken
-pub item_first : {N : Type 0} (step : Step) (w : WorkerState) (request : Request) (b : Begun N) → HasBegun step w request b → IsLawful w → HasFirst w request b.taken
+pub item_first : {N : Type 0} (step : Step) (w : WorkerState) (request : Request) (b : Begun N) → HasBegun step w request b → IsLawfulWorker w → HasFirst w request b.taken
 item_first step w (StoreItem facts time) b begun lawful stores =
     let homes = step.homes in
     let at = begun.homes_are.0 in
-    let shard = cold_shard w.slices (length step.opening) (next_item w) homes.item at (next_cold w (is_hot (objects_of w.slices) (Item (next_item w))) refl lawful) in
-    first_has step.opening step.workers w.key w.slices b.taken homes.item homes.other (next_item w) shard.0 at shard.1 begun.taken.numbers begun.taken.taken
+    let shard = cold_shard w.slices (length step.initial) (next_item w) homes.item at (next_cold w (is_hot (hot_objects w.slices) (Item (next_item w))) refl lawful) in
+    first_has step.initial step.workers w.key w.slices b.taken homes.item homes.other (next_item w) shard.0 at shard.1 begun.taken.numbers begun.taken.taken
 item_first step w (StoreBid bidder item amount time) b begun lawful stores = absurd stores
 item_first step w (StoreComment author about item stars) b begun lawful stores = absurd stores
 item_first step w (BuyNow buyer item quantity time) b begun lawful stores = absurd stores
@@ -103,14 +103,14 @@ item_first step w (ViewUser user) b begun lawful stores = absurd stores
 
 -- what was seen of an item, hot or not
 seen_by_home : (hots : List (Object × Hot)) (shards : ℕ) (item : ItemId) (h : Home) (seen found : Option (Facts × ℕ)) → IsHomeOf hots shards (Item item) h → (shard_at h ≡ None → seen ≡ stock_of (stocks_of hots) (Item item)) → found ≡ seen
-    → seen ≡ cond (is_hot (objects_of (stocks_of hots)) (Item item)) (stock_of (stocks_of hots) (Item item)) found
+    → seen ≡ cond (is_hot (hot_objects (stocks_of hots)) (Item item)) (stock_of (stocks_of hots) (Item item)) found
 seen_by_home hots shards item home.Nowhere seen found at fixed same = absurd at
 seen_by_home hots shards item (home.Slice place) seen found at fixed same = fixed refl ∙ sym (ap (λ b. cond b (stock_of (stocks_of hots) (Item item)) found) (in_setting hots (Item item) at.1))
 seen_by_home hots shards item (home.Shard shard) seen found at fixed same = sym same ∙ sym (ap (λ b. cond b (stock_of (stocks_of hots) (Item item)) found) (in_setting hots (Item item) at.1))
 
 module _ {N : Type 0} (step : Step) (w : WorkerState) (request : Request) (b : Begun N) (begun : HasBegun step w request b) where
-  abbrev opening : List ShardState
-  opening = step.opening
+  abbrev initial : List ShardState
+  initial = step.initial
 
   abbrev key : KeyState
   key = step.key
@@ -126,37 +126,37 @@ module _ {N : Type 0} (step : Step) (w : WorkerState) (request : Request) (b : B
 
   -- what was done on its shards, and put back, is a commit
   pub begun_commits : (new : WorkerState) (index : ℕ) (reply : Reply) (seen : Option (Facts × ℕ)) (deeds : Deeds) (found : ReadSet) → footprint_on deeds ≡ footprint_of homes
-      → AreDeedsOf w.slices (length opening) (acts_for w.journal.worker seen request reply) deeds → found ≡ record { stock = seen; clocks = clocks_of took }
-      → IsAnswered (setting_of w (length opening)) w.counters (txn_of w number request index reply found)
-      → HasPutAll opening w.key new.key (is_one_of (numbers_of (held_in took)))
-      (line_among number index (held_in took) (dealt took (written_acts (deal_of deeds number index))))
-      → new ≡ record (after_commit w number index request reply found) { key = new.key } → HasCommitted opening (record w { key = key }) new request index reply
+      → AreDeedsOf w.slices (length initial) (acts_for w.journal.worker seen request reply) deeds → found ≡ record { stock = seen; clocks = clocks_of took }
+      → IsAnswered (setting_of w (length initial)) w.counters (txn_of w number request index reply found)
+      → HasPutAll initial w.key new.key (is_one_of (numbers_of (held_in took)))
+      (line_among number index (held_in took) (dealt took (written_acts (written_of deeds number index))))
+      → new ≡ record (after_commit w number index request reply found) { key = new.key } → HasCommitted initial (record w { key = key }) new request index reply
   begun_commits new index reply seen deeds found foot owed found_is answered put committed =
-      store_commits opening (record w { key = key }) new w.key request homes took begun.taken begun.asked index number reply seen deeds found foot owed begun.allowed
-      (same_named w (length opening) number index request reply found begun.allowed answered) found_is put committed answered begun.numbered begun.within
+      store_commits initial (record w { key = key }) new w.key request homes took begun.taken begun.asked index number reply seen deeds found foot owed begun.allowed
+      (same_named w (length initial) number index request reply found begun.allowed answered) found_is put committed answered begun.numbered begun.within
 
   -- and where memory was refused, and they went back as they were, it failed
-  pub begun_fails : (new : WorkerState) → AreBack w.key new.key → StoresItem request → new ≡ record w { key = new.key } → HasFailed opening (record w { key = key }) new request Memory
+  pub begun_fails : (new : WorkerState) → AreBack w.key new.key → StoresItem request → new ≡ record w { key = new.key } → HasFailed initial (record w { key = key }) new request Memory
   begun_fails new put stores same =
       let numbered : number ≡ suc (max w.clock (greatest_by (λ (h : HeldState). clock h.shard) (held_in took))) = begun.numbered in
       let within = begun.within in
-      store_fails opening (record w { key = key }) new w.key request homes took begun.taken begun.asked put Memory same begun.goes (omega (arith, numbered, within), stores, begun.allowed)
+      store_fails initial (record w { key = key }) new w.key request homes took begun.taken begun.asked put Memory same begun.goes (omega (arith, numbered, within), stores, begun.allowed)
 
   -- a store
   module _ (seen : Option (Facts × ℕ)) (store : is_view request ≡ false) (is_seen : IsSeen w request homes took seen) where
-    pub seen_answered : (index : ℕ) (reply : Reply) (found : ReadSet) → IsReplyBy w seen request reply → found ≡ record { stock = seen; clocks = clocks_of took } → IsAnswered (setting_of w (length opening)) w.counters (txn_of w number request index reply found)
+    pub seen_answered : (index : ℕ) (reply : Reply) (found : ReadSet) → IsReplyBy w seen request reply → found ≡ record { stock = seen; clocks = clocks_of took } → IsAnswered (setting_of w (length initial)) w.counters (txn_of w number request index reply found)
     seen_answered index reply found by found_is =
-        store_answered w (length opening) number index request reply found seen store begun.goes by
-        (λ item needs. seen_by_home w.slices (length opening) item homes.item seen found.stock (item_home w (length opening) request homes item begun.homes_are needs) (is_seen.fixed item needs) (ap (λ (f : ReadSet). f.stock) found_is))
+        store_answered w (length initial) number index request reply found seen store begun.goes by
+        (λ item needs. seen_by_home w.slices (length initial) item homes.item seen found.stock (item_home w (length initial) request homes item begun.homes_are needs) (is_seen.fixed item needs) (ap (λ (f : ReadSet). f.stock) found_is))
 
     abbrev Grounds : Reply → HeldState → Type 0
     Grounds reply held = IsAnsweredOn step w request seen reply held
 
     -- what is known of it on each shard that it took
-    on_each : (reply : Reply) → IsReplyBy w seen request reply → HaveOpening opening w.opening → (held : List HeldState) → AllByRecursion (IsAsTaken opening step.workers w.key) held
+    on_each : (reply : Reply) → IsReplyBy w seen request reply → HaveOpening initial w.opening → (held : List HeldState) → AllByRecursion (IsAsTaken initial step.workers w.key) held
         → AllByRecursion (λ (h : HeldState). clock h.shard < number) held
         → ((item : ItemId) → item_of request ≡ Some item → AllByRecursion (λ (h : HeldState). shard_at homes.item ≡ Some h.number → seen ≡ stock (contents h.shard (Item item))) held)
-        → (StoresItem request → AllByRecursion (λ (h : HeldState). shard_at homes.item ≡ Some h.number → HasRoom h.shard (next_item w)) held) → AllByRecursion (Grounds reply) held
+        → (StoresItem request → AllByRecursion (λ (h : HeldState). shard_at homes.item ≡ Some h.number → HasItemRoom h.shard (next_item w)) held) → AllByRecursion (Grounds reply) held
     on_each reply by opened [] all later found room = tt
     on_each reply by opened (h ∷ held) all later found room = (
       record {
@@ -178,9 +178,9 @@ module _ {N : Type 0} (step : Step) (w : WorkerState) (request : Request) (b : B
     good_all a b deeds reply good [] all = tt
     good_all a b deeds reply good (h ∷ held) all = (good h all.0, good_all a b deeds reply good held all.1)
 
-    pub begun_can : (reply : Reply) (deeds : Deeds) → footprint_on deeds ≡ footprint_of homes → HasRoomFor w request took → IsReplyBy w seen request reply → HaveOpening opening w.opening
+    pub begun_can : (reply : Reply) (deeds : Deeds) → footprint_on deeds ≡ footprint_of homes → HasRoomFor w request took → IsReplyBy w seen request reply → HaveOpening initial w.opening
         → ((held : HeldState) → Grounds reply held → AreGoodOn (shard_at deeds.home) (shard_at deeds.other) deeds.first deeds.second held)
-        → CanBeDoneOnAll number (held_in took) (dealt took (written_acts (deal_of deeds number 0)))
+        → CanBeDoneOnAll number (held_in took) (dealt took (written_acts (written_of deeds number 0)))
     begun_can reply deeds foot room by opened good =
         let later = clocks_below took w.clock number begun.numbered in
         can_deal number took deeds.first deeds.second (shard_at deeds.home) (shard_at deeds.other) (begun.taken.numbers ∙ sym foot) later

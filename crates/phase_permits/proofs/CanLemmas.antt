@@ -13,7 +13,7 @@ use Rattle.phase_permits.specs.declared.homes.Taken.TheVariants as taken
 use Rattle.phase_permits.specs.Deeds.{first_dealt, second_dealt, IsGood, AreGoodOn}
 use Rattle.phase_permits.specs.Putting.{alone_in}
 use Rattle.phase_permits.specs.Takens.{each_once, held_in, numbers_of, dealt, CanBeDoneOn, CanBeDoneOnAll}
-use Rattle.phase_permits.proofs.DealLemmas.{first_in, second_in, how_many, other_once}
+use Rattle.phase_permits.proofs.WrittenLemmas.{first_in, second_in, how_many, other_once}
 
 -- two acts that are good one after the other
 both_done : (number : ℕ) (h : HeldState) (x y : Act) → clock h.shard < number → IsGood h.shard (contents h.shard) x → IsGood h.shard (after_act (contents h.shard) x) y → CanBeDoneOn number h (x ∷ y ∷ [])

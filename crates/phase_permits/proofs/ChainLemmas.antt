@@ -27,17 +27,17 @@ use Rattle.phase_permits.specs.declared.homes.Taken.{Taken}
 use Rattle.phase_permits.specs.Deeds.{first_dealt, second_dealt, clocks_of, acts_for, AreDeedsOf, footprint_on}
 use Rattle.phase_permits.specs.Performing.{HasCommitted, HasFailed, IsCause, StoresItem, asks, shards_asked, greatest_seen}
 use Rattle.phase_permits.specs.Putting.{clock_seen, HasPutAll, IsAsTaken}
-use Rattle.phase_permits.specs.Slicing.{objects_of}
+use Rattle.phase_permits.specs.Slicing.{hot_objects}
 use Rattle.phase_permits.specs.Takens.{shard_at, footprint_of, held_in, numbers_of, is_one_of, dealt, line_among, HasTakenAll, AreBack}
-use Rattle.phase_permits.specs.Txns.{Setting, Txn, hot_in, takes, line_on, greatest_clock, clock_found, clock_in, is_put_off, IsAnswered}
+use Rattle.phase_permits.specs.Txns.{Setting, Txn, hot_of, takes, line_on, greatest_clock, clock_found, clock_in, is_put_off, IsAnswered}
 use Rattle.phase_permits.specs.Workers.{WorkerState, setting_of, next_item, txn_of, after_commit}
-use Rattle.phase_permits.proofs.DealLemmas.{acts_among, dealt_on, line_is, greatest_same, greatest_taken}
+use Rattle.phase_permits.proofs.WrittenLemmas.{acts_among, dealt_on, line_is, greatest_same, greatest_taken}
 use Rattle.phase_permits.proofs.HomeLemmas.{same_objects_of}
 use Rattle.phase_permits.proofs.WholeLemmas.{taken_and_put, lines_stay, others_stay, clock_was, whole_commits}
 
-module _ {N : Type 0} {workers : ℕ} (opening : List ShardState) (old new : WorkerState) (key : KeyState) (request : Request) (homes : Homes) (took : Taken N)
-    (its : HasTakenAll opening workers old.key key (footprint_of homes) (held_in took))
-    (asked : (t : ℕ) → asks (length opening) old request t ≡ is_one_of (footprint_of homes) t) where
+module _ {N : Type 0} {workers : ℕ} (initial : List ShardState) (old new : WorkerState) (key : KeyState) (request : Request) (homes : Homes) (took : Taken N)
+    (its : HasTakenAll initial workers old.key key (footprint_of homes) (held_in took))
+    (asked : (t : ℕ) → asks (length initial) old request t ≡ is_one_of (footprint_of homes) t) where
   abbrev greatest : ℕ
   greatest = greatest_by (λ (h : HeldState). clock h.shard) (held_in took)
 
@@ -47,12 +47,12 @@ module _ {N : Type 0} {workers : ℕ} (opening : List ShardState) (old new : Wor
   -- with its deeds
   module _ (index number : ℕ) (reply : Reply) (seen : Option (Facts × ℕ)) (deeds : Deeds) (found : ReadSet)
       (foot : footprint_on deeds ≡ footprint_of homes)
-      (owed : AreDeedsOf old.slices (length opening) (acts_for old.journal.worker seen request reply) deeds)
+      (owed : AreDeedsOf old.slices (length initial) (acts_for old.journal.worker seen request reply) deeds)
       (allowed : number_refusal old.opening request ≡ None)
       (needs : objects_named request reply ≡ objects_named request (ItemStored (next_item old)))
       (found_is : found ≡ record { stock = seen; clocks = clocks_of took }) where
     abbrev z : Setting
-    z = setting_of old (length opening)
+    z = setting_of old (length initial)
 
     abbrev txn : Txn
     txn = txn_of old number request index reply found
@@ -68,16 +68,16 @@ module _ {N : Type 0} {workers : ℕ} (opening : List ShardState) (old new : Wor
 
     takes_is : (t : ℕ) → takes z t txn ≡ is_one_of (footprint_of homes) t
     takes_is t =
-        ap (λ objects. list_any (λ taken. taken == t) (map (λ object. shard_of object (length opening))
-        (if is_some (number_refusal old.opening request) then [] else filter (λ object. not (is_hot (hot_in z) object)) objects))) needs
+        ap (λ objects. list_any (λ taken. taken == t) (map (λ object. shard_of object (length initial))
+        (if is_some (number_refusal old.opening request) then [] else filter (λ object. not (is_hot (hot_of z) object)) objects))) needs
         ∙ asked t
 
-    acts_are : (t : ℕ) → is_one_of (footprint_of homes) t ≡ true → acts_among (held_in took) (dealt took (first ∷ second ∷ [])) t ≡ acts_owed old.opening t (length opening) (hot_in z) found.stock txn.0
+    acts_are : (t : ℕ) → is_one_of (footprint_of homes) t ≡ true → acts_among (held_in took) (dealt took (first ∷ second ∷ [])) t ≡ acts_owed old.opening t (length initial) (hot_of z) found.stock txn.0
     acts_are t here =
         dealt_on took deeds.first deeds.second deeds.home deeds.other (its.numbers ∙ sym foot) t (sym (is_held t) ∙ here)
         ∙ sym (owed t)
-        ∙ (λ i. padded (done_on t (length opening) (sym (same_objects_of old.slices) i) (acts_for old.journal.worker (sym (ap (λ (f : ReadSet). f.stock) found_is) i) request reply)))
-        ∙ ap (λ refused. padded (done_on t (length opening) (hot_in z) (cond (is_some refused) [] (acts_for old.journal.worker found.stock request reply)))) (sym allowed)
+        ∙ (λ i. padded (done_on t (length initial) (sym (same_objects_of old.slices) i) (acts_for old.journal.worker (sym (ap (λ (f : ReadSet). f.stock) found_is) i) request reply)))
+        ∙ ap (λ refused. padded (done_on t (length initial) (hot_of z) (cond (is_some refused) [] (acts_for old.journal.worker found.stock request reply)))) (sym allowed)
 
     owes : (t : ℕ) → is_one_of (footprint_of homes) t ≡ true → lines t ≡ line_on z t txn
     owes t here =
@@ -90,11 +90,11 @@ module _ {N : Type 0} {workers : ℕ} (opening : List ShardState) (old new : Wor
         ∙ ap (λ clocks. greatest_by (λ s. clock_in clocks s) (numbers_of (held_in took))) (ap (λ (f : ReadSet). f.clocks) found_is)
         ∙ greatest_taken took (shard_at homes.item) (shard_at homes.other) its.numbers
 
-    pub store_commits : HasPutAll opening key new.key (is_one_of (numbers_of (held_in took))) lines
+    pub store_commits : HasPutAll initial key new.key (is_one_of (numbers_of (held_in took))) lines
         → new ≡ record (after_commit old number index request reply found) { key = new.key }
-        → IsAnswered z old.counters txn → number ≡ suc (max old.clock greatest) → number ≤ last_number → HasCommitted opening old new request index reply
+        → IsAnswered z old.counters txn → number ≡ suc (max old.clock greatest) → number ≤ last_number → HasCommitted initial old new request index reply
     store_commits put committed answered numbered within =
-        whole_commits opening old new request index reply number found committed answered (footprint_of homes) lines
+        whole_commits initial old new request index reply number found committed answered (footprint_of homes) lines
         (taken_and_put old.key key new.key (footprint_of homes) (held_in took) lines its put) takes_is owes
         (numbered ∙ ap (λ g. suc (max old.clock g)) (sym greatest_is)) within
 
@@ -105,16 +105,16 @@ module _ {N : Type 0} {workers : ℕ} (opening : List ShardState) (old new : Wor
 
   -- as they were
   module _ (put : AreBack key new.key) where
-    seen_is : (held : List HeldState) → AllByRecursion (IsAsTaken opening workers key) held → greatest_by (clock_seen opening new.key) (numbers_of held) ≡ greatest_by (λ (h : HeldState). clock h.shard) held
+    seen_is : (held : List HeldState) → AllByRecursion (IsAsTaken initial workers key) held → greatest_by (clock_seen initial new.key) (numbers_of held) ≡ greatest_by (λ (h : HeldState). clock h.shard) held
     seen_is [] all = refl
     seen_is (h ∷ held) all = λ i. max (clock_was old.key key new.key (footprint_of homes) (held_in took) its put h all.0 i) (seen_is held all.1 i)
 
-    greatest_is_seen : greatest_seen opening old new.key request ≡ max old.clock greatest
+    greatest_is_seen : greatest_seen initial old new.key request ≡ max old.clock greatest
     greatest_is_seen =
-        ap (max old.clock) (greatest_same (clock_seen opening new.key) (shards_asked (length opening) old request) (numbers_of (held_in took)) (λ t. asked t ∙ is_held t) ∙ seen_is (held_in took) its.taken)
+        ap (max old.clock) (greatest_same (clock_seen initial new.key) (shards_asked (length initial) old request) (numbers_of (held_in took)) (λ t. asked t ∙ is_held t) ∙ seen_is (held_in took) its.taken)
 
-    pub store_fails : (fault : PermitFault) → new ≡ record old { key = new.key } → is_put_off (objects_of old.slices) request ≡ false
-        → IsCauseAtMost (max old.clock greatest) fault → HasFailed opening old new request fault
+    pub store_fails : (fault : PermitFault) → new ≡ record old { key = new.key } → is_put_off (hot_objects old.slices) request ≡ false
+        → IsCauseAtMost (max old.clock greatest) fault → HasFailed initial old new request fault
     store_fails fault worker goes cause = record {
       worker = worker;
       lines = lines_stay old.key key new.key (footprint_of homes) (held_in took) its put;
@@ -123,6 +123,6 @@ module _ {N : Type 0} {workers : ℕ} (opening : List ShardState) (old new : Wor
       not_put_off = goes;
       cause = by_fault fault cause;
     } where
-      by_fault : (f : PermitFault) → IsCauseAtMost (max old.clock greatest) f → IsCause opening old new.key request f
+      by_fault : (f : PermitFault) → IsCauseAtMost (max old.clock greatest) f → IsCause initial old new.key request f
       by_fault Memory c = (subst (λ n. n < last_number) (sym greatest_is_seen) c.0, c.1, c.2)
       by_fault NumberFull c = subst (λ n. last_number ≤ n) (sym greatest_is_seen) c

@@ -11,11 +11,11 @@ use Rattle.auction_rows.specs.declared.requests.Facts.{Facts}
 use Rattle.auction_rows.specs.declared.requests.Request.{Request}
 use Rattle.auction_rows.specs.Requests.{shard_of}
 use Rattle.item_shards.specs.CommitNumbers.{last_number}
-use Rattle.item_shards.specs.ShardContents.{HasRoom, LiesIn, clock, contents}
+use Rattle.item_shards.specs.ShardContents.{HasItemRoom, LiesIn, clock, contents}
 use Rattle.item_shards.specs.Values.{stock}
 use Rattle.shard_boxes.specs.Helds.{HeldState}
 use Rattle.shard_boxes.specs.Keys.{KeyState, seen_at}
-use Rattle.shard_boxes.specs.Lines.{IsHistory}
+use Rattle.shard_boxes.specs.Lines.{IsShardHistory}
 use Rattle.shard_boxes.specs.States.{ShardState, state_of}
 use Rattle.phase_permits.specs.declared.homes.Home.{Home}
 use Rattle.phase_permits.specs.declared.slices.Hot.{Hot}
@@ -28,7 +28,7 @@ use Rattle.phase_permits.specs.Homes.{IsHomeOf}
 use Rattle.phase_permits.specs.Putting.{IsAsTaken}
 use Rattle.phase_permits.specs.Takens.{shard_at, each_once, held_in, numbers_of, is_one_of, AreApart}
 use Rattle.phase_permits.specs.Workers.{WorkerState}
-use Rattle.phase_permits.proofs.DealLemmas.{first_in, apart_of}
+use Rattle.phase_permits.proofs.WrittenLemmas.{first_in, apart_of}
 use Rattle.phase_permits.proofs.GoodLemmas.{home_number}
 
 first_of : (c : Bool) (s u : ℕ) → first_in (cond c (s ∷ []) (s ∷ u ∷ [])) ≡ s
@@ -40,17 +40,17 @@ first_is None b t is = absurd (cc)
 first_is (Some s) None t is = same_Some s t is
 first_is (Some s) (Some u) t is = first_of (s == u) s u ∙ same_Some s t is
 
-module _ {N : Type 0} (opening : List ShardState) (workers : ℕ) (key : KeyState) (hots : List (Object × Hot)) (took : Taken N) (h k : Home) where
+module _ {N : Type 0} (initial : List ShardState) (workers : ℕ) (key : KeyState) (hots : List (Object × Hot)) (took : Taken N) (h k : Home) where
   -- an item whose home is a shard lies in the first
-  lies_first : (held : HeldState) (item : ItemId) (t : ℕ) → IsHomeOf hots (length opening) (Item item) h → shard_at h ≡ Some t → IsAsTaken opening workers key held → held.number ≡ t → LiesIn held.shard (Item item)
+  lies_first : (held : HeldState) (item : ItemId) (t : ℕ) → IsHomeOf hots (length initial) (Item item) h → shard_at h ≡ Some t → IsAsTaken initial workers key held → held.number ≡ t → LiesIn held.shard (Item item)
   lies_first held item t at is its number =
-      ap (shard_of (Item item)) its.shards_is ∙ sym (home_number hots (length opening) t (Item item) h at is) ∙ sym number ∙ sym its.number_is
+      ap (shard_of (Item item)) its.shards_is ∙ sym (home_number hots (length initial) t (Item item) h at is) ∙ sym number ∙ sym its.number_is
 
-  pub first_has : (item : ItemId) (t : ℕ) → IsHomeOf hots (length opening) (Item item) h → shard_at h ≡ Some t → numbers_of (held_in took) ≡ each_once (shard_at h) (shard_at k) → AllByRecursion (IsAsTaken opening workers key) (held_in took)
+  pub first_has : (item : ItemId) (t : ℕ) → IsHomeOf hots (length initial) (Item item) h → shard_at h ≡ Some t → numbers_of (held_in took) ≡ each_once (shard_at h) (shard_at k) → AllByRecursion (IsAsTaken initial workers key) (held_in took)
       → FirstHas took item
   first_has item t at is numbers all = go took numbers all
     where
-      go : (its : Taken N) → numbers_of (held_in its) ≡ each_once (shard_at h) (shard_at k) → AllByRecursion (IsAsTaken opening workers key) (held_in its) → FirstHas its item
+      go : (its : Taken N) → numbers_of (held_in its) ≡ each_once (shard_at h) (shard_at k) → AllByRecursion (IsAsTaken initial workers key) (held_in its) → FirstHas its item
       go taken.Nothing numbers all = tt
       go (taken.One one) numbers all = lies_first one item t at is all.0 (ap first_in numbers ∙ first_is (shard_at h) (shard_at k) t is)
       go (taken.Two one other) numbers all = lies_first one item t at is all.0 (ap first_in numbers ∙ first_is (shard_at h) (shard_at k) t is)
@@ -69,7 +69,7 @@ found_there (taken.One one) a b item seen numbers is = (λ at. is one.number at,
 found_there (taken.Two one other) a b item seen numbers is = (λ at. is one.number at, (λ at. absurd (not_second one.number other.number a b numbers at), tt))
 
 pub room_there : {N : Type 0} (took : Taken N) (a b : Option ℕ) (item : ItemId) → numbers_of (held_in took) ≡ each_once a b → FirstHasRoom took item
-    → AllByRecursion (λ (h : HeldState). a ≡ Some h.number → HasRoom h.shard item) (held_in took)
+    → AllByRecursion (λ (h : HeldState). a ≡ Some h.number → HasItemRoom h.shard item) (held_in took)
 room_there taken.Nothing a b item numbers room = tt
 room_there (taken.One one) a b item numbers room = (λ at. room, tt)
 room_there (taken.Two one other) a b item numbers room = (λ at. room, (λ at. absurd (not_second one.number other.number a b numbers at), tt))
@@ -81,11 +81,11 @@ clocks_below (taken.One one) own number is = (omega (arith, is), tt)
 clocks_below (taken.Two one other) own number is = (omega (arith, is), (omega (arith, is), tt))
 
 -- shards that show what they showed
-module _ (opening : List ShardState) (workers : ℕ) (key : KeyState) where
-  as_before : (h k : HeldState) → ◌≡◌ {A = ℕ × ShardState} (k.number, state_of k.shard) (h.number, state_of h.shard) → IsAsTaken opening workers key h → IsAsTaken opening workers key k
-  as_before h k same is = subst (λ (p : ℕ × ShardState). IsHistory opening workers p.0 (seen_at key p.0) p.1) (sym same) is
+module _ (initial : List ShardState) (workers : ℕ) (key : KeyState) where
+  as_before : (h k : HeldState) → ◌≡◌ {A = ℕ × ShardState} (k.number, state_of k.shard) (h.number, state_of h.shard) → IsAsTaken initial workers key h → IsAsTaken initial workers key k
+  as_before h k same is = subst (λ (p : ℕ × ShardState). IsShardHistory initial workers p.0 (seen_at key p.0) p.1) (sym same) is
 
-  pub taken_before : {N : Type 0} (took now : Taken N) → states_in now ≡ states_in took → AllByRecursion (IsAsTaken opening workers key) (held_in took) → AllByRecursion (IsAsTaken opening workers key) (held_in now)
+  pub taken_before : {N : Type 0} (took now : Taken N) → states_in now ≡ states_in took → AllByRecursion (IsAsTaken initial workers key) (held_in took) → AllByRecursion (IsAsTaken initial workers key) (held_in now)
   taken_before taken.Nothing taken.Nothing same all = tt
   taken_before taken.Nothing (taken.One one) same all = absurd (cc)
   taken_before taken.Nothing (taken.Two one other) same all = absurd (cc)
@@ -128,7 +128,7 @@ begun_before {N} {step} {w} {request} before after same number_is begun =
     let took = before.taken in
     let now = after.taken in
     let numbers = numbers_before took now same in
-    let all = taken_before step.opening step.workers w.key took now same begun.taken.taken in
+    let all = taken_before step.initial step.workers w.key took now same begun.taken.taken in
     let known = known_by_numbers (length w.key.seats) (held_in now) (subst (AllByRecursion (λ n. n < length w.key.seats)) (sym numbers) (known_of_numbers (length w.key.seats) (held_in took) begun.held.known)) in
     record {
       allowed = begun.allowed;

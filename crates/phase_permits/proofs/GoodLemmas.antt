@@ -21,7 +21,7 @@ use Rattle.item_shards.specs.declared.shard.acts.Act.TheVariants.{Bid, Comment, 
 use Rattle.item_shards.specs.declared.shard.acts.Shown.TheVariants as shown
 use Rattle.item_shards.specs.CommitNumbers.{last_number}
 use Rattle.item_shards.specs.ShardContents.{LiesIn, clock, contents, opening as opening_of}
-use Rattle.item_shards.specs.Values.{Value, HasLeft, stock}
+use Rattle.item_shards.specs.Values.{Value, HasInStock, stock}
 use Rattle.shard_boxes.specs.Helds.{HeldState}
 use Rattle.shard_boxes.specs.Keys.{KeyState}
 use Rattle.shard_boxes.specs.States.{ShardState, state_of}
@@ -55,7 +55,7 @@ enough_if false true is = absurd (cc)
 enough_if false false is = refl
 
 left_to_buy : (start : Opening) (buyer : ℕ) (item : ItemId) (quantity time : ℕ) (value : Value) (facts : Option Facts) → value.facts ≡ facts
-    → refusal_by start (option_map (λ f. (f, f.quantity - value.bought)) facts) (BuyNow buyer item quantity time) ≡ None → HasLeft value quantity
+    → refusal_by start (option_map (λ f. (f, f.quantity - value.bought)) facts) (BuyNow buyer item quantity time) ≡ None → HasInStock value quantity
 left_to_buy start buyer item quantity time value None known free = absurd (none_not_some (second_none (number_refusal start (BuyNow buyer item quantity time)) (Some NoSuchItem) free))
 left_to_buy start buyer item quantity time value (Some facts) known free = record {
   number = facts.quantity - value.bought;
@@ -91,16 +91,16 @@ module _ (held : HeldState) where
       record { first = λ is. (tt, ap (option_map (λ s. s.0)) (seen_is is) ∙ facts_of_stock value value.facts); second = λ is. (tt, tt); after = λ is also. (tt, tt) }
 
 -- what writes
-module _ (opening : List ShardState) (workers : ℕ) (key : KeyState) (held : HeldState) (hots : List (Object × Hot)) (start : Opening)
-    (its : IsAsTaken opening workers key held) (openings : HaveOpening opening start) (below : clock held.shard < last_number) where
-  lies : (object : Object) (h : Home) → IsHomeOf hots (length opening) object h → shard_at h ≡ Some held.number → LiesIn held.shard object
-  lies object h at is = ap (shard_of object) its.shards_is ∙ sym (home_number hots (length opening) held.number object h at is) ∙ sym its.number_is
+module _ (initial : List ShardState) (workers : ℕ) (key : KeyState) (held : HeldState) (hots : List (Object × Hot)) (start : Opening)
+    (its : IsAsTaken initial workers key held) (openings : HaveOpening initial start) (below : clock held.shard < last_number) where
+  lies : (object : Object) (h : Home) → IsHomeOf hots (length initial) object h → shard_at h ≡ Some held.number → LiesIn held.shard object
+  lies object h at is = ap (shard_of object) its.shards_is ∙ sym (home_number hots (length initial) held.number object h at is) ∙ sym its.number_is
 
   opened : opening_of held.shard ≡ start
   opened = its.opening_is ∙ openings held.number its.known
 
   -- a bid on a cold item
-  pub bid_good : (bidder : ℕ) (item : ItemId) (amount time : ℕ) (entry : BidEntry) (seen : Option (Facts × ℕ)) (h : Home) → IsHomeOf hots (length opening) (Item item) h
+  pub bid_good : (bidder : ℕ) (item : ItemId) (amount time : ℕ) (entry : BidEntry) (seen : Option (Facts × ℕ)) (h : Home) → IsHomeOf hots (length initial) (Item item) h
       → (shard_at h ≡ Some held.number → seen ≡ stock (contents held.shard (Item item))) → refusal_by start seen (StoreBid bidder item amount time) ≡ None
       → AreGoodOn (shard_at h) (shard_at h) (Look (shown.Left item seen)) (Bid item entry) held
   bid_good bidder item amount time entry seen h at seen_is free =
@@ -116,7 +116,7 @@ module _ (opening : List ShardState) (workers : ℕ) (key : KeyState) (held : He
       record { first = λ is. (tt, seen_is is); second = writes; after = λ is also. writes also }
 
   -- a purchase of one
-  pub buy_good : (buyer : ℕ) (item : ItemId) (quantity time : ℕ) (seen : Option (Facts × ℕ)) (h : Home) → IsHomeOf hots (length opening) (Item item) h
+  pub buy_good : (buyer : ℕ) (item : ItemId) (quantity time : ℕ) (seen : Option (Facts × ℕ)) (h : Home) → IsHomeOf hots (length initial) (Item item) h
       → (shard_at h ≡ Some held.number → seen ≡ stock (contents held.shard (Item item))) → refusal_by start seen (BuyNow buyer item quantity time) ≡ None
       → AreGoodOn (shard_at h) (shard_at h) (Look (shown.Left item seen)) (Buy item quantity) held
   buy_good buyer item quantity time seen h at seen_is free =
@@ -131,7 +131,7 @@ module _ (opening : List ShardState) (workers : ℕ) (key : KeyState) (held : He
       record { first = λ is. (tt, seen_is is); second = writes; after = λ is also. writes also }
 
   -- a comment
-  pub comment_good : (author about : ℕ) (item : ItemId) (stars : Stars) (seen : Option (Facts × ℕ)) (h k : Home) → IsHomeOf hots (length opening) (User about) k
+  pub comment_good : (author about : ℕ) (item : ItemId) (stars : Stars) (seen : Option (Facts × ℕ)) (h k : Home) → IsHomeOf hots (length initial) (User about) k
       → (shard_at h ≡ Some held.number → seen ≡ stock (contents held.shard (Item item))) → number_refusal start (StoreComment author about item stars) ≡ None
       → AreGoodOn (shard_at h) (shard_at k) (Look (shown.Facts item (option_map (λ s. s.0) seen))) (Comment about stars) held
   comment_good author about item stars seen h k at seen_is allowed =

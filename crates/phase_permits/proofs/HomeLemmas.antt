@@ -17,11 +17,11 @@ use Rattle.phase_permits.specs.declared.homes.Home.{Home}
 use Rattle.phase_permits.specs.declared.homes.Home.TheVariants as home
 use Rattle.phase_permits.specs.declared.slices.Hot.{Hot}
 use Rattle.phase_permits.specs.Homes.{IsHomeOf}
-use Rattle.phase_permits.specs.Slicing.{objects_of, stocks_of}
+use Rattle.phase_permits.specs.Slicing.{hot_objects, stocks_of}
 use Rattle.phase_permits.specs.Takens.{shard_at, each_once, is_one_of}
 
 -- the hot objects are those of what is fixed
-pub same_objects_of : (hots : List (Object × Hot)) → objects_of (stocks_of hots) ≡ objects_of hots
+pub same_objects_of : (hots : List (Object × Hot)) → hot_objects (stocks_of hots) ≡ hot_objects hots
 same_objects_of [] = refl
 same_objects_of (hot ∷ hots) = ap (λ more. hot.0 ∷ more) (same_objects_of hots)
 
@@ -43,7 +43,7 @@ twice false = refl
 
 module _ (shards : ℕ) (hots : List (Object × Hot)) where
   abbrev Hots : List Object
-  Hots = objects_of hots
+  Hots = hot_objects hots
 
   pub asks_one : (object : Object) (h : Home) → IsHomeOf hots shards object h → (t : ℕ) → is_in shards Hots (object ∷ []) t ≡ is_one_of (each_once (shard_at h) None) t
   asks_one object home.Nowhere is t = absurd is
@@ -73,10 +73,10 @@ module _ (shards : ℕ) (hots : List (Object × Hot)) where
 
 -- the footprint is that of the objects that a request names
 pub asked : (w : WorkerState) (shards : ℕ) (request r : Request) → number_refusal w.opening request ≡ None → request ≡ r → (t : ℕ)
-    → asks shards w request t ≡ is_in shards (objects_of w.slices) (objects_named r (ItemStored (next_item w))) t
+    → asks shards w request t ≡ is_in shards (hot_objects w.slices) (objects_named r (ItemStored (next_item w))) t
 asked w shards request r none is t =
     ap (λ refused. list_any (λ taken. taken == t) (map (λ object. shard_of object shards)
-    (if is_some refused then [] else filter (λ object. not (is_hot (objects_of (stocks_of w.slices)) object)) (objects_named request (ItemStored (next_item w)))))) none
+    (if is_some refused then [] else filter (λ object. not (is_hot (hot_objects (stocks_of w.slices)) object)) (objects_named request (ItemStored (next_item w)))))) none
     ∙ (λ i. is_in shards (same_objects_of w.slices i) (objects_named (is i) (ItemStored (next_item w))) t)
 
 -- what is viewed or bought is cold, where that is not put off

@@ -14,8 +14,8 @@ use Rattle.auction_rows.specs.declared.rows.Row.{Row}
 use Rattle.auction_rows.specs.Book.{Book}
 use Rattle.auction_rows.specs.History.{row_of_entry, rows_of}
 use Rattle.item_shards.specs.Writing.{writes_if}
-use Rattle.phase_permits.specs.Slicing.{slices_of, after_acts}
-use Rattle.phase_permits.specs.Txns.{Setting, Txn, entry_of, number_of, greatest_clock, takes, line_on, IsAnswered, after_txn}
+use Rattle.phase_permits.specs.Slicing.{slices_of, slices_after_acts}
+use Rattle.phase_permits.specs.Txns.{Setting, Txn, entry_of, txn_number, greatest_clock, takes, line_on, IsAnswered, after_txn}
 use Rattle.phase_permits.specs.Works.{Work, IsWorkOf, IsCommitOf, with_txn}
 use Rattle.phase_permits.proofs.RowSlices.{row_more}
 
@@ -29,7 +29,7 @@ one_line p f xs x b is = ap (map f) (filter-append p xs (x ∷ [])) ∙ map-appe
     go false is = ap (λ c. map f (filter p xs) ++ map f (cond c (x ∷ []) [])) is ∙ append-nil (map f (filter p xs))
 
 -- the slices of rows, and of one more if there is one
-row_if_any : (stocks : List (Object × Option (Facts × ℕ))) (rows : Book) (one : Option Row) → slices_of stocks (rows ++ option_to_list one) ≡ after_acts (slices_of stocks rows) (writes_if one)
+row_if_any : (stocks : List (Object × Option (Facts × ℕ))) (rows : Book) (one : Option Row) → slices_of stocks (rows ++ option_to_list one) ≡ slices_after_acts (slices_of stocks rows) (writes_if one)
 row_if_any stocks rows None = ap (slices_of stocks) (append-nil rows)
 row_if_any stocks rows (Some one) = row_more stocks rows one
 
@@ -46,11 +46,11 @@ commit_keeps z worker work txn is commit = record {
   entries = ap (λ es. es ++ entry_of txn ∷ []) is.entries ∙ sym (map-append entry_of work.txns (txn ∷ []));
   lines = λ shard. ap (λ lines. if takes z shard txn then lines ++ line_on z shard txn ∷ [] else lines) (is.lines shard)
       ∙ sym (one_line (takes z shard) (line_on z shard) work.txns txn (takes z shard txn) refl);
-  clocked = sym (last-push number_of work.start work.txns txn);
+  clocked = sym (last-push txn_number work.start work.txns txn);
   counts = ap (λ c. after_txn c txn) is.counts ∙ sym (fold-append after_txn work.opened work.txns (txn ∷ []));
-  numbered = numbered_push number_of (greatest_clock z) work.start work.txns txn is.numbered (commit.numbered ∙ ap (λ n. suc (max n (greatest_clock z txn))) is.clocked);
+  numbered = numbered_push txn_number (greatest_clock z) work.start work.txns txn is.numbered (commit.numbered ∙ ap (λ n. suc (max n (greatest_clock z txn))) is.clocked);
   answered = saw_push (IsAnswered z) after_txn work.opened work.txns txn is.answered (subst (λ c. IsAnswered z c txn) is.counts commit.answered);
-  sliced = ap (λ hots. after_acts hots (writes_if (row_of_entry (entry_of txn)))) is.sliced
+  sliced = ap (λ hots. slices_after_acts hots (writes_if (row_of_entry (entry_of txn)))) is.sliced
       ∙ sym (row_if_any z.stocks (rows_of work.entries) (row_of_entry (entry_of txn)))
       ∙ sym (ap (slices_of z.stocks) (rows_push work.entries (entry_of txn)));
 }

@@ -149,9 +149,9 @@ module _ (k k1 k2 : KeyState) (a b : ℕ) (x y : Option Line) (holds : HoldsBoth
           ∙ sym (ap (λ c. cond c (lines_at k a ++ added x) (if t == b then lines_at k b ++ added y else lines_at k t)) h.0 ∙ ap (λ c. cond c (lines_at k b ++ added y) (lines_at k t)) h'.0)
 
 -- each of two shards that the key holds was put back with a line that may follow it
-pub two_put : (opening : List ShardState) (k k1 k2 : KeyState) (one other : HeldState) (x y : Line) → HoldsBoth k one.number other.number
-    → IsPutWith opening k k1 one x → IsPutWith opening k1 k2 other y → HasPutTwo opening k k2 one.number other.number x y
-two_put opening k k1 k2 one other x y holds first second =
+pub two_put : (initial : List ShardState) (k k1 k2 : KeyState) (one other : HeldState) (x y : Line) → HoldsBoth k one.number other.number
+    → IsPutWith initial k k1 one x → IsPutWith initial k1 k2 other y → HasPutTwo initial k k2 one.number other.number x y
+two_put initial k k1 k2 one other x y holds first second =
     let a = one.number in
     let b = other.number in
     let worker' : k1.worker ≡ k2.worker = sym (ap (λ (j : KeyState). j.worker) second.put) in
@@ -196,8 +196,8 @@ pub others_as : (old new : KeyState) (a a' b b' : ℕ) → a ≡ a' → b ≡ b'
 others_as old new a a' b b' one other others t not_a not_b = others t (λ e. not_a (e ∙ one)) (λ e. not_b (e ∙ other))
 
 -- two shards that were put back, each with the line that it was owed
-module _ (opening : List ShardState) (key back : KeyState) (a b : ℕ) (first second : Line) (took : ℕ → Bool) (owed : ℕ → Line) (apart : a ≢ b)
-    (put : HasPutTwo opening key back a b first second) (taken : took a ≡ true) (taken' : took b ≡ true) (owes : first ≡ owed a) (owes' : second ≡ owed b)
+module _ (initial : List ShardState) (key back : KeyState) (a b : ℕ) (first second : Line) (took : ℕ → Bool) (owed : ℕ → Line) (apart : a ≢ b)
+    (put : HasPutTwo initial key back a b first second) (taken : took a ≡ true) (taken' : took b ≡ true) (owes : first ≡ owed a) (owes' : second ≡ owed b)
     (rest : (t : ℕ) → a ≢ t → b ≢ t → took t ≡ false) where
   abbrev HasLines : ℕ → Type 0
   HasLines t = lines_at back t ≡ (if took t then lines_at key t ++ owed t ∷ [] else lines_at key t)
@@ -215,7 +215,7 @@ module _ (opening : List ShardState) (key back : KeyState) (a b : ℕ) (first se
       ∙ ap (λ c. cond c (lines_at key b ++ second ∷ []) (lines_at key b)) (eq-eqb b b refl)
       ∙ ap (λ l. lines_at key b ++ l ∷ []) owes' ∙ sym (ap (λ c. cond c (lines_at key b ++ owed b ∷ []) (lines_at key b)) taken')
 
-  pub both_put_all : HasPutAll opening key back took owed
+  pub both_put_all : HasPutAll initial key back took owed
   both_put_all = record {
     lines = λ t. lines_are t (eqb_tells a t) (eqb_tells b t);
     puts = λ t. puts_are t (eqb_tells a t) (eqb_tells b t);
@@ -235,9 +235,9 @@ module _ (opening : List ShardState) (key back : KeyState) (a b : ℕ) (first se
           ∙ sym (ap (λ c. cond c (lines_at key t ++ owed t ∷ []) (lines_at key t)) (rest t h.1 h'.1))
 
       puts_are : (t : ℕ) → (((a == t) ≡ true) × (a ≡ t)) ⊎ (((a == t) ≡ false) × (a ≢ t)) → (((b == t) ≡ true) × (b ≡ t)) ⊎ (((b == t) ≡ false) × (b ≢ t)) → took t ≡ true
-          → HasPut opening key back t (owed t)
-      puts_are t (inl h) other took_it = subst (λ n. HasPut opening key back n (owed n)) h.1 (subst (λ (l : Line). HasPut opening key back a l) owes put.put_first)
-      puts_are t (inr h) (inl h') took_it = subst (λ n. HasPut opening key back n (owed n)) h'.1 (subst (λ (l : Line). HasPut opening key back b l) owes' put.put_second)
+          → HasPut initial key back t (owed t)
+      puts_are t (inl h) other took_it = subst (λ n. HasPut initial key back n (owed n)) h.1 (subst (λ (l : Line). HasPut initial key back a l) owes put.put_first)
+      puts_are t (inr h) (inl h') took_it = subst (λ n. HasPut initial key back n (owed n)) h'.1 (subst (λ (l : Line). HasPut initial key back b l) owes' put.put_second)
       puts_are t (inr h) (inr h') took_it = absurd (true≢false (sym took_it ∙ rest t h.1 h'.1))
 
       others_are : (t : ℕ) → (((a == t) ≡ true) × (a ≡ t)) ⊎ (((a == t) ≡ false) × (a ≢ t)) → (((b == t) ≡ true) × (b ≡ t)) ⊎ (((b == t) ≡ false) × (b ≢ t)) → took t ≡ false

@@ -20,7 +20,7 @@ at_end xs x =
     ap (slice_get (xs ++ x ∷ [])) place
     ∙ slice_get_read (xs ++ x ∷ []) (length (xs ++ x ∷ [])) (length xs) x refl (omega (arith, count)) (sym (get_or-append_seam xs x [] x))
 
-module _ (opening : List ShardState) (old new : WorkerState) (request : Request) (index : ℕ) (reply : Reply) (done : HasCommitted opening old new request index reply) where
+module _ (initial : List ShardState) (old new : WorkerState) (request : Request) (index : ℕ) (reply : Reply) (done : HasCommitted initial old new request index reply) where
   -- a permit that has committed has an entry, and its reply is the one that was given
   entries_after : new.journal.entries
       ≡ old.journal.entries ++ commit_in old.journal done.number index request reply ∷ []
@@ -37,5 +37,5 @@ module _ (opening : List ShardState) (old new : WorkerState) (request : Request)
       ∙ ap (option_map (λ (entry : Entry). entry.reply)) (at_end old.journal.entries (commit_in old.journal done.number index request reply))
 
   -- so whoever reads the last reply has that of the commit
-  pub as_read : (read : Reply) → last_reply new.journal.entries ≡ Some read → HasCommitted opening old new request index read
-  as_read read is = subst (HasCommitted opening old new request index) (same_Some reply read (sym last_committed ∙ is)) done
+  pub as_read : (read : Reply) → last_reply new.journal.entries ≡ Some read → HasCommitted initial old new request index read
+  as_read read is = subst (HasCommitted initial old new request index) (same_Some reply read (sym last_committed ∙ is)) done

@@ -15,10 +15,10 @@ use Rattle.worker_journals.specs.Journals.{JournalView, entry_number, commit_in,
 use Rattle.phase_permits.specs.declared.worker.Counters.{Counters}
 use Rattle.phase_permits.specs.declared.transaction.ReadSet.{ReadSet}
 use Rattle.phase_permits.specs.declared.slices.Hot.{Hot}
-use Rattle.phase_permits.specs.Slicing.{objects_of, changed, after_act, after_acts, AreFew}
+use Rattle.phase_permits.specs.Slicing.{hot_objects, with_slice_changed, slices_after_act, slices_after_acts, HaveAtMost}
 use Rattle.phase_permits.specs.Stashes.{StashState}
-use Rattle.phase_permits.specs.Txns.{counted}
-use Rattle.phase_permits.specs.Workers.{WorkerState, AreCounted, HasStashRoom, IsLawful, after_commit}
+use Rattle.phase_permits.specs.Txns.{counters_after}
+use Rattle.phase_permits.specs.Workers.{WorkerState, AreCounted, HasStashRoom, IsLawfulWorker, after_commit}
 
 -- What a commit counts: itself, and at most one store.
 pub record CountsOne (old new : Counters) : Type 0 where
@@ -32,7 +32,7 @@ pub record CountsOne (old new : Counters) : Type 0 where
 no_store : (c : Counters) → CountsOne c (record c { commits = c.commits + 1 })
 no_store c = record { commits = refl; items = omega arith; bids = omega arith; comments = omega arith; buys = omega arith; stores = omega arith }
 
-pub counts_one : (c : Counters) (reply : Reply) → CountsOne c (counted c reply)
+pub counts_one : (c : Counters) (reply : Reply) → CountsOne c (counters_after c reply)
 counts_one c (ItemStored id) = record { commits = refl; items = omega arith; bids = omega arith; comments = omega arith; buys = omega arith; stores = omega arith }
 counts_one c (BidStored id) = record { commits = refl; items = omega arith; bids = omega arith; comments = omega arith; buys = omega arith; stores = omega arith }
 counts_one c (CommentStored id) = record { commits = refl; items = omega arith; bids = omega arith; comments = omega arith; buys = omega arith; stores = omega arith }
@@ -43,17 +43,17 @@ counts_one c (CategorySeen items) = no_store c
 counts_one c (UserSeen rating comments) = no_store c
 counts_one c (Refused reason) = no_store c
 
-pub still_counted : (counters : Counters) (reply : Reply) → AreCounted counters → AreCounted (counted counters reply)
+pub still_counted : (counters : Counters) (reply : Reply) → AreCounted counters → AreCounted (counters_after counters reply)
 still_counted c reply is =
     let one = counts_one c reply in
     record { items = omega (arith, one, is.items); bids = omega (arith, one, is.bids); comments = omega (arith, one, is.comments); buys = omega (arith, one, is.buys) }
 
 -- acts leave the objects
-objects-changed : (object : Object) (change : Slice → Slice) (hots : List (Object × Hot)) → objects_of (changed object change hots) ≡ objects_of hots
+objects-changed : (object : Object) (change : Slice → Slice) (hots : List (Object × Hot)) → hot_objects (with_slice_changed object change hots) ≡ hot_objects hots
 objects-changed object change [] = refl
 objects-changed object change (hot ∷ hots) = ap (λ objects. hot.0 ∷ objects) (objects-changed object change hots)
 
-objects-act : (hots : List (Object × Hot)) (act : Act) → objects_of (after_act hots act) ≡ objects_of hots
+objects-act : (hots : List (Object × Hot)) (act : Act) → hot_objects (slices_after_act hots act) ≡ hot_objects hots
 objects-act hots (AddItem id facts) = refl
 objects-act hots (ListItem category item) = objects-changed (Category category) _ hots
 objects-act hots (Bid id bid) = objects-changed (Item id) _ hots
@@ -61,19 +61,19 @@ objects-act hots (Comment user stars) = objects-changed (User user) _ hots
 objects-act hots (Buy id quantity) = refl
 objects-act hots (Look shown) = refl
 
-pub objects-acts : (hots : List (Object × Hot)) (acts : List Act) → objects_of (after_acts hots acts) ≡ objects_of hots
+pub objects-acts : (hots : List (Object × Hot)) (acts : List Act) → hot_objects (slices_after_acts hots acts) ≡ hot_objects hots
 objects-acts hots [] = refl
-objects-acts hots (act ∷ acts) = objects-acts (after_act hots act) acts ∙ objects-act hots act
+objects-acts hots (act ∷ acts) = objects-acts (slices_after_act hots act) acts ∙ objects-act hots act
 
 -- the stash has room for one less
-room_less : (hots slices : List (Object × Hot)) (left room : ℕ) → objects_of slices ≡ objects_of hots → HasStashRoom hots left room → HasStashRoom slices (left - 1) room
+room_less : (hots slices : List (Object × Hot)) (left room : ℕ) → hot_objects slices ≡ hot_objects hots → HasStashRoom hots left room → HasStashRoom slices (left - 1) room
 room_less hots [] left room same is = tt
 room_less [] (hot ∷ slices) left room same is = absurd (cc)
 room_less (first ∷ hots) (hot ∷ slices) left room same is = omega (arith, is)
 
 -- the worker is lawful after a commit of the quota, where its slices are of few operations
-pub lawful_after : (w : WorkerState) (number index : ℕ) (request : Request) (reply : Reply) (found : ReadSet) (slices : List (Object × Hot)) → IsLawful w → 0 < w.left → w.clock < number
-    → objects_of slices ≡ objects_of w.slices → AreFew (w.counters.commits + 1) slices → IsLawful (record (after_commit w number index request reply found) { slices = slices })
+pub lawful_after : (w : WorkerState) (number index : ℕ) (request : Request) (reply : Reply) (found : ReadSet) (slices : List (Object × Hot)) → IsLawfulWorker w → 0 < w.left → w.clock < number
+    → hot_objects slices ≡ hot_objects w.slices → HaveAtMost (w.counters.commits + 1) slices → IsLawfulWorker (record (after_commit w number index request reply found) { slices = slices })
 lawful_after w number index request reply found slices is some after same few =
     let one = counts_one w.counters reply in
     let longer = length-append w.journal.entries (commit_in w.journal number index request reply ∷ []) in
@@ -88,7 +88,7 @@ lawful_after w number index request reply found slices is some after same few =
         room = omega (arith, longer, room);
         latest = omega (arith, last);
       };
-      few = subst (λ n. AreFew n slices) (sym commits) few;
+      few = subst (λ n. HaveAtMost n slices) (sym commits) few;
       stash_room = room_less w.slices slices w.left w.stash.room same is.stash_room;
       stored = λ item hot own.
           let less = is.stored item (ap (λ objects. is_hot objects (Item item)) (sym same) ∙ hot) own in
@@ -96,9 +96,9 @@ lawful_after w number index request reply found slices is some after same few =
     }
 
 -- so is whatever has its counters, its journal, its stash, its quota and its clock
-pub lawful_as : (w new : WorkerState) (number index : ℕ) (request : Request) (reply : Reply) (found : ReadSet) → IsLawful w → 0 < w.left → w.clock < number
-    → new.counters ≡ counted w.counters reply → new.journal ≡ with_commit w.journal number index request reply → new.stash ≡ w.stash → new.left ≡ w.left - 1 → new.clock ≡ number
-    → objects_of new.slices ≡ objects_of w.slices → AreFew (w.counters.commits + 1) new.slices → IsLawful new
+pub lawful_as : (w new : WorkerState) (number index : ℕ) (request : Request) (reply : Reply) (found : ReadSet) → IsLawfulWorker w → 0 < w.left → w.clock < number
+    → new.counters ≡ counters_after w.counters reply → new.journal ≡ with_commit w.journal number index request reply → new.stash ≡ w.stash → new.left ≡ w.left - 1 → new.clock ≡ number
+    → hot_objects new.slices ≡ hot_objects w.slices → HaveAtMost (w.counters.commits + 1) new.slices → IsLawfulWorker new
 lawful_as w new number index request reply found is some after counts keeps stays less clocked same few =
     let made = lawful_after w number index request reply found new.slices is some after same few in
     let commits = ap (λ (c : Counters). c.commits) counts in
@@ -114,7 +114,7 @@ lawful_as w new number index request reply found is some after counts keeps stay
         room = omega (arith, entries, rooms, waits, less, room);
         latest = subst (λ n. last_by entry_number 0 new.journal.entries ≤ n) (sym clocked) (subst (λ (j : JournalView). last_by entry_number 0 j.entries ≤ number) (sym keeps) made.room.latest);
       };
-      few = subst (λ n. AreFew n new.slices) (sym commits) made.few;
+      few = subst (λ n. HaveAtMost n new.slices) (sym commits) made.few;
       stash_room = subst (λ (s : StashState). HasStashRoom new.slices new.left s.room) (sym stays) (subst (λ n. HasStashRoom new.slices n w.stash.room) (sym less) made.stash_room);
       stored = λ item hot own.
           let fewer = made.stored item hot (own ∙ ap (λ (j : JournalView). j.worker) keeps) in
@@ -122,14 +122,14 @@ lawful_as w new number index request reply found is some after counts keeps stay
     }
 
 -- so is a lawful worker with other slices of the same objects, of few operations
-pub lawful_sliced : (w : WorkerState) (slices : List (Object × Hot)) → IsLawful w → objects_of slices ≡ objects_of w.slices → AreFew w.counters.commits slices → IsLawful (record w { slices = slices })
+pub lawful_sliced : (w : WorkerState) (slices : List (Object × Hot)) → IsLawfulWorker w → hot_objects slices ≡ hot_objects w.slices → HaveAtMost w.counters.commits slices → IsLawfulWorker (record w { slices = slices })
 lawful_sliced w slices is same few = record {
   room = record { counted = is.room.counted; limit = is.room.limit; room = is.room.room; latest = is.room.latest };
   few = few;
   stash_room = room_same w.slices slices w.left w.stash.room same is.stash_room;
   stored = λ item hot own. is.stored item (ap (λ objects. is_hot objects (Item item)) (sym same) ∙ hot) own;
 } where
-  room_same : (hots slices : List (Object × Hot)) (left room : ℕ) → objects_of slices ≡ objects_of hots → HasStashRoom hots left room → HasStashRoom slices left room
+  room_same : (hots slices : List (Object × Hot)) (left room : ℕ) → hot_objects slices ≡ hot_objects hots → HasStashRoom hots left room → HasStashRoom slices left room
   room_same hots [] left room same is = tt
   room_same [] (hot ∷ slices) left room same is = absurd (cc)
   room_same (first ∷ hots) (hot ∷ slices) left room same is = is

@@ -3,7 +3,7 @@ pub mod ArmLemmas
 pub mod BegunLemmas
 pub mod CanLemmas
 pub mod ChainLemmas
-pub mod DealLemmas
+pub mod WrittenLemmas
 pub mod DeedLemmas
 pub mod EmptyLemmas
 pub mod FewLemmas

@@ -20,7 +20,7 @@ use Rattle.item_shards.specs.Contents.{Contents, target, after_act}
 use Rattle.item_shards.specs.Values.{value}
 use Rattle.item_shards.specs.Writing.{looks_of, writes_if, is_cold_in, is_done_on, padded}
 use Rattle.item_shards.proofs.StandingLemmas.{cold_here}
-use Rattle.phase_permits.specs.Txns.{Setting, Txn, hot_in, takes}
+use Rattle.phase_permits.specs.Txns.{Setting, Txn, hot_of, takes}
 use Rattle.phase_permits.specs.Replying.{SawTrue, StoodFor}
 
 -- the first of two acts is looked at first
@@ -38,10 +38,10 @@ module _ (z : Setting) (txn : Txn) (accepted : number_refusal z.opening txn.0.re
   home object = shard_of object z.shards
 
   -- a transaction takes the shard of the first object that it needs, where it is cold
-  takes_home : (object : Object) (objects : List Object) → objects_of txn.0.request txn.0.reply ≡ object ∷ objects → is_hot (hot_in z) object ≡ false
+  takes_home : (object : Object) (objects : List Object) → objects_of txn.0.request txn.0.reply ≡ object ∷ objects → is_hot (hot_of z) object ≡ false
       → takes z (home object) txn ≡ true
   takes_home object objects needed cold =
-      let cold_ones = filter (λ other. not (is_hot (hot_in z) other)) in
+      let cold_ones = filter (λ other. not (is_hot (hot_of z) other)) in
       let any = λ (all : List Object). list_any (λ shard. shard == home object) (map home all) in
       ap (λ (o : Option Refusal). any (cond (is_some o) [] (cold_ones (objects_of txn.0.request txn.0.reply)))) accepted
       ∙ ap (λ (all : List Object). any (cold_ones all)) needed
@@ -51,12 +51,12 @@ module _ (z : Setting) (txn : Txn) (accepted : number_refusal z.opening txn.0.re
   pub look_true : (taken : ℕ → Contents) → SawTrue z taken txn
       → (object : Object) (objects : List Object) (shown : Shown) (acts : List Act) → objects_of txn.0.request txn.0.reply ≡ object ∷ objects
       → looks_of txn.1.stock txn.0.reply txn.0.request ++ writes_if (row_of_entry txn.0) ≡ Look shown ∷ acts
-      → target (Look shown) ≡ Some object → is_hot (hot_in z) object ≡ false → IsTrueOf (taken (home object)) shown
+      → target (Look shown) ≡ Some object → is_hot (hot_of z) object ≡ false → IsTrueOf (taken (home object)) shown
   look_true taken saw object objects shown acts needed acted about cold =
       let shard = home object in
-      let here : Act → Bool = is_done_on shard z.shards (hot_in z) in
+      let here : Act → Bool = is_done_on shard z.shards (hot_of z) in
       first_true here (taken shard) (Look shown) acts
-      (ap (λ (o : Option Object). option_map_or (is_cold_in shard z.shards (hot_in z)) o false) about ∙ cold_here shard z.shards (hot_in z) object refl cold)
+      (ap (λ (o : Option Object). option_map_or (is_cold_in shard z.shards (hot_of z)) o false) about ∙ cold_here shard z.shards (hot_of z) object refl cold)
       (subst (λ all. SawInTurn IsTrueAct after_act (taken shard) (padded (filter here all))) acted
       (subst (λ (o : Option Refusal). SawInTurn IsTrueAct after_act (taken shard)
       (padded (filter here (cond (is_some o) [] (looks_of txn.1.stock txn.0.reply txn.0.request ++ writes_if (row_of_entry txn.0)))))) accepted
@@ -64,6 +64,6 @@ module _ (z : Setting) (txn : Txn) (accepted : number_refusal z.opening txn.0.re
 
   -- and the shard has the book's value of the object
   pub value_there : (taken : ℕ → Contents) (book : Book) → StoodFor z taken book txn
-      → (object : Object) (objects : List Object) → objects_of txn.0.request txn.0.reply ≡ object ∷ objects → is_hot (hot_in z) object ≡ false
+      → (object : Object) (objects : List Object) → objects_of txn.0.request txn.0.reply ≡ object ∷ objects → is_hot (hot_of z) object ≡ false
       → taken (home object) object ≡ value book object
   value_there taken book stood object objects needed cold = stood (home object) (takes_home object objects needed cold) object refl cold

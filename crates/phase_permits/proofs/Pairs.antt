@@ -34,23 +34,23 @@ pub record HasPutBoth (old new : KeyState) (one other : ℕ) (first second : Opt
   pub seen : KeepsSeen old new
 
 -- two shards were put back as they had been taken, each with its line, which may follow it
-pub record HasPutTwo (opening : List ShardState) (old new : KeyState) (one other : ℕ) (first second : Line) : Type 0 where
+pub record HasPutTwo (initial : List ShardState) (old new : KeyState) (one other : ℕ) (first second : Line) : Type 0 where
   pub put : HasPutBoth old new one other (Some first) (Some second)
-  pub put_first : HasPut opening old new one first
-  pub put_second : HasPut opening old new other second
+  pub put_first : HasPut initial old new one first
+  pub put_second : HasPut initial old new other second
 
 -- The key has taken two shards, and holds no other.
-pub record HasTakenBoth (opening : List ShardState) (workers : ℕ) (old new : KeyState) (one other : ℕ) (held : HeldState × HeldState) : Type 0 where
+pub record HasTakenBoth (initial : List ShardState) (workers : ℕ) (old new : KeyState) (one other : ℕ) (held : HeldState × HeldState) : Type 0 where
   pub same : HasSameLines old new
   pub others : LeavesOthers old new held.0.number held.1.number
   pub one_is : held.0.number ≡ one
   pub other_is : held.1.number ≡ other
   pub holds : HoldsBoth new held.0.number held.1.number
-  pub on_one : IsAsTaken opening workers new held.0
-  pub on_other : IsAsTaken opening workers new held.1
+  pub on_one : IsAsTaken initial workers new held.0
+  pub on_other : IsAsTaken initial workers new held.1
 
 -- The key has taken the shard, for which it has a seat.
-pub record HasTaken (opening : List ShardState) (workers : ℕ) (old new : KeyState) (shard : ℕ) (held : HeldState) : Type 0 where
+pub record HasTaken (initial : List ShardState) (workers : ℕ) (old new : KeyState) (shard : ℕ) (held : HeldState) : Type 0 where
   -- it has a seat for the shard
   pub known : shard < length old.seats
   -- it holds the shard now
@@ -61,4 +61,4 @@ pub record HasTaken (opening : List ShardState) (workers : ℕ) (old new : KeySt
   pub number : held.number ≡ shard
   pub holds : holds_at new held.number ≡ true
   -- it is as the lines that were seen left it
-  pub history : IsAsTaken opening workers new held
+  pub history : IsAsTaken initial workers new held

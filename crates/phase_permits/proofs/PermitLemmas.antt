@@ -16,7 +16,7 @@ use Rattle.shard_boxes.specs.States.{ShardState}
 use Rattle.phase_permits.specs.declared.transaction.PermitFault.{PermitFault}
 use Rattle.phase_permits.specs.declared.slices.Hot.{Hot}
 use Rattle.phase_permits.specs.Performing.{HasCommitted, HasFailed, HasPerformed}
-use Rattle.phase_permits.specs.Slicing.{stocks_of, slices_of, bid_on, comment_about, item_listed, changed, after_act, after_acts}
+use Rattle.phase_permits.specs.Slicing.{stocks_of, slices_of, slice_with_bid, slice_with_comment, slice_with_item, with_slice_changed, slices_after_act, slices_after_acts}
 use Rattle.phase_permits.specs.Txns.{Setting, is_put_off}
 use Rattle.phase_permits.specs.Workers.{WorkerState, CanStart, IsExplained, setting_of, txn_of, work_of, after_putting_off, with_try}
 use Rattle.phase_permits.specs.Works.{Work, IsWorkOf, with_txn}
@@ -27,21 +27,21 @@ fixed_if : (b : Bool) (change : Slice → Slice) (hot : Hot) → (cond b (record
 fixed_if true change hot = refl
 fixed_if false change hot = refl
 
-stocks-changed : (object : Object) (change : Slice → Slice) (hots : List (Object × Hot)) → stocks_of (changed object change hots) ≡ stocks_of hots
+stocks-changed : (object : Object) (change : Slice → Slice) (hots : List (Object × Hot)) → stocks_of (with_slice_changed object change hots) ≡ stocks_of hots
 stocks-changed object change [] = refl
 stocks-changed object change (hot ∷ hots) = λ i. (hot.0, fixed_if (same_object object hot.0) change hot.1 i) ∷ stocks-changed object change hots i
 
-stocks-act : (hots : List (Object × Hot)) (act : Act) → stocks_of (after_act hots act) ≡ stocks_of hots
+stocks-act : (hots : List (Object × Hot)) (act : Act) → stocks_of (slices_after_act hots act) ≡ stocks_of hots
 stocks-act hots (AddItem id facts) = refl
-stocks-act hots (ListItem category item) = stocks-changed (Category category) (item_listed item) hots
-stocks-act hots (Bid id bid) = stocks-changed (Item id) (bid_on bid) hots
-stocks-act hots (Comment user stars) = stocks-changed (User user) (comment_about stars) hots
+stocks-act hots (ListItem category item) = stocks-changed (Category category) (slice_with_item item) hots
+stocks-act hots (Bid id bid) = stocks-changed (Item id) (slice_with_bid bid) hots
+stocks-act hots (Comment user stars) = stocks-changed (User user) (slice_with_comment stars) hots
 stocks-act hots (Buy id quantity) = refl
 stocks-act hots (Look shown) = refl
 
-pub stocks-acts : (hots : List (Object × Hot)) (acts : List Act) → stocks_of (after_acts hots acts) ≡ stocks_of hots
+pub stocks-acts : (hots : List (Object × Hot)) (acts : List Act) → stocks_of (slices_after_acts hots acts) ≡ stocks_of hots
 stocks-acts hots [] = refl
-stocks-acts hots (act ∷ acts) = stocks-acts (after_act hots act) acts ∙ stocks-act hots act
+stocks-acts hots (act ∷ acts) = stocks-acts (slices_after_act hots act) acts ∙ stocks-act hots act
 
 -- a worker that starts has done nothing
 pub start_explained : (shards : ℕ) (w : WorkerState) → CanStart w → w.begun ≡ (w.counters, w.clock) → w.txns ≡ [] → IsExplained shards w
@@ -61,10 +61,10 @@ start_explained shards w can begun none = record {
 }
 
 -- a commit leaves it explained
-pub commit_explained : (opening : List ShardState) (old new : WorkerState) (request : Request) (index : ℕ) (answer : Reply) → HasCommitted opening old new request index answer
-    → IsExplained (length opening) old → IsExplained (length opening) new
-commit_explained opening old new request index answer done is =
-    let shards = length opening in
+pub commit_explained : (initial : List ShardState) (old new : WorkerState) (request : Request) (index : ℕ) (answer : Reply) → HasCommitted initial old new request index answer
+    → IsExplained (length initial) old → IsExplained (length initial) new
+commit_explained initial old new request index answer done is =
+    let shards = length initial in
     let z = setting_of old shards in
     let txn = txn_of old done.number request index answer done.found in
     let work = work_of old in
@@ -85,8 +85,8 @@ commit_explained opening old new request index answer done is =
     }
 
 -- so does a fault
-pub fail_explained : (opening : List ShardState) (shards : ℕ) (old new : WorkerState) (request : Request) (fault : PermitFault) → HasFailed opening old new request fault → IsExplained shards old → IsExplained shards new
-fail_explained opening shards old new request fault failed is =
+pub fail_explained : (initial : List ShardState) (shards : ℕ) (old new : WorkerState) (request : Request) (fault : PermitFault) → HasFailed initial old new request fault → IsExplained shards old → IsExplained shards new
+fail_explained initial shards old new request fault failed is =
     let owner : old.key.worker ≡ new.key.worker = sym failed.lines.worker in
     let back : WorkerState = record old { key = new.key } in
     let same : work_of old ≡ work_of back = λ i. record (work_of old) { lines = λ t. sym (failed.lines.lines t) i } in
@@ -96,11 +96,11 @@ fail_explained opening shards old new request fault failed is =
       work = subst (λ (n : ℕ). IsWorkOf (setting_of old shards) n (work_of back)) owner (subst (λ (did : Work). IsWorkOf (setting_of old shards) old.key.worker did) same is.work);
     })
 
-pub performed_explained : (opening : List ShardState) (old new : WorkerState) (request : Request) (index : ℕ) (result : Result Unit PermitFault) → HasPerformed opening old new request index result → IsExplained (length opening) old → IsExplained (length opening) new
-performed_explained opening old new request index (Ok done) performed is = commit_explained opening old new request index performed.0 performed.1 is
-performed_explained opening old new request index (Err fault) failed is = fail_explained opening (length opening) old new request fault failed is
+pub performed_explained : (initial : List ShardState) (old new : WorkerState) (request : Request) (index : ℕ) (result : Result Unit PermitFault) → HasPerformed initial old new request index result → IsExplained (length initial) old → IsExplained (length initial) new
+performed_explained initial old new request index (Ok done) performed is = commit_explained initial old new request index performed.0 performed.1 is
+performed_explained initial old new request index (Err fault) failed is = fail_explained initial (length initial) old new request fault failed is
 
--- and a try, a request that is put off, and one that is called into the quota
+-- and a try, a request that is put off, and one that is taken out of the stash
 pub tried_explained : (shards : ℕ) (w : WorkerState) → IsExplained shards w → IsExplained shards (with_try w)
 tried_explained shards w is = record { worker = is.worker; idle = is.idle; work = is.work }
 
@@ -118,7 +118,7 @@ none_put_off (ViewBids item) = refl
 none_put_off (ViewCategory category) = refl
 none_put_off (ViewUser user) = refl
 
-no_slices : (acts : List Act) → after_acts [] acts ≡ []
+no_slices : (acts : List Act) → slices_after_acts [] acts ≡ []
 no_slices [] = refl
 no_slices (AddItem id facts ∷ acts) = no_slices acts
 no_slices (ListItem category entry ∷ acts) = no_slices acts
@@ -127,8 +127,8 @@ no_slices (Comment user stars ∷ acts) = no_slices acts
 no_slices (Buy id quantity ∷ acts) = no_slices acts
 no_slices (Look shown ∷ acts) = no_slices acts
 
-pub stays_joined : (opening : List ShardState) (old new : WorkerState) (request : Request) (index : ℕ) (result : Result Unit PermitFault) → HasPerformed opening old new request index result → old.slices ≡ [] → new.slices ≡ []
-stays_joined opening old new request index (Ok done) performed none =
+pub stays_joined : (initial : List ShardState) (old new : WorkerState) (request : Request) (index : ℕ) (result : Result Unit PermitFault) → HasPerformed initial old new request index result → old.slices ≡ [] → new.slices ≡ []
+stays_joined initial old new request index (Ok done) performed none =
     let acts = writes_if (row_of old.journal.worker request performed.0) in
-    ap (λ (w : WorkerState). w.slices) performed.1.worker ∙ ap (λ hots. after_acts hots acts) none ∙ no_slices acts
-stays_joined opening old new request index (Err fault) failed none = ap (λ (w : WorkerState). w.slices) failed.worker ∙ none
+    ap (λ (w : WorkerState). w.slices) performed.1.worker ∙ ap (λ hots. slices_after_acts hots acts) none ∙ no_slices acts
+stays_joined initial old new request index (Err fault) failed none = ap (λ (w : WorkerState). w.slices) failed.worker ∙ none

@@ -17,29 +17,29 @@ use Rattle.item_shards.specs.declared.shard.slices.Slice.{Slice}
 use Rattle.item_shards.specs.Values.{blank, value}
 use Rattle.item_shards.proofs.StandingLemmas.{blank_of_none}
 use Rattle.phase_permits.specs.declared.slices.Hot.{Hot}
-use Rattle.phase_permits.specs.Slicing.{objects_of, slice_of, slices_of, stocks_of, stock_of, changed, IsAt, IsStocked, HasAtMost, AreFew}
+use Rattle.phase_permits.specs.Slicing.{hot_objects, slice_of, slices_of, stocks_of, stock_of, with_slice_changed, IsAt, IsStocked, HasAtMost, HaveAtMost}
 use Rattle.phase_laws.proofs.ListLemmas.{all_at}
 
 -- the slices of other objects stay
-others_stay : (object : Object) (change : Slice → Slice) (hots : List (Object × Hot)) → AllByRecursion (λ other. same_object object other ≡ false) (objects_of hots) → changed object change hots ≡ hots
+others_stay : (object : Object) (change : Slice → Slice) (hots : List (Object × Hot)) → AllByRecursion (λ other. same_object object other ≡ false) (hot_objects hots) → with_slice_changed object change hots ≡ hots
 others_stay object change [] all = refl
 others_stay object change (hot ∷ hots) all = λ i.
     (hot.0, cond (all.0 i) (record hot.1 { slice = change hot.1.slice }) hot.1) ∷ others_stay object change hots all.1 i
 
 -- a write at the place of an object changes its slice alone
 placed : (object : Object) (change : Slice → Slice) (hots : List (Object × Hot)) (place : ℕ) (old new : Hot)
-    → IsDistinct same_object (objects_of hots) → IsAt hots place object → Some old ≡ slice_get (map (λ hot. hot.1) hots) place → new ≡ record old { slice = change old.slice }
-    → set_value_at hots place new ≡ changed object change hots
+    → IsDistinct same_object (hot_objects hots) → IsAt hots place object → Some old ≡ slice_get (map (λ hot. hot.1) hots) place → new ≡ record old { slice = change old.slice }
+    → set_value_at hots place new ≡ with_slice_changed object change hots
 unfolding IsDistinct
 placed object change [] place old new distinct at is written = refl
 placed object change (hot ∷ hots) zero old new distinct at is written =
     let here : hot.0 ≡ object = cc in
     let was : old ≡ hot.1 = cc in
-    let rest = others_stay object change hots (subst (λ o. AllByRecursion (λ other. same_object o other ≡ false) (objects_of hots)) here distinct.0) in
+    let rest = others_stay object change hots (subst (λ o. AllByRecursion (λ other. same_object o other ≡ false) (hot_objects hots)) here distinct.0) in
     (λ i. (hot.0, (written ∙ ap (λ (h : Hot). record h { slice = change h.slice }) was ∙ ap (λ b. cond b (record hot.1 { slice = change hot.1.slice }) hot.1) (sym ((same_objects object hot.0).1 (sym here)))) i) ∷ hots)
     ∙ ap (λ hs. (hot.0, if same_object object hot.0 then record hot.1 { slice = change hot.1.slice } else hot.1) ∷ hs) (sym rest)
 placed object change (hot ∷ hots) (suc place) old new distinct at is written =
-    let apart = same_either_way object hot.0 ∙ all_at (λ other. same_object hot.0 other ≡ false) (objects_of hots) place object distinct.0 at in
+    let apart = same_either_way object hot.0 ∙ all_at (λ other. same_object hot.0 other ≡ false) (hot_objects hots) place object distinct.0 at in
     (λ i. (hot.0, cond (sym apart i) (record hot.1 { slice = change hot.1.slice }) hot.1) ∷ placed object change hots place old new distinct.1 at is written i)
 
 -- an object that stands at a place has a slice there
@@ -49,34 +49,34 @@ none_there object (hot ∷ hots) zero at none = absurd (cc)
 none_there object (hot ∷ hots) (suc place) at none = none_there object hots place at none
 
 -- so it is with the slices as they are seen
-pub write_seen : (object : Object) (change : Slice → Slice) (hots seen now : List (Object × Hot)) (place : ℕ) (old new : Hot) → hots ≡ seen → IsDistinct object_eq.it (objects_of hots) → IsAt seen place object
-    → Some old ≡ slice_get (map (λ hot. hot.1) hots) place → new ≡ record old { slice = change old.slice } → now ≡ set_value_at hots place new → now ≡ changed object change seen
+pub write_seen : (object : Object) (change : Slice → Slice) (hots seen now : List (Object × Hot)) (place : ℕ) (old new : Hot) → hots ≡ seen → IsDistinct object_eq.it (hot_objects hots) → IsAt seen place object
+    → Some old ≡ slice_get (map (λ hot. hot.1) hots) place → new ≡ record old { slice = change old.slice } → now ≡ set_value_at hots place new → now ≡ with_slice_changed object change seen
 write_seen object change hots seen now place old new is unique at there written set =
-    set ∙ placed object change hots place old new (distinct_objects (objects_of hots) unique) (subst (λ hs. IsAt hs place object) (sym is) at) there written ∙ ap (changed object change) is
+    set ∙ placed object change hots place old new (distinct_objects (hot_objects hots) unique) (subst (λ hs. IsAt hs place object) (sym is) at) there written ∙ ap (with_slice_changed object change) is
 
 -- and that slice is one of few operations
-pub few_there : (hots : List (Object × Hot)) (place : ℕ) (hot : Hot) → AreFew 1000000 hots → Some hot ≡ slice_get (map (λ hot. hot.1) hots) place → HasAtMost 1000000 hot.slice
+pub few_there : (hots : List (Object × Hot)) (place : ℕ) (hot : Hot) → HaveAtMost 1000000 hots → Some hot ≡ slice_get (map (λ hot. hot.1) hots) place → HasAtMost 1000000 hot.slice
 few_there [] place hot few is = absurd (cc)
 few_there (first ∷ hots) zero hot few is = let same : first.1 ≡ hot = cc in subst (λ (h : Hot). HasAtMost 1000000 h.slice) same few.0
 few_there (first ∷ hots) (suc place) hot few is = few_there hots place hot few.1 is
 
 -- an object that is found is hot
-found_here : (object : Object) (hot : Object × Hot) (hots : List (Object × Hot)) (b : Bool) → b ≡ same_object hot.0 object → is_some (lookup (object_eq.it object) hots) ≡ is_hot (objects_of hots) object
-    → is_some (cond b (Some hot.1) (lookup (object_eq.it object) hots)) ≡ is_hot (objects_of (hot ∷ hots)) object
-found_here object hot hots true e rest = ap (λ b. b || is_hot (objects_of hots) object) e
-found_here object hot hots false e rest = rest ∙ ap (λ b. b || is_hot (objects_of hots) object) e
+found_here : (object : Object) (hot : Object × Hot) (hots : List (Object × Hot)) (b : Bool) → b ≡ same_object hot.0 object → is_some (lookup (object_eq.it object) hots) ≡ is_hot (hot_objects hots) object
+    → is_some (cond b (Some hot.1) (lookup (object_eq.it object) hots)) ≡ is_hot (hot_objects (hot ∷ hots)) object
+found_here object hot hots true e rest = ap (λ b. b || is_hot (hot_objects hots) object) e
+found_here object hot hots false e rest = rest ∙ ap (λ b. b || is_hot (hot_objects hots) object) e
 
-pub hot_where_found : (object : Object) (hots : List (Object × Hot)) → is_some (lookup (object_eq.it object) hots) ≡ is_hot (objects_of hots) object
+pub hot_where_found : (object : Object) (hots : List (Object × Hot)) → is_some (lookup (object_eq.it object) hots) ≡ is_hot (hot_objects hots) object
 hot_where_found object [] = refl
 hot_where_found object (hot ∷ hots) = found_here object hot hots (object_eq.it object hot.0) (eq_is_same object hot.0 ∙ same_either_way object hot.0) (hot_where_found object hots)
 
 -- and stands where it is found
-pub at_where_found : (object : Object) (hots : List (Object × Hot)) (found : Option ℕ) → found ≡ position (object_eq.it object) (objects_of hots) → IfSome found (λ place. IsAt hots place object)
+pub at_where_found : (object : Object) (hots : List (Object × Hot)) (found : Option ℕ) → found ≡ position (object_eq.it object) (hot_objects hots) → IfSome found (λ place. IsAt hots place object)
 at_where_found object hots None is = tt
 at_where_found object hots (Some place) is =
-    let found = position-Some (object_eq.it object) (objects_of hots) place object (sym is) in
-    let same = same_object-true object (get_or (objects_of hots) place object) (sym (eq_is_same object (get_or (objects_of hots) place object)) ∙ found.1) in
-    slice_get-get_or (objects_of hots) place object found.0 ∙ ap Some (sym same)
+    let found = position-Some (object_eq.it object) (hot_objects hots) place object (sym is) in
+    let same = same_object-true object (get_or (hot_objects hots) place object) (sym (eq_is_same object (get_or (hot_objects hots) place object)) ∙ found.1) in
+    slice_get-get_or (hot_objects hots) place object found.0 ∙ ap Some (sym same)
 
 -- an object that comes later is not found among the slices of those before it
 later_absent : (object : Object) (first : Object × Option (Facts × ℕ)) (firsts : List (Object × Option (Facts × ℕ))) → same_object first.0 object ≡ false → lookup (object_eq.it object) (slices_of firsts []) ≡ None
@@ -86,13 +86,13 @@ later_absent object first firsts apart rest =
     (eq_is_same object first.0 ∙ same_either_way object first.0 ∙ apart)
     ∙ rest
 
-pub absent_before : (stocks : List (Object × Option (Facts × ℕ))) (k : ℕ) (object : Object) → IsDistinct same_object (objects_of stocks) → slice_get (objects_of stocks) k ≡ Some object
+pub absent_before : (stocks : List (Object × Option (Facts × ℕ))) (k : ℕ) (object : Object) → IsDistinct same_object (hot_objects stocks) → slice_get (hot_objects stocks) k ≡ Some object
     → lookup (object_eq.it object) (slices_of (take k stocks) []) ≡ None
 unfolding IsDistinct
 absent_before [] k object distinct at = absurd (cc)
 absent_before (first ∷ stocks) zero object distinct at = refl
 absent_before (first ∷ stocks) (suc k) object distinct at =
-    later_absent object first (take k stocks) (all_at (λ other. same_object first.0 other ≡ false) (objects_of stocks) k object distinct.0 at) (absent_before stocks k object distinct.1 at)
+    later_absent object first (take k stocks) (all_at (λ other. same_object first.0 other ≡ false) (hot_objects stocks) k object distinct.0 at) (absent_before stocks k object distinct.1 at)
 
 -- one more object with its identity slice
 pub one_more : (stocks : List (Object × Option (Facts × ℕ))) (k : ℕ) (object : Object) (stock : Option (Facts × ℕ)) → slice_get stocks k ≡ Some (object, stock)
@@ -165,9 +165,9 @@ or_right true b is = refl
 or_right false b is = is
 
 -- and an object that stands at a place is hot
-pub hot_where_at : (object : Object) (hots : List (Object × Hot)) (place : ℕ) → IsAt hots place object → is_hot (objects_of hots) object ≡ true
+pub hot_where_at : (object : Object) (hots : List (Object × Hot)) (place : ℕ) → IsAt hots place object → is_hot (hot_objects hots) object ≡ true
 hot_where_at object [] place at = absurd (cc)
 hot_where_at object (first ∷ hots) zero at =
     let here : first.0 ≡ object = cc in
-    ap (λ b. b || is_hot (objects_of hots) object) ((same_objects first.0 object).1 here)
-hot_where_at object (first ∷ hots) (suc place) at = or_right (same_object first.0 object) (is_hot (objects_of hots) object) (hot_where_at object hots place at)
+    ap (λ b. b || is_hot (hot_objects hots) object) ((same_objects first.0 object).1 here)
+hot_where_at object (first ∷ hots) (suc place) at = or_right (same_object first.0 object) (is_hot (hot_objects hots) object) (hot_where_at object hots place at)

@@ -18,7 +18,7 @@ abbrev Tells : ℕ → ℕ → Type 0
 Tells s t = (((s == t) ≡ true) × (s ≡ t)) ⊎ (((s == t) ≡ false) × (s ≢ t))
 
 -- one shard
-module _ {opening : List ShardState} {workers : ℕ} {boxes : List BoxId} (key new : KeyState) (h : HeldState) (its : AreHeldAll opening workers boxes key (h ∷ [])) where
+module _ {initial : List ShardState} {workers : ℕ} {boxes : List BoxId} (key new : KeyState) (h : HeldState) (its : AreHeldAll initial workers boxes key (h ∷ [])) where
   abbrev n : ℕ
   n = h.number
 
@@ -69,7 +69,7 @@ module _ {opening : List ShardState} {workers : ℕ} {boxes : List BoxId} (key n
     }
 
   -- with the line of its acts
-  module _ (number index : ℕ) (acts : List Act) (put : IsPutWith opening key new h (line_of number index acts h.shard)) where
+  module _ (number index : ℕ) (acts : List Act) (put : IsPutWith initial key new h (line_of number index acts h.shard)) where
     abbrev line : Line
     line = line_of number index acts h.shard
 
@@ -79,7 +79,7 @@ module _ {opening : List ShardState} {workers : ℕ} {boxes : List BoxId} (key n
     worker : key.worker ≡ new.worker
     worker = sym (ap (λ (j : KeyState). j.worker) put.put)
 
-    its_put : HasPut opening key new n line
+    its_put : HasPut initial key new n line
     its_put = record {
       found = seen_at key n;
       later = seen_still key n;
@@ -95,15 +95,15 @@ module _ {opening : List ShardState} {workers : ℕ} {boxes : List BoxId} (key n
         ap (λ (seat : SeatState). seat.lines) (there (Some line) put.put t h.1)
         ∙ sym (ap (λ b. cond (b || false) (lines_at key t ++ owed t ∷ []) (lines_at key t)) h.0)
 
-    puts_put : (t : ℕ) → Tells n t → is_one_of (n ∷ []) t ≡ true → HasPut opening key new t (owed t)
-    puts_put t (inl h) took = subst (λ (l : Line). HasPut opening key new t l) (sym (ap (λ b. cond b line no_line) h.0)) (subst (λ m. HasPut opening key new m line) h.1 its_put)
+    puts_put : (t : ℕ) → Tells n t → is_one_of (n ∷ []) t ≡ true → HasPut initial key new t (owed t)
+    puts_put t (inl h) took = subst (λ (l : Line). HasPut initial key new t l) (sym (ap (λ b. cond b line no_line) h.0)) (subst (λ m. HasPut initial key new m line) h.1 its_put)
     puts_put t (inr h) took = absurd (true≢false (sym took ∙ or-false (n == t) ∙ h.0))
 
     others_put : (t : ℕ) → Tells n t → is_one_of (n ∷ []) t ≡ false → seat_at new t ≡ seat_at key t
     others_put t (inl h) left = absurd (true≢false (sym h.0 ∙ sym (or-false (n == t)) ∙ left))
     others_put t (inr h) left = there (Some line) put.put t h.1
 
-    pub one_put_all : HasPutAll opening key new (is_one_of (n ∷ [])) owed
+    pub one_put_all : HasPutAll initial key new (is_one_of (n ∷ [])) owed
     one_put_all = record {
       lines = λ t. lines_put t (eqb_tells n t);
       puts = λ t. puts_put t (eqb_tells n t);
@@ -116,7 +116,7 @@ module _ {opening : List ShardState} {workers : ℕ} {boxes : List BoxId} (key n
     }
 
 -- two shards
-module _ {opening : List ShardState} {workers : ℕ} {boxes : List BoxId} (key next new : KeyState) (one other : HeldState) (its : AreHeldAll opening workers boxes key (one ∷ other ∷ [])) where
+module _ {initial : List ShardState} {workers : ℕ} {boxes : List BoxId} (key next new : KeyState) (one other : HeldState) (its : AreHeldAll initial workers boxes key (one ∷ other ∷ [])) where
   abbrev a : ℕ
   a = one.number
 
@@ -167,15 +167,15 @@ module _ {opening : List ShardState} {workers : ℕ} {boxes : List BoxId} (key n
     }
 
   -- each with the line of its acts
-  module _ (number index : ℕ) (acts more : List Act) (first : IsPutWith opening key next one (line_of number index acts one.shard)) (second : IsPutWith opening next new other (line_of number index more other.shard)) where
+  module _ (number index : ℕ) (acts more : List Act) (first : IsPutWith initial key next one (line_of number index acts one.shard)) (second : IsPutWith initial next new other (line_of number index more other.shard)) where
     abbrev owed_both : ℕ → Line
     owed_both t = line_among number index (one ∷ other ∷ []) (acts ∷ more ∷ []) t
 
-    pub two_put_all : HasPutAll opening key new (is_one_of (a ∷ b ∷ [])) owed_both
+    pub two_put_all : HasPutAll initial key new (is_one_of (a ∷ b ∷ [])) owed_both
     two_put_all =
         let x = line_of number index acts one.shard in
         let y = line_of number index more other.shard in
-        let put : HasPutTwo opening key new a b x y = two_put opening key next new one other x y holds first second in
+        let put : HasPutTwo initial key new a b x y = two_put initial key next new one other x y holds first second in
         let owes : x ≡ owed_both a = sym (ap (λ c. cond c x (if b == a then y else no_line)) (eq-eqb a a refl)) in
         let owes' : y ≡ owed_both b = sym (λ i. cond (ne_eqb a b apart i) x (cond (eq-eqb b b refl i) y no_line)) in
-        both_put_all opening key new a b x y (is_one_of (a ∷ b ∷ [])) owed_both apart put is_first is_second owes owes' neither
+        both_put_all initial key new a b x y (is_one_of (a ∷ b ∷ [])) owed_both apart put is_first is_second owes owes' neither

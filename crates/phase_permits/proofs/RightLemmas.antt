@@ -34,11 +34,11 @@ use Rattle.item_shards.specs.Writing.{looks_of, writes_if}
 use Rattle.item_shards.proofs.AnswerLemmas.{item_reply, bids_reply, category_reply_is, user_reply_is, stock_is}
 use Rattle.shard_boxes.specs.declared.line.Line.{Line}
 use Rattle.shard_boxes.specs.Keys.{KeyState, no_seat, seat_at, seen_at}
-use Rattle.shard_boxes.specs.Lines.{acts_in, after, AreTrueOf}
+use Rattle.shard_boxes.specs.Lines.{acts_in, after_lines, AreTrueOf}
 use Rattle.shard_boxes.specs.States.{ShardState, state_at}
 use Rattle.phase_permits.specs.declared.worker.Counters.{Counters}
 use Rattle.phase_permits.specs.declared.transaction.ReadSet.{ReadSet}
-use Rattle.phase_permits.specs.Txns.{Setting, Txn, hot_in, takes, line_on, stock_seen, refusal_by, SuitsItem, SuitsBids, IsAnswered}
+use Rattle.phase_permits.specs.Txns.{Setting, Txn, hot_of, takes, line_on, stock_seen, refusal_by, SuitsItem, SuitsBids, IsAnswered}
 use Rattle.phase_permits.specs.Slicing.{stock_of}
 use Rattle.phase_permits.specs.declared.transaction.PermitFault.{PermitFault}
 use Rattle.phase_permits.specs.Performing.{HasCommitted, HasFailed, HasPerformed, IsUntouched, shards_asked}
@@ -146,8 +146,8 @@ module _ (z : Setting) (taken : ℕ → Contents) (book : Book) (fixed : HasFixe
       → objects_of txn.0.request txn.0.reply ≡ Item item ∷ objects
       → looks_of txn.1.stock txn.0.reply txn.0.request ++ writes_if (row_of_entry txn.0) ≡ Look (shown.Left item txn.1.stock) ∷ acts
       → SawTrue z taken txn → StoodFor z taken book txn → stock_seen z txn item ≡ stock_in book item
-  stock_right txn item objects acts accepted needed acted saw stood = go (is_hot (hot_in z) (Item item)) refl where
-    go : (b : Bool) → is_hot (hot_in z) (Item item) ≡ b → cond b (stock_of z.stocks (Item item)) txn.1.stock ≡ stock_in book item
+  stock_right txn item objects acts accepted needed acted saw stood = go (is_hot (hot_of z) (Item item)) refl where
+    go : (b : Bool) → is_hot (hot_of z) (Item item) ≡ b → cond b (stock_of z.stocks (Item item)) txn.1.stock ≡ stock_in book item
     go true hot = sym (fixed item hot)
     go false cold =
         look_true z txn accepted taken saw (Item item) objects (shown.Left item txn.1.stock) acts needed acted refl cold
@@ -159,8 +159,8 @@ module _ (z : Setting) (taken : ℕ → Contents) (book : Book) (fixed : HasFixe
       → objects_of txn.0.request txn.0.reply ≡ Item item ∷ objects
       → looks_of txn.1.stock txn.0.reply txn.0.request ++ writes_if (row_of_entry txn.0) ≡ Look (shown.Facts item (option_map (λ s. s.0) txn.1.stock)) ∷ acts
       → SawTrue z taken txn → StoodFor z taken book txn → option_map (λ s. s.0) (stock_seen z txn item) ≡ option_map (λ (s : Facts × ℕ). s.0) (stock_in book item)
-  facts_right txn item objects acts accepted needed acted saw stood = go (is_hot (hot_in z) (Item item)) refl where
-    go : (b : Bool) → is_hot (hot_in z) (Item item) ≡ b → option_map (λ s. s.0) (cond b (stock_of z.stocks (Item item)) txn.1.stock) ≡ option_map (λ (s : Facts × ℕ). s.0) (stock_in book item)
+  facts_right txn item objects acts accepted needed acted saw stood = go (is_hot (hot_of z) (Item item)) refl where
+    go : (b : Bool) → is_hot (hot_of z) (Item item) ≡ b → option_map (λ s. s.0) (cond b (stock_of z.stocks (Item item)) txn.1.stock) ≡ option_map (λ (s : Facts × ℕ). s.0) (stock_in book item)
     go true hot = ap (option_map (λ (s : Facts × ℕ). s.0)) (sym (fixed item hot))
     go false cold =
         look_true z txn accepted taken saw (Item item) objects (shown.Facts item (option_map (λ s. s.0) txn.1.stock)) acts needed acted refl cold
@@ -171,7 +171,7 @@ module _ (z : Setting) (taken : ℕ → Contents) (book : Book) (fixed : HasFixe
   view_right : (txn : Txn) (object : Object) (acts : List Act) → number_refusal z.opening txn.0.request ≡ None
       → objects_of txn.0.request txn.0.reply ≡ object ∷ []
       → looks_of txn.1.stock txn.0.reply txn.0.request ++ writes_if (row_of_entry txn.0) ≡ Look (shown.Reply object txn.0.reply) ∷ acts
-      → is_hot (hot_in z) object ≡ false → SawTrue z taken txn → StoodFor z taken book txn → txn.0.reply ≡ view_like txn.0.reply object (value book object)
+      → is_hot (hot_of z) object ≡ false → SawTrue z taken txn → StoodFor z taken book txn → txn.0.reply ≡ view_like txn.0.reply object (value book object)
   view_right txn object acts accepted needed acted cold saw stood =
       look_true z txn accepted taken saw object [] (shown.Reply object txn.0.reply) acts needed acted refl cold
       ∙ ap (view_like txn.0.reply object) (value_there z txn accepted taken book stood object [] needed cold)
@@ -233,26 +233,26 @@ module _ (z : Setting) (taken : ℕ → Contents) (book : Book) (fixed : HasFixe
     view_item_right : (item : ItemId) → IsRightFor (ViewItem item)
     view_item_right item given saw stood is =
         item_like given item (value book (Item item)) is.answered
-        (view_right (txn_with (ViewItem item) given) (Item item) [] refl refl refl (no_other (is_hot (hot_in z) (Item item)) is.not_put_off) saw stood)
+        (view_right (txn_with (ViewItem item) given) (Item item) [] refl refl refl (no_other (is_hot (hot_of z) (Item item)) is.not_put_off) saw stood)
         ∙ item_reply z.opening book worker item
 
     view_bids_right : (item : ItemId) → IsRightFor (ViewBids item)
     view_bids_right item given saw stood is =
         bids_like given item (value book (Item item)) is.answered
-        (view_right (txn_with (ViewBids item) given) (Item item) [] refl refl refl (no_other (is_hot (hot_in z) (Item item)) is.not_put_off) saw stood)
+        (view_right (txn_with (ViewBids item) given) (Item item) [] refl refl refl (no_other (is_hot (hot_of z) (Item item)) is.not_put_off) saw stood)
         ∙ bids_reply z.opening book worker item
 
     view_category_right : (category : ℕ) → IsRightFor (ViewCategory category)
     view_category_right category given saw stood is =
         viewed_by Unit (number_refusal z.opening (ViewCategory category)) given (category_view (value book (Category category))) is.answered
-        (λ accepted. view_right (txn_with (ViewCategory category) given) (Category category) [] accepted refl refl (no_other (is_hot (hot_in z) (Category category)) is.not_put_off) saw stood
+        (λ accepted. view_right (txn_with (ViewCategory category) given) (Category category) [] accepted refl refl (no_other (is_hot (hot_of z) (Category category)) is.not_put_off) saw stood
         ∙ category_like given category (value book (Category category)))
         ∙ category_reply_is z.opening book worker category
 
     view_user_right : (user : ℕ) → IsRightFor (ViewUser user)
     view_user_right user given saw stood is =
         viewed_by Unit (number_refusal z.opening (ViewUser user)) given (user_view (value book (User user))) is.answered
-        (λ accepted. view_right (txn_with (ViewUser user) given) (User user) [] accepted refl refl (no_other (is_hot (hot_in z) (User user)) is.not_put_off) saw stood
+        (λ accepted. view_right (txn_with (ViewUser user) given) (User user) [] accepted refl refl (no_other (is_hot (hot_of z) (User user)) is.not_put_off) saw stood
         ∙ user_like given user (value book (User user)))
         ∙ user_reply_is z.opening book worker user
 
@@ -283,19 +283,19 @@ pushed_back found last =
     ap (λ n. take n (found ++ last ∷ [])) less ∙ take-append_seam found (last ∷ [])
 
 -- so it is with what a permit commits
-pub commit_right : (opening : List ShardState) (old new : WorkerState) (request : Request) (index : ℕ) (given : Reply) (done : HasCommitted opening old new request index given) (book : Book)
-    → StoodAsTaken opening old new request index given done book
+pub commit_right : (initial : List ShardState) (old new : WorkerState) (request : Request) (index : ℕ) (given : Reply) (done : HasCommitted initial old new request index given) (book : Book)
+    → StoodAsTaken initial old new request index given done book
     → HasStocks book old.slices → CountsOf book old.journal.worker old.counters
     → given ≡ reply old.opening book old.journal.worker request
-commit_right opening old new request index given done book stood has counts =
-    let z = setting_of old (length opening) in
+commit_right initial old new request index given done book stood has counts =
+    let z = setting_of old (length initial) in
     let txn = txn_of old done.number request index given done.found in
     let found_is : (shard : ℕ) (took : takes z shard txn ≡ true) → without_last (seen_at new.key shard) ≡ (done.transacted.put.puts shard took).found =
     λ shard took. ap without_last (done.transacted.put.puts shard took).seen ∙ pushed_back (done.transacted.put.puts shard took).found (new.key.worker, line_on z shard txn) in
-    txn_right z (λ shard. (after (state_at opening shard) (without_last (seen_at new.key shard))).contents) old.counters txn
-    (λ shard took. subst (λ (found : List (ℕ × Line)). AreTrueOf (after (state_at opening shard) found).contents (acts_in (line_on z shard txn).acts)) (sym (found_is shard took)) (done.transacted.put.puts shard took).follows.looks)
+    txn_right z (λ shard. (after_lines (state_at initial shard) (without_last (seen_at new.key shard))).contents) old.counters txn
+    (λ shard took. subst (λ (found : List (ℕ × Line)). AreTrueOf (after_lines (state_at initial shard) found).contents (acts_in (line_on z shard txn).acts)) (sym (found_is shard took)) (done.transacted.put.puts shard took).follows.looks)
     done.transacted.answered book
-    (λ shard took. subst (λ (found : List (ℕ × Line)). ContentsStandsFor shard (length opening) (after (state_at opening shard) found).contents book (hot_in z)) (sym (found_is shard took)) (stood shard took))
+    (λ shard took. subst (λ (found : List (ℕ × Line)). ContentsStandsFor shard (length initial) (after_lines (state_at initial shard) found).contents book (hot_of z)) (sym (found_is shard took)) (stood shard took))
     has counts
 
 -- a commit with an empty footprint leaves the key, and so does a failure
@@ -304,15 +304,15 @@ same_key old new boxes worker many seats =
     let same = ext_get_or no_seat new.seats old.seats many (λ shard known. seats shard) in
     λ i. record { boxes = boxes i; worker = worker i; seats = same i }
 
-pub commit_leaves : (opening : List ShardState) (old new : WorkerState) (request : Request) (index : ℕ) (given : Reply) (done : HasCommitted opening old new request index given)
-    → (let z = setting_of old (length opening) in footprint z.opening z.shards (hot_in z) (txn_of old done.number request index given done.found).0 ≡ [])
+pub commit_leaves : (initial : List ShardState) (old new : WorkerState) (request : Request) (index : ℕ) (given : Reply) (done : HasCommitted initial old new request index given)
+    → (let z = setting_of old (length initial) in footprint z.opening z.shards (hot_of z) (txn_of old done.number request index given done.found).0 ≡ [])
     → new.key ≡ old.key
-commit_leaves opening old new request index given done empty =
+commit_leaves initial old new request index given done empty =
     same_key old.key new.key done.transacted.put.boxes done.transacted.put.worker done.transacted.put.seats (λ shard. done.transacted.put.others shard (ap (list_any (λ taken. taken == shard)) empty))
 
-pub failure_leaves : (opening : List ShardState) (old new : WorkerState) (request : Request) (fault : PermitFault) → HasFailed opening old new request fault
-    → shards_asked (length opening) old request ≡ [] → new.key ≡ old.key
-failure_leaves opening old new request fault failed empty =
+pub failure_leaves : (initial : List ShardState) (old new : WorkerState) (request : Request) (fault : PermitFault) → HasFailed initial old new request fault
+    → shards_asked (length initial) old request ≡ [] → new.key ≡ old.key
+failure_leaves initial old new request fault failed empty =
     same_key old.key new.key failed.lines.boxes failed.lines.worker failed.lines.seats (λ shard. failed.others shard (ap (list_any (λ taken. taken == shard)) empty))
 
 -- what the reply to an item that is not refused tells is known before
@@ -323,10 +323,10 @@ told_before (Some reason) given stored told is = refl
 
 -- a commit took the shards that its request asked for
 took_asked : (w : WorkerState) (shards number index : ℕ) (request : Request) (given : Reply) (found : ReadSet) → IsAnswered (setting_of w shards) w.counters (txn_of w number request index given found)
-    → (let z = setting_of w shards in footprint z.opening z.shards (hot_in z) (txn_of w number request index given found).0) ≡ shards_asked shards w request
+    → (let z = setting_of w shards in footprint z.opening z.shards (hot_of z) (txn_of w number request index given found).0) ≡ shards_asked shards w request
 took_asked w shards number index (StoreItem facts time) given found is =
     ap (map (λ object. shard_of object shards))
-    (told_before (number_refusal w.opening (StoreItem facts time)) given _ (λ reply. filter (λ object. not (is_hot (hot_in (setting_of w shards)) object)) (objects_of (StoreItem facts time) reply)) is.answered)
+    (told_before (number_refusal w.opening (StoreItem facts time)) given _ (λ reply. filter (λ object. not (is_hot (hot_of (setting_of w shards)) object)) (objects_of (StoreItem facts time) reply)) is.answered)
 took_asked w shards number index (StoreBid bidder item amount time) given found is = refl
 took_asked w shards number index (StoreComment author about item stars) given found is = refl
 took_asked w shards number index (BuyNow buyer item quantity time) given found is = refl
@@ -335,8 +335,8 @@ took_asked w shards number index (ViewBids item) given found is = refl
 took_asked w shards number index (ViewCategory category) given found is = refl
 took_asked w shards number index (ViewUser user) given found is = refl
 
-pub leaves_untouched : (opening : List ShardState) (old new : WorkerState) (request : Request) (index : ℕ) (result : Result Unit PermitFault) → HasPerformed opening old new request index result
-    → IsUntouched (length opening) old new request
-leaves_untouched opening old new request index (Ok done) (given, committed) none =
-    commit_leaves opening old new request index given committed (took_asked old (length opening) committed.number index request given committed.found committed.transacted.answered ∙ none)
-leaves_untouched opening old new request index (Err fault) failed none = failure_leaves opening old new request fault failed none
+pub leaves_untouched : (initial : List ShardState) (old new : WorkerState) (request : Request) (index : ℕ) (result : Result Unit PermitFault) → HasPerformed initial old new request index result
+    → IsUntouched (length initial) old new request
+leaves_untouched initial old new request index (Ok done) (given, committed) none =
+    commit_leaves initial old new request index given committed (took_asked old (length initial) committed.number index request given committed.found committed.transacted.answered ∙ none)
+leaves_untouched initial old new request index (Err fault) failed none = failure_leaves initial old new request fault failed none

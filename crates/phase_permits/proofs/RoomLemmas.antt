@@ -5,7 +5,7 @@ use Rattle.auction_rows.specs.declared.requests.ItemId.{ItemId}
 use Rattle.auction_rows.specs.declared.requests.Object.TheVariants.{Item}
 use Rattle.auction_rows.proofs.RequestLemmas.{same_objects}
 use Rattle.item_shards.specs.declared.shard.Shard.{Shard}
-use Rattle.item_shards.specs.ShardContents.{HasRoom, IsSameShard, clock, contents, rooms, with_room}
+use Rattle.item_shards.specs.ShardContents.{HasItemRoom, IsSameShard, clock, contents, rooms, with_room}
 use Rattle.shard_boxes.specs.States.{state_of}
 
 pub same_state : (old lent new : Shard) → lent ≡ old → IsSameShard lent new → contents new ≡ contents lent → clock new ≡ clock lent → state_of new ≡ state_of old
@@ -14,6 +14,6 @@ same_state old lent new is same shown clocked = (λ i. record { number = same.nu
 room_made : (id : ItemId) (had : ItemId → Bool) → IsTrue (with_room id had id)
 room_made id had = ap (λ b. b || had id) ((same_objects (Item id) (Item id)).1 refl)
 
-pub has_room : {E : Type 0} (result : Result Unit E) (lent new : Shard) (id : ItemId) → OnOk result (rooms new ≡ with_room id (rooms lent)) → IfOk result (λ _. HasRoom new id)
+pub has_room : {E : Type 0} (result : Result Unit E) (lent new : Shard) (id : ItemId) → OnOk result (rooms new ≡ with_room id (rooms lent)) → IfOk result (λ _. HasItemRoom new id)
 has_room (Ok done) lent new id granted = subst (λ (had : ItemId → Bool). IsTrue (had id)) (sym granted) (room_made id (rooms lent))
 has_room (Err fault) lent new id granted = granted

@@ -1,4 +1,4 @@
--- The first stashed request, called into the quota and back.
+-- The first stashed request, taken out of the stash and put back.
 use Rattle.std.proofs.Common.{◌≡◌, ℕ, ◌+◌, ◌<◌, List, [], ◌∷◌, ◌++◌, Some, None, length, take, drop, refl, sym, ap, subst, ◌∙◌, arith}
 use Rattle.std.specs.Prelude.{slice_get}
 use Rattle.auction_rows.specs.declared.requests.Request.{Request}
@@ -8,7 +8,7 @@ use Rattle.phase_permits.specs.declared.transaction.PermitFault.{PermitFault}
 use Rattle.phase_permits.specs.declared.transaction.PermitFault.TheVariants.{Memory, NumberFull}
 use Rattle.phase_permits.specs.Putting.{HasSameLines}
 use Rattle.phase_permits.specs.Performing.{HasFailed, HasFailedFirst, IsCause}
-use Rattle.phase_permits.specs.Workers.{WorkerState, IsIdle, with_first_called}
+use Rattle.phase_permits.specs.Workers.{WorkerState, IsIdle, with_first_unstashed}
 
 -- where there is no first, there is none
 pub no_first : {A : Type 0} (items : List A) → None ≡ slice_get items 0 → items ≡ []
@@ -37,8 +37,8 @@ same_stash (item ∷ items) (other ∷ others) done done' some some' rest taken 
     let same = same_end done done' item other taken in
     (λ i. same.1 i ∷ rest i, same.0)
 
--- so a worker is known by what it is after its first request is called into the quota
-before_calling : (one other : WorkerState) → 0 < length one.stash.requests → 0 < length other.stash.requests → with_first_called one ≡ with_first_called other → one ≡ other
+-- so a worker is known by what it is after its first request is taken out of the stash
+before_calling : (one other : WorkerState) → 0 < length one.stash.requests → 0 < length other.stash.requests → with_first_unstashed one ≡ with_first_unstashed other → one ≡ other
 before_calling one other some some' e =
     let stash = same_stash one.stash.requests other.stash.requests one.stash.done other.stash.done some some'
     (ap (λ (w : WorkerState). w.stash.requests) e) (ap (λ (w : WorkerState). w.stash.done) e) in
@@ -46,17 +46,17 @@ before_calling one other some some' e =
     let left : one.left ≡ other.left = omega (arith, plus) in
     λ i. record (e i) { stash = record { requests = stash.0 i; done = stash.1 i; room = (e i).stash.room }; left = left i }
 
--- a request that was called into the quota, not performed and called off is the first as before
-same_cause : (opening : List ShardState) (old : WorkerState) (key : KeyState) (request : Request) (fault : PermitFault) → IsCause opening (with_first_called old) key request fault → IsCause opening old key request fault
-same_cause opening old key request Memory is = is
-same_cause opening old key request NumberFull is = is
+-- a request that was taken out of the stash, not performed and put back is the first as before
+same_cause : (initial : List ShardState) (old : WorkerState) (key : KeyState) (request : Request) (fault : PermitFault) → IsCause initial (with_first_unstashed old) key request fault → IsCause initial old key request fault
+same_cause initial old key request Memory is = is
+same_cause initial old key request NumberFull is = is
 
-pub failed_first : (opening : List ShardState) (old new back : WorkerState) (index : ℕ) (request : Request) (fault : PermitFault)
-    → Some (index, request) ≡ slice_get old.stash.requests 0 → 0 < length old.stash.requests → HasFailed opening (with_first_called old) new request fault
-    → new ≡ with_first_called back → 0 < length back.stash.requests → HasFailedFirst opening old back fault
-failed_first opening old new back index request fault first some failed before some' =
-    let same : with_first_called back ≡ with_first_called (record old { key = back.key }) =
-    sym before ∙ failed.worker ∙ (λ i. record (with_first_called old) { key = (before i).key }) in
+pub failed_first : (initial : List ShardState) (old new back : WorkerState) (index : ℕ) (request : Request) (fault : PermitFault)
+    → Some (index, request) ≡ slice_get old.stash.requests 0 → 0 < length old.stash.requests → HasFailed initial (with_first_unstashed old) new request fault
+    → new ≡ with_first_unstashed back → 0 < length back.stash.requests → HasFailedFirst initial old back fault
+failed_first initial old new back index request fault first some failed before some' =
+    let same : with_first_unstashed back ≡ with_first_unstashed (record old { key = back.key }) =
+    sym before ∙ failed.worker ∙ (λ i. record (with_first_unstashed old) { key = (before i).key }) in
     let is : back ≡ record old { key = back.key } = before_calling back (record old { key = back.key }) some' some same in
     let key : new.key ≡ back.key = ap (λ (w : WorkerState). w.key) before in
     record {
@@ -69,6 +69,6 @@ failed_first opening old new back index request fault first some failed before s
         others = λ t left. ap (λ (k : KeyState). seat_at k t) (sym key) ∙ failed.others t left;
         idle = subst IsIdle key failed.idle;
         not_put_off = failed.not_put_off;
-        cause = subst (λ (k : KeyState). IsCause opening old k request fault) key (same_cause opening old new.key request fault failed.cause);
+        cause = subst (λ (k : KeyState). IsCause initial old k request fault) key (same_cause initial old new.key request fault failed.cause);
       };
     }

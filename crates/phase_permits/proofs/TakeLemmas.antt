@@ -2,30 +2,30 @@
 use Rattle.std.proofs.Common.{◌≡◌, ◌≢◌, ℕ, ◌<◌, true, List, length, sym, ap, subst, ◌∙◌}
 use Rattle.shard_boxes.specs.Helds.{HeldState}
 use Rattle.shard_boxes.specs.Keys.{KeyState, SeatState, seat_at, seen_at, holds_at, taking}
-use Rattle.shard_boxes.specs.Lines.{IsHistory, StartsWith}
+use Rattle.shard_boxes.specs.Lines.{IsShardHistory, StartsWith}
 use Rattle.shard_boxes.specs.States.{ShardState, state_of}
 use Rattle.shard_boxes.proofs.SeatLemmas.{taking-same, taking-other, length-with_seat}
 use Rattle.phase_permits.proofs.Pairs.{HoldsBoth, LeavesOthers, HasTakenBoth, HasTaken}
 use Rattle.phase_permits.specs.Workers.{IsIdle}
 use Rattle.phase_permits.proofs.KeyLemmas.{same_lines, others_as}
 
-pub has_taken : (opening : List ShardState) (workers : ℕ) (key taken_key : KeyState) (shard : ℕ) (held : HeldState) → length key.seats ≡ length opening → shard < length opening → taken_key ≡ taking key shard (seen_at taken_key shard)
+pub has_taken : (initial : List ShardState) (workers : ℕ) (key taken_key : KeyState) (shard : ℕ) (held : HeldState) → length key.seats ≡ length initial → shard < length initial → taken_key ≡ taking key shard (seen_at taken_key shard)
     → StartsWith (seen_at taken_key shard) (seen_at key shard) → held.number ≡ shard → holds_at taken_key shard ≡ true
-    → IsHistory opening workers shard (seen_at taken_key shard) (state_of held.shard) → HasTaken opening workers key taken_key shard held
-has_taken opening workers key taken_key shard held seats known is later number holds history = record {
+    → IsShardHistory initial workers shard (seen_at taken_key shard) (state_of held.shard) → HasTaken initial workers key taken_key shard held
+has_taken initial workers key taken_key shard held seats known is later number holds history = record {
   known = subst (λ n. shard < n) (sym seats) known;
   key = is;
   later = later;
   number = number;
   holds = subst (λ n. holds_at taken_key n ≡ true) (sym number) holds;
-  history = subst (λ n. IsHistory opening workers n (seen_at taken_key n) (state_of held.shard)) (sym number) history;
+  history = subst (λ n. IsShardHistory initial workers n (seen_at taken_key n) (state_of held.shard)) (sym number) history;
 }
 
-pub both_taken : (opening : List ShardState) (workers : ℕ) (key first second : KeyState) (a b : ℕ) (one other : HeldState) → length key.seats ≡ length opening → a < length opening → b < length opening → a ≢ b → IsIdle key
-    → first ≡ taking key a (seen_at first a) → StartsWith (seen_at first a) (seen_at key a) → one.number ≡ a → IsHistory opening workers a (seen_at first a) (state_of one.shard)
-    → second ≡ taking first b (seen_at second b) → StartsWith (seen_at second b) (seen_at first b) → other.number ≡ b → IsHistory opening workers b (seen_at second b) (state_of other.shard)
-    → HasTakenBoth opening workers key second a b (one, other)
-both_taken opening workers key first second a b one other seats a_low b_low apart idle is later number history is' later' number' history' =
+pub both_taken : (initial : List ShardState) (workers : ℕ) (key first second : KeyState) (a b : ℕ) (one other : HeldState) → length key.seats ≡ length initial → a < length initial → b < length initial → a ≢ b → IsIdle key
+    → first ≡ taking key a (seen_at first a) → StartsWith (seen_at first a) (seen_at key a) → one.number ≡ a → IsShardHistory initial workers a (seen_at first a) (state_of one.shard)
+    → second ≡ taking first b (seen_at second b) → StartsWith (seen_at second b) (seen_at first b) → other.number ≡ b → IsShardHistory initial workers b (seen_at second b) (state_of other.shard)
+    → HasTakenBoth initial workers key second a b (one, other)
+both_taken initial workers key first second a b one other seats a_low b_low apart idle is later number history is' later' number' history' =
     let a_known : a < length key.seats = subst (λ n. a < n) (sym seats) a_low in
     let b_known : b < length key.seats = subst (λ n. b < n) (sym seats) b_low in
     let many : length first.seats ≡ length key.seats = ap (λ (j : KeyState). length j.seats) is ∙ length-with_seat key a (record (seat_at key a) { holds = true; seen = seen_at first a }) in
@@ -50,13 +50,13 @@ both_taken opening workers key first second a b one other seats a_low b_low apar
       one_is = number;
       other_is = number';
       holds = subst (λ n. HoldsBoth second n other.number) (sym number) (subst (λ n. HoldsBoth second a n) (sym number') holds);
-      on_one = subst (λ n. IsHistory opening workers n (seen_at second n) (state_of one.shard)) (sym number)
-          (subst (λ lines. IsHistory opening workers a lines (state_of one.shard)) (sym (ap (λ (seat : SeatState). seat.seen) on_a)) history);
-      on_other = subst (λ n. IsHistory opening workers n (seen_at second n) (state_of other.shard)) (sym number') history';
+      on_one = subst (λ n. IsShardHistory initial workers n (seen_at second n) (state_of one.shard)) (sym number)
+          (subst (λ lines. IsShardHistory initial workers a lines (state_of one.shard)) (sym (ap (λ (seat : SeatState). seat.seen) on_a)) history);
+      on_other = subst (λ n. IsShardHistory initial workers n (seen_at second n) (state_of other.shard)) (sym number') history';
     }
 
-pub both_turned : (opening : List ShardState) (workers : ℕ) (key taken : KeyState) (a b : ℕ) (one other : HeldState) → HasTakenBoth opening workers key taken a b (one, other) → HasTakenBoth opening workers key taken b a (other, one)
-both_turned opening workers key taken a b one other its = record {
+pub both_turned : (initial : List ShardState) (workers : ℕ) (key taken : KeyState) (a b : ℕ) (one other : HeldState) → HasTakenBoth initial workers key taken a b (one, other) → HasTakenBoth initial workers key taken b a (other, one)
+both_turned initial workers key taken a b one other its = record {
   same = its.same;
   others = λ t not_b not_a. its.others t not_a not_b;
   one_is = its.other_is;

@@ -6,7 +6,7 @@ use Rattle.std.proofs.lemmas.Bool.{eq-eqb, ne_eqb, true≢false}
 use Rattle.std.proofs.lemmas.Bool.Decides.{eqb_tells}
 use Rattle.shard_boxes.specs.Helds.{HeldState}
 use Rattle.shard_boxes.specs.Keys.{KeyState, SeatState, seat_at, taking, lines_at, holds_at, seen_at}
-use Rattle.shard_boxes.specs.Lines.{IsHistory, StartsWith}
+use Rattle.shard_boxes.specs.Lines.{IsShardHistory, StartsWith}
 use Rattle.shard_boxes.specs.States.{ShardState, state_of}
 use Rattle.shard_boxes.proofs.SeatLemmas.{taking-other, length-with_seat}
 use Rattle.phase_permits.specs.declared.homes.Homes.{Homes}
@@ -21,7 +21,7 @@ abbrev Tells : ℕ → ℕ → Type 0
 Tells s t = (((s == t) ≡ true) × (s ≡ t)) ⊎ (((s == t) ≡ false) × (s ≢ t))
 
 -- one
-module _ (opening : List ShardState) (workers : ℕ) (key new : KeyState) (shard : ℕ) (held : HeldState) (idle : IsIdle key) (its : HasTaken opening workers key new shard held) where
+module _ (initial : List ShardState) (workers : ℕ) (key new : KeyState) (shard : ℕ) (held : HeldState) (idle : IsIdle key) (its : HasTaken initial workers key new shard held) where
   there : (t : ℕ) → shard ≢ t → seat_at new t ≡ seat_at key t
   there t apart = ap (λ j. seat_at j t) its.key ∙ taking-other key shard t (seen_at new shard) (λ e. apart (sym e))
 
@@ -39,7 +39,7 @@ module _ (opening : List ShardState) (workers : ℕ) (key new : KeyState) (shard
   known_one : held.number < length new.seats
   known_one = subst (λ n. n < length new.seats) (sym its.number) (subst (λ n. shard < n) (sym seats_one) its.known)
 
-  pub taken_one : HasTakenAll opening workers key new (shard ∷ []) (held ∷ [])
+  pub taken_one : HasTakenAll initial workers key new (shard ∷ []) (held ∷ [])
   taken_one = record {
     numbers = ap (λ n. n ∷ []) its.number;
     known = (known_one, tt);
@@ -56,7 +56,7 @@ module _ (opening : List ShardState) (workers : ℕ) (key new : KeyState) (shard
   }
 
 -- two
-module _ (opening : List ShardState) (workers : ℕ) (key new : KeyState) (one other : ℕ) (first second : HeldState) (its : HasTakenBoth opening workers key new one other (first, second)) where
+module _ (initial : List ShardState) (workers : ℕ) (key new : KeyState) (one other : ℕ) (first second : HeldState) (its : HasTakenBoth initial workers key new one other (first, second)) where
   holds_two : (t : ℕ) → Tells one t → Tells other t → holds_at new t ≡ is_one_of (one ∷ other ∷ []) t
   holds_two t (inl h) more =
       ap (λ n. holds_at new n) (sym (its.one_is ∙ h.1)) ∙ its.holds.has_one ∙ sym (ap (λ b. b || ((other == t) || false)) h.0)
@@ -70,7 +70,7 @@ module _ (opening : List ShardState) (workers : ℕ) (key new : KeyState) (one o
   others_two t (inr h) (inl h') left = absurd (true≢false (sym (λ i. h.0 i || (h'.0 i || false)) ∙ left))
   others_two t (inr h) (inr h') left = its.others t (λ e. h.1 (sym (e ∙ its.one_is))) (λ e. h'.1 (sym (e ∙ its.other_is)))
 
-  pub taken_two : HasTakenAll opening workers key new (one ∷ other ∷ []) (first ∷ second ∷ [])
+  pub taken_two : HasTakenAll initial workers key new (one ∷ other ∷ []) (first ∷ second ∷ [])
   taken_two = record {
     numbers = λ i. its.one_is i ∷ its.other_is i ∷ [];
     known = (its.holds.one_known, (its.holds.other_known, tt));
@@ -100,36 +100,36 @@ pub less_differs : (a b : ℕ) → a < b → a ≢ b
 less_differs a b less e = omega (arith, less, e)
 
 abbrev AreKnown : List ShardState → List ℕ → Type 0
-AreKnown opening shards = AllByRecursion (λ s. s < length opening) shards
+AreKnown initial shards = AllByRecursion (λ s. s < length initial) shards
 
 -- what was taken is the footprint: where that is one shard
-module _ (opening : List ShardState) (workers : ℕ) (key new : KeyState) (shards : List ℕ) (idle : IsIdle key) (seats : length key.seats ≡ length opening) (known : AreKnown opening shards) where
+module _ (initial : List ShardState) (workers : ℕ) (key new : KeyState) (shards : List ℕ) (idle : IsIdle key) (seats : length key.seats ≡ length initial) (known : AreKnown initial shards) where
   pub one_of : (a : ℕ) (held : HeldState) → shards ≡ a ∷ [] → new ≡ taking key a (seen_at new a) → StartsWith (seen_at new a) (seen_at key a)
-      → held.number ≡ a → holds_at new a ≡ true → IsHistory opening workers a (seen_at new a) (state_of held.shard) → HasTakenAll opening workers key new shards (held ∷ [])
+      → held.number ≡ a → holds_at new a ≡ true → IsShardHistory initial workers a (seen_at new a) (state_of held.shard) → HasTakenAll initial workers key new shards (held ∷ [])
   one_of a held is took later number holds history =
-      subst (λ list. HasTakenAll opening workers key new list (held ∷ [])) (sym is)
-      (taken_one opening workers key new a held idle
-      (has_taken opening workers key new a held seats (subst (AreKnown opening) is known).0 took later number holds history))
+      subst (λ list. HasTakenAll initial workers key new list (held ∷ [])) (sym is)
+      (taken_one initial workers key new a held idle
+      (has_taken initial workers key new a held seats (subst (AreKnown initial) is known).0 took later number holds history))
 
   -- where it is two, the lesser of which was taken first
   pub two_of : (first : KeyState) (a b : ℕ) (one other : HeldState) → shards ≡ a ∷ b ∷ [] → a ≢ b
-      → first ≡ taking key a (seen_at first a) → StartsWith (seen_at first a) (seen_at key a) → one.number ≡ a → IsHistory opening workers a (seen_at first a) (state_of one.shard)
-      → new ≡ taking first b (seen_at new b) → StartsWith (seen_at new b) (seen_at first b) → other.number ≡ b → IsHistory opening workers b (seen_at new b) (state_of other.shard)
-      → HasTakenAll opening workers key new shards (one ∷ other ∷ [])
+      → first ≡ taking key a (seen_at first a) → StartsWith (seen_at first a) (seen_at key a) → one.number ≡ a → IsShardHistory initial workers a (seen_at first a) (state_of one.shard)
+      → new ≡ taking first b (seen_at new b) → StartsWith (seen_at new b) (seen_at first b) → other.number ≡ b → IsShardHistory initial workers b (seen_at new b) (state_of other.shard)
+      → HasTakenAll initial workers key new shards (one ∷ other ∷ [])
   two_of first a b one other is apart took later number history took' later' number' history' =
-      let all = subst (AreKnown opening) is known in
-      subst (λ list. HasTakenAll opening workers key new list (one ∷ other ∷ [])) (sym is)
-      (taken_two opening workers key new a b one other
-      (both_taken opening workers key first new a b one other seats all.0 all.1.0 apart idle took later number history took' later' number' history'))
+      let all = subst (AreKnown initial) is known in
+      subst (λ list. HasTakenAll initial workers key new list (one ∷ other ∷ [])) (sym is)
+      (taken_two initial workers key new a b one other
+      (both_taken initial workers key first new a b one other seats all.0 all.1.0 apart idle took later number history took' later' number' history'))
 
   -- or the second of which was taken first
   pub two_turned : (first : KeyState) (a b : ℕ) (one other : HeldState) → shards ≡ a ∷ b ∷ [] → b ≢ a
-      → first ≡ taking key b (seen_at first b) → StartsWith (seen_at first b) (seen_at key b) → other.number ≡ b → IsHistory opening workers b (seen_at first b) (state_of other.shard)
-      → new ≡ taking first a (seen_at new a) → StartsWith (seen_at new a) (seen_at first a) → one.number ≡ a → IsHistory opening workers a (seen_at new a) (state_of one.shard)
-      → HasTakenAll opening workers key new shards (one ∷ other ∷ [])
+      → first ≡ taking key b (seen_at first b) → StartsWith (seen_at first b) (seen_at key b) → other.number ≡ b → IsShardHistory initial workers b (seen_at first b) (state_of other.shard)
+      → new ≡ taking first a (seen_at new a) → StartsWith (seen_at new a) (seen_at first a) → one.number ≡ a → IsShardHistory initial workers a (seen_at new a) (state_of one.shard)
+      → HasTakenAll initial workers key new shards (one ∷ other ∷ [])
   two_turned first a b one other is apart took later number history took' later' number' history' =
-      let all = subst (AreKnown opening) is known in
-      subst (λ list. HasTakenAll opening workers key new list (one ∷ other ∷ [])) (sym is)
-      (taken_two opening workers key new a b one other
-      (both_turned opening workers key new b a other one
-      (both_taken opening workers key first new b a other one seats all.1.0 all.0 apart idle took later number history took' later' number' history')))
+      let all = subst (AreKnown initial) is known in
+      subst (λ list. HasTakenAll initial workers key new list (one ∷ other ∷ [])) (sym is)
+      (taken_two initial workers key new a b one other
+      (both_turned initial workers key new b a other one
+      (both_taken initial workers key first new b a other one seats all.1.0 all.0 apart idle took later number history took' later' number' history')))

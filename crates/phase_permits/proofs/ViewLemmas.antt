@@ -29,10 +29,10 @@ use Rattle.phase_permits.specs.Begun.{Step, HasBegun, viewed}
 use Rattle.phase_permits.specs.Deeds.{AreDeedsOf, acts_for, clocks_of, first_dealt, second_dealt}
 use Rattle.phase_permits.specs.Homes.{IsHomeOf, AreHomesOf}
 use Rattle.phase_permits.specs.Performing.{HasCommittedSome}
-use Rattle.phase_permits.specs.Slicing.{objects_of}
+use Rattle.phase_permits.specs.Slicing.{hot_objects}
 use Rattle.phase_permits.specs.Putting.{HasPutAll}
 use Rattle.phase_permits.specs.Takens.{shard_at, each_once, footprint_of, held_in, numbers_of, is_one_of, dealt, line_among}
-use Rattle.phase_permits.specs.Txns.{Answers, IsAnswered, is_put_off, reason_seen, refusal_seen}
+use Rattle.phase_permits.specs.Txns.{IsReplyTo, IsAnswered, is_put_off, reason_seen, refusal_seen}
 use Rattle.phase_permits.specs.Workers.{WorkerState, setting_of, txn_of, with_entry, after_commit}
 use Rattle.phase_permits.proofs.BegunLemmas.{begun_commits}
 use Rattle.phase_permits.proofs.DeedLemmas.{done_is, one_owed}
@@ -41,16 +41,16 @@ use Rattle.phase_permits.proofs.HomeLemmas.{same_objects_of, no_other}
 -- the home of the object that is viewed
 record IsOnlyHome (hots : List (Object × Hot)) (shards : ℕ) (homes : Homes) (object : Object) (h : Home) : Type 0 where
   pub at : IsHomeOf hots shards object h
-  pub cold : is_hot (objects_of hots) object ≡ false
+  pub cold : is_hot (hot_objects hots) object ≡ false
   pub only : (n : ℕ) → shard_at h ≡ Some n → footprint_of homes ≡ n ∷ []
 
-item_only : (hots : List (Object × Hot)) (shards : ℕ) (homes : Homes) (object : Object) → IsHomeOf hots shards object homes.item → homes.other ≡ home.Nowhere → is_hot (objects_of hots) object ≡ false → IsOnlyHome hots shards homes object homes.item
+item_only : (hots : List (Object × Hot)) (shards : ℕ) (homes : Homes) (object : Object) → IsHomeOf hots shards object homes.item → homes.other ≡ home.Nowhere → is_hot (hot_objects hots) object ≡ false → IsOnlyHome hots shards homes object homes.item
 item_only hots shards homes object at none cold = record { at = at; cold = cold; only = λ n is. (λ i. each_once (is i) (shard_at (none i))) }
 
-other_only : (hots : List (Object × Hot)) (shards : ℕ) (homes : Homes) (object : Object) → homes.item ≡ home.Nowhere → IsHomeOf hots shards object homes.other → is_hot (objects_of hots) object ≡ false → IsOnlyHome hots shards homes object homes.other
+other_only : (hots : List (Object × Hot)) (shards : ℕ) (homes : Homes) (object : Object) → homes.item ≡ home.Nowhere → IsHomeOf hots shards object homes.other → is_hot (hot_objects hots) object ≡ false → IsOnlyHome hots shards homes object homes.other
 other_only hots shards homes object none at cold = record { at = at; cold = cold; only = λ n is. (λ i. each_once (shard_at (none i)) (is i)) }
 
-only_home : (w : WorkerState) (shards : ℕ) (request : Request) (homes : Homes) (object : Object) → viewed request ≡ Some object → is_put_off (objects_of w.slices) request ≡ false → AreHomesOf w shards request homes
+only_home : (w : WorkerState) (shards : ℕ) (request : Request) (homes : Homes) (object : Object) → viewed request ≡ Some object → is_put_off (hot_objects w.slices) request ≡ false → AreHomesOf w shards request homes
     → (h : Home) × IsOnlyHome w.slices shards homes object h
 only_home w shards (StoreItem facts time) homes object is goes are = absurd (cc)
 only_home w shards (StoreBid bidder item amount time) homes object is goes are = absurd (cc)
@@ -63,7 +63,7 @@ only_home w shards (ViewCategory category) homes object is goes are =
 only_home w shards (ViewUser user) homes object is goes are =
     (homes.other, subst (λ o. IsOnlyHome w.slices shards homes o homes.other) (same_Some (User user) object is) (other_only w.slices shards homes (User user) are.0 are.1 (no_other _ goes)))
 
-shard_cold : (hots : List (Object × Hot)) (shards : ℕ) (object : Object) (h : Home) → IsHomeOf hots shards object h → is_hot (objects_of hots) object ≡ false → (n : ℕ) × (shard_at h ≡ Some n)
+shard_cold : (hots : List (Object × Hot)) (shards : ℕ) (object : Object) (h : Home) → IsHomeOf hots shards object h → is_hot (hot_objects hots) object ≡ false → (n : ℕ) × (shard_at h ≡ Some n)
 shard_cold hots shards object home.Nowhere at cold = absurd at
 shard_cold hots shards object (home.Slice place) at cold = absurd (true≢false (sym at.1 ∙ cold))
 shard_cold hots shards object (home.Shard shard) at cold = (shard, refl)
@@ -102,8 +102,8 @@ view_entered w number index (ViewCategory category) reply found view = refl
 view_entered w number index (ViewUser user) reply found view = refl
 
 module _ {N : Type 0} (step : Step) (w : WorkerState) (request : Request) (b : Begun N) (begun : HasBegun step w request b) (view : is_view request ≡ true) where
-  abbrev opening : List ShardState
-  opening = step.opening
+  abbrev initial : List ShardState
+  initial = step.initial
 
   abbrev key : KeyState
   key = step.key
@@ -120,45 +120,45 @@ module _ {N : Type 0} (step : Step) (w : WorkerState) (request : Request) (b : B
   abbrev object : Object
   object = (shows_one request view).0
 
-  abbrev its_home : (h : Home) × IsOnlyHome w.slices (length opening) homes object h
-  its_home = only_home w (length opening) request homes object (shows_one request view).1 begun.goes begun.homes_are
+  abbrev its_home : (h : Home) × IsOnlyHome w.slices (length initial) homes object h
+  its_home = only_home w (length initial) request homes object (shows_one request view).1 begun.goes begun.homes_are
 
   abbrev h : Home
   h = its_home.0
 
   abbrev its_shard : (n : ℕ) × (shard_at h ≡ Some n)
-  its_shard = shard_cold w.slices (length opening) object h its_home.1.at its_home.1.cold
+  its_shard = shard_cold w.slices (length initial) object h its_home.1.at its_home.1.cold
 
   abbrev n : ℕ
   n = its_shard.0
 
   -- what it did is a commit
-  view_answered : (index : ℕ) (reply : Reply) (found : ReadSet) → ((counters : Counters) (worker : ℕ) → Answers counters worker request reply) → IsAnswered (setting_of w (length opening)) w.counters (txn_of w number request index reply found)
+  view_answered : (index : ℕ) (reply : Reply) (found : ReadSet) → ((counters : Counters) (worker : ℕ) → IsReplyTo counters worker request reply) → IsAnswered (setting_of w (length initial)) w.counters (txn_of w number request index reply found)
   view_answered index reply found answers =
-      let z = setting_of w (length opening) in
+      let z = setting_of w (length initial) in
       let txn = txn_of w number request index reply found in
       let none : reason_seen z txn ≡ None = ap (λ b. cond b (number_refusal w.opening request) (refusal_seen z txn)) view ∙ begun.allowed in
       record {
-        answered = subst (λ refused. MatchOption refused (Answers w.counters w.journal.worker request reply) (λ reason. reply ≡ Refused reason)) (sym none) (answers w.counters w.journal.worker);
+        answered = subst (λ refused. MatchOption refused (IsReplyTo w.counters w.journal.worker request reply) (λ reason. reply ≡ Refused reason)) (sym none) (answers w.counters w.journal.worker);
         not_put_off = ap (λ objects. is_put_off objects request) (same_objects_of w.slices) ∙ begun.goes;
       }
 
-  view_owed : (reply : Reply) (o : Object) → viewed request ≡ Some o → AreDeedsOf w.slices (length opening) (acts_for w.journal.worker None request reply) (record { first = Look (shown.Reply o reply); second = Look shown.Nothing; home = h; other = home.Nowhere })
+  view_owed : (reply : Reply) (o : Object) → viewed request ≡ Some o → AreDeedsOf w.slices (length initial) (acts_for w.journal.worker None request reply) (record { first = Look (shown.Reply o reply); second = Look shown.Nothing; home = h; other = home.Nowhere })
   view_owed reply o shows t =
       let look = Look (shown.Reply o reply) in
       let same : object ≡ o = same_Some object o (sym (shows_one request view).1 ∙ shows) in
-      ap (λ acts. padded (done_on t (length opening) (objects_of w.slices) acts)) (view_acts w.journal.worker request reply o shows)
-      ∙ one_owed w.slices (length opening) t look h (done_is w.slices (length opening) t o h (subst (λ x. IsHomeOf w.slices (length opening) x h) same its_home.1.at) look refl)
+      ap (λ acts. padded (done_on t (length initial) (hot_objects w.slices) acts)) (view_acts w.journal.worker request reply o shows)
+      ∙ one_owed w.slices (length initial) t look h (done_is w.slices (length initial) t o h (subst (λ x. IsHomeOf w.slices (length initial) x h) same its_home.1.at) look refl)
 
-  pub view_commits : (new : WorkerState) (index : ℕ) (reply : Reply) (o : Object) (found : ReadSet) → viewed request ≡ Some o → ((counters : Counters) (worker : ℕ) → Answers counters worker request reply)
+  pub view_commits : (new : WorkerState) (index : ℕ) (reply : Reply) (o : Object) (found : ReadSet) → viewed request ≡ Some o → ((counters : Counters) (worker : ℕ) → IsReplyTo counters worker request reply)
       → found ≡ record { stock = None; clocks = clocks_of took }
-      → HasPutAll opening w.key new.key (is_one_of (numbers_of (held_in took))) (line_among number index (held_in took) (dealt took (Look (shown.Reply o reply) ∷ Look shown.Nothing ∷ [])))
-      → new ≡ record (after_commit w number index request reply found) { key = new.key } → HasCommittedSome opening (record w { key = key }) new request index
+      → HasPutAll initial w.key new.key (is_one_of (numbers_of (held_in took))) (line_among number index (held_in took) (dealt took (Look (shown.Reply o reply) ∷ Look shown.Nothing ∷ [])))
+      → new ≡ record (after_commit w number index request reply found) { key = new.key } → HasCommittedSome initial (record w { key = key }) new request index
   view_commits new index reply o found shows answers found_is put committed =
       let look = Look (shown.Reply o reply) in
       let deeds : Deeds = record { first = look; second = Look shown.Nothing; home = h; other = home.Nowhere } in
       let lines = λ (a : Option ℕ). line_among number index (held_in took) (dealt took (first_dealt look (Look shown.Nothing) a None ∷ second_dealt look (Look shown.Nothing) a None ∷ [])) in (
         reply,
         begun_commits step w request b begun new index reply None deeds found (ap (λ a. each_once a None) its_shard.1 ∙ sym (its_home.1.only n its_shard.1)) (view_owed reply o shows) found_is
-            (view_answered index reply found answers) (subst (λ a. HasPutAll opening w.key new.key (is_one_of (numbers_of (held_in took))) (lines a)) (sym its_shard.1) put) committed,
+            (view_answered index reply found answers) (subst (λ a. HasPutAll initial w.key new.key (is_one_of (numbers_of (held_in took))) (lines a)) (sym its_shard.1) put) committed,
       )

@@ -8,7 +8,7 @@ use Rattle.item_shards.specs.ShardContents.{clock}
 use Rattle.shard_boxes.specs.declared.line.Line.{Line}
 use Rattle.shard_boxes.specs.Helds.{HeldState}
 use Rattle.shard_boxes.specs.Keys.{KeyState, seat_at, seen_at, lines_at}
-use Rattle.shard_boxes.specs.Lines.{after}
+use Rattle.shard_boxes.specs.Lines.{after_lines}
 use Rattle.shard_boxes.specs.States.{ShardState, state_at}
 use Rattle.phase_permits.specs.declared.transaction.ReadSet.{ReadSet}
 use Rattle.phase_permits.specs.Txns.{takes, line_on, greatest_clock, IsAnswered}
@@ -19,12 +19,12 @@ use Rattle.phase_permits.specs.Takens.{is_one_of, numbers_of, HasTakenAll, AreBa
 use Rattle.phase_permits.proofs.KeyLemmas.{seen_on, starts_on}
 
 -- taken, and put back with lines
-module _ {opening : List ShardState} {workers : ℕ} (old taken back : KeyState) (shards : List ℕ) (held : List HeldState) (owed : ℕ → Line)
-    (its : HasTakenAll opening workers old taken shards held) where
-  further : (t : ℕ) (line : Line) → HasPut opening taken back t line → HasPut opening old back t line
+module _ {initial : List ShardState} {workers : ℕ} (old taken back : KeyState) (shards : List ℕ) (held : List HeldState) (owed : ℕ → Line)
+    (its : HasTakenAll initial workers old taken shards held) where
+  further : (t : ℕ) (line : Line) → HasPut initial taken back t line → HasPut initial old back t line
   further t line put = record { found = put.found; later = starts_on (seen_at old t) (seen_at taken t) put.found (its.lines.seen t) put.later; seen = put.seen; follows = put.follows }
 
-  over_all : HasPutAll opening taken back (is_one_of shards) owed → HasPutAll opening old back (is_one_of shards) owed
+  over_all : HasPutAll initial taken back (is_one_of shards) owed → HasPutAll initial old back (is_one_of shards) owed
   over_all put = record {
     lines = λ t. put.lines t ∙ (λ i. if is_one_of shards t then its.lines.lines t i ++ owed t ∷ [] else its.lines.lines t i);
     puts = λ t took. further t (owed t) (put.puts t took);
@@ -36,12 +36,12 @@ module _ {opening : List ShardState} {workers : ℕ} (old taken back : KeyState)
     seats = put.seats ∙ its.lines.seats;
   }
 
-  pub taken_and_put : HasPutAll opening taken back (is_one_of (numbers_of held)) owed → HasPutAll opening old back (is_one_of shards) owed
-  taken_and_put put = over_all (subst (λ list. HasPutAll opening taken back (is_one_of list) owed) its.numbers put)
+  pub taken_and_put : HasPutAll initial taken back (is_one_of (numbers_of held)) owed → HasPutAll initial old back (is_one_of shards) owed
+  taken_and_put put = over_all (subst (λ list. HasPutAll initial taken back (is_one_of list) owed) its.numbers put)
 
 -- taken, and put back as they were
-module _ {opening : List ShardState} {workers : ℕ} (old taken back : KeyState) (shards : List ℕ) (held : List HeldState)
-    (its : HasTakenAll opening workers old taken shards held) (put : AreBack taken back) where
+module _ {initial : List ShardState} {workers : ℕ} (old taken back : KeyState) (shards : List ℕ) (held : List HeldState)
+    (its : HasTakenAll initial workers old taken shards held) (put : AreBack taken back) where
   pub lines_stay : HasSameLines old back
   lines_stay = record {
     boxes = put.lines.boxes ∙ its.lines.boxes;
@@ -55,19 +55,19 @@ module _ {opening : List ShardState} {workers : ℕ} (old taken back : KeyState)
   others_stay t left = put.others t (its.holds t ∙ left) ∙ its.others t left
 
   -- the clock that the key has last seen on one is the one that was found
-  pub clock_was : (h : HeldState) → IsAsTaken opening workers taken h → clock_seen opening back h.number ≡ clock h.shard
-  clock_was h is = ap (λ lines. (after (state_at opening h.number) lines).clock) (put.seen h.number) ∙ sym (ap (λ (state : ShardState). state.clock) is.state_is)
+  pub clock_was : (h : HeldState) → IsAsTaken initial workers taken h → clock_seen initial back h.number ≡ clock h.shard
+  clock_was h is = ap (λ lines. (after_lines (state_at initial h.number) lines).clock) (put.seen h.number) ∙ sym (ap (λ (state : ShardState). state.clock) is.state_is)
 
 -- and with the lines that a transaction owes on the shards of its footprint that is a commit
-module _ (opening : List ShardState) (old new : WorkerState) (request : Request) (index : ℕ) (reply : Reply) (number : ℕ) (found : ReadSet)
+module _ (initial : List ShardState) (old new : WorkerState) (request : Request) (index : ℕ) (reply : Reply) (number : ℕ) (found : ReadSet)
     (committed : new ≡ record (after_commit old number index request reply found) { key = new.key })
-    (answered : IsAnswered (setting_of old (length opening)) old.counters (txn_of old number request index reply found))
-    (shards : List ℕ) (owed : ℕ → Line) (put : HasPutAll opening old.key new.key (is_one_of shards) owed) where
+    (answered : IsAnswered (setting_of old (length initial)) old.counters (txn_of old number request index reply found))
+    (shards : List ℕ) (owed : ℕ → Line) (put : HasPutAll initial old.key new.key (is_one_of shards) owed) where
   abbrev Takes : ℕ → Bool
-  Takes t = takes (setting_of old (length opening)) t (txn_of old number request index reply found)
+  Takes t = takes (setting_of old (length initial)) t (txn_of old number request index reply found)
 
   abbrev line : ℕ → Line
-  line t = line_on (setting_of old (length opening)) t (txn_of old number request index reply found)
+  line t = line_on (setting_of old (length initial)) t (txn_of old number request index reply found)
 
   module _ (footprint : (t : ℕ) → Takes t ≡ is_one_of shards t) (owes : (t : ℕ) → is_one_of shards t ≡ true → owed t ≡ line t) where
     lines_are : (t : ℕ) (b : Bool) → is_one_of shards t ≡ b → lines_at new.key t ≡ (if Takes t then lines_at old.key t ++ line t ∷ [] else lines_at old.key t)
@@ -78,8 +78,8 @@ module _ (opening : List ShardState) (old new : WorkerState) (request : Request)
         put.lines t ∙ ap (λ b. cond b (lines_at old.key t ++ owed t ∷ []) (lines_at old.key t)) is
         ∙ sym (ap (λ b. cond b (lines_at old.key t ++ line t ∷ []) (lines_at old.key t)) (footprint t ∙ is))
 
-    pub whole_commits : number ≡ suc (max old.clock (greatest_clock (setting_of old (length opening)) (txn_of old number request index reply found))) → number ≤ last_number
-        → HasCommitted opening old new request index reply
+    pub whole_commits : number ≡ suc (max old.clock (greatest_clock (setting_of old (length initial)) (txn_of old number request index reply found))) → number ≤ last_number
+        → HasCommitted initial old new request index reply
     whole_commits numbered within = record {
       number = number;
       found = found;
@@ -88,7 +88,7 @@ module _ (opening : List ShardState) (old new : WorkerState) (request : Request)
         within = within;
         put = record {
           lines = λ t. lines_are t (is_one_of shards t) refl;
-          puts = λ t took. let is = sym (footprint t) ∙ took in subst (λ (l : Line). HasPut opening old.key new.key t l) (owes t is) (put.puts t is);
+          puts = λ t took. let is = sym (footprint t) ∙ took in subst (λ (l : Line). HasPut initial old.key new.key t l) (owes t is) (put.puts t is);
           others = λ t left. put.others t (sym (footprint t) ∙ left);
           seen = put.seen;
           idle = put.idle;

@@ -10,7 +10,7 @@ use Rattle.auction_rows.specs.declared.requests.Request.TheVariants.{StoreItem, 
 use Rattle.auction_rows.specs.Refusals.{number_refusal}
 use Rattle.auction_rows.specs.Requests.{item_of}
 use Rattle.item_shards.specs.CommitNumbers.{last_number}
-use Rattle.item_shards.specs.ShardContents.{HasRoom, LiesIn, clock, contents, opening as opening_of}
+use Rattle.item_shards.specs.ShardContents.{HasItemRoom, LiesIn, clock, contents, opening as opening_of}
 use Rattle.item_shards.specs.declared.shard.Shard.{Shard}
 use Rattle.item_shards.specs.Values.{stock}
 use Rattle.shard_boxes.specs.Helds.{HeldState}
@@ -25,7 +25,7 @@ use Rattle.phase_permits.specs.Deeds.{IsReplyBy, IsNextIf, AreDeedsOf, AreGoodOn
 use Rattle.phase_permits.specs.Homes.{AreHomesOf}
 use Rattle.phase_permits.specs.Putting.{IsAsTaken}
 use Rattle.phase_permits.specs.Performing.{HaveOpening, StoresItem, asks}
-use Rattle.phase_permits.specs.Slicing.{objects_of, stocks_of, stock_of}
+use Rattle.phase_permits.specs.Slicing.{hot_objects, stocks_of, stock_of}
 use Rattle.phase_permits.specs.Takens.{shard_at, footprint_of, greatest_held, held_in, is_one_of, HasTakenAll, AreHeldAll}
 use Rattle.phase_permits.specs.Txns.{IsOwn, is_put_off}
 use Rattle.phase_permits.specs.Workers.{WorkerState, next_item}
@@ -33,7 +33,7 @@ use Rattle.phase_permits.specs.Workers.{WorkerState, next_item}
 -- What a transaction goes by: its phase, its worker's key, and where its objects are.
 pub record Step : Type 0 where
   -- the shards as the phase began, how many workers there are, and the boxes
-  pub opening : List ShardState
+  pub initial : List ShardState
   pub workers : ℕ
   pub boxes : List BoxId
   -- the worker's key before it took a shard
@@ -42,8 +42,8 @@ pub record Step : Type 0 where
   pub homes : Homes
 
 abbrev pub step_of : List ShardState → ℕ → List BoxId → KeyState → Homes → Step
-step_of opening workers boxes key homes =
-    record { opening = opening; workers = workers; boxes = boxes; key = key; homes = homes }
+step_of initial workers boxes key homes =
+    record { initial = initial; workers = workers; boxes = boxes; key = key; homes = homes }
 
 -- A worker has taken the shards of a request's footprint, and there is a number after its clock and
 -- theirs.
@@ -51,15 +51,15 @@ pub record HasBegun {N : Type 0} (step : Step) (w : WorkerState) (request : Requ
     (begun : Begun N) : Type 0 where
   -- the request is one that the opening does not refuse, and not put off
   pub allowed : number_refusal w.opening request ≡ None
-  pub goes : is_put_off (objects_of w.slices) request ≡ false
+  pub goes : is_put_off (hot_objects w.slices) request ≡ false
   -- its objects have these homes, and the shards among them are its footprint
-  pub homes_are : AreHomesOf w (length step.opening) request step.homes
+  pub homes_are : AreHomesOf w (length step.initial) request step.homes
   pub asked : (t : ℕ) →
-      asks (length step.opening) w request t ≡ is_one_of (footprint_of step.homes) t
+      asks (length step.initial) w request t ≡ is_one_of (footprint_of step.homes) t
   -- the shards were taken, and can go back
-  pub taken : HasTakenAll step.opening step.workers step.key w.key
+  pub taken : HasTakenAll step.initial step.workers step.key w.key
       (footprint_of step.homes) (held_in begun.taken)
-  pub held : AreHeldAll step.opening step.workers step.boxes w.key (held_in begun.taken)
+  pub held : AreHeldAll step.initial step.workers step.boxes w.key (held_in begun.taken)
   -- the number is 1 + the greatest clock
   pub numbered : begun.number ≡ suc (max w.clock (greatest_held (held_in begun.taken)))
   pub within : begun.number ≤ last_number
@@ -89,8 +89,8 @@ FirstHas (taken.Two one other) item = LiesIn one.shard (Item item)
 -- the first shard that was taken has room for an item
 abbrev pub FirstHasRoom : {N : Type 0} → Taken N → ItemId → Type 0
 FirstHasRoom taken.Nothing item = ⊤
-FirstHasRoom (taken.One one) item = HasRoom one.shard item
-FirstHasRoom (taken.Two one other) item = HasRoom one.shard item
+FirstHasRoom (taken.One one) item = HasItemRoom one.shard item
+FirstHasRoom (taken.Two one other) item = HasItemRoom one.shard item
 
 -- the item that a store adds lies in the first shard that was taken
 abbrev pub HasFirst : {N : Type 0} → WorkerState → Request → Taken N → Type 0
@@ -105,11 +105,11 @@ pub record IsAnsweredOn (step : Step) (w : WorkerState) (request : Request)
     (seen : Option (Facts × ℕ)) (reply : Reply) (held : HeldState) : Type 0 where
   -- the shard is as it was taken, of an auction with the worker's users and categories, and its
   -- clock is not at the end of numbers
-  pub taken : IsAsTaken step.opening step.workers w.key held
-  pub opened : HaveOpening step.opening w.opening
+  pub taken : IsAsTaken step.initial step.workers w.key held
+  pub opened : HaveOpening step.initial w.opening
   pub below : clock held.shard < last_number
   -- the request's objects have these homes, and the opening does not refuse it
-  pub homes_are : AreHomesOf w (length step.opening) request step.homes
+  pub homes_are : AreHomesOf w (length step.initial) request step.homes
   pub allowed : number_refusal w.opening request ≡ None
   -- the reply is by what was seen, and an item that it stores is the worker's next
   pub answered : IsReplyBy w seen request reply
@@ -119,7 +119,7 @@ pub record IsAnsweredOn (step : Step) (w : WorkerState) (request : Request)
       shard_at step.homes.item ≡ Some held.number → seen ≡ stock (contents held.shard (Item item))
   -- the shard has room for a new item, if that lies there
   pub room : StoresItem request →
-      shard_at step.homes.item ≡ Some held.number → HasRoom held.shard (next_item w)
+      shard_at step.homes.item ≡ Some held.number → HasItemRoom held.shard (next_item w)
 
 -- on each shard two acts are what a store with this reply owes there, which saw this of its item
 abbrev pub AreOwedBy : Request → Reply → Option (Facts × ℕ) → Homes → Deeds → Type 0
@@ -131,9 +131,9 @@ AreOwedBy request reply seen homes deeds =
 -- two acts can be done on each shard that was taken for a store with this reply
 abbrev pub AreGoodFor : Request → Reply → Option (Facts × ℕ) → Homes → Deeds → Type 0
 AreGoodFor request reply seen homes deeds =
-    (opening : List ShardState) (workers : ℕ) (boxes : List BoxId) (key : KeyState)
+    (initial : List ShardState) (workers : ℕ) (boxes : List BoxId) (key : KeyState)
     (w : WorkerState) (held : HeldState) →
-    IsAnsweredOn (step_of opening workers boxes key homes) w request seen reply held →
+    IsAnsweredOn (step_of initial workers boxes key homes) w request seen reply held →
     AreGoodOn (shard_at deeds.home) (shard_at deeds.other) deeds.first deeds.second held
 
 -- the homes of two acts are the footprint of a request whose objects have these homes

@@ -27,8 +27,8 @@ use Rattle.phase_permits.specs.declared.homes.Home.TheVariants as home
 use Rattle.phase_permits.specs.declared.deeds.Written.{Written}
 use Rattle.phase_permits.specs.declared.homes.Taken.{Taken}
 use Rattle.phase_permits.specs.declared.homes.Taken.TheVariants as taken
-use Rattle.phase_permits.specs.Slicing.{objects_of}
-use Rattle.phase_permits.specs.Txns.{Answers, refusal_by}
+use Rattle.phase_permits.specs.Slicing.{hot_objects}
+use Rattle.phase_permits.specs.Txns.{IsReplyTo, refusal_by}
 use Rattle.phase_permits.specs.Workers.{WorkerState, next_item}
 
 -- whether the home of an object is the shard of this number
@@ -54,7 +54,7 @@ stock_on (taken.Two one other) item = stock (contents one.shard (Item item))
 abbrev pub IsReplyBy : WorkerState → Option (Facts × ℕ) → Request → Reply → Type 0
 IsReplyBy w seen request reply =
     MatchOption (refusal_by w.opening seen request)
-    (Answers w.counters w.journal.worker request reply) (λ reason. reply ≡ Refused reason)
+    (IsReplyTo w.counters w.journal.worker request reply) (λ reason. reply ≡ Refused reason)
 
 -- of two acts, whose objects lie in these shards or in none, the one that is done first
 abbrev pub first_dealt : Act → Act → Option ℕ → Option ℕ → Act
@@ -69,8 +69,8 @@ second_dealt x y (Some a) None = Look shown.Nothing
 second_dealt x y None b = Look shown.Nothing
 
 -- two acts as they are written, at the number of a commit, of the request of this index
-abbrev pub deal_of : Deeds → ℕ → ℕ → Written
-deal_of deeds number index =
+abbrev pub written_of : Deeds → ℕ → ℕ → Written
+written_of deeds number index =
     let a = shard_at deeds.home in
     let b = shard_at deeds.other in
     record {
@@ -97,7 +97,7 @@ acts_for worker seen request reply =
 abbrev pub AreDeedsOf : List (Object × Hot) → ℕ → List Act → Deeds → Type 0
 AreDeedsOf hots shards acts deeds =
     (t : ℕ) →
-    padded (done_on t shards (objects_of hots) acts)
+    padded (done_on t shards (hot_objects hots) acts)
     ≡ deeds_on deeds.first deeds.second deeds.home deeds.other t
 
 -- the shards among the homes of two acts

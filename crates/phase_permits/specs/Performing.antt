@@ -18,54 +18,54 @@ use Rattle.phase_permits.specs.declared.transaction.PermitFault.{PermitFault}
 use Rattle.phase_permits.specs.declared.transaction.PermitFault.TheVariants.{Memory, NumberFull}
 use Rattle.phase_permits.specs.declared.transaction.ReadSet.{ReadSet}
 use Rattle.phase_permits.specs.Putting.{HasPutAll, clock_seen, HasSameLines}
-use Rattle.phase_permits.specs.Slicing.{objects_of}
-use Rattle.phase_permits.specs.Txns.{Setting, Txn, hot_in, number_of, takes, line_on, greatest_clock, is_put_off, IsAnswered}
-use Rattle.phase_permits.specs.Workers.{WorkerState, setting_of, next_entry, next_item, txn_of, hot_txn, nothing, after_commit, after_putting_off, with_first_called, IsIdle}
+use Rattle.phase_permits.specs.Slicing.{hot_objects}
+use Rattle.phase_permits.specs.Txns.{Setting, Txn, hot_of, txn_number, takes, line_on, greatest_clock, is_put_off, IsAnswered}
+use Rattle.phase_permits.specs.Workers.{WorkerState, setting_of, next_entry, next_item, txn_of, hot_txn, nothing, after_commit, after_putting_off, with_first_unstashed, IsIdle}
 
 -- the shards of a phase are those of an auction with as many users and categories
 abbrev pub HaveOpening : List ShardState → Opening → Type 0
-HaveOpening opening start = (s : ℕ) → s < length opening → (state_at opening s).opening ≡ start
+HaveOpening initial start = (s : ℕ) → s < length initial → (state_at initial s).opening ≡ start
 
 -- With this a worker can perform a request of its quota, which is not put off.
-pub record CanTransact (opening : List ShardState) (boxes : List BoxId) (w : WorkerState)
+pub record CanTransact (initial : List ShardState) (boxes : List BoxId) (w : WorkerState)
     (request : Request) : Type 0 where
   -- its key is for these boxes, and holds no shard
   pub of : w.key.boxes ≡ boxes
   pub idle : IsIdle w.key
   -- the shards are of an auction with its users and categories
-  pub opened : HaveOpening opening w.opening
+  pub opened : HaveOpening initial w.opening
   -- the request is not put off
-  pub goes : is_put_off (objects_of w.slices) request ≡ false
+  pub goes : is_put_off (hot_objects w.slices) request ≡ false
   -- one of the quota is left
   pub left : 0 < w.left
 
 -- A worker has done a transaction over the shards of its footprint.
-pub record HasTransacted (z : Setting) (txn : Txn) (opening : List ShardState)
+pub record HasTransacted (z : Setting) (txn : Txn) (initial : List ShardState)
     (old new : WorkerState) : Type 0 where
   -- its number is 1 + the greatest of the worker's clock and the clocks found
-  pub numbered : number_of txn ≡ suc (max old.clock (greatest_clock z txn))
-  pub within : number_of txn ≤ last_number
+  pub numbered : txn_number txn ≡ suc (max old.clock (greatest_clock z txn))
+  pub within : txn_number txn ≤ last_number
   -- each shard of the footprint was taken and put back with the line owed there, and no other one
-  pub put : HasPutAll opening old.key new.key (λ s. takes z s txn) (λ s. line_on z s txn)
+  pub put : HasPutAll initial old.key new.key (λ s. takes z s txn) (λ s. line_on z s txn)
   -- its reply is the answer by what it saw and by the counters
   pub answered : IsAnswered z old.counters txn
 
 -- A request of the quota is committed with this reply.
-pub record HasCommitted (opening : List ShardState) (old new : WorkerState) (request : Request)
+pub record HasCommitted (initial : List ShardState) (old new : WorkerState) (request : Request)
     (index : ℕ) (answer : Reply) : Type 0 where
   -- its number, and what its transaction found
   pub number : ℕ
   pub found : ReadSet
-  pub transacted : HasTransacted (setting_of old (length opening))
-      (txn_of old number request index answer found) opening old new
+  pub transacted : HasTransacted (setting_of old (length initial))
+      (txn_of old number request index answer found) initial old new
   -- one of the quota is used, the journal gains the entry, and the slice of what it writes the
   -- operation
   pub worker : new ≡ record (after_commit old number index request answer found) { key = new.key }
 
 -- a request of the quota is committed with some reply
 abbrev pub HasCommittedSome : List ShardState → WorkerState → WorkerState → Request → ℕ → Type 0
-HasCommittedSome opening old new request index =
-    (answer : Reply) × HasCommitted opening old new request index answer
+HasCommittedSome initial old new request index =
+    (answer : Reply) × HasCommitted initial old new request index answer
 
 -- A commit with an empty footprint, of a store on hot objects alone or of a request that the
 -- opening refuses, however many shards there are: its number is 1 + the clock, the slice of what it
@@ -97,18 +97,18 @@ entry_asked w request = next_entry w 0 0 request (ItemStored (next_item w))
 -- the footprint of a request in a phase with so many shards
 abbrev pub shards_asked : ℕ → WorkerState → Request → List ℕ
 shards_asked shards w request =
-    footprint w.opening shards (hot_in (setting_of w shards)) (entry_asked w request)
+    footprint w.opening shards (hot_of (setting_of w shards)) (entry_asked w request)
 
 -- whether a shard is in the footprint of a request
 abbrev pub asks : ℕ → WorkerState → Request → ℕ → Bool
 asks shards w request shard =
-    takes_shard w.opening shards (hot_in (setting_of w shards)) (entry_asked w request) shard
+    takes_shard w.opening shards (hot_of (setting_of w shards)) (entry_asked w request) shard
 
 -- the greatest of the worker's clock and of those that the key has last seen on the shards of a
 -- request's footprint
 abbrev pub greatest_seen : List ShardState → WorkerState → KeyState → Request → ℕ
-greatest_seen opening w key request =
-    max w.clock (greatest_by (clock_seen opening key) (shards_asked (length opening) w request))
+greatest_seen initial w key request =
+    max w.clock (greatest_by (clock_seen initial key) (shards_asked (length initial) w request))
 
 -- whether a request stores an item
 abbrev pub StoresItem : Request → Type 0
@@ -124,70 +124,70 @@ StoresItem (ViewUser user) = ⊥
 -- NumberFull exactly where the greatest clock is at the end of numbers, and Memory of an accepted
 -- store of an item alone
 abbrev pub IsCause : List ShardState → WorkerState → KeyState → Request → PermitFault → Type 0
-IsCause opening w key request Memory =
-    (greatest_seen opening w key request < last_number) × StoresItem request
+IsCause initial w key request Memory =
+    (greatest_seen initial w key request < last_number) × StoresItem request
     × (number_refusal w.opening request ≡ None)
-IsCause opening w key request NumberFull = last_number ≤ greatest_seen opening w key request
+IsCause initial w key request NumberFull = last_number ≤ greatest_seen initial w key request
 
 -- The request was not performed, for its cause, and was not to be put off: nothing has changed but
 -- what the key has seen of the shards of the footprint.
-pub record HasFailed (opening : List ShardState) (old new : WorkerState) (request : Request)
+pub record HasFailed (initial : List ShardState) (old new : WorkerState) (request : Request)
     (fault : PermitFault) : Type 0 where
   -- all but the key is as before
   pub worker : new ≡ record old { key = new.key }
   -- the key's lines are as before, and what it has seen goes on
   pub lines : HasSameLines old.key new.key
-  pub others : (shard : ℕ) → asks (length opening) old request shard ≡ false →
+  pub others : (shard : ℕ) → asks (length initial) old request shard ≡ false →
       seat_at new.key shard ≡ seat_at old.key shard
   pub idle : IsIdle new.key
-  pub not_put_off : is_put_off (objects_of old.slices) request ≡ false
-  pub cause : IsCause opening old new.key request fault
+  pub not_put_off : is_put_off (hot_objects old.slices) request ≡ false
+  pub cause : IsCause initial old new.key request fault
 
 -- what became of a request that is not put off
 abbrev pub HasPerformed : List ShardState → WorkerState → WorkerState → Request → ℕ →
     Result Unit PermitFault → Type 0
-HasPerformed opening old new request index (Ok done) =
-    HasCommittedSome opening old new request index
-HasPerformed opening old new request index (Err fault) = HasFailed opening old new request fault
+HasPerformed initial old new request index (Ok done) =
+    HasCommittedSome initial old new request index
+HasPerformed initial old new request index (Err fault) = HasFailed initial old new request fault
 
 -- The request waits for the next joined phase.
 pub record HasPutOff (old new : WorkerState) (request : Request) (index : ℕ) : Type 0 where
   -- it is stashable, and touches what is hot
-  pub put_off : is_put_off (objects_of old.slices) request ≡ true
+  pub put_off : is_put_off (hot_objects old.slices) request ≡ true
   -- it waits in the stash, and one of the quota is used
   pub worker : new ≡ after_putting_off old index request
 
 -- what a split permit did with a request
 abbrev pub HasDealtWith : List ShardState → WorkerState → WorkerState → Request → ℕ → Done → Type 0
-HasDealtWith opening old new request index (Committed reply) =
-    HasCommitted opening old new request index reply
-HasDealtWith opening old new request index Stashed = HasPutOff old new request index
+HasDealtWith initial old new request index (Committed reply) =
+    HasCommitted initial old new request index reply
+HasDealtWith initial old new request index Stashed = HasPutOff old new request index
 
 -- what a split permit did with a request whose reply is left in the journal
 abbrev pub HasDealt : List ShardState → WorkerState → WorkerState → Request → ℕ → Bool → Type 0
-HasDealt opening old new request index true = HasCommittedSome opening old new request index
-HasDealt opening old new request index false = HasPutOff old new request index
+HasDealt initial old new request index true = HasCommittedSome initial old new request index
+HasDealt initial old new request index false = HasPutOff old new request index
 
 -- a request that takes no shard leaves the key
 abbrev pub IsUntouched : ℕ → WorkerState → WorkerState → Request → Type 0
 IsUntouched shards old new request = shards_asked shards old request ≡ [] → new.key ≡ old.key
 
--- the first stashed request was committed as one of the quota, into which it was called
-pub record HasPerformedFirst (opening : List ShardState) (old new : WorkerState)
+-- the first stashed request was committed as one of the quota, into which it was taken
+pub record HasPerformedFirst (initial : List ShardState) (old new : WorkerState)
     (answer : Reply) : Type 0 where
   pub index : ℕ
   pub request : Request
   pub first : slice_get old.stash.requests 0 ≡ Some (index, request)
-  pub committed : HasCommitted opening (with_first_called old) new request index answer
+  pub committed : HasCommitted initial (with_first_unstashed old) new request index answer
 
 -- the first stashed request was not performed, for its cause: it waits as before
-pub record HasFailedFirst (opening : List ShardState) (old new : WorkerState)
+pub record HasFailedFirst (initial : List ShardState) (old new : WorkerState)
     (fault : PermitFault) : Type 0 where
   pub index : ℕ
   pub request : Request
   pub first : slice_get old.stash.requests 0 ≡ Some (index, request)
-  pub failed : HasFailed opening old new request fault
+  pub failed : HasFailed initial old new request fault
 
 -- the first stashed request was committed with some reply
 abbrev pub HasPerformedFirstSome : List ShardState → WorkerState → WorkerState → Type 0
-HasPerformedFirstSome opening old new = (answer : Reply) × HasPerformedFirst opening old new answer
+HasPerformedFirstSome initial old new = (answer : Reply) × HasPerformedFirst initial old new answer

@@ -54,14 +54,14 @@ pub record IsReady (boxes : List BoxId) (key : KeyState) : Type 0 where
   pub idle : IsIdle key
 
 -- The key has taken these shards, each once, and holds no other.
-pub record HasTakenAll (opening : List ShardState) (workers : ℕ) (old new : KeyState)
+pub record HasTakenAll (initial : List ShardState) (workers : ℕ) (old new : KeyState)
     (shards : List ℕ) (held : List HeldState) : Type 0 where
   -- what is held are these shards
   pub numbers : map (λ h. h.number) held ≡ shards
   -- the key has a seat for each
   pub known : AllByRecursion (λ h. h.number < length new.seats) held
   -- each is as the key took it
-  pub taken : AllByRecursion (IsAsTaken opening workers new) held
+  pub taken : AllByRecursion (IsAsTaken initial workers new) held
   -- the key holds them and no other
   pub holds : (t : ℕ) → holds_at new t ≡ is_one_of shards t
   -- no other seat of the key has changed
@@ -79,7 +79,7 @@ abbrev pub numbers_of : List HeldState → List ℕ
 numbers_of held = map (λ h. h.number) held
 
 -- Shards that the key holds, and no other, each as it was taken: they can go back to these boxes.
-pub record AreHeldAll (opening : List ShardState) (workers : ℕ) (boxes : List BoxId)
+pub record AreHeldAll (initial : List ShardState) (workers : ℕ) (boxes : List BoxId)
     (key : KeyState) (held : List HeldState) : Type 0 where
   -- the key is for these boxes
   pub boxes_are : key.boxes ≡ boxes
@@ -90,7 +90,7 @@ pub record AreHeldAll (opening : List ShardState) (workers : ℕ) (boxes : List 
   -- the key holds them and no other
   pub holds : (t : ℕ) → holds_at key t ≡ is_one_of (numbers_of held) t
   -- each is as the key took it
-  pub taken : AllByRecursion (IsAsTaken opening workers key) held
+  pub taken : AllByRecursion (IsAsTaken initial workers key) held
 
 -- The shards that were held went back as they were: only the key's holding them has changed.
 pub record AreBack (old new : KeyState) : Type 0 where

@@ -17,9 +17,9 @@ use Rattle.worker_journals.specs.Journals.{JournalView, entry_number, commit_in,
 use Rattle.phase_permits.specs.declared.worker.Counters.{Counters}
 use Rattle.phase_permits.specs.declared.transaction.ReadSet.{ReadSet}
 use Rattle.phase_permits.specs.declared.slices.Hot.{Hot}
-use Rattle.phase_permits.specs.Slicing.{objects_of, slices_of, stocks_of, after_acts, AreFew}
+use Rattle.phase_permits.specs.Slicing.{hot_objects, slices_of, stocks_of, slices_after_acts, HaveAtMost}
 use Rattle.phase_permits.specs.Stashes.{StashState, without_first}
-use Rattle.phase_permits.specs.Txns.{Setting, Txn, counted}
+use Rattle.phase_permits.specs.Txns.{Setting, Txn, counters_after}
 use Rattle.phase_permits.specs.Works.{Work, IsWorkOf}
 
 -- a worker in a phase: its right to take shards, and what no other worker touches
@@ -53,7 +53,7 @@ setting_of w shards = record { opening = w.opening; shards = shards; stocks = st
 
 -- the object is one of the slices'
 abbrev pub IsHot : WorkerState → Object → Type 0
-IsHot w object = is_hot (objects_of w.slices) object ≡ true
+IsHot w object = is_hot (hot_objects w.slices) object ≡ true
 
 -- the id of a worker's next item
 abbrev pub next_item : WorkerState → ItemId
@@ -104,14 +104,14 @@ HasStashRoom (hot ∷ more) left room = left ≤ room
 -- count of items
 abbrev pub AreStored : ℕ → Counters → List (Object × Hot) → Type 0
 AreStored worker counters hots =
-    (item : ItemId) → is_hot (objects_of hots) (Item item) ≡ true → item.worker ≡ worker →
+    (item : ItemId) → is_hot (hot_objects hots) (Item item) ≡ true → item.worker ≡ worker →
     item.serial < counters.items
 
 -- What is true of every worker, also while it holds shards.
-pub record IsLawful (w : WorkerState) : Type 0 where
+pub record IsLawfulWorker (w : WorkerState) : Type 0 where
   pub room : HasRoom w
   -- no slice has more operations than the worker has commits
-  pub few : AreFew w.counters.commits w.slices
+  pub few : HaveAtMost w.counters.commits w.slices
   pub stash_room : HasStashRoom w.slices w.left w.stash.room
   -- no hot item is one that it has still to store
   pub stored : AreStored w.journal.worker w.counters w.slices
@@ -119,7 +119,7 @@ pub record IsLawful (w : WorkerState) : Type 0 where
 -- the worker after a commit of the quota, but for its slices: its key is as the puts left it
 abbrev pub with_entry : WorkerState → ℕ → ℕ → Request → Reply → ReadSet → WorkerState
 with_entry w number index request reply found = record w {
-  counters = counted w.counters reply;
+  counters = counters_after w.counters reply;
   journal = with_commit w.journal number index request reply;
   left = w.left - 1;
   clock = number;
@@ -130,7 +130,7 @@ with_entry w number index request reply found = record w {
 abbrev pub after_commit : WorkerState → ℕ → ℕ → Request → Reply → ReadSet → WorkerState
 after_commit w number index request reply found =
     record (with_entry w number index request reply found) {
-      slices = after_acts w.slices (writes_if (row_of w.journal.worker request reply));
+      slices = slices_after_acts w.slices (writes_if (row_of w.journal.worker request reply));
     }
 
 -- the worker after a request of the quota was put off
@@ -143,9 +143,9 @@ after_putting_off w index request = record w {
   left = w.left - 1;
 }
 
--- the worker after the first request of the stash was called into the quota
-abbrev pub with_first_called : WorkerState → WorkerState
-with_first_called w = record w { stash = without_first w.stash; left = w.left + 1 }
+-- the worker after the first request of the stash was taken out of the stash
+abbrev pub with_first_unstashed : WorkerState → WorkerState
+with_first_unstashed w = record w { stash = without_first w.stash; left = w.left + 1 }
 
 -- the worker after one try more
 abbrev pub with_try : WorkerState → WorkerState

@@ -16,7 +16,7 @@ ghost use Rattle.item_shards.specs.Writing.{looks_of};
 ghost use Rattle.phase_permits.specs.declared.worker.Counters.{Counters as CountersValue};
 ghost use Rattle.phase_permits.specs.Begun.{CanView, IsOnOne, viewed};
 ghost use Rattle.phase_permits.specs.Takens.{held_in};
-ghost use Rattle.phase_permits.specs.Txns.{Answers, SuitsBids, SuitsItem};
+ghost use Rattle.phase_permits.specs.Txns.{IsReplyTo, SuitsBids, SuitsItem};
 
 use crate::homes::{Home, Homes, Taken, stock_in};
 use crate::worker::Worker;
@@ -32,7 +32,7 @@ impl<N: PhaseName> Worker<N> {
     ghost use Rattle.phase_permits.specs.Homes.{IsHomeOf};
     ghost use Rattle.phase_permits.specs.Slicing.{stocks_of, stock_of};
     ghost use Rattle.phase_permits.specs.Takens.{shard_at};
-    ghost use Rattle.phase_permits.specs.Txns.{Answers};
+    ghost use Rattle.phase_permits.specs.Txns.{IsReplyTo};
 
     /// What a store sees of the item that it needs: of a hot one what is fixed, of another one what
     /// its shard has.
@@ -89,7 +89,8 @@ impl<N: PhaseName> Worker<N> {
     #[inline(always)]
     fn accept(&self, request: &Request) -> StoreReply
         requires store { is_view request.now ≡ false }
-        ensures { Answers self.now.counters self.now.journal.worker request.now (reply_of result) }
+        ensures { IsReplyTo self.now.counters self.now.journal.worker request.now
+            (reply_of result) }
     {
         let worker = self.journal.worker();
         match *request {
@@ -122,7 +123,7 @@ pub(crate) fn view_on<N: PhaseName>(taken: &Taken<N>, request: &Request) -> (Obj
     ensures looks { (seen : Option (FactsValue × ℕ)) →
         looks_of seen result.1 request.now ≡ Look (shown.Reply result.0 result.1) ∷ [] }
     ensures answers { (counters : CountersValue) → (worker : ℕ) →
-        Answers counters worker request.now result.1 }
+        IsReplyTo counters worker request.now result.1 }
     ensures shown { AllByRecursion
         (λ h. IsTrueOf (contents h.shard) (shown.Reply result.0 result.1)) (held_in taken.now) }
 {
@@ -140,7 +141,7 @@ fn view(shard: &Shard, request: &Request) -> (Object, Reply)
     ensures looks { (seen : Option (FactsValue × ℕ)) →
         looks_of seen result.1 request.now ≡ Look (shown.Reply result.0 result.1) ∷ [] }
     ensures answers { (counters : CountersValue) → (worker : ℕ) →
-        Answers counters worker request.now result.1 }
+        IsReplyTo counters worker request.now result.1 }
     ensures shown { IsTrueOf (contents shard.now) (shown.Reply result.0 result.1) }
 {
     match *request {

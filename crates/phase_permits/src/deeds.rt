@@ -6,7 +6,7 @@ ghost use Rattle.auction_rows.specs.StoreReplies.{reply_of};
 ghost use Rattle.item_shards.specs.ShardContents.{contents};
 ghost use Rattle.shard_boxes.specs.Lines.{AreTrueOf};
 ghost use Rattle.phase_permits.specs.Begun.{AreGoodFor, AreOwedBy, HaveFootprint};
-ghost use Rattle.phase_permits.specs.Deeds.{deal_of};
+ghost use Rattle.phase_permits.specs.Deeds.{written_of};
 ghost use Rattle.phase_permits.specs.Putting.{CanDo, written_acts, line_of, IsHeldFor, IsPutWith};
 
 use crate::homes::{Home, Homes};
@@ -147,8 +147,8 @@ impl Deeds {
     /// The two acts as they are dealt to the shards: both on the one that holds what they are
     /// about, or one on each of two.
     #[inline(always)]
-    pub(crate) fn deal(self, number: u64, index: u32) -> Written
-        ensures { result ≡ deal_of self number index }
+    pub(crate) fn written(self, number: u64, index: u32) -> Written
+        ensures { result ≡ written_of self number index }
     {
         let Deeds {
             mut first,
@@ -203,10 +203,10 @@ pub(crate) fn put_with_line<N: PhaseName, R: Wait>(
     written: Written,
 )
     requires of { key.old.boxes ≡ boxes.now }
-    requires held { IsHeldFor N.opening key.old held written.number }
+    requires held { IsHeldFor N.initial key.old held written.number }
     requires can { CanDo held.shard (written_acts written) }
     requires looks { AreTrueOf (contents held.shard) (written_acts written) }
-    ensures { IsPutWith N.opening key.old key.new held
+    ensures { IsPutWith N.initial key.old key.new held
         (line_of written.number written.index (written_acts written) held.shard) }
 {
     let Written {
@@ -216,7 +216,7 @@ pub(crate) fn put_with_line<N: PhaseName, R: Wait>(
         second,
     } = written;
     let acts = [first, second];
-    let before = held.shard_mut().commit(number, &acts);
+    let before = held.shard_mut().apply_acts(number, &acts);
     let line = Line {
         number,
         before,

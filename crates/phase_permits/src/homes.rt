@@ -7,7 +7,7 @@ ghost use Rattle.item_shards.specs.CommitNumbers.{last_number};
 ghost use Rattle.phase_permits.specs.declared.slices.Hot.{Hot};
 ghost use Rattle.phase_permits.specs.Homes.{IsHomeOf};
 ghost use Rattle.phase_permits.specs.Takens.{each_once, shard_at, footprint_of, greatest_held, held_in, numbers_of, is_one_of, dealt, line_among, HasTakenAll, AreHeldAll, AreBack, CanBeDoneOnAll, IsReady};
-ghost use Rattle.phase_permits.specs.Slicing.{objects_of};
+ghost use Rattle.phase_permits.specs.Slicing.{hot_objects};
 ghost use Rattle.phase_permits.specs.Begun.{states_in, FirstHas, FirstHasRoom};
 ghost use Rattle.phase_permits.specs.Deeds.{clocks_of, stock_on};
 ghost use Rattle.phase_permits.specs.Putting.{HasPutAll, written_acts};
@@ -76,7 +76,7 @@ impl<N: PhaseName> Worker<N> {
     pub(crate) fn homes(&self, request: &Request, shards: u32) -> Homes
         requires some { 0 < shards }
         requires allowed { number_refusal self.now.opening request.now ≡ None }
-        requires goes { is_put_off (objects_of self.now.slices) request.now ≡ false }
+        requires goes { is_put_off (hot_objects self.now.slices) request.now ≡ false }
         ensures homes { AreHomesOf self.now shards request.now result }
         ensures footprint { (t : ℕ) →
             asks shards self.now request.now t ≡ is_one_of (footprint_of result) t }
@@ -135,7 +135,7 @@ impl<N: PhaseName> Worker<N> {
 #[inline(always)]
 fn cold(object: Object, shards: u32) -> Home
     requires some { 0 < shards }
-    ensures home { (hots : List (ObjectValue × Hot)) → is_hot (objects_of hots) object ≡ false →
+    ensures home { (hots : List (ObjectValue × Hot)) → is_hot (hot_objects hots) object ≡ false →
         IsHomeOf hots shards object result }
     ensures item { AllByRecursion (λ s. s < shards) (each_once (shard_at result) None) }
     ensures other { AllByRecursion (λ s. s < shards) (each_once None (shard_at result)) }
@@ -168,8 +168,8 @@ pub(crate) fn take_all<N: PhaseName, R: Wait>(
     homes: &Homes,
 ) -> Taken<N>
     requires ready { IsReady boxes.now key.old }
-    requires known { AllByRecursion (λ s. s < length N.opening) (footprint_of homes.now) }
-    ensures { HasTakenAll N.opening N.workers key.old key.new
+    requires known { AllByRecursion (λ s. s < length N.initial) (footprint_of homes.now) }
+    ensures { HasTakenAll N.initial N.workers key.old key.new
         (footprint_of homes.now) (held_in result) }
 {
     match (homes.item.shard(), homes.other.shard()) {
@@ -251,7 +251,7 @@ pub(crate) fn put_back<N: PhaseName, R: Wait>(
     key: &mut Key<N>,
     taken: Taken<N>,
 )
-    requires { AreHeldAll N.opening N.workers boxes.now key.old (held_in taken) }
+    requires { AreHeldAll N.initial N.workers boxes.now key.old (held_in taken) }
     ensures { AreBack key.old key.new }
 {
     match taken {
@@ -274,10 +274,10 @@ pub(crate) fn put_all<N: PhaseName, R: Wait>(
     taken: Taken<N>,
     written: Written,
 )
-    requires held { AreHeldAll N.opening N.workers boxes.now key.old (held_in taken) }
+    requires held { AreHeldAll N.initial N.workers boxes.now key.old (held_in taken) }
     requires within { written.number ≤ last_number }
     requires can { CanBeDoneOnAll written.number (held_in taken) (dealt taken (written_acts written)) }
-    ensures { HasPutAll N.opening key.old key.new (is_one_of (numbers_of (held_in taken)))
+    ensures { HasPutAll N.initial key.old key.new (is_one_of (numbers_of (held_in taken)))
         (line_among written.number written.index (held_in taken) (dealt taken (written_acts written))) }
 {
     match taken {

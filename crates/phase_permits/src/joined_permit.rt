@@ -4,7 +4,7 @@ ghost use Rattle.std.specs.Prelude.{◌≡◌, ◌≤◌, ◌<◌, [], length, t
 use crate::slices::Slices;
 use crate::stash::Stash;
 use crate::transaction::PermitFault;
-use crate::worker::{Counters, Start, Worker};
+use crate::worker::{Counters, Worker, WorkerStart};
 use auction_rows::{MOST_OF_A_WORKER, MOST_TRIES, Object, Opening, Reply, Request};
 use shard_boxes::{Boxes, Key, PhaseName};
 use std::marker::Model;
@@ -24,7 +24,7 @@ impl<N: PhaseName> Model for JoinedPermit<N> {
 
     ghost view = { λ p. p.worker };
 
-    ghost invariant = { λ p. (p.worker.slices ≡ []) × IsExplained (length N.opening) p.worker };
+    ghost invariant = { λ p. (p.worker.slices ≡ []) × IsExplained (length N.initial) p.worker };
 }
 
 /// What a finished joined permit leaves: its journal, its stash, its key and its counters.
@@ -41,7 +41,7 @@ impl<N: PhaseName> Model for JoinedReceipt<N> {
 
     ghost view = { λ p. p.worker };
 
-    ghost invariant = { λ p. (p.worker.slices ≡ []) × IsExplained (length N.opening) p.worker };
+    ghost invariant = { λ p. (p.worker.slices ≡ []) × IsExplained (length N.initial) p.worker };
 }
 
 impl<N: PhaseName> JoinedPermit<N> {
@@ -63,7 +63,7 @@ impl<N: PhaseName> JoinedPermit<N> {
     {
         let slices = Slices::none(stash.alloc());
         JoinedPermit {
-            worker: Worker::new(Start {
+            worker: Worker::new(WorkerStart {
                 key,
                 opening,
                 counters,
@@ -87,13 +87,13 @@ impl<N: PhaseName> JoinedPermit<N> {
         index: u32,
     ) -> Result<Reply, PermitFault>
         requires of { self.old.key.boxes ≡ boxes.now }
-        requires opening { HaveOpening N.opening self.old.opening }
+        requires opening { HaveOpening N.initial self.old.opening }
         requires left { 0 < self.old.left }
         requires tries { self.old.tries < MOST_TRIES }
         ensures committed { IfOk result (λ reply.
-            HasCommitted N.opening (with_try self.old) self.new request.now index reply) }
+            HasCommitted N.initial (with_try self.old) self.new request.now index reply) }
         ensures failed { IfErr result
-            (HasFailed N.opening (with_try self.old) self.new request.now) }
+            (HasFailed N.initial (with_try self.old) self.new request.now) }
     {
         self.commit(rt, boxes, request, index)?;
         Ok(self.last_reply())
@@ -108,10 +108,10 @@ impl<N: PhaseName> JoinedPermit<N> {
         index: u32,
     ) -> Result<(), PermitFault>
         requires of { self.old.key.boxes ≡ boxes.now }
-        requires opening { HaveOpening N.opening self.old.opening }
+        requires opening { HaveOpening N.initial self.old.opening }
         requires left { 0 < self.old.left }
         requires tries { self.old.tries < MOST_TRIES }
-        ensures { HasPerformed N.opening (with_try self.old) self.new request.now index result }
+        ensures { HasPerformed N.initial (with_try self.old) self.new request.now index result }
     {
         self.worker.count_try();
         self.worker.transact(rt, boxes, request, index)
@@ -126,13 +126,13 @@ impl<N: PhaseName> JoinedPermit<N> {
         boxes: &Boxes<N>,
     ) -> Result<Option<Reply>, PermitFault>
         requires of { self.old.key.boxes ≡ boxes.now }
-        requires opening { HaveOpening N.opening self.old.opening }
+        requires opening { HaveOpening N.initial self.old.opening }
         requires tries { self.old.tries < MOST_TRIES }
         ensures none { IfOk result (λ answer. IfNone answer (self.old.stash.requests ≡ [])) }
         ensures unchanged { IfOk result (λ answer. IfNone answer (self.new ≡ with_try self.old)) }
         ensures performed { IfOk result (λ answer. IfSome answer
-            (HasPerformedFirst N.opening (with_try self.old) self.new)) }
-        ensures failed { IfErr result (HasFailedFirst N.opening (with_try self.old) self.new) }
+            (HasPerformedFirst N.initial (with_try self.old) self.new)) }
+        ensures failed { IfErr result (HasFailedFirst N.initial (with_try self.old) self.new) }
     {
         if self.commit_stashed(rt, boxes)? {
             Ok(Some(self.last_reply()))
@@ -145,22 +145,22 @@ impl<N: PhaseName> JoinedPermit<N> {
     /// none. Its reply is left in the journal.
     pub fn commit_stashed<R: Wait>(&mut self, rt: &R, boxes: &Boxes<N>) -> Result<bool, PermitFault>
         requires of { self.old.key.boxes ≡ boxes.now }
-        requires opening { HaveOpening N.opening self.old.opening }
+        requires opening { HaveOpening N.initial self.old.opening }
         requires tries { self.old.tries < MOST_TRIES }
         ensures none { IfOk result (λ some. some ≡ false → self.old.stash.requests ≡ []) }
         ensures unchanged { IfOk result (λ some. some ≡ false → self.new ≡ with_try self.old) }
         ensures performed { IfOk result (λ some. some ≡ true →
-            HasPerformedFirstSome N.opening (with_try self.old) self.new) }
-        ensures failed { IfErr result (HasFailedFirst N.opening (with_try self.old) self.new) }
+            HasPerformedFirstSome N.initial (with_try self.old) self.new) }
+        ensures failed { IfErr result (HasFailedFirst N.initial (with_try self.old) self.new) }
     {
-        let Some((index, request)) = self.worker.call_first() else {
+        let Some((index, request)) = self.worker.unstash() else {
             self.worker.count_try();
             return Ok(false);
         };
         match self.commit(rt, boxes, &request, index) {
             Ok(()) => Ok(true),
             Err(fault) => {
-                self.worker.call_off();
+                self.worker.restash();
                 Err(fault)
             }
         }
@@ -227,7 +227,7 @@ impl<N: PhaseName> JoinedReceipt<N> {
         ensures stash { result.1 ≡ self.stash }
         ensures key { result.2 ≡ self.key }
         ensures counters { result.3 ≡ self.counters }
-        ensures explained { IsExplained (length N.opening) self }
+        ensures explained { IsExplained (length N.initial) self }
         ensures limit { self.counters.commits ≤ MOST_OF_A_WORKER }
     {
         let JoinedReceipt { worker } = self;

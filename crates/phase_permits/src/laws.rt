@@ -19,8 +19,8 @@ ghost use Rattle.phase_permits.specs.declared.worker.Counters.{Counters};
 ghost use Rattle.phase_permits.specs.declared.transaction.PermitFault.{PermitFault};
 ghost use Rattle.phase_permits.specs.Performing.{HasCommitted, HasFailed, shards_asked};
 ghost use Rattle.phase_permits.specs.Replying.{CountsOf, HasStocks, SawTrue, StoodFor, HasFixed, StoodAsTaken};
-ghost use Rattle.phase_permits.specs.Slicing.{slices_of, after_acts, AreFew};
-ghost use Rattle.phase_permits.specs.Txns.{Setting, Txn, entry_of, hot_in, IsAnswered};
+ghost use Rattle.phase_permits.specs.Slicing.{slices_of, slices_after_acts, HaveAtMost};
+ghost use Rattle.phase_permits.specs.Txns.{Setting, Txn, entry_of, hot_of, IsAnswered};
 ghost use Rattle.phase_permits.specs.Workers.{WorkerState, IsExplained, IsIdle, setting_of, txn_of};
 ghost use Rattle.phase_permits.specs.Works.{Work, IsWorkOf, IsCommitOf, with_txn};
 
@@ -28,9 +28,10 @@ ghost use Rattle.phase_permits.specs.Works.{Work, IsWorkOf, IsCommitOf, with_txn
 /// Each has at most as many operations as there are rows.
 pub fn slices_of_rows()
     ensures one_more { (stocks : List (Object × Option (Facts × ℕ))) (rows : Book) (row : Row) →
-        slices_of stocks (rows ++ row ∷ []) ≡ after_acts (slices_of stocks rows) (writes_of row) }
+        slices_of stocks (rows ++ row ∷ [])
+        ≡ slices_after_acts (slices_of stocks rows) (writes_of row) }
     ensures few { (stocks : List (Object × Option (Facts × ℕ))) (rows : Book) →
-        AreFew (length rows) (slices_of stocks rows) }
+        HaveAtMost (length rows) (slices_of stocks rows) }
 {}
 
 /// A commit that owes what a worker's work asks for keeps the work one.
@@ -42,10 +43,10 @@ pub fn commits_keep_work()
 
 /// After the commit of a request a permit is still explained by its transactions.
 pub fn commits_stay_explained()
-    ensures { (opening : List ShardState) (old new : WorkerState)
+    ensures { (initial : List ShardState) (old new : WorkerState)
         (request : Request) (index : ℕ) (reply : Reply) →
-        HasCommitted opening old new request index reply →
-        IsExplained (length opening) old → IsExplained (length opening) new }
+        HasCommitted initial old new request index reply →
+        IsExplained (length initial) old → IsExplained (length initial) new }
 {}
 
 /// A commit's reply is the model's for every book for which the shards that it took stood, but for
@@ -56,25 +57,25 @@ pub fn replies_are_right()
         SawTrue z taken txn → IsAnswered z counters txn →
         (book : Book) → StoodFor z taken book txn → HasFixed z book →
         CountsOf book (entry_of txn).worker counters → IsRight z.opening book (entry_of txn) }
-    ensures commits { (opening : List ShardState) (old new : WorkerState)
+    ensures commits { (initial : List ShardState) (old new : WorkerState)
         (request : Request) (index : ℕ) (answer : Reply)
-        (done : HasCommitted opening old new request index answer) (book : Book) →
-        StoodAsTaken opening old new request index answer done book → HasStocks book old.slices →
+        (done : HasCommitted initial old new request index answer) (book : Book) →
+        StoodAsTaken initial old new request index answer done book → HasStocks book old.slices →
         CountsOf book old.journal.worker old.counters →
         answer ≡ reply old.opening book old.journal.worker request }
 {}
 
 /// A request with an empty footprint leaves the key as it was, whether it was committed or not.
 pub fn empty_footprints_leave_keys()
-    ensures commits { (opening : List ShardState) (old new : WorkerState)
+    ensures commits { (initial : List ShardState) (old new : WorkerState)
         (request : Request) (index : ℕ) (answer : Reply)
-        (done : HasCommitted opening old new request index answer) →
-        let z = setting_of old (length opening) in
+        (done : HasCommitted initial old new request index answer) →
+        let z = setting_of old (length initial) in
         let txn = txn_of old done.number request index answer done.found in
-        footprint z.opening z.shards (hot_in z) (entry_of txn) ≡ [] → new.key ≡ old.key }
-    ensures failures { (opening : List ShardState) (old new : WorkerState)
+        footprint z.opening z.shards (hot_of z) (entry_of txn) ≡ [] → new.key ≡ old.key }
+    ensures failures { (initial : List ShardState) (old new : WorkerState)
         (request : Request) (fault : PermitFault) →
-        HasFailed opening old new request fault → shards_asked (length opening) old request ≡ [] →
+        HasFailed initial old new request fault → shards_asked (length initial) old request ≡ [] →
         new.key ≡ old.key }
 {}
 

@@ -26,9 +26,9 @@ pub(crate) trait Operation: Copy {
 }
 
 impl Operation for BidEntry {
-    ghost use Rattle.phase_permits.specs.Slicing.{bid_on};
+    ghost use Rattle.phase_permits.specs.Slicing.{slice_with_bid};
 
-    ghost applied = { bid_on };
+    ghost applied = { slice_with_bid };
 
     #[inline(always)]
     fn apply_to(self, slice: &mut Slice) {
@@ -39,9 +39,9 @@ impl Operation for BidEntry {
 }
 
 impl Operation for Stars {
-    ghost use Rattle.phase_permits.specs.Slicing.{comment_about};
+    ghost use Rattle.phase_permits.specs.Slicing.{slice_with_comment};
 
-    ghost applied = { comment_about };
+    ghost applied = { slice_with_comment };
 
     fn apply_to(self, slice: &mut Slice) {
         if let Slice::User(comments) = slice {
@@ -51,9 +51,9 @@ impl Operation for Stars {
 }
 
 impl Operation for ItemEntry {
-    ghost use Rattle.phase_permits.specs.Slicing.{item_listed};
+    ghost use Rattle.phase_permits.specs.Slicing.{slice_with_item};
 
-    ghost applied = { item_listed };
+    ghost applied = { slice_with_item };
 
     fn apply_to(self, slice: &mut Slice) {
         if let Slice::Category(items) = slice {
@@ -118,7 +118,7 @@ impl Slices {
     ghost use Rattle.auction_rows.specs.declared.requests.Object.{Object};
     ghost use Rattle.auction_rows.specs.Requests.{same_object};
     ghost use Rattle.auction_rows.specs.Footprint.{is_hot};
-    ghost use Rattle.phase_permits.specs.Slicing.{objects_of, slices_of, stocks_of, stock_of, slices_in, changed, after_acts, IsAt, IsStocked, AreFew};
+    ghost use Rattle.phase_permits.specs.Slicing.{hot_objects, slices_of, stocks_of, stock_of, slices_in, with_slice_changed, slices_after_acts, IsAt, IsStocked, HaveAtMost};
     ghost use Rattle.std.specs.Prelude.{◌+◌};
     ghost use Rattle.auction_rows.specs.Replies.{row_of};
     ghost use Rattle.auction_rows.specs.StoreReplies.{reply_of};
@@ -139,7 +139,7 @@ impl Slices {
     /// An identity slice of each of these objects, none of which is named twice; an item comes with
     /// its facts and how many are left.
     pub fn new(alloc: Global, hot: &[(Object, Option<(Facts, u32)>)]) -> Result<Slices, AllocError>
-        requires distinct { IsDistinct same_object (objects_of hot.now) }
+        requires distinct { IsDistinct same_object (hot_objects hot.now) }
         requires stocked { AllByRecursion IsStocked hot.now }
         ensures { IfOk result (λ slices. slices ≡ slices_of hot.now []) }
     {
@@ -171,7 +171,7 @@ impl Slices {
     /// The place of an object: None exactly where it is not hot.
     #[inline(always)]
     pub(crate) fn place_of(&self, object: Object) -> Option<usize>
-        ensures hot { is_some result ≡ is_hot (objects_of self.now) object }
+        ensures hot { is_some result ≡ is_hot (hot_objects self.now) object }
         ensures at { IfSome result (λ place. IsAt self.now place object) }
         ensures stocked { AllByRecursion IsStocked (stocks_of self.now) }
     {
@@ -210,9 +210,9 @@ impl Slices {
     /// Applies an operation to the slice at a place, where that is of its kind.
     #[inline(always)]
     pub(crate) fn apply<O: Operation>(&mut self, place: usize, operation: O)
-        requires { AreFew MOST_OF_A_WORKER self.old }
+        requires { HaveAtMost MOST_OF_A_WORKER self.old }
         ensures { (object : Object) → IsAt self.old place object →
-            self.new ≡ changed object (O.applied operation) self.old }
+            self.new ≡ with_slice_changed object (O.applied operation) self.old }
     {
         if let Some(hot) = self.hot.get_index_mut(place) {
             operation.apply_to(&mut hot.slice);
@@ -223,9 +223,9 @@ impl Slices {
     // the slice of the operation's kind.
     #[inline(always)]
     fn apply_at<O: Operation>(&mut self, home: Home, operation: O)
-        requires { AreFew MOST_OF_A_WORKER self.old }
+        requires { HaveAtMost MOST_OF_A_WORKER self.old }
         ensures { (object : Object) → (shards : ℕ) → IsHomeOf self.old shards object home →
-            self.new ≡ changed object (O.applied operation) self.old }
+            self.new ≡ with_slice_changed object (O.applied operation) self.old }
     {
         if let Home::Slice(place) = home {
             self.apply(place, operation);
@@ -236,12 +236,12 @@ impl Slices {
     /// hot.
     #[inline(always)]
     pub(crate) fn store(&mut self, request: &Request, reply: StoreReply, homes: &Homes)
-        requires few { AreFew MOST_OF_A_WORKER self.old }
+        requires few { HaveAtMost MOST_OF_A_WORKER self.old }
         requires home { IsWrittenAt self.old request.now homes.now }
         ensures written { (worker : ℕ) → IsOwn worker (reply_of reply) →
             self.new
-            ≡ after_acts self.old (writes_if (row_of worker request.now (reply_of reply))) }
-        ensures few { (n : ℕ) → AreFew n self.old → AreFew (n + 1) self.new }
+            ≡ slices_after_acts self.old (writes_if (row_of worker request.now (reply_of reply))) }
+        ensures few { (n : ℕ) → HaveAtMost n self.old → HaveAtMost (n + 1) self.new }
     {
         match *request {
             Request::StoreItem { time, .. } => {

@@ -5,7 +5,7 @@ ghost use Rattle.item_shards.specs.CommitNumbers.{last_number};
 use crate::slices::Slices;
 use crate::stash::Stash;
 use crate::transaction::{Done, PermitFault};
-use crate::worker::{Counters, Start, Worker};
+use crate::worker::{Counters, Worker, WorkerStart};
 use auction_rows::{ItemId, MOST_OF_A_WORKER, MOST_TRIES, Object, Opening, Reply, Request, Stars};
 use shard_boxes::{Boxes, Key, PhaseName};
 use std::marker::Model;
@@ -25,7 +25,7 @@ impl<N: PhaseName> Model for SplitPermit<N> {
 
     ghost view = { λ p. p.worker };
 
-    ghost invariant = { λ p. IsExplained (length N.opening) p.worker };
+    ghost invariant = { λ p. IsExplained (length N.initial) p.worker };
 }
 
 /// What a finished split permit leaves: its journal, its slices, its stash, its key and its
@@ -43,7 +43,7 @@ impl<N: PhaseName> Model for SplitReceipt<N> {
 
     ghost view = { λ p. p.worker };
 
-    ghost invariant = { λ p. IsExplained (length N.opening) p.worker };
+    ghost invariant = { λ p. IsExplained (length N.initial) p.worker };
 }
 
 impl<N: PhaseName> SplitPermit<N> {
@@ -53,7 +53,7 @@ impl<N: PhaseName> SplitPermit<N> {
     ghost use Rattle.phase_permits.specs.declared.transaction.Done.TheVariants.{Stashed};
     ghost use Rattle.std.specs.Prelude.{Some};
     ghost use Rattle.phase_permits.specs.Performing.{IsUntouched, HasCommitted, HasDealt, HasDealtWith, HasFailed, HaveOpening};
-    ghost use Rattle.phase_permits.specs.Slicing.{objects_of};
+    ghost use Rattle.phase_permits.specs.Slicing.{hot_objects};
     ghost use Rattle.phase_permits.specs.Txns.{is_put_off};
     ghost use Rattle.phase_permits.specs.Workers.{CanStart, IsHot, last_reply, new_worker, with_try};
 
@@ -72,7 +72,7 @@ impl<N: PhaseName> SplitPermit<N> {
         ensures { result ≡ new_worker key opening counters journal stash slices quota clock }
     {
         SplitPermit {
-            worker: Worker::new(Start {
+            worker: Worker::new(WorkerStart {
                 key,
                 opening,
                 counters,
@@ -100,7 +100,7 @@ impl<N: PhaseName> SplitPermit<N> {
         ensures none { IsNone result ↔ (last_number ≤ self.old.clock) }
         ensures unchanged { IfNone result (self.new ≡ self.old) }
         ensures committed { IfSome result (λ reply.
-            HasCommitted N.opening self.old self.new
+            HasCommitted N.initial self.old self.new
             (StoreBid bidder item amount time) index reply) }
         ensures key { self.new.key ≡ self.old.key }
     {
@@ -131,7 +131,7 @@ impl<N: PhaseName> SplitPermit<N> {
         ensures none { IsNone result ↔ (last_number ≤ self.old.clock) }
         ensures unchanged { IfNone result (self.new ≡ self.old) }
         ensures committed { IfSome result (λ reply.
-            HasCommitted N.opening self.old self.new
+            HasCommitted N.initial self.old self.new
             (StoreComment author about item stars) index reply) }
         ensures key { self.new.key ≡ self.old.key }
     {
@@ -157,16 +157,16 @@ impl<N: PhaseName> SplitPermit<N> {
         index: u32,
     ) -> Result<Done, PermitFault>
         requires of { self.old.key.boxes ≡ boxes.now }
-        requires opening { HaveOpening N.opening self.old.opening }
+        requires opening { HaveOpening N.initial self.old.opening }
         requires left { 0 < self.old.left }
         requires tries { self.old.tries < MOST_TRIES }
         ensures dealt { IfOk result
-            (HasDealtWith N.opening (with_try self.old) self.new request.now index) }
+            (HasDealtWith N.initial (with_try self.old) self.new request.now index) }
         ensures stashed { (result ≡ Ok Stashed)
-            ↔ (is_put_off (objects_of self.old.slices) request.now ≡ true) }
+            ↔ (is_put_off (hot_objects self.old.slices) request.now ≡ true) }
         ensures failed { IfErr result
-            (HasFailed N.opening (with_try self.old) self.new request.now) }
-        ensures untouched { IsUntouched (length N.opening) self.old self.new request.now }
+            (HasFailed N.initial (with_try self.old) self.new request.now) }
+        ensures untouched { IsUntouched (length N.initial) self.old self.new request.now }
     {
         if self.commit(rt, boxes, request, index)? {
             Ok(Done::Committed(self.last_reply()))
@@ -185,16 +185,16 @@ impl<N: PhaseName> SplitPermit<N> {
         index: u32,
     ) -> Result<bool, PermitFault>
         requires of { self.old.key.boxes ≡ boxes.now }
-        requires opening { HaveOpening N.opening self.old.opening }
+        requires opening { HaveOpening N.initial self.old.opening }
         requires left { 0 < self.old.left }
         requires tries { self.old.tries < MOST_TRIES }
         ensures dealt { IfOk result
-            (HasDealt N.opening (with_try self.old) self.new request.now index) }
+            (HasDealt N.initial (with_try self.old) self.new request.now index) }
         ensures stashed { (result ≡ Ok false)
-            ↔ (is_put_off (objects_of self.old.slices) request.now ≡ true) }
+            ↔ (is_put_off (hot_objects self.old.slices) request.now ≡ true) }
         ensures failed { IfErr result
-            (HasFailed N.opening (with_try self.old) self.new request.now) }
-        ensures untouched { IsUntouched (length N.opening) self.old self.new request.now }
+            (HasFailed N.initial (with_try self.old) self.new request.now) }
+        ensures untouched { IsUntouched (length N.initial) self.old self.new request.now }
     {
         self.worker.count_try();
         if self.worker.is_put_off(request) {
@@ -236,7 +236,7 @@ impl<N: PhaseName> SplitPermit<N> {
 
     /// Whether an object is one of those that the slices are of.
     pub fn is_hot(&self, object: Object) -> bool
-        ensures { result ≡ is_hot (objects_of self.now.slices) object }
+        ensures { result ≡ is_hot (hot_objects self.now.slices) object }
     {
         self.worker.is_hot(object)
     }
@@ -251,7 +251,7 @@ impl<N: PhaseName> SplitPermit<N> {
 }
 
 impl<N: PhaseName> SplitReceipt<N> {
-    ghost use Rattle.phase_permits.specs.Slicing.{AreFew};
+    ghost use Rattle.phase_permits.specs.Slicing.{HaveAtMost};
     ghost use Rattle.phase_permits.specs.Workers.{IsExplained};
 
     /// The journal, the slices, the stash, the key and the counters, which are explained by its
@@ -262,9 +262,9 @@ impl<N: PhaseName> SplitReceipt<N> {
         ensures stash { result.2 ≡ self.stash }
         ensures key { result.3 ≡ self.key }
         ensures counters { result.4 ≡ self.counters }
-        ensures explained { IsExplained (length N.opening) self }
+        ensures explained { IsExplained (length N.initial) self }
         ensures limit { self.counters.commits ≤ MOST_OF_A_WORKER }
-        ensures few { AreFew MOST_OF_A_WORKER self.slices }
+        ensures few { HaveAtMost MOST_OF_A_WORKER self.slices }
     {
         let SplitReceipt { worker } = self;
         worker.parts()

@@ -19,7 +19,7 @@ use shard_boxes::{Boxes, PhaseName};
 use std::alloc::AllocError;
 use std::sync::Wait;
 use thiserror::Error;
-use worker_journals::{Answer, Told};
+use worker_journals::{Answer, ReplyForm};
 
 /// Why a permit did not perform a request. After either nothing has changed but the number of tries
 /// and what the key has seen of the request's shards.
@@ -72,7 +72,7 @@ impl<N: PhaseName> Worker<N> {
     ghost use Rattle.phase_permits.specs.Deeds.{IsReplyBy};
     ghost use Rattle.phase_permits.specs.Homes.{AreHomesOf, HasHomes, IsHotStore};
     ghost use Rattle.phase_permits.specs.Performing.{asks, CanTransact, HasCommitted, HasCommittedSome, HasFailed, HasPerformed, HasStoredOrIsFull, HasStoredSome, HaveOpening, StoresItem};
-    ghost use Rattle.phase_permits.specs.Slicing.{objects_of};
+    ghost use Rattle.phase_permits.specs.Slicing.{hot_objects};
     ghost use Rattle.phase_permits.specs.Takens.{footprint_of, is_one_of, shard_at, IsReady};
     ghost use Rattle.phase_permits.specs.Txns.{is_put_off};
 
@@ -85,8 +85,8 @@ impl<N: PhaseName> Worker<N> {
         request: &Request,
         index: u32,
     ) -> Result<(), PermitFault>
-        requires { CanTransact N.opening boxes.now self.old request.now }
-        ensures { HasPerformed N.opening self.old self.new request.now index result }
+        requires { CanTransact N.initial boxes.now self.old request.now }
+        ensures { HasPerformed N.initial self.old self.new request.now index result }
     {
         let call = Call { request, index };
 
@@ -149,16 +149,16 @@ impl<N: PhaseName> Worker<N> {
     #[inline(always)]
     pub(crate) fn refuse(&mut self, call: Call<'_>, reason: Refusal) -> Result<(), PermitFault>
         requires refused { number_refusal self.old.opening call.request.now ≡ Some reason }
-        requires goes { is_put_off (objects_of self.old.slices) call.request.now ≡ false }
+        requires goes { is_put_off (hot_objects self.old.slices) call.request.now ≡ false }
         requires left { 0 < self.old.left }
         ensures { HasStoredOrIsFull self.old self.new
             call.entry.request.now call.entry.index result }
     {
         let number = number_after(self.clock, 0)?;
         let answer = Answer {
-            told: Told::Store(StoreReply::Refused(reason)),
+            form: ReplyForm::Store(StoreReply::Refused(reason)),
         };
-        self.commit(number, call, &answer, &ReadSet::nothing());
+        self.add_entry(number, call, &answer, &ReadSet::nothing());
         Ok(())
     }
 
@@ -168,7 +168,7 @@ impl<N: PhaseName> Worker<N> {
     pub(crate) fn store_hot(&mut self, call: Call<'_>, homes: &Homes) -> Result<(), PermitFault>
         requires allowed { number_refusal self.old.opening call.request.now ≡ None }
         requires store { is_view call.request.now ≡ false }
-        requires goes { is_put_off (objects_of self.old.slices) call.request.now ≡ false }
+        requires goes { is_put_off (hot_objects self.old.slices) call.request.now ≡ false }
         requires homes { HasHomes self.old call.request.now homes.now }
         requires hot { shard_at homes.now.item ≡ None }
         requires left { 0 < self.old.left }
@@ -184,7 +184,7 @@ impl<N: PhaseName> Worker<N> {
             seen: &seen,
             reply,
         };
-        self.commit_store(number, &store, &ReadSet::nothing());
+        self.add_store(number, &store, &ReadSet::nothing());
         Ok(())
     }
 
@@ -200,15 +200,15 @@ impl<N: PhaseName> Worker<N> {
     ) -> Result<Begun<N>, PermitFault>
         requires ready { IsReady boxes.now self.old.key }
         requires allowed { number_refusal self.old.opening request.now ≡ None }
-        requires goes { is_put_off (objects_of self.old.slices) request.now ≡ false }
-        requires homes { AreHomesOf self.old (length N.opening) request.now homes.now }
+        requires goes { is_put_off (hot_objects self.old.slices) request.now ≡ false }
+        requires homes { AreHomesOf self.old (length N.initial) request.now homes.now }
         requires asked { (t : ℕ) →
-            asks (length N.opening) self.old request.now t ≡ is_one_of (footprint_of homes.now) t }
-        requires known { AllByRecursion (λ s. s < length N.opening) (footprint_of homes.now) }
+            asks (length N.initial) self.old request.now t ≡ is_one_of (footprint_of homes.now) t }
+        requires known { AllByRecursion (λ s. s < length N.initial) (footprint_of homes.now) }
         ensures worker { self.new ≡ record self.old { key = self.new.key } }
         ensures begun { IfOk result (HasBegun
-            (step_of N.opening N.workers boxes.now self.old.key homes.now) self.new request.now) }
-        ensures full { IfErr result (HasFailed N.opening self.old self.new request.now) }
+            (step_of N.initial N.workers boxes.now self.old.key homes.now) self.new request.now) }
+        ensures full { IfErr result (HasFailed N.initial self.old self.new request.now) }
     {
         let taken = take_all(rt, boxes, &mut self.key, homes);
         let before = clock_of(&taken);
@@ -241,14 +241,14 @@ impl<N: PhaseName> Worker<N> {
     #[inline(never)]
     fn show<R: Wait>(&mut self, rt: &R, boxes: &Boxes<N>, begun: Begun<N>, call: Call<'_>)
         requires view { is_view call.request.now ≡ true }
-        requires opened { HaveOpening N.opening self.old.opening }
+        requires opened { HaveOpening N.initial self.old.opening }
         requires begun { (homes : HomesValue) × (key : KeyState) × HasBegun
-            (step_of N.opening N.workers boxes.now key homes) self.old call.request.now begun }
+            (step_of N.initial N.workers boxes.now key homes) self.old call.request.now begun }
         requires left { 0 < self.old.left }
         ensures { (homes : HomesValue) → (key : KeyState) → HasBegun
-            (step_of N.opening N.workers boxes.now key homes) self.old
+            (step_of N.initial N.workers boxes.now key homes) self.old
             call.entry.request.now begun →
-            HasCommittedSome N.opening (record self.old { key = key }) self.new
+            HasCommittedSome N.initial (record self.old { key = key }) self.new
             call.entry.request.now call.entry.index }
     {
         let Begun { taken, number } = begun;
@@ -265,7 +265,7 @@ impl<N: PhaseName> Worker<N> {
             second: Act::Look(Shown::Nothing),
         };
         put_all(rt, boxes, &mut self.key, taken, written);
-        self.commit(number, call, &Answer::of(&reply), &found);
+        self.add_entry(number, call, &Answer::of(&reply), &found);
     }
 
     // Does what a store does on the shards that were taken, puts them back with their lines, and
@@ -273,9 +273,9 @@ impl<N: PhaseName> Worker<N> {
     #[inline]
     fn put_store<R: Wait>(&mut self, rt: &R, boxes: &Boxes<N>, begun: Begun<N>, store: &Store<'_>)
         requires store { is_view store.now.call.request.now ≡ false }
-        requires opened { HaveOpening N.opening self.old.opening }
+        requires opened { HaveOpening N.initial self.old.opening }
         requires begun { (key : KeyState) × HasBegun
-            (step_of N.opening N.workers boxes.now key store.now.homes.now)
+            (step_of N.initial N.workers boxes.now key store.now.homes.now)
             self.old store.now.call.request.now begun }
         requires seen { IsSeen self.old store.now.call.request.now
             store.now.homes.now begun.taken store.now.seen.now }
@@ -284,9 +284,9 @@ impl<N: PhaseName> Worker<N> {
             store.now.call.request.now (reply_of store.now.reply) }
         requires left { 0 < self.old.left }
         ensures { (key : KeyState) → HasBegun
-            (step_of N.opening N.workers boxes.now key store.now.homes.now)
+            (step_of N.initial N.workers boxes.now key store.now.homes.now)
             self.old store.now.call.request.now begun →
-            HasCommitted N.opening (record self.old { key = key }) self.new
+            HasCommitted N.initial (record self.old { key = key }) self.new
             store.now.call.request.now store.now.call.index (reply_of store.now.reply) }
     {
         let Begun { taken, number } = begun;
@@ -295,9 +295,9 @@ impl<N: PhaseName> Worker<N> {
             clocks: clocks_of(&taken),
         };
         let deeds = Deeds::of(store.call.request, store.reply, store.seen, store.homes);
-        let deal = deeds.deal(number, store.call.index);
-        put_all(rt, boxes, &mut self.key, taken, deal);
-        self.commit_store(number, store, &found);
+        let written = deeds.written(number, store.call.index);
+        put_all(rt, boxes, &mut self.key, taken, written);
+        self.add_store(number, store, &found);
     }
 }
 

@@ -1,7 +1,7 @@
 //! A worker in a phase, and what it has committed.
 ghost use Rattle.std.specs.Prelude.{◌≡◌, ◌<◌, ◌+◌, false, true, [], length, slice_get, Some, IfNone, IfSome};
 ghost use Rattle.auction_rows.specs.Footprint.{is_hot};
-ghost use Rattle.phase_permits.specs.Slicing.{objects_of, AreFew};
+ghost use Rattle.phase_permits.specs.Slicing.{hot_objects, HaveAtMost};
 
 use crate::deeds::{Call, Store};
 use crate::slices::Slices;
@@ -10,10 +10,10 @@ use crate::transaction::ReadSet;
 use auction_rows::{
     Entry, ItemId, MOST_OF_A_WORKER, MOST_TRIES, Object, Opening, Reply, Request, StoreReply,
 };
-use ghost_log::Log;
+use ghost_log::GhostList;
 use shard_boxes::{Key, PhaseName};
 use std::marker::Model;
-use worker_journals::{Answer, Journal, Told};
+use worker_journals::{Answer, Journal, ReplyForm};
 
 /// What a worker has in a phase: its right to take shards, and what no other worker touches: its
 /// counters, its journal, its stash, its slices of what is split, the requests of its quota that
@@ -30,12 +30,12 @@ pub(crate) struct Worker<N: PhaseName> {
     pub(crate) tries: u32,
     pub(crate) clock: u64,
     // What it began with, and its transactions: for proofs alone.
-    pub(crate) begun: Log<Counters, u64>,
-    pub(crate) txns: Log<Entry, ReadSet>,
+    pub(crate) begun: GhostList<Counters, u64>,
+    pub(crate) txns: GhostList<Entry, ReadSet>,
 }
 
 /// What a worker starts a phase with.
-pub(crate) struct Start<N: PhaseName> {
+pub(crate) struct WorkerStart<N: PhaseName> {
     pub(crate) key: Key<N>,
     pub(crate) opening: Opening,
     pub(crate) counters: Counters,
@@ -47,7 +47,7 @@ pub(crate) struct Start<N: PhaseName> {
 }
 
 impl<N: PhaseName> Model for Worker<N> {
-    ghost use Rattle.phase_permits.specs.Workers.{WorkerState, IsLawful, begun_of};
+    ghost use Rattle.phase_permits.specs.Workers.{WorkerState, IsLawfulWorker, begun_of};
 
     ghost Value = { WorkerState };
 
@@ -65,7 +65,7 @@ impl<N: PhaseName> Model for Worker<N> {
       txns = w.txns.items;
     } };
 
-    ghost invariant = { λ w. IsLawful (record {
+    ghost invariant = { λ w. IsLawfulWorker (record {
       key = w.key;
       opening = w.opening;
       begun = begun_of w.begun.items;
@@ -85,16 +85,16 @@ impl<N: PhaseName> Worker<N> {
     ghost use Rattle.auction_rows.specs.StoreReplies.{reply_of};
     ghost use Rattle.phase_permits.specs.Homes.{IsWrittenAt};
     ghost use Rattle.phase_permits.specs.Txns.{is_put_off, IsOwn};
-    ghost use Rattle.phase_permits.specs.Workers.{CanStart, IsLawful, new_worker, next_item, last_reply, with_try, after_putting_off, with_first_called, with_entry, after_commit};
+    ghost use Rattle.phase_permits.specs.Workers.{CanStart, IsLawfulWorker, new_worker, next_item, last_reply, with_try, after_putting_off, with_first_unstashed, with_entry, after_commit};
 
     /// A worker as a phase begins. It takes no memory.
-    pub(crate) fn new(start: Start<N>) -> Worker<N>
+    pub(crate) fn new(start: WorkerStart<N>) -> Worker<N>
         requires { CanStart (new_worker start.key start.opening start.counters start.journal
             start.stash start.slices start.quota start.clock) }
         ensures { result ≡ new_worker start.key start.opening start.counters start.journal
             start.stash start.slices start.quota start.clock }
     {
-        let Start {
+        let WorkerStart {
             key,
             opening,
             counters,
@@ -114,8 +114,8 @@ impl<N: PhaseName> Worker<N> {
             left: quota,
             tries: 0,
             clock,
-            begun: Log::new().and(&counters, &clock),
-            txns: Log::new(),
+            begun: GhostList::new().and(&counters, &clock),
+            txns: GhostList::new(),
         }
     }
 
@@ -132,7 +132,7 @@ impl<N: PhaseName> Worker<N> {
     #[inline(always)]
     pub(crate) fn next_item(&self) -> ItemId
         ensures next { result ≡ next_item self.now }
-        ensures cold { is_hot (objects_of self.now.slices) (Item result) ≡ false }
+        ensures cold { is_hot (hot_objects self.now.slices) (Item result) ≡ false }
     {
         ItemId {
             worker: self.journal.worker(),
@@ -143,7 +143,7 @@ impl<N: PhaseName> Worker<N> {
     /// Whether an object is one of those that the slices are of.
     #[inline(always)]
     pub(crate) fn is_hot(&self, object: Object) -> bool
-        ensures { result ≡ is_hot (objects_of self.now.slices) object }
+        ensures { result ≡ is_hot (hot_objects self.now.slices) object }
     {
         self.slices.place_of(object).is_some()
     }
@@ -152,7 +152,7 @@ impl<N: PhaseName> Worker<N> {
     /// object.
     #[inline(always)]
     pub(crate) fn is_put_off(&self, request: &Request) -> bool
-        ensures { result ≡ is_put_off (objects_of self.now.slices) request.now }
+        ensures { result ≡ is_put_off (hot_objects self.now.slices) request.now }
     {
         match *request {
             Request::StoreItem { .. } | Request::StoreBid { .. } | Request::StoreComment { .. } => {
@@ -168,7 +168,7 @@ impl<N: PhaseName> Worker<N> {
 
     /// Puts off a request of the quota: no number is used. It takes no memory.
     pub(crate) fn put_off(&mut self, index: u32, request: &Request)
-        requires put_off { is_put_off (objects_of self.old.slices) request.now ≡ true }
+        requires put_off { is_put_off (hot_objects self.old.slices) request.now ≡ true }
         requires left { 0 < self.old.left }
         ensures { self.new ≡ after_putting_off self.old index request.now }
     {
@@ -176,13 +176,13 @@ impl<N: PhaseName> Worker<N> {
         self.stash.push(index, *request);
     }
 
-    /// Calls the first stashed request into the quota, where nothing is hot: None exactly where
+    /// Takes the first stashed request into the quota, where nothing is hot: None exactly where
     /// there is none, and then nothing has changed. It takes no memory.
-    pub(crate) fn call_first(&mut self) -> Option<(u32, Request)>
+    pub(crate) fn unstash(&mut self) -> Option<(u32, Request)>
         requires joined { self.old.slices ≡ [] }
         ensures first { result ≡ slice_get self.old.stash.requests 0 }
         ensures none { IfNone result (self.new ≡ self.old) }
-        ensures called { IfSome result (λ _. self.new ≡ with_first_called self.old) }
+        ensures called { IfSome result (λ _. self.new ≡ with_first_unstashed self.old) }
         ensures some { IfSome result (λ _. 0 < length self.old.stash.requests) }
     {
         let first = self.stash.get(0)?;
@@ -191,14 +191,14 @@ impl<N: PhaseName> Worker<N> {
         Some(first)
     }
 
-    /// Puts the request that was last called into the quota back in front of the stash. It takes no
+    /// Puts the request that was last taken out of the stash back in front of it. It takes no
     /// memory.
-    pub(crate) fn call_off(&mut self)
+    pub(crate) fn restash(&mut self)
         requires joined { self.old.slices ≡ [] }
         requires called { 0 < length self.old.stash.done }
         requires left { 0 < self.old.left }
         ensures some { 0 < length self.new.stash.requests }
-        ensures before { self.old ≡ with_first_called self.new }
+        ensures before { self.old ≡ with_first_unstashed self.new }
     {
         self.left -= 1;
         self.stash.recall();
@@ -207,7 +207,7 @@ impl<N: PhaseName> Worker<N> {
     /// Commits a request of the quota, but for its slices, at a number after the clock. It takes no
     /// memory.
     #[inline(always)]
-    pub(crate) fn commit(
+    pub(crate) fn add_entry(
         &mut self,
         number: u64,
         call: Call<'_>,
@@ -218,7 +218,7 @@ impl<N: PhaseName> Worker<N> {
         requires after { self.old.clock < number }
         ensures entry { self.new
             ≡ with_entry self.old number call.entry.index call.entry.request.now reply.now found.now }
-        ensures few { AreFew self.old.counters.commits self.new.slices }
+        ensures few { HaveAtMost self.old.counters.commits self.new.slices }
     {
         let Call { request, index } = call;
         self.left -= 1;
@@ -240,7 +240,7 @@ impl<N: PhaseName> Worker<N> {
     /// Commits a store of the quota, at a number after the clock: the slice of what it writes has
     /// its operation, where that is hot. It takes no memory.
     #[inline(always)]
-    pub(crate) fn commit_store(&mut self, number: u64, store: &Store<'_>, found: &ReadSet)
+    pub(crate) fn add_store(&mut self, number: u64, store: &Store<'_>, found: &ReadSet)
         requires left { 0 < self.old.left }
         requires after { self.old.clock < number }
         requires home { IsWrittenAt self.old.slices store.now.call.request.now store.now.homes.now }
@@ -249,9 +249,9 @@ impl<N: PhaseName> Worker<N> {
             store.now.call.request.now (reply_of store.now.reply) found.now }
     {
         let answer = Answer {
-            told: Told::Store(store.reply),
+            form: ReplyForm::Store(store.reply),
         };
-        self.commit(number, store.call, &answer, found);
+        self.add_entry(number, store.call, &answer, found);
         let request = store.call.request;
         self.slices.store(request, store.reply, store.homes);
     }
@@ -272,7 +272,7 @@ impl<N: PhaseName> Worker<N> {
         ensures stash { result.2 ≡ self.stash }
         ensures key { result.3 ≡ self.key }
         ensures counters { result.4 ≡ self.counters }
-        ensures lawful { IsLawful self }
+        ensures lawful { IsLawfulWorker self }
     {
         let Worker {
             key,
@@ -304,7 +304,7 @@ pub struct Counters {
 
 impl Counters {
     ghost use Rattle.auction_rows.specs.StoreReplies.{reply_of};
-    ghost use Rattle.phase_permits.specs.Txns.{counted};
+    ghost use Rattle.phase_permits.specs.Txns.{counters_after};
     ghost use Rattle.phase_permits.specs.Workers.{AreCounted};
 
     // Counts a commit with this reply.
@@ -312,18 +312,18 @@ impl Counters {
     pub(crate) fn count(&mut self, reply: &Answer<'_>)
         requires counted { AreCounted self.old }
         requires limit { self.old.commits < MOST_OF_A_WORKER }
-        ensures { self.new ≡ counted self.old reply.now }
+        ensures { self.new ≡ counters_after self.old reply.now }
     {
-        match reply.told {
-            Told::Store(reply) => self.count_store(reply),
-            Told::Whole(reply) => self.count_whole(reply),
+        match reply.form {
+            ReplyForm::Store(reply) => self.count_store(reply),
+            ReplyForm::Whole(reply) => self.count_whole(reply),
         }
     }
 
     fn count_whole(&mut self, reply: &Reply)
         requires counted { AreCounted self.old }
         requires limit { self.old.commits < MOST_OF_A_WORKER }
-        ensures { self.new ≡ counted self.old reply.now }
+        ensures { self.new ≡ counters_after self.old reply.now }
     {
         match StoreReply::of(reply) {
             Some(reply) => self.count_store(reply),
@@ -335,7 +335,7 @@ impl Counters {
     fn count_store(&mut self, reply: StoreReply)
         requires counted { AreCounted self.old }
         requires limit { self.old.commits < MOST_OF_A_WORKER }
-        ensures { self.new ≡ counted self.old (reply_of reply) }
+        ensures { self.new ≡ counters_after self.old (reply_of reply) }
     {
         self.commits += 1;
         match reply {

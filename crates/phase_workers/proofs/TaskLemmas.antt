@@ -13,7 +13,7 @@ use Rattle.shard_boxes.specs.States.{ShardState}
 use Rattle.phase_workers.specs.declared.round.ServingFault.{ServingFault}
 use Rattle.phase_workers.specs.declared.round.ServingFault.TheVariants.{Worker, Spawn, Memory}
 use Rattle.phase_workers.specs.declared.round.WorkerAnswer.{WorkerAnswer}
-use Rattle.phase_workers.specs.Tasks.{lists, Task, task, tasks, IsDone, HasMetFault, without_fault, fault_or, first_fault, IsFirstFault, IsFaultBy}
+use Rattle.phase_workers.specs.Tasks.{lists, Task, task, tasks, HasDoneTask, HasMetFault, without_fault, fault_or, first_fault, IsFirstFault, IsFaultBy}
 use Rattle.phase_workers.specs.Threads.{IsUnstarted}
 
 -- the next of the scripts that are left
@@ -56,14 +56,14 @@ own_more Can CanDo of owns now own rest next all t push is more can left made wh
     )
 
 -- what each worker's answer keeps of its task
-module _ {D T : Type 0} (of : D → Task) (left : T → WorkerState) (takes : Bool) (opening : List ShardState) where
+module _ {D T : Type 0} (of : D → Task) (left : T → WorkerState) (takes : Bool) (initial : List ShardState) where
   abbrev Keeps : D → WorkerAnswer T → Type 0
-  Keeps own answer = OnOk answer.done (IsDone takes (of own) (left answer.receipt)) × IfErr answer.done (HasMetFault takes opening (of own) (left answer.receipt))
+  Keeps own answer = OnOk answer.done (HasDoneTask takes (of own) (left answer.receipt)) × IfErr answer.done (HasMetFault takes initial (of own) (left answer.receipt))
 
   pub as_many : (owns : List D) (answers : List (WorkerAnswer T)) → AllZip Keeps owns answers → length answers ≡ length owns
   as_many owns answers kept = AllZip-long Keeps owns answers kept
 
-  done_by : (owns : List D) (receipts : List T) → AllZip Keeps owns (map without_fault receipts) → AllZip (IsDone takes) (map of owns) (map left receipts)
+  done_by : (owns : List D) (receipts : List T) → AllZip Keeps owns (map without_fault receipts) → AllZip (HasDoneTask takes) (map of owns) (map left receipts)
   done_by [] [] kept = tt
   done_by [] (r ∷ rs) kept = absurd kept
   done_by (d ∷ ds) [] kept = absurd kept
@@ -71,27 +71,27 @@ module _ {D T : Type 0} (of : D → Task) (left : T → WorkerState) (takes : Bo
 
   -- where no worker met a fault, all tasks are done
   pub all_done : (owns : List D) (answers : List (WorkerAnswer T)) (receipts : List T) (ts : List Task) →
-      AllZip Keeps owns answers → answers ≡ map without_fault receipts → map of owns ≡ ts → AllZip (IsDone takes) ts (map left receipts)
+      AllZip Keeps owns answers → answers ≡ map without_fault receipts → map of owns ≡ ts → AllZip (HasDoneTask takes) ts (map left receipts)
   all_done owns answers receipts ts kept none are =
-      subst (λ us. AllZip (IsDone takes) us (map left receipts)) are (done_by owns receipts (subst (AllZip Keeps owns) none kept))
+      subst (λ us. AllZip (HasDoneTask takes) us (map left receipts)) are (done_by owns receipts (subst (AllZip Keeps owns) none kept))
 
   -- the fault of the least worker that met one is that of the first task that was not done
   first_met : (owns : List D) (answers : List (WorkerAnswer T)) (fault : PermitFault) → AllZip Keeps owns answers → first_fault answers ≡ Some fault →
-      IsFirstFault takes opening (map of owns) fault
+      IsFirstFault takes initial (map of owns) fault
   first_met [] [] fault kept is = absurd (let none : None ≡ Some fault = is in cc)
   first_met [] (a ∷ more) fault kept is = absurd kept
   first_met (d ∷ ds) [] fault kept is = absurd kept
   first_met (d ∷ ds) (a ∷ more) fault kept is = at a.done kept.0.0 kept.0.1 is (λ later. first_met ds more fault kept.1 later)
     where
-      at : {U : Type 0} (done : Result U PermitFault) → OnOk done (IsDone takes (of d) (left a.receipt)) → IfErr done (HasMetFault takes opening (of d) (left a.receipt)) →
-          fault_or done (first_fault more) ≡ Some fault → (first_fault more ≡ Some fault → IsFirstFault takes opening (map of ds) fault) →
-          IsFirstFault takes opening (map of (d ∷ ds)) fault
+      at : {U : Type 0} (done : Result U PermitFault) → OnOk done (HasDoneTask takes (of d) (left a.receipt)) → IfErr done (HasMetFault takes initial (of d) (left a.receipt)) →
+          fault_or done (first_fault more) ≡ Some fault → (first_fault more ≡ Some fault → IsFirstFault takes initial (map of ds) fault) →
+          IsFirstFault takes initial (map of (d ∷ ds)) fault
       at (Ok u) ok err first again = inr ((left a.receipt, ok), again first)
-      at (Err f) ok err first again = inl (left a.receipt, subst (HasMetFault takes opening (of d) (left a.receipt)) (ap (λ o. unwrap_or o fault) first) err)
+      at (Err f) ok err first again = inl (left a.receipt, subst (HasMetFault takes initial (of d) (left a.receipt)) (ap (λ o. unwrap_or o fault) first) err)
 
   pub fault_met : (owns : List D) (answers : List (WorkerAnswer T)) (ts : List Task) (fault : PermitFault) → AllZip Keeps owns answers →
-      first_fault answers ≡ Some fault → map of owns ≡ ts → IsFirstFault takes opening ts fault
-  fault_met owns answers ts fault kept is are = subst (λ us. IsFirstFault takes opening us fault) are (first_met owns answers fault kept is)
+      first_fault answers ≡ Some fault → map of owns ≡ ts → IsFirstFault takes initial ts fault
+  fault_met owns answers ts fault kept is are = subst (λ us. IsFirstFault takes initial us fault) are (first_met owns answers fault kept is)
 
 pub unstarted_by : (jobs workers : ℕ) (P : PermitFault → Type 0) (fault : ServingFault) → jobs ≤ workers → IsUnstarted jobs fault → IsFaultBy workers P fault
 unstarted_by jobs workers P Spawn few is = omega (arith, few, is)

@@ -13,8 +13,8 @@ use Rattle.auction_rows.specs.declared.rows.Entry.{Entry}
 use Rattle.auction_rows.specs.Phases.{is_put_off}
 use Rattle.auction_rows.specs.Replies.{row_of}
 use Rattle.item_shards.specs.Writing.{writes_if}
-use Rattle.phase_permits.specs.Workers.{WorkerState, with_try, with_first_called}
-use Rattle.phase_permits.specs.Slicing.{objects_of, stocks_of}
+use Rattle.phase_permits.specs.Workers.{WorkerState, with_try, with_first_unstashed}
+use Rattle.phase_permits.specs.Slicing.{hot_objects, stocks_of}
 use Rattle.phase_permits.proofs.HomeLemmas.{same_objects_of}
 use Rattle.phase_permits.proofs.LawfulLemmas.{objects-acts}
 use Rattle.phase_permits.proofs.PermitLemmas.{stocks-acts, none_put_off}
@@ -24,8 +24,8 @@ use Rattle.phase_laws.proofs.ListLemmas.{all-append}
 use Rattle.run_laws.specs.Serving.{call_of}
 use Rattle.shard_boxes.specs.States.{ShardState}
 use Rattle.worker_journals.specs.Journals.{JournalView, commit_in}
-use Rattle.phase_workers.specs.Tasks.{task, IsDone}
-use Rattle.phase_workers.specs.Working.{calls_from, committed, stashed, taken, kept, hot_for, put_off, not_put_off, IsSamePermit, HasDealtWithNext, HasPerformedWaiting, HasStopped}
+use Rattle.phase_workers.specs.Tasks.{task, HasDoneTask}
+use Rattle.phase_workers.specs.Working.{calls_from, committed, stashed, taken, still_waiting, hot_for, put_off, not_put_off, IsSamePermit, HasDealtWithNext, HasPerformedWaiting, HasStopped}
 
 pub same : (permit : WorkerState) → IsSamePermit permit permit
 same permit = record { boxes = refl; worker = refl; opening = refl; begun = refl; phase = refl; writer = refl; hot = refl; stocks = refl; own = λ are. are }
@@ -46,15 +46,15 @@ same_after old mid new a b = record {
 tried : (permit : WorkerState) → IsSamePermit permit (with_try permit)
 tried permit = record { boxes = refl; worker = refl; opening = refl; begun = refl; phase = refl; writer = refl; hot = refl; stocks = refl; own = λ are. are }
 
-called : (permit : WorkerState) → IsSamePermit permit (with_first_called permit)
+called : (permit : WorkerState) → IsSamePermit permit (with_first_unstashed permit)
 called permit = record { boxes = refl; worker = refl; opening = refl; begun = refl; phase = refl; writer = refl; hot = refl; stocks = refl; own = λ are. are }
 
 -- the entries of a journal are of its phase
 abbrev AreOfPhaseIn : JournalView → Type 0
 AreOfPhaseIn journal = AllByRecursion (λ e. e.phase ≡ journal.phase) journal.entries
 
-module _ (opening : List ShardState) (old new : WorkerState) (request : Request) (index : ℕ) where
-  pub commit_same : (answer : Reply) → HasCommitted opening old new request index answer → IsSamePermit old new
+module _ (initial : List ShardState) (old new : WorkerState) (request : Request) (index : ℕ) where
+  pub commit_same : (answer : Reply) → HasCommitted initial old new request index answer → IsSamePermit old new
   commit_same answer h = record {
     boxes = h.transacted.put.boxes;
     worker = h.transacted.put.worker;
@@ -62,39 +62,39 @@ module _ (opening : List ShardState) (old new : WorkerState) (request : Request)
     begun = ap (λ (d : WorkerState). d.begun) h.worker;
     phase = ap (λ (d : WorkerState). d.journal.phase) h.worker;
     writer = ap (λ (d : WorkerState). d.journal.worker) h.worker;
-    hot = ap (λ (d : WorkerState). objects_of d.slices) h.worker ∙ objects-acts old.slices (writes_if (row_of old.journal.worker request answer));
+    hot = ap (λ (d : WorkerState). hot_objects d.slices) h.worker ∙ objects-acts old.slices (writes_if (row_of old.journal.worker request answer));
     stocks = ap (λ (d : WorkerState). stocks_of d.slices) h.worker ∙ stocks-acts old.slices (writes_if (row_of old.journal.worker request answer));
     own = λ are. subst (λ (d : WorkerState). AreOfPhaseIn d.journal) (sym h.worker)
         (all-append (λ (e : Entry). e.phase ≡ old.journal.phase) old.journal.entries (commit_in old.journal h.number index request answer ∷ []) are (refl, tt));
   }
 
-  pub commit_calls : (answer : Reply) → HasCommitted opening old new request index answer → committed new ≡ committed old ++ (index, request) ∷ []
+  pub commit_calls : (answer : Reply) → HasCommitted initial old new request index answer → committed new ≡ committed old ++ (index, request) ∷ []
   commit_calls answer h = ap (λ (d : WorkerState). map call_of d.journal.entries) h.worker ∙ map-append call_of old.journal.entries _
 
-pub next_same : (opening : List ShardState) (old new : WorkerState) (request : Request) (index : ℕ) (answer : Reply) →
-    HasCommitted opening (with_try old) new request index answer → IsSamePermit old new
-next_same opening old new request index answer h = same_after old (with_try old) new (tried old) (commit_same opening (with_try old) new request index answer h)
+pub next_same : (initial : List ShardState) (old new : WorkerState) (request : Request) (index : ℕ) (answer : Reply) →
+    HasCommitted initial (with_try old) new request index answer → IsSamePermit old new
+next_same initial old new request index answer h = same_after old (with_try old) new (tried old) (commit_same initial (with_try old) new request index answer h)
 
-pub first_same : (opening : List ShardState) (old new : WorkerState) (some : Bool) → (some ≡ false → new ≡ with_try old) →
-    (some ≡ true → HasPerformedFirstSome opening (with_try old) new) → IsSamePermit old new
-first_same opening old new false unchanged done = subst (IsSamePermit old) (sym (unchanged refl)) (tried old)
-first_same opening old new true unchanged done =
-    let mid : WorkerState = with_first_called (with_try old) in
+pub first_same : (initial : List ShardState) (old new : WorkerState) (some : Bool) → (some ≡ false → new ≡ with_try old) →
+    (some ≡ true → HasPerformedFirstSome initial (with_try old) new) → IsSamePermit old new
+first_same initial old new false unchanged done = subst (IsSamePermit old) (sym (unchanged refl)) (tried old)
+first_same initial old new true unchanged done =
+    let mid : WorkerState = with_first_unstashed (with_try old) in
     let first = (done refl).1 in
     same_after old (with_try old) new (tried old)
-    (same_after (with_try old) mid new (called (with_try old)) (commit_same opening mid new first.request first.index (done refl).0 first.committed))
+    (same_after (with_try old) mid new (called (with_try old)) (commit_same initial mid new first.request first.index (done refl).0 first.committed))
 
-pub dealt_same : (opening : List ShardState) (old new : WorkerState) (request : Request) (index : ℕ) (kept : Bool) →
-    HasDealt opening (with_try old) new request index kept → IsSamePermit old new
-dealt_same opening old new request index true (answer, h) = next_same opening old new request index answer h
-dealt_same opening old new request index false h = record {
+pub dealt_same : (initial : List ShardState) (old new : WorkerState) (request : Request) (index : ℕ) (still_waiting : Bool) →
+    HasDealt initial (with_try old) new request index still_waiting → IsSamePermit old new
+dealt_same initial old new request index true (answer, h) = next_same initial old new request index answer h
+dealt_same initial old new request index false h = record {
   boxes = ap (λ (d : WorkerState). d.key.boxes) h.worker;
   worker = ap (λ (d : WorkerState). d.key.worker) h.worker;
   opening = ap (λ (d : WorkerState). d.opening) h.worker;
   begun = ap (λ (d : WorkerState). d.begun) h.worker;
   phase = ap (λ (d : WorkerState). d.journal.phase) h.worker;
   writer = ap (λ (d : WorkerState). d.journal.worker) h.worker;
-  hot = ap (λ (d : WorkerState). objects_of d.slices) h.worker;
+  hot = ap (λ (d : WorkerState). hot_objects d.slices) h.worker;
   stocks = ap (λ (d : WorkerState). stocks_of d.slices) h.worker;
   own = λ are. subst (λ (d : WorkerState). AreOfPhaseIn d.journal) (sym h.worker) are;
 }
@@ -137,18 +137,18 @@ all_kept hot (call ∷ calls) none = at (is_put_off hot call.1) none (λ fewer. 
 -- ---- one request more
 
 -- what a permit did with the next request of its quota
-pub dealt_next : (opening : List ShardState) (old new : WorkerState) (request : Request) (index : ℕ) (kept : Bool) →
-    HasDealt opening (with_try old) new request index kept → HasDealtWithNext (index, request) old new
-dealt_next opening old new request index true (answer, h) =
+pub dealt_next : (initial : List ShardState) (old new : WorkerState) (request : Request) (index : ℕ) (still_waiting : Bool) →
+    HasDealt initial (with_try old) new request index still_waiting → HasDealtWithNext (index, request) old new
+dealt_next initial old new request index true (answer, h) =
     let goes : is_put_off (hot_for old) request ≡ false = ap (λ hot. is_put_off hot request) (sym (same_objects_of old.slices)) ∙ h.transacted.answered.not_put_off in record {
-      same = dealt_same opening old new request index true (answer, h);
-      calls = commit_calls opening (with_try old) new request index answer h ∙ ap (λ cs. committed old ++ cs) (sym (one_kept (hot_for old) (index, request) goes));
+      same = dealt_same initial old new request index true (answer, h);
+      calls = commit_calls initial (with_try old) new request index answer h ∙ ap (λ cs. committed old ++ cs) (sym (one_kept (hot_for old) (index, request) goes));
       stash = ap (λ (d : WorkerState). d.stash.requests) h.worker ∙ sym (append-nil (stashed old)) ∙ ap (λ cs. stashed old ++ cs) (sym (none_off (hot_for old) (index, request) goes));
       left = ap (λ (d : WorkerState). d.left) h.worker;
       tries = ap (λ (d : WorkerState). d.tries) h.worker;
     }
-dealt_next opening old new request index false h = record {
-  same = dealt_same opening old new request index false h;
+dealt_next initial old new request index false h = record {
+  same = dealt_same initial old new request index false h;
   calls = ap (λ (d : WorkerState). map call_of d.journal.entries) h.worker ∙ sym (append-nil (committed old)) ∙ ap (λ cs. committed old ++ cs) (sym (none_kept (hot_for old) (index, request) h.put_off));
   stash = ap (λ (d : WorkerState). d.stash.requests) h.worker ∙ ap (λ cs. stashed old ++ cs) (sym (one_off (hot_for old) (index, request) h.put_off));
   left = ap (λ (d : WorkerState). d.left) h.worker;
@@ -208,28 +208,28 @@ next_is k xs x is =
     sym (take-append-drop (k + 1) xs) ∙ ap (λ ys. ys ++ drop (k + 1) xs) is ∙ append_assoc (take k xs) (x ∷ []) (drop (k + 1) xs)
 
 -- what a permit did with the request that waited longest
-pub first_performed : (opening : List ShardState) (old new : WorkerState) (some : Bool) →
-    (some ≡ false → old.stash.requests ≡ []) → (some ≡ false → new ≡ with_try old) → (some ≡ true → HasPerformedFirstSome opening (with_try old) new) →
+pub first_performed : (initial : List ShardState) (old new : WorkerState) (some : Bool) →
+    (some ≡ false → old.stash.requests ≡ []) → (some ≡ false → new ≡ with_try old) → (some ≡ true → HasPerformedFirstSome initial (with_try old) new) →
     HasPerformedWaiting true old new
-first_performed opening old new false empty same done =
+first_performed initial old new false empty same done =
     let is : new ≡ with_try old = same refl in
     let none : old.stash.requests ≡ [] = empty refl in
     let tried_once : new.tries ≡ old.tries + 1 = ap (λ (p : WorkerState). p.tries) is in record {
-      same = first_same opening old new false same done;
+      same = first_same initial old new false same done;
       goes = ap (λ ss. put_off (hot_for old) (take 1 ss)) none;
       calls = ap (λ (p : WorkerState). committed p) is ∙ sym (ap (λ ss. committed old ++ take 1 ss) none ∙ append-nil (committed old));
       stash = ap (λ (p : WorkerState). stashed p) is ∙ none ∙ ap (drop 1) (sym none);
       left = ap (λ (p : WorkerState). p.left) is;
       tries = omega (arith, tried_once);
     }
-first_performed opening old new true empty same done =
+first_performed initial old new true empty same done =
     let first = (done refl).1 in
     let tried_once : new.tries ≡ old.tries + 1 = ap (λ (d : WorkerState). d.tries) first.committed.worker in
     let one_more : new.left ≡ old.left + 1 - 1 = ap (λ (d : WorkerState). d.left) first.committed.worker in
     let goes : is_put_off (hot_for old) first.request ≡ false = ap (λ hot. is_put_off hot first.request) (sym (same_objects_of old.slices)) ∙ first.committed.transacted.answered.not_put_off in record {
-      same = first_same opening old new true same done;
+      same = first_same initial old new true same done;
       goes = ap (put_off (hot_for old)) (first_one (stashed old) (first.index, first.request) first.first) ∙ none_off (hot_for old) (first.index, first.request) goes;
-      calls = commit_calls opening (with_first_called (with_try old)) new first.request first.index (done refl).0 first.committed
+      calls = commit_calls initial (with_first_unstashed (with_try old)) new first.request first.index (done refl).0 first.committed
           ∙ ap (λ cs. committed old ++ cs) (sym (first_one (stashed old) (first.index, first.request) first.first));
       stash = ap (λ (d : WorkerState). d.stash.requests) first.committed.worker;
       left = omega (arith, one_more);
@@ -237,7 +237,7 @@ first_performed opening old new true empty same done =
     }
 
 -- the stash is what is taken of it, where nothing is, and what is kept
-none_taken : (takes : Bool) (permit : WorkerState) → taken takes permit ≡ [] → stashed permit ≡ kept takes permit
+none_taken : (takes : Bool) (permit : WorkerState) → taken takes permit ≡ [] → stashed permit ≡ still_waiting takes permit
 none_taken true permit none = none
 none_taken false permit none = refl
 
@@ -248,7 +248,7 @@ none_waits takes permit none =
       same = same permit;
       goes = ap (λ ss. put_off (hot_for permit) (take 1 ss)) empty;
       calls = sym (ap (λ ss. committed permit ++ take 1 ss) empty ∙ append-nil (committed permit));
-      stash = none_taken takes permit empty ∙ sym (ap (λ ss. kept takes permit ++ drop 1 ss) empty ∙ append-nil (kept takes permit));
+      stash = none_taken takes permit empty ∙ sym (ap (λ ss. still_waiting takes permit ++ drop 1 ss) empty ∙ append-nil (still_waiting takes permit));
       left = refl;
       tries = omega arith;
     }
@@ -279,9 +279,9 @@ takes_some false permit k less = absurd (omega (arith, less))
 
 -- first the stash is done, and then the quota
 pub task_done : (takes : Bool) (script : List Request) (first : ℕ) (old mid new : WorkerState) → IsSamePermit old mid → put_off (hot_for old) (taken takes old) ≡ [] →
-    committed mid ≡ committed old ++ taken takes old → stashed mid ≡ kept takes old → mid.left ≡ old.left →
+    committed mid ≡ committed old ++ taken takes old → stashed mid ≡ still_waiting takes old → mid.left ≡ old.left →
     IsSamePermit mid new → committed new ≡ committed mid ++ not_put_off (hot_for mid) (calls_from first mid.left script) →
-    stashed new ≡ stashed mid ++ put_off (hot_for mid) (calls_from first mid.left script) → IsDone takes (task old script first) new
+    stashed new ≡ stashed mid ++ put_off (hot_for mid) (calls_from first mid.left script) → HasDoneTask takes (task old script first) new
 task_done takes script first old mid new same_stash go calls on left same_quota more waits =
     let hot : List Object = hot_for old in
     let own : List (ℕ × Request) = calls_from first old.left script in
@@ -296,7 +296,7 @@ task_done takes script first old mid new same_stash go calls on left same_quota 
           ∙ ap (λ cs. committed old ++ cs)
           (sym (filter-append (λ call. not (is_put_off hot call.1)) (taken takes old) own ∙ ap (λ cs. cs ++ not_put_off hot own) (all_kept hot (taken takes old) go)));
       stash = waits ∙ ap (λ ss. ss ++ put_off (hot_for mid) (calls_from first mid.left script)) on
-          ∙ ap (λ cs. kept takes old ++ cs)
+          ∙ ap (λ cs. still_waiting takes old ++ cs)
           (quota_off ∙ sym (filter-append (λ call. is_put_off hot call.1) (taken takes old) own ∙ ap (λ cs. cs ++ put_off hot own) go));
     }
 
@@ -310,10 +310,10 @@ pub err_as : {A E : Type 0} (result : Result A E) (fault : E) (Q : E → Type 0)
 err_as (Ok a) fault Q is q = tt
 err_as (Err e) fault Q is q = subst Q (sym is) q
 
-module _ (opening : List ShardState) (old mid new : WorkerState) (fault : PermitFault) where
+module _ (initial : List ShardState) (old mid new : WorkerState) (fault : PermitFault) where
   -- the request that waits longest met a fault
-  pub stopped_first : (takes : Bool) (k : ℕ) → takes ≡ true → committed mid ≡ committed old ++ take k (taken takes old) → stashed mid ≡ kept takes old ++ drop k (taken takes old) →
-      put_off (hot_for old) (take k (taken takes old)) ≡ [] → HasFailedFirst opening (with_try mid) new fault → HasStopped takes opening (taken takes old) old new fault
+  pub stopped_first : (takes : Bool) (k : ℕ) → takes ≡ true → committed mid ≡ committed old ++ take k (taken takes old) → stashed mid ≡ still_waiting takes old ++ drop k (taken takes old) →
+      put_off (hot_for old) (take k (taken takes old)) ≡ [] → HasFailedFirst initial (with_try mid) new fault → HasStopped takes initial (taken takes old) old new fault
   stopped_first false k is was waits go met = absurd (false≢true is)
   stopped_first true k is was waits go met =
       let before : List (ℕ × Request) = take k (stashed old) in
@@ -327,13 +327,13 @@ module _ (opening : List ShardState) (old mid new : WorkerState) (fault : Permit
         waits = ap (λ (d : WorkerState). d.stash.requests) met.failed.worker ∙ waits ∙ ap (λ n. drop n (stashed old)) (sym (reached k (stashed old) (met.index, met.request) first))
             ∙ sym (append-nil (drop (length before) (stashed old)))
             ∙ ap (λ cs. drop (length before) (stashed old) ++ cs) (sym go);
-        cause = subst (λ (d : WorkerState). IsCause opening d new.key met.request fault) (sym met.failed.worker) met.failed.cause;
+        cause = subst (λ (d : WorkerState). IsCause initial d new.key met.request fault) (sym met.failed.worker) met.failed.cause;
       }
 
   -- the next request of the quota met a fault
   pub stopped_next : (k : ℕ) (calls : List (ℕ × Request)) (call : ℕ × Request) → take (k + 1) calls ≡ take k calls ++ call ∷ [] →
       committed mid ≡ committed old ++ not_put_off (hot_for old) (take k calls) → stashed mid ≡ stashed old ++ put_off (hot_for old) (take k calls) →
-      HasFailed opening (with_try mid) new call.1 fault → HasStopped false opening calls old new fault
+      HasFailed initial (with_try mid) new call.1 fault → HasStopped false initial calls old new fault
   stopped_next k calls call next was waits failed = record {
     before = take k calls;
     call = call;
@@ -343,11 +343,11 @@ module _ (opening : List ShardState) (old mid new : WorkerState) (fault : Permit
     waits = ap (λ (d : WorkerState). d.stash.requests) failed.worker ∙ waits
         ∙ sym (ap (λ cs. stashed old ++ cs ++ put_off (hot_for old) (take k calls)) (drop-nil (length (take k calls)))
         ∙ ap (λ cs. cs ++ put_off (hot_for old) (take k calls)) (append-nil (stashed old)));
-    cause = subst (λ (d : WorkerState). IsCause opening d new.key call.1 fault) (sym failed.worker) failed.cause;
+    cause = subst (λ (d : WorkerState). IsCause initial d new.key call.1 fault) (sym failed.worker) failed.cause;
   }
 
   -- it stopped in its stash, before the quota
-  pub stopped_early : (takes : Bool) (calls more : List (ℕ × Request)) → HasStopped takes opening calls old new fault → HasStopped takes opening (calls ++ more) old new fault
+  pub stopped_early : (takes : Bool) (calls more : List (ℕ × Request)) → HasStopped takes initial calls old new fault → HasStopped takes initial (calls ++ more) old new fault
   stopped_early takes calls more met = record {
     before = met.before;
     call = met.call;
@@ -360,12 +360,12 @@ module _ (opening : List ShardState) (old mid new : WorkerState) (fault : Permit
 
   -- it stopped in its quota, once the stash was done
   pub stopped_late : (takes : Bool) (calls own : List (ℕ × Request)) → put_off (hot_for old) (taken takes old) ≡ [] → committed mid ≡ committed old ++ taken takes old →
-      stashed mid ≡ kept takes old → hot_for mid ≡ hot_for old → calls ≡ own → HasStopped false opening calls mid new fault →
-      HasStopped takes opening (taken takes old ++ own) old new fault
+      stashed mid ≡ still_waiting takes old → hot_for mid ≡ hot_for old → calls ≡ own → HasStopped false initial calls mid new fault →
+      HasStopped takes initial (taken takes old ++ own) old new fault
   stopped_late takes calls own go was on hot as_given met =
       let stash : List (ℕ × Request) = taken takes old in
-      let rest : List (ℕ × Request) = kept takes old in
-      let kept : not_put_off (hot_for old) (stash ++ met.before) ≡ stash ++ not_put_off (hot_for old) met.before =
+      let rest : List (ℕ × Request) = still_waiting takes old in
+      let still_waiting : not_put_off (hot_for old) (stash ++ met.before) ≡ stash ++ not_put_off (hot_for old) met.before =
       filter-append (λ call. not (is_put_off (hot_for old) call.1)) stash met.before ∙ ap (λ cs. cs ++ not_put_off (hot_for old) met.before) (all_kept (hot_for old) stash go) in
       let off : put_off (hot_for old) (stash ++ met.before) ≡ put_off (hot_for old) met.before =
       filter-append (λ call. is_put_off (hot_for old) call.1) stash met.before ∙ ap (λ cs. cs ++ put_off (hot_for old) met.before) go in
@@ -375,7 +375,7 @@ module _ (opening : List ShardState) (old mid new : WorkerState) (fault : Permit
         left = met.left;
         calls_are = ap (λ cs. stash ++ cs) (sym as_given ∙ met.calls_are) ∙ sym (append_assoc stash met.before (met.call ∷ met.left));
         done = met.done ∙ ap (λ h. committed mid ++ not_put_off h met.before) hot ∙ ap (λ cs. cs ++ not_put_off (hot_for old) met.before) was
-            ∙ append_assoc (committed old) stash (not_put_off (hot_for old) met.before) ∙ ap (λ cs. committed old ++ cs) (sym kept);
+            ∙ append_assoc (committed old) stash (not_put_off (hot_for old) met.before) ∙ ap (λ cs. committed old ++ cs) (sym still_waiting);
         waits = met.waits ∙ ap (λ cs. stashed mid ++ cs ++ put_off (hot_for mid) met.before) (drop-nil (length met.before))
             ∙ ap (λ cs. cs ++ put_off (hot_for mid) met.before) (append-nil (stashed mid) ∙ on) ∙ ap (λ h. rest ++ put_off h met.before) hot
             ∙ ap (λ cs. rest ++ cs) (sym off) ∙ ap (λ cs. cs ++ put_off (hot_for old) (stash ++ met.before)) (sym (append-nil rest))

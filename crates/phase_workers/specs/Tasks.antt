@@ -11,7 +11,7 @@ pub use Rattle.run_laws.specs.Serving.{lists}
 use Rattle.phase_workers.specs.declared.round.ServingFault.{ServingFault}
 use Rattle.phase_workers.specs.declared.round.ServingFault.TheVariants.{Worker, Spawn, Memory}
 use Rattle.phase_workers.specs.declared.round.WorkerAnswer.{WorkerAnswer}
-use Rattle.phase_workers.specs.Working.{calls_from, committed, stashed, taken, kept, hot_for, put_off, not_put_off, IsSamePermit, HasStopped}
+use Rattle.phase_workers.specs.Working.{calls_from, committed, stashed, taken, still_waiting, hot_for, put_off, not_put_off, IsSamePermit, HasStopped}
 
 -- a worker's permit as the phase begins, its script, and the index from which on it is given
 -- requests
@@ -35,11 +35,11 @@ abbrev pub calls_for : Task → List (ℕ × Request)
 calls_for t = calls_from t.first t.permit.left t.script
 
 -- a task can be done in a phase that began with these shards, with these boxes
-pub record CanBeDone (opening : List ShardState) (boxes : List BoxId) (t : Task) : Type 0 where
+pub record CanBeDone (initial : List ShardState) (boxes : List BoxId) (t : Task) : Type 0 where
   -- its permit is to these boxes
   pub boxes_are : t.permit.key.boxes ≡ boxes
   -- and of the same auction
-  pub opening_is : HaveOpening opening t.permit.opening
+  pub opening_is : HaveOpening initial t.permit.opening
   -- its script is short
   pub short : length t.script ≤ MOST_OF_A_WORKER
   -- what it is given stands in the script
@@ -53,15 +53,16 @@ to_do takes t = taken takes t.permit ++ calls_for t
 
 -- A task was done: of what it had to do, what is not put off is committed, in this order, and what
 -- is put off waits behind what was not taken.
-pub record IsDone (takes : Bool) (t : Task) (receipt : WorkerState) : Type 0 where
+pub record HasDoneTask (takes : Bool) (t : Task) (receipt : WorkerState) : Type 0 where
   pub same : IsSamePermit t.permit receipt
   pub calls : committed receipt
       ≡ committed t.permit ++ not_put_off (hot_for t.permit) (to_do takes t)
-  pub stash : stashed receipt ≡ kept takes t.permit ++ put_off (hot_for t.permit) (to_do takes t)
+  pub stash : stashed receipt ≡ still_waiting takes t.permit
+      ++ put_off (hot_for t.permit) (to_do takes t)
 
 -- a task was not done: it stopped at a call of these, by this fault
 abbrev pub HasMetFault : Bool → List ShardState → Task → WorkerState → PermitFault → Type 0
-HasMetFault takes opening t = HasStopped takes opening (to_do takes t) t.permit
+HasMetFault takes initial t = HasStopped takes initial (to_do takes t) t.permit
 
 -- what a worker gives that met no fault
 abbrev pub without_fault : {T : Type 0} → T → WorkerAnswer T
@@ -78,10 +79,11 @@ first_fault (answer ∷ more) = fault_or answer.done (first_fault more)
 
 -- the first task that was not done met this fault
 abbrev pub IsFirstFault : Bool → List ShardState → List Task → PermitFault → Type 0
-IsFirstFault takes opening [] fault = ⊥
-IsFirstFault takes opening (t ∷ more) fault =
-    ((receipt : WorkerState) × HasMetFault takes opening t receipt fault)
-    ⊎ (((receipt : WorkerState) × IsDone takes t receipt) × IsFirstFault takes opening more fault)
+IsFirstFault takes initial [] fault = ⊥
+IsFirstFault takes initial (t ∷ more) fault =
+    ((receipt : WorkerState) × HasMetFault takes initial t receipt fault)
+    ⊎ (((receipt : WorkerState) × HasDoneTask takes t receipt)
+    × IsFirstFault takes initial more fault)
 
 -- why so many workers' tasks are not done: a thread could not be started, or no memory was left, or
 -- a worker met this fault

@@ -5,7 +5,7 @@ use Rattle.auction_rows.specs.declared.requests.Object.{Object}
 use Rattle.auction_rows.specs.declared.requests.Request.{Request}
 use Rattle.auction_rows.specs.Phases.{is_put_off}
 use Rattle.shard_boxes.specs.States.{ShardState}
-use Rattle.phase_permits.specs.Slicing.{objects_of, stocks_of}
+use Rattle.phase_permits.specs.Slicing.{hot_objects, stocks_of}
 use Rattle.phase_permits.specs.declared.transaction.PermitFault.{PermitFault}
 use Rattle.phase_permits.specs.Performing.{IsCause}
 use Rattle.phase_permits.specs.Workers.{WorkerState}
@@ -29,12 +29,12 @@ abbrev pub taken : Bool → WorkerState → List (ℕ × Request)
 taken takes permit = cond takes (stashed permit) []
 
 -- what of its stash is not performed in a phase
-abbrev pub kept : Bool → WorkerState → List (ℕ × Request)
-kept takes permit = cond takes [] (stashed permit)
+abbrev pub still_waiting : Bool → WorkerState → List (ℕ × Request)
+still_waiting takes permit = cond takes [] (stashed permit)
 
 -- the objects that are hot for it
 abbrev pub hot_for : WorkerState → List Object
-hot_for permit = objects_of permit.slices
+hot_for permit = hot_objects permit.slices
 
 -- of these calls the ones that are put off while these objects are hot
 abbrev pub put_off : List Object → List (ℕ × Request) → List (ℕ × Request)
@@ -78,7 +78,7 @@ pub record HasPerformedWaiting (takes : Bool) (old new : WorkerState) : Type 0 w
   pub same : IsSamePermit old new
   pub goes : put_off (hot_for old) (take 1 (taken takes old)) ≡ []
   pub calls : committed new ≡ committed old ++ take 1 (taken takes old)
-  pub stash : stashed new ≡ kept takes old ++ drop 1 (taken takes old)
+  pub stash : stashed new ≡ still_waiting takes old ++ drop 1 (taken takes old)
   pub left : new.left ≡ old.left
   pub tries : new.tries ≤ old.tries + 1
 
@@ -92,7 +92,7 @@ pub record HasPerformedStash (takes : Bool) (old new : WorkerState) : Type 0 whe
   -- it was committed, in its order
   pub calls : committed new ≡ committed old ++ taken takes old
   -- what was not taken waits
-  pub stash : stashed new ≡ kept takes old
+  pub stash : stashed new ≡ still_waiting takes old
   -- the quota is as it was
   pub left : new.left ≡ old.left
   -- each call took one try at most
@@ -109,7 +109,7 @@ pub record HasDealtWithNext (call : ℕ × Request) (old new : WorkerState) : Ty
 -- A permit has stopped at one of these calls, of which the first are those that are taken of its
 -- stash, by its fault: of those before it, the ones that are not put off are committed, and the
 -- others wait behind what it did not take of the stash or did not reach.
-pub record HasStopped (takes : Bool) (opening : List ShardState) (calls : List (ℕ × Request))
+pub record HasStopped (takes : Bool) (initial : List ShardState) (calls : List (ℕ × Request))
     (old new : WorkerState) (fault : PermitFault) : Type 0 where
   -- the calls that were dealt with
   pub before : List (ℕ × Request)
@@ -122,6 +122,7 @@ pub record HasStopped (takes : Bool) (opening : List ShardState) (calls : List (
   pub done : committed new ≡ committed old ++ not_put_off (hot_for old) before
   -- in the stash waits what was not taken of it or not reached, and then what is put off
   pub waits : stashed new
-      ≡ kept takes old ++ drop (length before) (taken takes old) ++ put_off (hot_for old) before
+      ≡ still_waiting takes old ++ drop (length before) (taken takes old)
+      ++ put_off (hot_for old) before
   -- the fault has its cause at the call
-  pub cause : IsCause opening new new.key call.1 fault
+  pub cause : IsCause initial new new.key call.1 fault

@@ -39,12 +39,12 @@ pub trait Permit<N: PhaseName> {
     /// Performs that one, if any. It is not put off again.
     fn perform_waiting<R: Wait>(&mut self, rt: &R, boxes: &Boxes<N>) -> Result<(), PermitFault>
         requires of { (shows self.old).key.boxes ≡ boxes.now }
-        requires opening { HaveOpening N.opening (shows self.old).opening }
+        requires opening { HaveOpening N.initial (shows self.old).opening }
         requires tries { (shows self.old).tries < MOST_TRIES }
         ensures performed { OnOk result
             (HasPerformedWaiting takes_stash (shows self.old) (shows self.new)) }
         ensures failed { IfErr result
-            (HasFailedFirst N.opening (with_try (shows self.old)) (shows self.new)) };
+            (HasFailedFirst N.initial (with_try (shows self.old)) (shows self.new)) };
 
     /// Performs a request of the quota, or puts it off.
     fn perform_next<R: Wait>(
@@ -55,13 +55,13 @@ pub trait Permit<N: PhaseName> {
         index: u32,
     ) -> Result<(), PermitFault>
         requires of { (shows self.old).key.boxes ≡ boxes.now }
-        requires opening { HaveOpening N.opening (shows self.old).opening }
+        requires opening { HaveOpening N.initial (shows self.old).opening }
         requires left { 0 < (shows self.old).left }
         requires tries { (shows self.old).tries < MOST_TRIES }
         ensures dealt { OnOk result
             (HasDealtWithNext (index, request.now) (shows self.old) (shows self.new)) }
         ensures failed { IfErr result
-            (HasFailed N.opening (with_try (shows self.old)) (shows self.new) request.now) };
+            (HasFailed N.initial (with_try (shows self.old)) (shows self.new) request.now) };
 
     /// Spends the permit.
     fn spend(self) -> Self::Receipt

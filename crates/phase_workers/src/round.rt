@@ -2,7 +2,7 @@
 //! and why they are not done.
 ghost use Rattle.std.specs.Prelude.{◌≡◌, ◌≤◌, Some, length, map, vec_len, vec_capacity, IfOk, IfErr, OnOk};
 ghost use Rattle.std.specs.List.{AllByRecursion, AllZip};
-ghost use Rattle.phase_workers.specs.Tasks.{lists, task, tasks, CanBeDone, IsDone, HasMetFault, without_fault, first_fault, IsFirstFault, IsFaultBy};
+ghost use Rattle.phase_workers.specs.Tasks.{lists, task, tasks, CanBeDone, HasDoneTask, HasMetFault, without_fault, first_fault, IsFirstFault, IsFaultBy};
 ghost use Rattle.phase_workers.specs.Working.{IsPermitOf, ArePermitsOf};
 
 use crate::permit::Permit;
@@ -111,12 +111,12 @@ impl<'a, N: PhaseName, P: Permit<N>, R: Wait, G: Gate> Job for WorkerTask<'a, N,
     type Answer = WorkerAnswer<P::Receipt>;
 
     ghost can_work = { λ own.
-        CanBeDone N.opening own.post.boxes.now (task (P.shows own.permit) own.script.now own.first)
+        CanBeDone N.initial own.post.boxes.now (task (P.shows own.permit) own.script.now own.first)
         × IsPermitOf own.post.phase own.post.worker (P.shows own.permit) };
 
-    ghost keeps = { λ own answer. OnOk answer.done (IsDone P.takes_stash
+    ghost keeps = { λ own answer. OnOk answer.done (HasDoneTask P.takes_stash
         (task (P.shows own.permit) own.script.now own.first) (P.leaves answer.receipt))
-        × IfErr answer.done (HasMetFault P.takes_stash N.opening
+        × IfErr answer.done (HasMetFault P.takes_stash N.initial
         (task (P.shows own.permit) own.script.now own.first) (P.leaves answer.receipt)) };
 
     fn work(self) -> WorkerAnswer<P::Receipt> {
@@ -154,15 +154,15 @@ where
     G: Gate + Sync,
     requires workers { vec_len permits ≡ length round.scripts.now }
     requires few { length round.scripts.now ≤ MOST_WORKERS }
-    requires can { AllByRecursion (CanBeDone N.opening boxes.now)
+    requires can { AllByRecursion (CanBeDone N.initial boxes.now)
         (tasks (map P.shows permits.items) (lists round.scripts.now) round.first) }
     requires of { ArePermitsOf round.phase 0 (map P.shows permits.items) }
     ensures done { IfOk result (λ receipts.
-        AllZip (IsDone P.takes_stash)
+        AllZip (HasDoneTask P.takes_stash)
         (tasks (map P.shows permits.items) (lists round.entry.scripts.now) round.entry.first)
         (map P.leaves receipts.items)) }
     ensures fault { IfErr result (IsFaultBy (length (lists round.entry.scripts.now))
-        (IsFirstFault P.takes_stash N.opening
+        (IsFirstFault P.takes_stash N.initial
         (tasks (map P.shows permits.items) (lists round.entry.scripts.now) round.entry.first))) }
 {
     let gate = round.gate;
@@ -193,11 +193,11 @@ fn own_tasks<'a, N: PhaseName, P: Permit<N>, R, G>(
 ) -> Result<Vec<WorkerTask<'a, N, P, R, G>>, AllocError>
     requires workers { vec_len permits ≡ length round.scripts.now }
     requires few { length round.scripts.now ≤ MOST_WORKERS }
-    requires can { AllByRecursion (CanBeDone N.opening boxes.now)
+    requires can { AllByRecursion (CanBeDone N.initial boxes.now)
         (tasks (map P.shows permits.items) (lists round.scripts.now) round.first) }
     requires of { ArePermitsOf round.phase 0 (map P.shows permits.items) }
     ensures can { IfOk result (λ made. AllByRecursion (λ own.
-        CanBeDone N.opening own.post.boxes.now (task (P.shows own.permit) own.script.now own.first)
+        CanBeDone N.initial own.post.boxes.now (task (P.shows own.permit) own.script.now own.first)
         × IsPermitOf own.post.phase own.post.worker (P.shows own.permit)) made.items) }
     ensures tasks { IfOk result (λ made.
         map (λ own. task (P.shows own.permit) own.script.now own.first) made.items

@@ -2,7 +2,7 @@
 ghost use Rattle.std.specs.Prelude.{◌≡◌, ◌+◌, ◌-◌, ◌≤◌, ◌<◌, ◌++◌, false, length, OnOk, IfErr};
 ghost use Rattle.phase_permits.specs.Performing.{HasFailed, HaveOpening, HasFailedFirst};
 ghost use Rattle.phase_permits.specs.Workers.{with_try};
-ghost use Rattle.phase_workers.specs.Tasks.{task, CanBeDone, IsDone, HasMetFault};
+ghost use Rattle.phase_workers.specs.Tasks.{task, CanBeDone, HasDoneTask, HasMetFault};
 ghost use Rattle.phase_workers.specs.Working.{calls_from, committed, stashed, taken, hot_for, put_off, not_put_off, IsPermitOf, IsSamePermit, HasDealtWithNext, HasPerformedStash, HasPerformedWaiting, HasStopped};
 
 use crate::permit::Permit;
@@ -71,12 +71,12 @@ pub(crate) fn perform_task<N: PhaseName, P: Permit<N>, R: Wait, G: Gate>(
     script: &[Request],
     first: usize,
 ) -> Result<(), PermitFault>
-    requires can { CanBeDone N.opening post.now.boxes.now
+    requires can { CanBeDone N.initial post.now.boxes.now
         (task (P.shows permit.old) script.now first) }
     requires post { IsPermitOf post.now.phase post.now.worker (P.shows permit.old) }
-    ensures done { OnOk result (IsDone P.takes_stash
+    ensures done { OnOk result (HasDoneTask P.takes_stash
         (task (P.shows permit.old) script.now first) (P.shows permit.new)) }
-    ensures stopped { IfErr result (HasMetFault P.takes_stash N.opening
+    ensures stopped { IfErr result (HasMetFault P.takes_stash N.initial
         (task (P.shows permit.old) script.now first) (P.shows permit.new)) }
 {
     perform_stash(rt, post, permit)?;
@@ -90,12 +90,12 @@ fn perform_stash<N: PhaseName, P: Permit<N>, R: Wait, G: Gate>(
     permit: &mut P,
 ) -> Result<(), PermitFault>
     requires of { (P.shows permit.old).key.boxes ≡ post.now.boxes.now }
-    requires opening { HaveOpening N.opening (P.shows permit.old).opening }
+    requires opening { HaveOpening N.initial (P.shows permit.old).opening }
     requires tries { (P.shows permit.old).tries
         + length (taken P.takes_stash (P.shows permit.old)) ≤ MOST_TRIES }
     ensures done { OnOk result
         (HasPerformedStash P.takes_stash (P.shows permit.old) (P.shows permit.new)) }
-    ensures stopped { IfErr result (HasStopped P.takes_stash N.opening
+    ensures stopped { IfErr result (HasStopped P.takes_stash N.initial
         (taken P.takes_stash (P.shows permit.old)) (P.shows permit.old) (P.shows permit.new)) }
 {
     for _call in 0..permit.waiting() {
@@ -111,12 +111,12 @@ fn perform_first<N: PhaseName, P: Permit<N>, R: Wait, G: Gate>(
     permit: &mut P,
 ) -> Result<(), PermitFault>
     requires of { (P.shows permit.old).key.boxes ≡ post.now.boxes.now }
-    requires opening { HaveOpening N.opening (P.shows permit.old).opening }
+    requires opening { HaveOpening N.initial (P.shows permit.old).opening }
     requires tries { (P.shows permit.old).tries < MOST_TRIES }
     ensures performed { OnOk result
         (HasPerformedWaiting P.takes_stash (P.shows permit.old) (P.shows permit.new)) }
     ensures failed { IfErr result
-        (HasFailedFirst N.opening (with_try (P.shows permit.old)) (P.shows permit.new)) }
+        (HasFailedFirst N.initial (with_try (P.shows permit.old)) (P.shows permit.new)) }
 {
     let Some((index, _request)) = permit.first_waiting() else {
         return Ok(());
@@ -136,7 +136,7 @@ fn perform_quota<N: PhaseName, P: Permit<N>, R: Wait, G: Gate>(
     first: usize,
 ) -> Result<(), PermitFault>
     requires of { (P.shows permit.old).key.boxes ≡ post.now.boxes.now }
-    requires opening { HaveOpening N.opening (P.shows permit.old).opening }
+    requires opening { HaveOpening N.initial (P.shows permit.old).opening }
     requires short { length script.now ≤ MOST_OF_A_WORKER }
     requires given { (P.shows permit.old).left ≤ length script.now - first }
     requires tries { (P.shows permit.old).tries + (P.shows permit.old).left ≤ MOST_TRIES }
@@ -147,7 +147,7 @@ fn perform_quota<N: PhaseName, P: Permit<N>, R: Wait, G: Gate>(
     ensures stash { OnOk result (stashed (P.shows permit.new) ≡ stashed (P.shows permit.old)
         ++ put_off (hot_for (P.shows permit.old))
         (calls_from first (P.shows permit.old).left script.now)) }
-    ensures stopped { IfErr result (HasStopped false N.opening
+    ensures stopped { IfErr result (HasStopped false N.initial
         (calls_from first (P.shows permit.old).left script.now)
         (P.shows permit.old) (P.shows permit.new)) }
 {
@@ -167,13 +167,13 @@ fn perform_next<N: PhaseName, P: Permit<N>, R: Wait, G: Gate>(
     index: u32,
 ) -> Result<(), PermitFault>
     requires of { (P.shows permit.old).key.boxes ≡ post.now.boxes.now }
-    requires opening { HaveOpening N.opening (P.shows permit.old).opening }
+    requires opening { HaveOpening N.initial (P.shows permit.old).opening }
     requires left { 0 < (P.shows permit.old).left }
     requires tries { (P.shows permit.old).tries < MOST_TRIES }
     ensures dealt { OnOk result
         (HasDealtWithNext (index, request.now) (P.shows permit.old) (P.shows permit.new)) }
     ensures failed { IfErr result
-        (HasFailed N.opening (with_try (P.shows permit.old)) (P.shows permit.new) request.now) }
+        (HasFailed N.initial (with_try (P.shows permit.old)) (P.shows permit.new) request.now) }
 {
     post.arrive(index);
     let done = permit.perform_next(rt, post.boxes, request, index);

@@ -3,8 +3,8 @@
 #![tactic(auto)]
 
 use auction_program::{
-    Fault, Invocation, NoLog, OpenedLog, Options, Source, Teller, execute, open_log, read_options,
-    serve, status, write_fault,
+    Fault, Invocation, LoggedInput, NoLog, OpenedLog, Options, Teller, execute, open_log,
+    read_options, serve, status, write_fault,
 };
 use program_options::program_words;
 use std::alloc::Global;
@@ -56,7 +56,7 @@ where
     let alloc = rt.alloc();
     // The reader is large, and what is left of the input moves from part to part.
     let mut reader = rt.reader();
-    let source = Source {
+    let source = LoggedInput {
         logged: Vec::new(alloc),
         reader: &mut reader,
     };
@@ -83,7 +83,7 @@ where
         );
     }
     let mut reader = rt.reader();
-    let source = Source {
+    let source = LoggedInput {
         logged: rows,
         reader: &mut reader,
     };

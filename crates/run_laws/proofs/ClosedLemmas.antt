@@ -15,7 +15,7 @@ use Rattle.run_laws.specs.Phases.{is_split}
 use Rattle.phase_laws.proofs.ListLemmas.{filter_false}
 use Rattle.auction_rows.specs.declared.limits.Policy.{Policy}
 use Rattle.run_laws.specs.Serving.{hot_in, segment_of, AreNumbered}
-use Rattle.run_laws.specs.Run.{HasRun, HasPerformed, AreChosen}
+use Rattle.run_laws.specs.Run.{HasRun, IsPhasePerformed, AreChosen}
 use Rattle.run_laws.proofs.CommitLemmas.{hot_at_end, hot_elsewhere}
 
 nothing_follows : {X : Type 0} (xs : List X) (x : X) (ys : List X) → [] ≡ xs ++ (x ∷ ys) → ⊥
@@ -54,7 +54,7 @@ module _ (p : ℕ) (history segment : List Entry) (before : AllByRecursion (λ e
 
 module _ (policy : Policy) (scripts : List (List Request)) (p : ℕ) (hot : List (List Object)) (hot_now : List Object)
     (history segment : List Entry) (stashes after : ℕ → List (ℕ × Request))
-    (run : HasRun policy scripts p hot history stashes) (phase : HasPerformed policy scripts p hot_now stashes after segment) where
+    (run : HasRun policy scripts p hot history stashes) (phase : IsPhasePerformed policy scripts p hot_now stashes after segment) where
   old : (q : ℕ) → (q ≡ p → ⊥) → hot_in (hot ++ hot_now ∷ []) q ≡ hot_in hot q
   old q other = hot_elsewhere hot hot_now q (λ (e : length hot ≡ q). other (sym e ∙ run.phase_count))
 
@@ -109,7 +109,7 @@ module _ (policy : Policy) (scripts : List (List Request)) (p : ℕ) (hot : List
 
 pub phase_numbered : (opening : Opening) (policy : Policy) (scripts : List (List Request)) (p : ℕ) (hot : List (List Object)) (hot_now : List Object)
     (history segment : List Entry) (stashes after : ℕ → List (ℕ × Request)) →
-    HasRun policy scripts p hot history stashes → HasPerformed policy scripts p hot_now stashes after segment →
+    HasRun policy scripts p hot history stashes → IsPhasePerformed policy scripts p hot_now stashes after segment →
     AreNumbered opening policy hot history → IsNumbered opening policy.shards hot_now segment →
     AreNumbered opening policy (hot ++ hot_now ∷ []) (history ++ segment)
 phase_numbered opening policy scripts p hot hot_now history segment stashes after run phase before now q = go (cases_eq q p)

@@ -17,7 +17,7 @@ use Rattle.run_laws.proofs.CallLemmas.{at_index, turn_commits, turns_alike}
 use Rattle.run_laws.proofs.QuotaLemmas.{given_reaches}
 use Rattle.auction_rows.specs.declared.limits.Policy.{Policy}
 use Rattle.run_laws.specs.Serving.{call_of, script_of, hot_in, phase_reached, commit_phase}
-use Rattle.run_laws.specs.Run.{calls_of, first_index, calls_given, HasRun, HasPerformed, HasLeft}
+use Rattle.run_laws.specs.Run.{calls_of, first_index, calls_given, HasRun, IsPhasePerformed, HasLeft}
 use Rattle.run_laws.proofs.CommitLemmas.{ordered_all, calls-append, of_calls, from, hot_at_end, hot_elsewhere}
 
 pub run_begins : (policy : Policy) (scripts : List (List Request)) → HasRun policy scripts 0 [] [] (λ w. [])
@@ -35,7 +35,7 @@ run_begins policy scripts = record {
 module _ (policy : Policy) (some : 0 < policy.joined_quota + policy.split_quota) (scripts : List (List Request)) where
   -- ONE PHASE MORE
   module _ (p : ℕ) (hot : List (List Object)) (hot_now : List Object) (history segment : List Entry) (stashes after : ℕ → List (ℕ × Request))
-      (run : HasRun policy scripts p hot history stashes) (phase : HasPerformed policy scripts p hot_now stashes after segment) where
+      (run : HasRun policy scripts p hot history stashes) (phase : IsPhasePerformed policy scripts p hot_now stashes after segment) where
     pub same_before : (q : ℕ) → q < p → hot_in (hot ++ hot_now ∷ []) q ≡ hot_in hot q
     same_before q less = hot_elsewhere hot hot_now q (let e : length hot ≡ p = run.phase_count in λ (same : length hot ≡ q). omega arith)
 

@@ -47,7 +47,7 @@ pub record HasRun (policy : Policy) (scripts : List (List Request)) (phase : ℕ
       (numbered 0 (script_of scripts worker))) → phase ≤ n
 
 -- a closed phase: which calls each worker's entries are, and what its stash is after the phase
-pub record HasPerformed (policy : Policy) (scripts : List (List Request)) (phase : ℕ)
+pub record IsPhasePerformed (policy : Policy) (scripts : List (List Request)) (phase : ℕ)
     (hot : List Object) (stashes after : ℕ → List (ℕ × Request))
     (segment : List Entry) : Type 0 where
   -- the entries are of this phase

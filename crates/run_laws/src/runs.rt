@@ -4,7 +4,7 @@ ghost use Rattle.std.specs.Prelude.{◌≡◌, ◌<◌, ◌+◌, ◌-◌, ◌++�
 ghost use Rattle.run_laws.specs.Phases.{is_split};
 ghost use Rattle.run_laws.specs.Turns.{reaching};
 ghost use Rattle.run_laws.specs.Serving.{AreNumbered, segment_of, phase_reached, Serves, script_of};
-ghost use Rattle.run_laws.specs.Run.{HasRun, HasPerformed, HasLeft, AreChosen, calls_given, IsDone};
+ghost use Rattle.run_laws.specs.Run.{HasRun, IsPhasePerformed, HasLeft, AreChosen, calls_given, IsDone};
 ghost use Rattle.run_laws.specs.Books.{HasReplayed, ReplaysOn};
 ghost use Rattle.run_laws.specs.Answers.{IsAnswer};
 ghost use Rattle.auction_rows.specs.declared.values.Opening.{Opening};
@@ -40,7 +40,7 @@ pub fn phase_runs()
         0 < policy.joined_quota + policy.split_quota →
         HasRun policy scripts phase hot history stashes →
         HasLeft policy scripts phase stashes worker →
-        HasPerformed policy scripts phase hot_now stashes after segment →
+        IsPhasePerformed policy scripts phase hot_now stashes after segment →
         HasRun policy scripts (suc phase) (hot ++ hot_now ∷ []) (history ++ segment) after }
 {}
 
@@ -52,7 +52,7 @@ pub fn phase_closes()
         (hot : List (List Object)) (hot_now : List Object) (history segment : List Entry)
         (stashes after : ℕ → List (ℕ × Request)) →
         HasRun policy scripts phase hot history stashes →
-        HasPerformed policy scripts phase hot_now stashes after segment →
+        IsPhasePerformed policy scripts phase hot_now stashes after segment →
         AreChosen policy hot history → (is_split phase ≡ false → hot_now ≡ []) →
         (is_split phase ≡ true → hot_now
         ≡ choose (segment_of (phase - 1) history) policy.threshold policy.hot_max) →
@@ -61,14 +61,14 @@ pub fn phase_closes()
         (phase : ℕ) (hot : List (List Object)) (hot_now : List Object)
         (history segment : List Entry) (stashes after : ℕ → List (ℕ × Request)) →
         HasRun policy scripts phase hot history stashes →
-        HasPerformed policy scripts phase hot_now stashes after segment →
+        IsPhasePerformed policy scripts phase hot_now stashes after segment →
         AreNumbered opening policy hot history → IsNumbered opening policy.shards hot_now segment →
         AreNumbered opening policy (hot ++ hot_now ∷ []) (history ++ segment) }
     ensures last { (policy : Policy) (scripts : List (List Request)) (phase : ℕ)
         (hot : List (List Object)) (hot_now : List Object) (history segment : List Entry)
         (stashes after : ℕ → List (ℕ × Request)) →
         HasRun policy scripts phase hot history stashes →
-        HasPerformed policy scripts phase hot_now stashes after segment →
+        IsPhasePerformed policy scripts phase hot_now stashes after segment →
         segment_of phase (history ++ segment) ≡ segment }
 {}
 

@@ -7,4 +7,4 @@ pub mod PassSteps
 pub mod KeySteps
 pub mod Each
 pub mod Sweeps
-pub mod Leaves
+pub mod GrantLemmas

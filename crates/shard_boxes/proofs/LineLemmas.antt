@@ -8,34 +8,34 @@ use Rattle.phase_laws.specs.Order.{IsAscendingByNumber, part}
 use Rattle.phase_laws.specs.Replay.{SawInTurn}
 use Rattle.shard_boxes.specs.declared.line.Line.{Line}
 use Rattle.shard_boxes.specs.States.{ShardState, state_at, IsWithin}
-use Rattle.shard_boxes.specs.Lines.{acts_in, after_line, after, lines_of, AreTrueOf, MayFollow, IsHistory}
+use Rattle.shard_boxes.specs.Lines.{acts_in, after_line, after_lines, lines_of, AreTrueOf, MayFollow, IsShardHistory}
 use Rattle.shard_boxes.specs.Keys.{added, entries}
 use Rattle.shard_boxes.specs.Helds.{MayPut}
-use Rattle.shard_boxes.specs.Rule.{IsLawful, IsKept}
+use Rattle.shard_boxes.specs.Rule.{AreLawful, IsLawfulList}
 use Rattle.shard_boxes.proofs.LimitLemmas.{line_within}
 
-after-push : (o : ShardState) (lines : List (ℕ × Line)) (e : ℕ × Line) → after o (lines ++ e ∷ []) ≡ after_line (after o lines) e.1
+after-push : (o : ShardState) (lines : List (ℕ × Line)) (e : ℕ × Line) → after_lines o (lines ++ e ∷ []) ≡ after_line (after_lines o lines) e.1
 after-push o [] e = refl
 after-push o (d ∷ lines) e = after-push (after_line o d.1) lines e
 
-IsLawful-push : (workers : ℕ) (o : ShardState) (lines : List (ℕ × Line)) (e : ℕ × Line) → IsLawful workers o lines → e.0 < workers → MayFollow (after o lines) e.1 → IsLawful workers o (lines ++ e ∷ [])
+IsLawful-push : (workers : ℕ) (o : ShardState) (lines : List (ℕ × Line)) (e : ℕ × Line) → AreLawful workers o lines → e.0 < workers → MayFollow (after_lines o lines) e.1 → AreLawful workers o (lines ++ e ∷ [])
 IsLawful-push workers o [] e h below may = (below, may, tt)
 IsLawful-push workers o (d ∷ lines) e h below may = (h.0, h.1, IsLawful-push workers (after_line o d.1) lines e h.2 below may)
 
 -- the list after a put
-pub kept_put : (opening : List ShardState) (workers number worker : ℕ) (lines : List (ℕ × Line)) (line : Option Line) (now : ShardState) → IsKept opening workers number lines → worker < workers
-    → MayPut (after (state_at opening number) lines) now line → IsKept opening workers number (lines ++ entries worker line) × (now ≡ after (state_at opening number) (lines ++ entries worker line))
-kept_put opening workers number worker lines None now h below may =
+pub kept_put : (initial : List ShardState) (workers number worker : ℕ) (lines : List (ℕ × Line)) (line : Option Line) (now : ShardState) → IsLawfulList initial workers number lines → worker < workers
+    → MayPut (after_lines (state_at initial number) lines) now line → IsLawfulList initial workers number (lines ++ entries worker line) × (now ≡ after_lines (state_at initial number) (lines ++ entries worker line))
+kept_put initial workers number worker lines None now h below may =
     let none = sym (append-nil lines) in
-    (subst (IsKept opening workers number) none h, may ∙ ap (after (state_at opening number)) none)
-kept_put opening workers number worker lines (Some line) now h below may =
-    let o = state_at opening number in
+    (subst (IsLawfulList initial workers number) none h, may ∙ ap (after_lines (state_at initial number)) none)
+kept_put initial workers number worker lines (Some line) now h below may =
+    let o = state_at initial number in
     let grown = after-push o lines (worker, line) in (
       record {
         known = h.known;
         opened = h.opened;
         lawful = IsLawful-push workers o lines (worker, line) h.lawful below may.0;
-        within = subst IsWithin (sym grown) (line_within (after o lines) line h.within may.0.later);
+        within = subst IsWithin (sym grown) (line_within (after_lines o lines) line h.within may.0.later);
       },
       may.1 ∙ sym grown,
     )
@@ -53,43 +53,43 @@ entries-other worker None w ne = refl
 entries-other worker (Some line) w ne = ap (λ t. map (λ (e : ℕ × Line). e.1) (cond t ((worker, line) ∷ []) [])) (ne_eqb worker w (λ e. ne (sym e)))
 
 -- what a lawful list says
-workers_of : (workers : ℕ) (o : ShardState) (lines : List (ℕ × Line)) → IsLawful workers o lines → AllByRecursion (λ (e : ℕ × Line). e.0 < workers) lines
+workers_of : (workers : ℕ) (o : ShardState) (lines : List (ℕ × Line)) → AreLawful workers o lines → AllByRecursion (λ (e : ℕ × Line). e.0 < workers) lines
 workers_of workers o [] h = tt
 workers_of workers o (e ∷ lines) h = (h.0, workers_of workers (after_line o e.1) lines h.2)
 
-later_all : (workers n : ℕ) (o : ShardState) (lines : List (ℕ × Line)) → n ≤ o.clock → IsLawful workers o lines → AllByRecursion (λ (e : ℕ × Line). n < e.1.number) lines
+later_all : (workers n : ℕ) (o : ShardState) (lines : List (ℕ × Line)) → n ≤ o.clock → AreLawful workers o lines → AllByRecursion (λ (e : ℕ × Line). n < e.1.number) lines
 later_all workers n o [] low h = tt
 later_all workers n o (e ∷ lines) low h = (omega (arith, low, h.1.later), later_all workers n (after_line o e.1) lines (omega (arith, low, h.1.later)) h.2)
 
-ascending_of : (workers : ℕ) (o : ShardState) (lines : List (ℕ × Line)) → IsLawful workers o lines → IsAscendingByNumber (λ (e : ℕ × Line). e.1.number) lines
+ascending_of : (workers : ℕ) (o : ShardState) (lines : List (ℕ × Line)) → AreLawful workers o lines → IsAscendingByNumber (λ (e : ℕ × Line). e.1.number) lines
 ascending_of workers o [] h = tt
 ascending_of workers o (e ∷ lines) h = (later_all workers e.1.number (after_line o e.1) lines (omega arith) h.2, ascending_of workers (after_line o e.1) lines h.2)
 
-linked_of : (workers : ℕ) (o : ShardState) (lines : List (ℕ × Line)) → IsLawful workers o lines → IsLinkedFrom (λ (e : ℕ × Line). e.1.number) (λ e. e.1.before) o.clock lines
+linked_of : (workers : ℕ) (o : ShardState) (lines : List (ℕ × Line)) → AreLawful workers o lines → IsLinkedFrom (λ (e : ℕ × Line). e.1.number) (λ e. e.1.before) o.clock lines
 linked_of workers o [] h = tt
 linked_of workers o (e ∷ lines) h = (h.1.found, linked_of workers (after_line o e.1) lines h.2)
 
-looks_of : (workers : ℕ) (o : ShardState) (lines : List (ℕ × Line)) → IsLawful workers o lines
+looks_of : (workers : ℕ) (o : ShardState) (lines : List (ℕ × Line)) → AreLawful workers o lines
     → SawInTurn (λ (found : ShardState) (e : ℕ × Line). AreTrueOf found.contents (acts_in e.1.acts)) (λ found e. after_line found e.1) o lines
 looks_of workers o [] h = tt
 looks_of workers o (e ∷ lines) h = (h.1.looks, looks_of workers (after_line o e.1) lines h.2)
 
-after-number : (o : ShardState) (lines : List (ℕ × Line)) → (after o lines).number ≡ o.number
+after-number : (o : ShardState) (lines : List (ℕ × Line)) → (after_lines o lines).number ≡ o.number
 after-number o [] = refl
 after-number o (e ∷ lines) = after-number (after_line o e.1) lines
 
-after-shards : (o : ShardState) (lines : List (ℕ × Line)) → (after o lines).shards ≡ o.shards
+after-shards : (o : ShardState) (lines : List (ℕ × Line)) → (after_lines o lines).shards ≡ o.shards
 after-shards o [] = refl
 after-shards o (e ∷ lines) = after-shards (after_line o e.1) lines
 
-after-opening : (o : ShardState) (lines : List (ℕ × Line)) → (after o lines).opening ≡ o.opening
+after-opening : (o : ShardState) (lines : List (ℕ × Line)) → (after_lines o lines).opening ≡ o.opening
 after-opening o [] = refl
 after-opening o (e ∷ lines) = after-opening (after_line o e.1) lines
 
-pub history_of : (opening : List ShardState) (workers number : ℕ) (lines : List (ℕ × Line)) (now : ShardState) → IsKept opening workers number lines → now ≡ after (state_at opening number) lines
-    → IsHistory opening workers number lines now
-history_of opening workers number lines now h is =
-    let o = state_at opening number in record {
+pub history_of : (initial : List ShardState) (workers number : ℕ) (lines : List (ℕ × Line)) (now : ShardState) → IsLawfulList initial workers number lines → now ≡ after_lines (state_at initial number) lines
+    → IsShardHistory initial workers number lines now
+history_of initial workers number lines now h is =
+    let o = state_at initial number in record {
       known = h.known;
       state_is = is;
       workers_are = workers_of workers o lines h.lawful;

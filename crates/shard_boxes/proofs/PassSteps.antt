@@ -9,10 +9,10 @@ use Rattle.crossbeam_queue.specs.Fifo.{Forks, Merges}
 use Rattle.crossbeam_queue.proofs.Lists.{at_longer, set_else}
 use Rattle.item_shards.specs.declared.shard.Shard.{Shard}
 use Rattle.shard_boxes.specs.declared.line.Line.{Line}
-use Rattle.shard_boxes.specs.declared.place.View.{View}
+use Rattle.shard_boxes.specs.declared.shard_box.Knowledge.{Knowledge}
 use Rattle.shard_boxes.specs.States.{ShardState}
 use Rattle.shard_boxes.specs.Lines.{lines_of, StartsWith}
-use Rattle.shard_boxes.specs.Rule.{Speaks, BoxState, Fits, IsIn, IsOut, BoxRule, head_of, tail_of, first_of, rest_of, longer, joined, spent}
+use Rattle.shard_boxes.specs.Rule.{Speaks, BoxState, FitsBox, IsIn, IsOut, BoxRule, head_of, tail_of, first_of, rest_of, longer, joined, spent}
 use Rattle.shard_boxes.proofs.BoxSteps.{Each, at_snoc_index, both_ways, each_set, tail_at, length-tail, length-head, head_at, plus_zero}
 
 pub other_number : (n m : ℕ) → n ≢ m → (n == m) ≡ false
@@ -21,49 +21,49 @@ other_number n m ne = ne_eqb n m ne
 lt_or_le : (a b : ℕ) → (a < b) ⊎ (b ≤ a)
 lt_or_le a b = elim (dec_le b a) [ yes d ↦ inr d | no d ↦ inl (lt_of_not-le d) ]
 
-fits_both : (v u : View) (workers : ℕ) → v.first + length v.own ≤ workers → u.first + length u.own ≤ workers → u.first ≡ v.first + length v.own → v.first + length (v.own ++ u.own) ≤ workers
+fits_both : (v u : Knowledge) (workers : ℕ) → v.first + length v.own ≤ workers → u.first + length u.own ≤ workers → u.first ≡ v.first + length v.own → v.first + length (v.own ++ u.own) ≤ workers
 fits_both v u workers a b next = let long : length (v.own ++ u.own) ≡ length v.own + length u.own = length-append v.own u.own in omega arith
 
 -- where the shard lies: kept by a change of a pass that does not hold it
-stays : (opening : List ShardState) (box : BoxState) (items : List Shard) (views : List View) (pass : ℕ) (v w : View) → get_elem? views pass ≡ some v → v.holds ≡ false → w.holds ≡ false
-    → (IsIn opening box items views ⊎ IsOut box items views) → IsIn opening box items (set views pass w) ⊎ IsOut box items (set views pass w)
-stays opening box items views pass v w at f f' =
-    ⊎_elim (λ (b : IsIn opening box items views). inl (record {
+stays : (initial : List ShardState) (box : BoxState) (items : List Shard) (views : List Knowledge) (pass : ℕ) (v w : Knowledge) → get_elem? views pass ≡ some v → v.holds ≡ false → w.holds ≡ false
+    → (IsIn initial box items views ⊎ IsOut box items views) → IsIn initial box items (set views pass w) ⊎ IsOut box items (set views pass w)
+stays initial box items views pass v w at f f' =
+    ⊎_elim (λ (b : IsIn initial box items views). inl (record {
       shard = b.shard;
       one = b.one;
       state = b.state;
       free = each_set (λ j u. u.holds ≡ false) views pass w f' (λ j u other e. b.free j u e);
     }))
     (λ (o : IsOut box items views).
-    let apart : box.holder ≢ pass = (λ same. both_ways o.view.holds o.holds (ap (λ (y : View). y.holds) (some-injective _ _ (sym o.at ∙ ap (get_elem? views) same ∙ at)) ∙ f)) in
+    let apart : box.holder ≢ pass = (λ same. both_ways o.view.holds o.holds (ap (λ (y : Knowledge). y.holds) (some-injective _ _ (sym o.at ∙ ap (get_elem? views) same ∙ at)) ∙ f)) in
     inr (record { none = o.none; view = o.view; at = set_else views pass box.holder w apart ∙ o.at; holds = o.holds }))
 
 -- where the shard lies: kept if a pass is added
-stays_more : (opening : List ShardState) (box : BoxState) (items : List Shard) (views : List View) (w : View) → w.holds ≡ false
-    → (IsIn opening box items views ⊎ IsOut box items views) → IsIn opening box items (views ++ w ∷ []) ⊎ IsOut box items (views ++ w ∷ [])
-stays_more opening box items views w f' =
-    ⊎_elim (λ (b : IsIn opening box items views). inl (record {
+stays_more : (initial : List ShardState) (box : BoxState) (items : List Shard) (views : List Knowledge) (w : Knowledge) → w.holds ≡ false
+    → (IsIn initial box items views ⊎ IsOut box items views) → IsIn initial box items (views ++ w ∷ []) ⊎ IsOut box items (views ++ w ∷ [])
+stays_more initial box items views w f' =
+    ⊎_elim (λ (b : IsIn initial box items views). inl (record {
       shard = b.shard;
       one = b.one;
       state = b.state;
-      free = λ j u e. ⊎_elim (λ x. b.free j u x) (λ x. ap (λ (y : View). y.holds) (sym x.1) ∙ f') (at_snoc_index views w u j e);
+      free = λ j u e. ⊎_elim (λ x. b.free j u x) (λ x. ap (λ (y : Knowledge). y.holds) (sym x.1) ∙ f') (at_snoc_index views w u j e);
     }))
     (λ (o : IsOut box items views). inr (record { none = o.none; view = o.view; at = at_longer views (w ∷ []) box.holder o.view o.at; holds = o.holds }))
 
 -- where the shard lies does not depend on who speaks for whom
-place_of : (opening : List ShardState) (box : BoxState) (seat : ℕ → ℕ) (items : List Shard) (views : List View) → (IsIn opening box items views ⊎ IsOut box items views)
-    → IsIn opening (record box { seat = seat }) items views ⊎ IsOut (record box { seat = seat }) items views
-place_of opening box seat items views =
-    ⊎_elim (λ (b : IsIn opening box items views). inl (record { shard = b.shard; one = b.one; state = b.state; free = b.free }))
+place_of : (initial : List ShardState) (box : BoxState) (seat : ℕ → ℕ) (items : List Shard) (views : List Knowledge) → (IsIn initial box items views ⊎ IsOut box items views)
+    → IsIn initial (record box { seat = seat }) items views ⊎ IsOut (record box { seat = seat }) items views
+place_of initial box seat items views =
+    ⊎_elim (λ (b : IsIn initial box items views). inl (record { shard = b.shard; one = b.one; state = b.state; free = b.free }))
     (λ (o : IsOut box items views). inr (record { none = o.none; view = o.view; at = o.at; holds = o.holds }))
 
 -- a new pass takes over the first worker
-pub forks : (opening : List ShardState) (workers pass : ℕ) (v : View) → Speaks v → v.holds ≡ false → Forks (BoxRule opening workers) pass v (rest_of v) (first_of v)
-forks opening workers pass v speaks free items views h at =
+pub forks : (initial : List ShardState) (workers pass : ℕ) (v : Knowledge) → Speaks v → v.holds ≡ false → Forks (BoxRule initial workers) pass v (rest_of v) (first_of v)
+forks initial workers pass v speaks free items views h at =
     let mine = h.fits pass v at in
-    let left : View = rest_of v in
-    let right : View = first_of v in
-    let middle : List View = set views pass left in
+    let left : Knowledge = rest_of v in
+    let right : Knowledge = first_of v in
+    let middle : List Knowledge = set views pass left in
     let fresh : ℕ = length middle in
     let was : ℕ → ℕ = h.box.seat in
     let list : List (ℕ × Line) = h.box.list in
@@ -73,7 +73,7 @@ forks opening workers pass v speaks free items views h at =
     let seat_else : (n : ℕ) → n ≢ v.first → seat n ≡ was n = (λ n ne. ap (λ t. cond t fresh (was n)) (other_number n v.first ne)) in
     let one_less : suc (length (tail_of v.own)) ≡ length v.own = length-tail v.own speaks in
     let was_first : was (v.first + 0) ≡ pass = mine.seats 0 speaks in
-    let F : ℕ → View → Type 0 = Fits workers box in
+    let F : ℕ → Knowledge → Type 0 = FitsBox workers box in
     let of_left : F pass left = record {
       number = λ _. mine.number speaks;
       prefix = mine.prefix;
@@ -110,19 +110,19 @@ forks opening workers pass v speaks free items views h at =
     }) in record {
       box = box;
       kept = h.kept;
-      place = place_of opening h.box seat items (middle ++ right ∷ [])
-          (stays_more opening h.box items middle right free (stays opening h.box items views pass v left at free free h.place));
-      fits = λ j u e. ⊎_elim (λ x. of_middle j u x) (λ (x : (j ≡ fresh) × (right ≡ u)). subst (λ (y : ℕ × View). F y.0 y.1) (λ i. (sym x.0 i, x.1 i)) of_right) (at_snoc_index middle right u j e);
+      place = place_of initial h.box seat items (middle ++ right ∷ [])
+          (stays_more initial h.box items middle right free (stays initial h.box items views pass v left at free free h.place));
+      fits = λ j u e. ⊎_elim (λ x. of_middle j u x) (λ (x : (j ≡ fresh) × (right ≡ u)). subst (λ (y : ℕ × Knowledge). F y.0 y.1) (λ i. (sym x.0 i, x.1 i)) of_right) (at_snoc_index middle right u j e);
     }
 
 longer_is : (list a b : List (ℕ × Line)) → StartsWith list a → StartsWith list b → StartsWith list (longer a b)
 longer_is list a b p q = elim (ltb (length a) (length b)) as (λ t. StartsWith list (cond t b a)) [ true ↦ q | false ↦ p ]
 
 -- a pass takes in the workers that follow its own
-pub merges : (opening : List ShardState) (workers pass : ℕ) (v : View) (other : ℕ) (u : View) → Speaks v → v.holds ≡ false → u.holds ≡ false → u.first ≡ v.first + length v.own → Merges (BoxRule opening workers) pass v other u (joined v u) spent
-merges opening workers pass v other u speaks free free' next items views h at two at' =
-    let both : View = joined v u in
-    let middle : List View = set views pass both in
+pub merges : (initial : List ShardState) (workers pass : ℕ) (v : Knowledge) (other : ℕ) (u : Knowledge) → Speaks v → v.holds ≡ false → u.holds ≡ false → u.first ≡ v.first + length v.own → Merges (BoxRule initial workers) pass v other u (joined v u) spent
+merges initial workers pass v other u speaks free free' next items views h at two at' =
+    let both : Knowledge = joined v u in
+    let middle : List Knowledge = set views pass both in
     let still : get_elem? views other ≡ some u = sym (set_else views pass other both two) ∙ at' in
     let mine = h.fits pass v at in
     let theirs = h.fits other u still in
@@ -133,7 +133,7 @@ merges opening workers pass v other u speaks free free' next items views h at tw
     let seat_there : (n : ℕ) → was n ≡ other → seat n ≡ pass = (λ n e. ap (λ t. cond t pass (was n)) (ap (λ m. m == other) e ∙ eq-eqb other other refl)) in
     let seat_else : (n : ℕ) → was n ≢ other → seat n ≡ was n = (λ n ne. ap (λ t. cond t pass (was n)) (other_number (was n) other ne)) in
     let long : length (v.own ++ u.own) ≡ length v.own + length u.own = length-append v.own u.own in
-    let F : ℕ → View → Type 0 = Fits workers box in
+    let F : ℕ → Knowledge → Type 0 = FitsBox workers box in
     let fits_end : v.first + length (v.own ++ u.own) ≤ workers = fits_both v u workers mine.known theirs.known next in
     let of_both : F pass both = record {
       number = λ _. mine.number speaks;
@@ -167,8 +167,8 @@ merges opening workers pass v other u speaks free free' next items views h at tw
     }) in record {
       box = box;
       kept = h.kept;
-      place = place_of opening h.box seat items (set middle other spent)
-          (stays opening h.box items middle other u spent at' free' refl (stays opening h.box items views pass v both at free free h.place));
+      place = place_of initial h.box seat items (set middle other spent)
+          (stays initial h.box items middle other u spent at' free' refl (stays initial h.box items views pass v both at free free h.place));
       fits = each_set F middle other spent
           (record {
             number = λ s. absurd (omega arith);

@@ -6,10 +6,10 @@ use Rattle.auction_rows.specs.declared.values.Opening.{Opening}
 use Rattle.item_shards.specs.declared.shard.Shard.{Shard}
 use Rattle.item_shards.specs.ShardContents.{clock, IsNewShard}
 use Rattle.item_shards.specs.Values.{Value}
-use Rattle.shard_boxes.specs.States.{state_of, IsOpened}
+use Rattle.shard_boxes.specs.States.{state_of, IsInitial}
 
 -- a new shard may open a phase
-pub new_is_opened : (n count : ℕ) (start : Opening) (shard : Shard) → IsNewShard n count start shard → IsOpened count n (state_of shard)
+pub new_is_opened : (n count : ℕ) (start : Opening) (shard : Shard) → IsNewShard n count start shard → IsInitial count n (state_of shard)
 new_is_opened n count start shard h = record {
   number_is = h.number_is;
   shards_is = h.shards_is;

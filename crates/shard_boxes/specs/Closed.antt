@@ -2,7 +2,7 @@
 use Rattle.std.specs.Prelude.{◌≡◌, ℕ, ◌<◌, List, length, false}
 use Rattle.shard_boxes.specs.declared.line.Line.{Line}
 use Rattle.shard_boxes.specs.States.{ShardState, state_at}
-use Rattle.shard_boxes.specs.Lines.{IsHistory, lines_of}
+use Rattle.shard_boxes.specs.Lines.{IsShardHistory, lines_of}
 use Rattle.shard_boxes.specs.Keys.{BoxId, KeyState, key_at, lines_at, holds_at}
 
 -- the key is this worker's, to these boxes, and holds no shard: it may be given back
@@ -20,17 +20,17 @@ AreSpent boxes workers keys =
     (length keys ≡ workers) × ((w : ℕ) → w < workers → IsSpent boxes w (key_at keys w))
 
 -- the box of this number gives the shard with which the phase opened, after some lines
-pub record IsClosedBox (opening : List ShardState) (workers : ℕ) (keys : List KeyState) (s : ℕ)
+pub record IsClosedBox (initial : List ShardState) (workers : ℕ) (keys : List KeyState) (s : ℕ)
     (state : ShardState) : Type 0 where
   -- all lines that were put
   pub lines : List (ℕ × Line)
-  -- the shard is the opening one after them
-  pub history : IsHistory opening workers s lines state
+  -- the shard is the initial one after them
+  pub history : IsShardHistory initial workers s lines state
   -- each worker's lines are those of its key
   pub own : (w : ℕ) → w < workers → lines_of w lines ≡ lines_at (key_at keys w) s
 
 -- closed boxes give a shard each, in order
 abbrev pub AreClosed : List ShardState → ℕ → List KeyState → List ShardState → Type 0
-AreClosed opening workers keys states =
-    (length states ≡ length opening)
-    × ((s : ℕ) → s < length opening → IsClosedBox opening workers keys s (state_at states s))
+AreClosed initial workers keys states =
+    (length states ≡ length initial)
+    × ((s : ℕ) → s < length initial → IsClosedBox initial workers keys s (state_at states s))

@@ -5,7 +5,7 @@ use Rattle.item_shards.specs.declared.shard.Shard.{Shard}
 use Rattle.item_shards.specs.contracts.shard.Shard.{the_row as shard_row}
 use Rattle.shard_boxes.specs.declared.line.Line.{Line}
 use Rattle.shard_boxes.specs.States.{ShardState, state_at}
-use Rattle.shard_boxes.specs.Lines.{after, after_line, MayFollow}
+use Rattle.shard_boxes.specs.Lines.{after_lines, after_line, MayFollow}
 use Rattle.shard_boxes.specs.Keys.{KeyState, seen_at}
 
 -- what a held shard shows
@@ -23,7 +23,7 @@ held_code =
 
 -- the shard as the key took it: the one with which the phase opened, after the lines that the key has seen
 abbrev pub taken_at : List ShardState → KeyState → ℕ → ShardState
-taken_at opening key s = after (state_at opening s) (seen_at key s)
+taken_at initial key s = after_lines (state_at initial s) (seen_at key s)
 
 -- a shard may be put back after a line that may follow, or as it was taken
 abbrev pub MayPut : ShardState → ShardState → Option Line → Type 0

@@ -5,6 +5,6 @@ pub mod Rule
 pub mod Passes
 pub mod Keys
 pub mod Seats
-pub mod Leaves
+pub mod Grants
 pub mod Helds
 pub mod Closed

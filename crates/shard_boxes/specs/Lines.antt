@@ -40,9 +40,9 @@ abbrev pub after_put : ShardState → ℕ × Line → ShardState
 after_put found entry = after_line found (line_put entry)
 
 -- the shard after the lines of all workers, in order
-abbrev pub after : ShardState → List (ℕ × Line) → ShardState
-after state [] = state
-after state (entry ∷ lines) = after (after_put state entry) lines
+abbrev pub after_lines : ShardState → List (ℕ × Line) → ShardState
+after_lines state [] = state
+after_lines state (entry ∷ lines) = after_lines (after_put state entry) lines
 
 -- the lines of one worker
 abbrev pub lines_of : ℕ → List (ℕ × Line) → List Line
@@ -78,12 +78,12 @@ abbrev pub LooksTrue : ShardState → ℕ × Line → Type 0
 LooksTrue found entry = AreTrueOf found.contents (acts_in (line_put entry).acts)
 
 -- the shard of this number is the one with which the phase opened, after these lines
-pub record IsHistory (opening : List ShardState) (workers number : ℕ) (lines : List (ℕ × Line))
+pub record IsShardHistory (initial : List ShardState) (workers number : ℕ) (lines : List (ℕ × Line))
     (state : ShardState) : Type 0 where
   -- there is a shard of this number
-  pub known : number < length opening
-  -- the shard is the opening one after the lines
-  pub state_is : state ≡ after (state_at opening number) lines
+  pub known : number < length initial
+  -- the shard is the initial one after the lines
+  pub state_is : state ≡ after_lines (state_at initial number) lines
   -- each line is of a worker below the number of workers
   pub workers_are : AllByRecursion (λ entry. put_by entry < workers) lines
   -- the lines ascend in number
@@ -91,12 +91,12 @@ pub record IsHistory (opening : List ShardState) (workers number : ℕ) (lines :
   -- each `before` is the number of the line before, 0 at first
   pub linked : IsLinkedFrom number_put before_put 0 lines
   -- what each line shows was there
-  pub looks : SawInTurn LooksTrue after_put (state_at opening number) lines
+  pub looks : SawInTurn LooksTrue after_put (state_at initial number) lines
   -- the shard has this number
   pub number_is : state.number ≡ number
   -- the shard is one of as many
-  pub shards_is : state.shards ≡ length opening
+  pub shards_is : state.shards ≡ length initial
   -- the shard has the users and categories with which it opened
-  pub opening_is : state.opening ≡ (state_at opening number).opening
+  pub opening_is : state.opening ≡ (state_at initial number).opening
   -- the shard's counts and ratings fit
   pub within : IsWithin state

@@ -1,16 +1,16 @@
--- What a leave shows: the box that it is for, and what its pass knows.
+-- What a grant shows: the box that it is for, and what its pass knows.
 use Rattle.crossbeam_queue.specs.Passes.{Pass, view}
 use Rattle.item_shards.specs.declared.shard.Shard.{Shard}
-use Rattle.shard_boxes.specs.declared.place.View.{View}
+use Rattle.shard_boxes.specs.declared.shard_box.Knowledge.{Knowledge}
 use Rattle.shard_boxes.specs.Keys.{BoxId}
 
--- what a leave shows
-pub record LeaveState : Type 0 where
+-- what a grant shows
+pub record GrantState : Type 0 where
   -- the box that it is for
-  pub place : BoxId
+  pub box_id : BoxId
   -- what its pass knows
-  pub knows : View
+  pub knows : Knowledge
 
--- what a leave shows by its pass
-abbrev pub leave_of : Pass Shard View → LeaveState
-leave_of pass = record { place = pass.table_id; knows = view pass }
+-- what a grant shows by its pass
+abbrev pub grant_of : Pass Shard Knowledge → GrantState
+grant_of pass = record { box_id = pass.table_id; knows = view pass }

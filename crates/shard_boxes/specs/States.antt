@@ -44,7 +44,7 @@ pub record IsWithin (state : ShardState) : Type 0 where
       unsigned_abs (state.contents (User user)).comments.rating ≤ 80000000 + 10 * state.clock
 
 -- a shard with which a phase may open: of this number, of so many, at clock 0
-pub record IsOpened (shards number : ℕ) (state : ShardState) : Type 0 where
+pub record IsInitial (shards number : ℕ) (state : ShardState) : Type 0 where
   -- the shard has this number
   pub number_is : state.number ≡ number
   -- the shard is one of so many
@@ -69,5 +69,5 @@ abbrev pub state_at : List ShardState → ℕ → ShardState
 state_at states s = slice_index_or states s no_shard
 
 -- shards with which a phase may open, numbered from 0
-abbrev pub AreOpened : List ShardState → Type 0
-AreOpened states = (s : ℕ) → s < length states → IsOpened (length states) s (state_at states s)
+abbrev pub AreInitial : List ShardState → Type 0
+AreInitial states = (s : ℕ) → s < length states → IsInitial (length states) s (state_at states s)

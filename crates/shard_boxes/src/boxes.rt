@@ -1,13 +1,13 @@
 //! The name of a phase and its boxes, and how a worker takes a shard and puts it back.
 ghost use Rattle.std.specs.Prelude.{◌≡◌, ◌<◌, length, true};
 ghost use Rattle.shard_boxes.specs.States.{state_of};
-ghost use Rattle.shard_boxes.specs.Lines.{lines_of, StartsWith, IsHistory};
+ghost use Rattle.shard_boxes.specs.Lines.{lines_of, StartsWith, IsShardHistory};
 ghost use Rattle.shard_boxes.specs.Keys.{taking, putting, lines_at, seen_at, holds_at, HoldsNoneFrom};
 ghost use Rattle.shard_boxes.specs.Helds.{taken_at, MayPut};
 
 use crate::key::{Held, Key};
 use crate::line::Line;
-use crate::place::Place;
+use crate::shard_box::ShardBox;
 use item_shards::Shard;
 use std::marker::{Brand, Model};
 use std::sync::Wait;
@@ -19,7 +19,7 @@ pub trait PhaseName {
     ghost use Rattle.shard_boxes.specs.States.{ShardState};
 
     /// What the shards handed to `Boxes::new` show.
-    ghost opening: { List ShardState };
+    ghost initial: { List ShardState };
 
     /// The number of keys.
     ghost workers: { ℕ };
@@ -28,7 +28,7 @@ pub trait PhaseName {
 impl PhaseName for Brand {
     ghost use Rattle.std.specs.Prelude.{[]};
 
-    ghost opening = { [] };
+    ghost initial = { [] };
 
     ghost workers = { 0 };
 }
@@ -36,7 +36,7 @@ impl PhaseName for Brand {
 /// The boxes of one phase, one for each of its 1 to 64 shards. They are shared by reference, and no lock is taken.
 #[derive(Drop)]
 pub struct Boxes<N: PhaseName> {
-    pub(crate) places: Vec<Place<N>>,
+    pub(crate) boxes: Vec<ShardBox<N>>,
     pub(crate) answer: Vec<Shard>,
 }
 
@@ -47,22 +47,22 @@ impl<N: PhaseName> Model for Boxes<N> {
 
     ghost Value = { List BoxId };
 
-    ghost view = { λ b. b.places.items };
+    ghost view = { λ b. b.boxes.items };
 
-    ghost invariant = { λ b. (vec_len b.places ≡ length N.opening)
-        × (length N.opening ≤ MOST_SHARDS) × (0 < N.workers)
-        × (vec_len b.answer ≡ 0) × (length N.opening ≤ vec_capacity b.answer)
-        × (0 < length N.opening) };
+    ghost invariant = { λ b. (vec_len b.boxes ≡ length N.initial)
+        × (length N.initial ≤ MOST_SHARDS) × (0 < N.workers)
+        × (vec_len b.answer ≡ 0) × (length N.initial ≤ vec_capacity b.answer)
+        × (0 < length N.initial) };
 }
 
 impl<N: PhaseName> Boxes<N> {
     /// How many shards there are, 1 to 64.
     #[inline(always)]
     pub fn shards(&self) -> u32
-        ensures count { result ≡ length N.opening }
-        ensures some { 0 < length N.opening }
+        ensures count { result ≡ length N.initial }
+        ensures some { 0 < length N.initial }
     {
-        self.places.len() as u32
+        self.boxes.len() as u32
     }
 
     /// Takes a shard: it tries until the shard is in its box. A key that holds shards takes only greater ones: then
@@ -70,18 +70,18 @@ impl<N: PhaseName> Boxes<N> {
     #[inline(always)]
     pub fn take<R: Wait>(&self, rt: &R, key: &mut Key<N>, s: u32) -> Held<N>
         requires of { key.old.boxes ≡ self.now }
-        requires known { s < length N.opening }
+        requires known { s < length N.initial }
         requires rising { HoldsNoneFrom key.old s }
-        ensures seats { length key.old.seats ≡ length N.opening }
+        ensures seats { length key.old.seats ≡ length N.initial }
         ensures key { key.new ≡ taking key.old s (seen_at key.new s) }
         ensures holds { holds_at key.new s ≡ true }
         ensures number { result.number ≡ s }
-        ensures history { IsHistory N.opening N.workers s (seen_at key.new s)
+        ensures history { IsShardHistory N.initial N.workers s (seen_at key.new s)
             (state_of result.shard) }
         ensures later { StartsWith (seen_at key.new s) (seen_at key.old s) }
         ensures own { lines_of key.old.worker (seen_at key.new s) ≡ lines_at key.old s }
     {
-        let shard = key.take(rt, &self.places[s as usize], s as usize);
+        let shard = key.take(rt, &self.boxes[s as usize], s as usize);
         Held::new(s, shard)
     }
 
@@ -90,11 +90,11 @@ impl<N: PhaseName> Boxes<N> {
     pub fn put<R: Wait>(&self, rt: &R, key: &mut Key<N>, held: Held<N>, line: Option<Line>)
         requires of { key.old.boxes ≡ self.now }
         requires holder { holds_at key.old held.number ≡ true }
-        requires may { MayPut (taken_at N.opening key.old held.number) (state_of held.shard) line }
+        requires may { MayPut (taken_at N.initial key.old held.number) (state_of held.shard) line }
         ensures { key.new ≡ putting key.old held.number line }
     {
         let (number, shard) = held.open();
         let s = number as usize;
-        key.put(rt, &self.places[s], s, shard, &line);
+        key.put(rt, &self.boxes[s], s, shard, &line);
     }
 }

@@ -7,18 +7,18 @@ ghost use Rattle.item_shards.specs.declared.shard.acts.Act.{Act};
 ghost use Rattle.item_shards.specs.CommitNumbers.{last_number};
 ghost use Rattle.item_shards.specs.Contents.{after_act};
 ghost use Rattle.shard_boxes.specs.States.{state_of, ShardState, IsWithin};
-ghost use Rattle.shard_boxes.specs.Lines.{lines_of, StartsWith, IsHistory, after};
+ghost use Rattle.shard_boxes.specs.Lines.{lines_of, StartsWith, IsShardHistory, after_lines};
 ghost use Rattle.shard_boxes.specs.Keys.{taking, putting, lines_at, seen_at, holds_at};
 ghost use Rattle.shard_boxes.specs.Helds.{taken_at, MayPut};
-ghost use Rattle.shard_boxes.specs.Passes.{LeaveState};
-ghost use Rattle.shard_boxes.specs.Seats.{IsPlaceAt};
-ghost use Rattle.shard_boxes.specs.Leaves.{AreFree, own_at};
+ghost use Rattle.shard_boxes.specs.Passes.{GrantState};
+ghost use Rattle.shard_boxes.specs.Seats.{IsBoxAt};
+ghost use Rattle.shard_boxes.specs.Grants.{AreFree, own_at};
 ghost use Rattle.shard_boxes.specs.contracts.key.Held.{the_row};
 ghost use Rattle.shard_boxes.specs.Limits.{SumsFit};
 
 use crate::boxes::PhaseName;
 use crate::line::Line;
-use crate::place::{Leave, Place};
+use crate::shard_box::{Grant, ShardBox};
 use item_shards::Shard;
 use std::marker::{Brand, Model, PhantomData};
 use std::sync::Wait;
@@ -28,7 +28,7 @@ use std::sync::Wait;
 #[derive(Drop)]
 pub struct Key<N: PhaseName> {
     pub(crate) worker: u32,
-    pub(crate) leaves: Vec<Leave>,
+    pub(crate) grants: Vec<Grant>,
     pub(crate) of: PhantomData<N>,
 }
 
@@ -39,10 +39,10 @@ impl<N: PhaseName> Model for Key<N> {
 
     ghost Value = { KeyState };
 
-    ghost view = { λ k. key_of k.worker k.leaves.items };
+    ghost view = { λ k. key_of k.worker k.grants.items };
 
-    ghost invariant = { λ k. (k.worker < N.workers) × (vec_len k.leaves ≡ length N.opening)
-        × AreFor k.leaves.items k.worker };
+    ghost invariant = { λ k. (k.worker < N.workers) × (vec_len k.grants ≡ length N.initial)
+        × AreFor k.grants.items k.worker };
 }
 
 impl<N: PhaseName> Key<N> {
@@ -51,25 +51,26 @@ impl<N: PhaseName> Key<N> {
     pub fn worker(&self) -> u32
         ensures value { result ≡ self.now.worker }
         ensures known { self.now.worker < N.workers }
-        ensures seats { length self.now.seats ≡ length N.opening }
+        ensures seats { length self.now.seats ≡ length N.initial }
     {
         self.worker
     }
 
     // Tries until the shard is in the box.
     #[inline(always)]
-    pub(crate) fn take<R: Wait>(&mut self, rt: &R, place: &Place<N>, s: usize) -> Shard
-        requires known { s < length N.opening }
-        requires place { IsPlaceAt self.old.boxes s place.now }
-        ensures seats { length self.old.seats ≡ length N.opening }
+    pub(crate) fn take<R: Wait>(&mut self, rt: &R, shard_box: &ShardBox<N>, s: usize) -> Shard
+        requires known { s < length N.initial }
+        requires place { IsBoxAt self.old.boxes s shard_box.now }
+        ensures seats { length self.old.seats ≡ length N.initial }
         ensures key { self.new ≡ taking self.old s (seen_at self.new s) }
         ensures holds { holds_at self.new s ≡ true }
-        ensures history { IsHistory N.opening N.workers s (seen_at self.new s) (state_of result) }
+        ensures history { IsShardHistory N.initial N.workers s (seen_at self.new s)
+            (state_of result) }
         ensures later { StartsWith (seen_at self.new s) (seen_at self.old s) }
         ensures own { lines_of self.old.worker (seen_at self.new s) ≡ lines_at self.old s }
     {
-        let leave = &mut self.leaves[s];
-        place.take(rt, leave)
+        let grant = &mut self.grants[s];
+        shard_box.take(rt, grant)
     }
 
     // Puts the shard back, after the line, if there is one.
@@ -77,34 +78,34 @@ impl<N: PhaseName> Key<N> {
     pub(crate) fn put<R: Wait>(
         &mut self,
         rt: &R,
-        place: &Place<N>,
+        shard_box: &ShardBox<N>,
         s: usize,
         shard: Shard,
         line: &Option<Line>,
     )
-        requires known { s < length N.opening }
-        requires place { IsPlaceAt self.old.boxes s place.now }
+        requires known { s < length N.initial }
+        requires place { IsBoxAt self.old.boxes s shard_box.now }
         requires holds { holds_at self.old s ≡ true }
-        requires may { MayPut (taken_at N.opening self.old s) (state_of shard) line.now }
+        requires may { MayPut (taken_at N.initial self.old s) (state_of shard) line.now }
         ensures { self.new ≡ putting self.old s line.now }
     {
-        let leave = &mut self.leaves[s];
-        place.put::<Brand, R>(rt, leave, shard, line);
+        let grant = &mut self.grants[s];
+        shard_box.put::<Brand, R>(rt, grant, shard, line);
     }
 
-    // The leaves, one for each box.
-    pub(crate) fn leaves(self) -> Vec<Leave>
+    // The grants, one for each box.
+    pub(crate) fn grants(self) -> Vec<Grant>
         requires { (s : ℕ) → holds_at self s ≡ false }
         ensures free { AreFree self.boxes self.worker result.items }
-        ensures own { (s : ℕ) (d : LeaveState) → s < length result.items →
+        ensures own { (s : ℕ) (d : GrantState) → s < length result.items →
             own_at result.items s d ≡ lines_at self s ∷ [] }
     {
         let Key {
             worker: _,
-            leaves,
+            grants,
             of: _,
         } = self;
-        leaves
+        grants
     }
 }
 
@@ -125,13 +126,13 @@ impl<N: PhaseName> Model for Held<N> {
 
     ghost view = { λ h. record { number = h.number; shard = h.shard } };
 
-    ghost invariant = { λ h. h.number < length N.opening };
+    ghost invariant = { λ h. h.number < length N.initial };
 }
 
 impl<N: PhaseName> Held<N> {
     #[inline(always)]
     pub(crate) fn new(number: u32, shard: Shard) -> Held<N>
-        requires { number < length N.opening }
+        requires { number < length N.initial }
         ensures number { result.number ≡ number }
         ensures shard { result.shard ≡ shard }
     {
@@ -145,7 +146,7 @@ impl<N: PhaseName> Held<N> {
     // The shard with its number.
     #[inline(always)]
     pub(crate) fn open(self) -> (u32, Shard)
-        ensures known { self.number < length N.opening }
+        ensures known { self.number < length N.initial }
         ensures number { result.0 ≡ self.number }
         ensures shard { result.1 ≡ self.shard }
     {

@@ -5,10 +5,10 @@
 #![tactic(auto)]
 
 mod boxes;
+mod grants;
 mod key;
-mod leaves;
 mod line;
-mod place;
+mod shard_box;
 
 pub use boxes::{Boxes, PhaseName};
 pub use key::{Held, Key, sums_fit};

@@ -3,7 +3,7 @@ use Rattle.std.proofs.Common.{◌≡◌, ℕ, List, ◌++◌, sym, ap, ◌∙◌
 use Rattle.std.specs.List.{AllByRecursion}
 use Rattle.std.proofs.Math.Seq.{drop-append_seam}
 use Rattle.phase_laws.specs.Order.{IsAscending, part}
-use Rattle.worker_journals.specs.Journals.{JournalView, entry_number, entry_worker, IsLawful}
+use Rattle.worker_journals.specs.Journals.{JournalView, entry_number, entry_worker, IsLawfulJournal}
 use Rattle.worker_journals.specs.Merged.{merged, entries_of, added, AreByWorker}
 use Rattle.worker_journals.specs.Histories.{HistoryView, with_phase}
 use Rattle.worker_journals.proofs.HistoryLemmas.{closed_merged}
@@ -21,10 +21,10 @@ module _ (old new : HistoryView) (journals : List JournalView) (is : new ≡ wit
   pub last_merged : merged new.last ≡ added old.entries new.entries
   last_merged = ap (λ (h : HistoryView). merged h.last) is ∙ closed_merged journals ∙ sym added_merged
 
-  pub added_ascends : AreByWorker journals → AllByRecursion IsLawful journals →
+  pub added_ascends : AreByWorker journals → AllByRecursion IsLawfulJournal journals →
       IsAscending entry_number entry_worker (added old.entries new.entries)
   added_ascends up lawful = subst (IsAscending entry_number entry_worker) (sym added_merged) (merged_ascends journals up lawful)
 
-  pub added_parts : AreByWorker journals → AllByRecursion IsLawful journals → (w : ℕ) →
+  pub added_parts : AreByWorker journals → AllByRecursion IsLawfulJournal journals → (w : ℕ) →
       part entry_worker w (added old.entries new.entries) ≡ entries_of w journals
   added_parts up lawful w = ap (part entry_worker w) added_merged ∙ merged_parts journals w up lawful

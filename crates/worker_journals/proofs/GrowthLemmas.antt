@@ -18,7 +18,7 @@ use Rattle.worker_journals.specs.declared.heads.ShortReply.{ShortReply}
 use Rattle.worker_journals.specs.declared.heads.ShortReply.TheVariants as told
 use Rattle.worker_journals.specs.declared.heads.ItemSeen.{ItemSeen as SeenItem}
 use Rattle.worker_journals.specs.declared.heads.UserSeen.{UserSeen as SeenUser}
-use Rattle.worker_journals.specs.Journals.{JournalView, ComesAfter, IsLawful, closed_journal, seen, with_commit}
+use Rattle.worker_journals.specs.Journals.{JournalView, ComesAfter, IsLawfulJournal, closed_journal, seen, with_commit}
 use Rattle.worker_journals.specs.Sides.{SideLists, request_from, reply_from, HasRequest, HasReply, SaysRequest, SaysReply, with_commit_of, item_reply, user_reply}
 use Rattle.worker_journals.specs.Entries.{entry_from, HasHead, shown, IsKept}
 use Rattle.worker_journals.proofs.JournalLemmas.{lawful_after}
@@ -119,7 +119,7 @@ module _ (phase worker : ℕ) (sides : SideLists) (request : Request) (reply : R
 
     pub kept_after : ComesAfter (map (entry_from phase worker sides) heads) head.number → IsKept phase worker (heads ++ head ∷ []) capacity after
     kept_after comes = record {
-      lawful = subst IsLawful (sym shown_after) (lawful_after (shown phase worker heads sides) _ kept.lawful (refl, refl) comes);
+      lawful = subst IsLawfulJournal (sym shown_after) (lawful_after (shown phase worker heads sides) _ kept.lawful (refl, refl) comes);
       within = all_push (HasHead after) heads head (all-weaker (HasHead sides) (HasHead after) (λ h has. (head_stays h has).0) heads kept.within) (asked.within, answered.within);
       room = omega (arith, kept.room, length-append heads (head ∷ []));
     }

@@ -8,7 +8,7 @@ use Rattle.std.proofs.lemmas.List.Elements.{filter-append}
 use Rattle.phase_laws.specs.Order.{part}
 use Rattle.phase_laws.proofs.OrderLemmas.{all_push}
 use Rattle.auction_rows.specs.declared.rows.Entry.{Entry}
-use Rattle.worker_journals.specs.Journals.{JournalView, entry_worker, closed_journal, IsLawful}
+use Rattle.worker_journals.specs.Journals.{JournalView, entry_worker, closed_journal, IsLawfulJournal}
 use Rattle.worker_journals.specs.Merged.{merged, in_order, entries_of, entry_count, AreByWorker}
 use Rattle.worker_journals.specs.Histories.{HistoryView, ArePhase, IsHistory, entries_in, journals_of, last_of, shown, with_phase}
 use Rattle.worker_journals.specs.Places.{first_entries, own_left}
@@ -36,7 +36,7 @@ closed_by_worker : (journals : List JournalView) → AreByWorker journals → Ar
 closed_by_worker [] up = tt
 closed_by_worker (journal ∷ journals) up = (closed_later journal.worker journals up.0, closed_by_worker journals up.1)
 
-closed_lawful : (journals : List JournalView) → AllByRecursion IsLawful journals → AllByRecursion IsLawful (map closed_journal journals)
+closed_lawful : (journals : List JournalView) → AllByRecursion IsLawfulJournal journals → AllByRecursion IsLawfulJournal (map closed_journal journals)
 closed_lawful [] lawful = tt
 closed_lawful (journal ∷ journals) lawful =
     (record { own = lawful.0.own; ascending = lawful.0.ascending }, closed_lawful journals lawful.1)

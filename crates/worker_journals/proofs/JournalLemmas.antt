@@ -5,7 +5,7 @@ use Rattle.phase_laws.specs.Numbers.{last_by}
 use Rattle.phase_laws.proofs.OrderLemmas.{all_push}
 use Rattle.phase_laws.proofs.NumberLemmas.{ascending_push}
 use Rattle.auction_rows.specs.declared.rows.Entry.{Entry}
-use Rattle.worker_journals.specs.Journals.{JournalView, entry_number, seen, ComesAfter, IsOf, IsLawful}
+use Rattle.worker_journals.specs.Journals.{JournalView, entry_number, seen, ComesAfter, IsOf, IsLawfulJournal}
 
 -- where a number is greater than the last, or than 0 where there is none, it comes after
 pub comes_after : (entries : List Entry) (number : ℕ) → last_by entry_number 0 entries < number → ComesAfter entries number
@@ -17,8 +17,8 @@ ascending_after : (entries : List Entry) (entry : Entry) → IsAscendingByNumber
 ascending_after [] entry up after = (tt, tt)
 ascending_after (first ∷ entries) entry up after = ascending_push entry_number (first ∷ entries) entry up after
 
-pub lawful_after : (journal : JournalView) (entry : Entry) → IsLawful journal → IsOf journal.phase journal.worker entry →
-    ComesAfter journal.entries entry.number → IsLawful (seen journal.phase journal.worker journal.room (journal.entries ++ entry ∷ []))
+pub lawful_after : (journal : JournalView) (entry : Entry) → IsLawfulJournal journal → IsOf journal.phase journal.worker entry →
+    ComesAfter journal.entries entry.number → IsLawfulJournal (seen journal.phase journal.worker journal.room (journal.entries ++ entry ∷ []))
 lawful_after journal entry held own after = record {
   own = all_push (IsOf journal.phase journal.worker) journal.entries entry held.own own;
   ascending = ascending_after journal.entries entry held.ascending after;

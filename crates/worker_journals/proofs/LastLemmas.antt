@@ -6,7 +6,7 @@ use Rattle.std.proofs.lemmas.List.{take_more}
 use Rattle.phase_laws.proofs.OrderLemmas.{all-weaker, all_push}
 use Rattle.phase_laws.proofs.ListLemmas.{all-append}
 use Rattle.auction_rows.specs.declared.rows.Entry.{Entry}
-use Rattle.worker_journals.specs.Journals.{JournalView, IsLawful, IsOf}
+use Rattle.worker_journals.specs.Journals.{JournalView, IsLawfulJournal, IsOf}
 use Rattle.worker_journals.specs.Merged.{merged}
 use Rattle.worker_journals.specs.Histories.{ArePhase, entries_in, journals_of}
 use Rattle.worker_journals.proofs.MergedLemmas.{all_entries}
@@ -21,7 +21,7 @@ pub all_items : (P : List JournalView → Type 0) (phases : List (Vec JournalVie
 all_items P [] all = tt
 all_items P (phase ∷ phases) all = (all.0, all_items P phases all.1)
 
-of_journals : (w : ℕ) (journals : List JournalView) → AllByRecursion IsLawful journals → AllByRecursion (λ j. j.worker ≤ w) journals →
+of_journals : (w : ℕ) (journals : List JournalView) → AllByRecursion IsLawfulJournal journals → AllByRecursion (λ j. j.worker ≤ w) journals →
     AllByRecursion (λ e. e.worker ≤ w) (all_entries journals)
 of_journals w [] lawful few = tt
 of_journals w (journal ∷ journals) lawful few =

@@ -12,7 +12,7 @@ use Rattle.phase_laws.proofs.MemberLemmas.{Contains-nothing, Contains-cases, all
 use Rattle.phase_laws.proofs.OrderLemmas.{all-weaker, ordered-weaker}
 use Rattle.phase_laws.proofs.ListLemmas.{all-append, ordered-append}
 use Rattle.auction_rows.specs.declared.rows.Entry.{Entry}
-use Rattle.worker_journals.specs.Journals.{JournalView, entry_number, entry_worker, IsOf, IsLawful}
+use Rattle.worker_journals.specs.Journals.{JournalView, entry_number, entry_worker, IsOf, IsLawfulJournal}
 use Rattle.worker_journals.specs.Merged.{merged, entries_of, AreByWorker, entry_count}
 use Rattle.worker_journals.proofs.OrderedLemmas.{Rises, in_order_ascends, part_own, part_other, part_in_order, length_in_order, in_order_permutes}
 
@@ -41,7 +41,7 @@ entries_of_own (first ∷ journals) journal up there = elim (Contains-cases firs
 -- Of one worker they rise.
 
 -- the entries of journals of later workers are of later workers
-pub later_workers : (w : ℕ) (journals : List JournalView) → AllByRecursion (λ j. w < j.worker) journals → AllByRecursion IsLawful journals →
+pub later_workers : (w : ℕ) (journals : List JournalView) → AllByRecursion (λ j. w < j.worker) journals → AllByRecursion IsLawfulJournal journals →
     AllByRecursion (λ e. w < e.worker) (all_entries journals)
 later_workers w [] later lawful = tt
 later_workers w (journal ∷ journals) later lawful =
@@ -49,7 +49,7 @@ later_workers w (journal ∷ journals) later lawful =
     (all-weaker (IsOf journal.phase journal.worker) (λ e. w < e.worker) (λ e own. omega (arith, own.1, later.0)) journal.entries lawful.0.own)
     (later_workers w journals later.1 lawful.1)
 
-all_rise : (journals : List JournalView) → AreByWorker journals → AllByRecursion IsLawful journals → IsOrderedBy Rises (all_entries journals)
+all_rise : (journals : List JournalView) → AreByWorker journals → AllByRecursion IsLawfulJournal journals → IsOrderedBy Rises (all_entries journals)
 all_rise [] up lawful = tt
 all_rise (journal ∷ journals) up lawful =
     let later = later_workers journal.worker journals up.0 lawful.1 in
@@ -70,7 +70,7 @@ part_none : (w : ℕ) (xs : List Entry) → AllByRecursion (λ e. e.worker ≡ w
 part_none w [] others = refl
 part_none w (x ∷ xs) others = part_other w x xs others.0 ∙ part_none w xs others.1
 
-parts : (w : ℕ) (journals : List JournalView) → AreByWorker journals → AllByRecursion IsLawful journals →
+parts : (w : ℕ) (journals : List JournalView) → AreByWorker journals → AllByRecursion IsLawfulJournal journals →
     part entry_worker w (all_entries journals) ≡ entries_of w journals
 parts w [] up lawful = refl
 parts w (journal ∷ journals) up lawful =
@@ -92,11 +92,11 @@ parts w (journal ∷ journals) up lawful =
 
 -- The law.
 
-pub merged_ascends : (journals : List JournalView) → AreByWorker journals → AllByRecursion IsLawful journals →
+pub merged_ascends : (journals : List JournalView) → AreByWorker journals → AllByRecursion IsLawfulJournal journals →
     IsAscending entry_number entry_worker (merged journals)
 merged_ascends journals up lawful = in_order_ascends (all_entries journals) (all_rise journals up lawful)
 
-pub merged_parts : (journals : List JournalView) (w : ℕ) → AreByWorker journals → AllByRecursion IsLawful journals →
+pub merged_parts : (journals : List JournalView) (w : ℕ) → AreByWorker journals → AllByRecursion IsLawfulJournal journals →
     part entry_worker w (merged journals) ≡ entries_of w journals
 merged_parts journals w up lawful = part_in_order w (all_entries journals) (all_rise journals up lawful) ∙ parts w journals up lawful
 

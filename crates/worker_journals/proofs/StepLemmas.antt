@@ -8,7 +8,7 @@ use Rattle.std.proofs.lemmas.List.{length-map, length-replicate, length-set, len
 use Rattle.std.proofs.lemmas.Option.{slice_get-map, slice_get_within}
 use Rattle.phase_laws.specs.Order.{IsOrderedBy}
 use Rattle.auction_rows.specs.declared.rows.Entry.{Entry}
-use Rattle.worker_journals.specs.Journals.{JournalView, entry_number, IsOf, IsLawful}
+use Rattle.worker_journals.specs.Journals.{JournalView, entry_number, IsOf, IsLawfulJournal}
 use Rattle.worker_journals.specs.Merged.{merged, AreByWorker}
 use Rattle.worker_journals.specs.Places.{left_of, number_at, first_number, IsLeast, IsLeastOf, AreMerging}
 use Rattle.worker_journals.proofs.TakingLemmas.{without_first, first_of, merged_taken, merged_none}
@@ -39,7 +39,7 @@ left_length [] places = refl
 left_length (journal ∷ journals) [] = refl
 left_length (journal ∷ journals) (place ∷ places) = ap suc (left_length journals places)
 
-pub left_lawful : (journals : List JournalView) (places : List ℕ) → AllByRecursion IsLawful journals → AllByRecursion IsLawful (left_of journals places)
+pub left_lawful : (journals : List JournalView) (places : List ℕ) → AllByRecursion IsLawfulJournal journals → AllByRecursion IsLawfulJournal (left_of journals places)
 left_lawful [] places lawful = tt
 left_lawful (journal ∷ journals) [] lawful = lawful
 left_lawful (journal ∷ journals) (place ∷ places) lawful = (
@@ -193,7 +193,7 @@ module _ (journals : List JournalView) (places : List ℕ) (numbers : List (Opti
   pub starts_before : (n : ℕ) → places ≡ replicate n 0 → left_of journals places ≡ journals
   starts_before n none = ap (left_of journals) none ∙ left_all journals n
 
-  pub starts_merging : (n : ℕ) → n ≡ length journals → AreByWorker journals → AllByRecursion IsLawful journals → places ≡ replicate n 0 →
+  pub starts_merging : (n : ℕ) → n ≡ length journals → AreByWorker journals → AllByRecursion IsLawfulJournal journals → places ≡ replicate n 0 →
       numbers ≡ map first_number journals → AreMerging (length journals) journals places numbers
   starts_merging n each up lawful none first = record {
     by_worker = up;

@@ -7,7 +7,7 @@ use Rattle.phase_laws.specs.Order.{IsAscendingByNumber}
 use Rattle.phase_laws.proofs.OrderLemmas.{all-weaker}
 use Rattle.phase_laws.proofs.ListLemmas.{all-append}
 use Rattle.auction_rows.specs.declared.rows.Entry.{Entry}
-use Rattle.worker_journals.specs.Journals.{JournalView, entry_number, IsOf, IsLawful}
+use Rattle.worker_journals.specs.Journals.{JournalView, entry_number, IsOf, IsLawfulJournal}
 use Rattle.worker_journals.specs.Merged.{comes_before, in_order, merged, AreByWorker}
 use Rattle.worker_journals.specs.Places.{first_number, IsLeast}
 use Rattle.worker_journals.proofs.OrderedLemmas.{not_before, before_by_number, first_in_order, first_among}
@@ -39,7 +39,7 @@ both P Q R f [] p q = tt
 both P Q R f (x ∷ xs) p q = (f x p.0 q.0, both P Q R f xs p.1 q.1)
 
 -- none of later workers' entries comes before one whose number is the least
-none_later : (e : Entry) (journals : List JournalView) → AllByRecursion (λ j. e.worker < j.worker) journals → AllByRecursion IsLawful journals →
+none_later : (e : Entry) (journals : List JournalView) → AllByRecursion (λ j. e.worker < j.worker) journals → AllByRecursion IsLawfulJournal journals →
     ((k : ℕ) → k < length journals → IfSome (get_or (map first_number journals) k None) (λ m. e.number ≤ m)) →
     AllByRecursion (λ d. comes_before d e ≡ false) (all_entries journals)
 none_later e [] later lawful least = tt
@@ -51,7 +51,7 @@ none_later e (journal ∷ journals) later lawful least =
     (none_later e journals later.1 lawful.1 (λ k within. least (suc k) (omega arith)))
 
 -- the entry with the first of the least numbers comes first
-pub merged_taken : (journals : List JournalView) (i : ℕ) (e : Entry) → AreByWorker journals → AllByRecursion IsLawful journals →
+pub merged_taken : (journals : List JournalView) (i : ℕ) (e : Entry) → AreByWorker journals → AllByRecursion IsLawfulJournal journals →
     first_of journals i ≡ Some e → IsLeast (map first_number journals) (length journals) i e.number →
     merged journals ≡ e ∷ merged (without_first journals i)
 merged_taken [] i e up lawful is least = absurd (omega (arith, least.within))

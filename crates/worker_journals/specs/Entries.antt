@@ -3,7 +3,7 @@ use Rattle.std.specs.Prelude.{ℕ, ◌+◌, ◌≤◌, List, map, length}
 use Rattle.std.specs.List.{AllByRecursion}
 use Rattle.auction_rows.specs.declared.rows.Entry.{Entry}
 use Rattle.worker_journals.specs.declared.heads.Head.{Head}
-use Rattle.worker_journals.specs.Journals.{JournalView, seen, IsLawful}
+use Rattle.worker_journals.specs.Journals.{JournalView, seen, IsLawfulJournal}
 use Rattle.worker_journals.specs.Sides.{SideLists, request_from, reply_with, HasRequest, HasReplyWith}
 
 -- the entry that a head of a worker's journal of a phase says, with the journal's side lists
@@ -30,7 +30,7 @@ shown phase worker heads sides =
 pub record IsKept (phase worker : ℕ) (heads : List Head) (capacity : ℕ)
     (sides : SideLists) : Type 0 where
   -- the journal that the heads say is lawful
-  pub lawful : IsLawful (shown phase worker heads sides)
+  pub lawful : IsLawfulJournal (shown phase worker heads sides)
   -- the places of each head lie within the side lists
   pub within : AllByRecursion (HasHead sides) heads
   -- there is room for all heads

@@ -4,7 +4,7 @@ use Rattle.std.specs.Global.{Vec}
 use Rattle.std.specs.List.{flat_map, AllByRecursion}
 use Rattle.auction_rows.specs.declared.limits.TheConstants.{MOST_WORKERS}
 use Rattle.auction_rows.specs.declared.rows.Entry.{Entry}
-use Rattle.worker_journals.specs.Journals.{JournalView, IsLawful, closed_journal}
+use Rattle.worker_journals.specs.Journals.{JournalView, IsLawfulJournal, closed_journal}
 use Rattle.worker_journals.specs.Merged.{merged, AreByWorker}
 
 -- what a history shows
@@ -30,7 +30,7 @@ pub record ArePhase (journals : List JournalView) : Type 0 where
   -- the journals are in the order of their workers
   pub by_worker : AreByWorker journals
   -- each journal is lawful
-  pub lawful : AllByRecursion IsLawful journals
+  pub lawful : AllByRecursion IsLawfulJournal journals
 
 -- the entries of phases, one phase after the other
 abbrev pub entries_in : List (List JournalView) → List Entry

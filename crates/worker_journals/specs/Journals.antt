@@ -74,7 +74,7 @@ abbrev pub IsOf : ℕ → ℕ → Entry → Type 0
 IsOf phase worker entry = (entry.phase ≡ phase) × (entry.worker ≡ worker)
 
 -- the journal is one of its phase and its worker
-pub record IsLawful (journal : JournalView) : Type 0 where
+pub record IsLawfulJournal (journal : JournalView) : Type 0 where
   -- each entry is of the journal's phase and worker
   pub own : AllByRecursion (IsOf journal.phase journal.worker) journal.entries
   -- the entries ascend in number

@@ -9,7 +9,7 @@ use Rattle.auction_rows.specs.declared.requests.Request.{Request}
 use Rattle.auction_rows.specs.declared.requests.Request.TheVariants.{ViewUser}
 use Rattle.auction_rows.specs.declared.rows.Entry.{Entry}
 use Rattle.auction_rows.specs.StoreReplies.{is_refusal, store_reply}
-use Rattle.worker_journals.specs.Journals.{JournalView, entry_number, IsLawful}
+use Rattle.worker_journals.specs.Journals.{JournalView, entry_number, IsLawfulJournal}
 use Rattle.worker_journals.specs.Merged.{entries_of, AreByWorker}
 
 -- the journals with their entries from these places on
@@ -51,7 +51,7 @@ pub record AreMerging (room : ℕ) (journals : List JournalView) (places : List 
   -- the journals are in the order of their workers
   pub by_worker : AreByWorker journals
   -- each journal is lawful
-  pub lawful : AllByRecursion IsLawful journals
+  pub lawful : AllByRecursion IsLawfulJournal journals
   -- there is room for all journals
   pub few : length journals ≤ room
   -- there is a place for each journal

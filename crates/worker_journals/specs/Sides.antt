@@ -218,5 +218,5 @@ abbrev pub SaysReplyWith : SideLists → ShortReply → Reply → Type 0
 SaysReplyWith sides = SaysReply sides.items sides.users sides.bids sides.latest
 
 -- a list of such a length and capacity has room for so many more
-abbrev pub HasRoom : ℕ → ℕ → ℕ → Type 0
-HasRoom more len capacity = len + more ≤ capacity
+abbrev pub HasListRoom : ℕ → ℕ → ℕ → Type 0
+HasListRoom more len capacity = len + more ≤ capacity

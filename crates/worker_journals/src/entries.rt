@@ -141,12 +141,12 @@ impl<'a> EntryRef<'a> {
 #[derive(Drop)]
 pub struct Answer<'a> {
     /// How it is told.
-    pub told: Told<'a>,
+    pub form: ReplyForm<'a>,
 }
 
 /// How a reply is told: that of a store or a refusal as it is, a view's where it lies.
 #[derive(Clone, Copy)]
-pub enum Told<'a> {
+pub enum ReplyForm<'a> {
     /// The reply to a store, or a refusal.
     Store(StoreReply),
     /// A reply where it lies.
@@ -155,11 +155,11 @@ pub enum Told<'a> {
 
 impl<'a> Model for Answer<'a> {
     ghost use Rattle.auction_rows.specs.declared.replies.Reply.{Reply};
-    ghost use Rattle.worker_journals.specs.Answers.{reply_told};
+    ghost use Rattle.worker_journals.specs.Answers.{reply_in_form};
 
     ghost Value = { Reply };
 
-    ghost view = { λ a. reply_told a.told };
+    ghost view = { λ a. reply_in_form a.form };
 }
 
 impl<'a> Answer<'a> {
@@ -169,7 +169,7 @@ impl<'a> Answer<'a> {
         ensures { result ≡ reply.now }
     {
         Answer {
-            told: Told::Whole(reply),
+            form: ReplyForm::Whole(reply),
         }
     }
 
@@ -178,9 +178,9 @@ impl<'a> Answer<'a> {
     pub fn to_reply(&self) -> Reply
         ensures { result ≡ self.now }
     {
-        match self.told {
-            Told::Store(reply) => whole(reply),
-            Told::Whole(reply) => *reply,
+        match self.form {
+            ReplyForm::Store(reply) => whole(reply),
+            ReplyForm::Whole(reply) => *reply,
         }
     }
 }

@@ -27,12 +27,12 @@ pub(crate) struct Head {
 
 /// A place in a list, in two halves: no head is longer for it.
 #[derive(Clone, Copy)]
-pub(crate) struct Place {
+pub(crate) struct SideIndex {
     low: u32,
     high: u32,
 }
 
-impl Model for Place {
+impl Model for SideIndex {
     ghost use Rattle.std.specs.Prelude.{ℕ, ◌+◌, ◌*◌, ◌^◌, ◌<◌, ◌/◌, ◌%◌};
     ghost use Rattle.std.proofs.Common.{◌∙◌};
     ghost use Rattle.std.proofs.Math.Nat.{mul-add-mod_self_right, mod-eq_of_lt};
@@ -52,12 +52,12 @@ impl Model for Place {
     } };
 }
 
-impl Place {
+impl SideIndex {
     /// The place with this number.
-    pub(crate) fn of(place: usize) -> Place
+    pub(crate) fn of(place: usize) -> SideIndex
         ensures { result ≡ place }
     {
-        Place {
+        SideIndex {
             low: (place % HALF) as u32,
             high: (place / HALF) as u32,
         }
@@ -74,7 +74,7 @@ impl Place {
 /// A request, by its fields in order; the facts of an item that it stores lie at a place among the facts.
 #[derive(Clone, Copy)]
 pub(crate) enum ShortRequest {
-    StoreItem(Place, u64),
+    StoreItem(SideIndex, u64),
     StoreBid(u32, ItemId, u64, u64),
     StoreComment(u32, u32, ItemId, Stars),
     BuyNow(u32, ItemId, Quantity, u64),
@@ -91,10 +91,10 @@ pub(crate) enum ShortReply {
     BidStored(BidId),
     CommentStored(CommentId),
     Bought(BuyId),
-    ItemSeen(Place),
-    BidsSeen(u8, Place),
-    CategorySeen(u8, Place),
-    UserSeen(Place),
+    ItemSeen(SideIndex),
+    BidsSeen(u8, SideIndex),
+    CategorySeen(u8, SideIndex),
+    UserSeen(SideIndex),
     Refused(Refusal),
 }
 

@@ -3,7 +3,7 @@ ghost use Rattle.std.specs.Prelude.{◌≡◌, ℕ, ◌+◌, ◌<◌, ◌^◌, �
 ghost use Rattle.std.specs.List.{AllByRecursion};
 ghost use Rattle.std.specs.Iterator.{YieldsFirst, item_count};
 ghost use Rattle.phase_laws.specs.Order.{part};
-ghost use Rattle.worker_journals.specs.Journals.{IsLawful, closed_journal, entry_worker};
+ghost use Rattle.worker_journals.specs.Journals.{IsLawfulJournal, closed_journal, entry_worker};
 ghost use Rattle.worker_journals.specs.Merged.{AreByWorker, entries_of, merged};
 ghost use Rattle.worker_journals.specs.Histories.{ArePhase, no_history, with_phase};
 ghost use Rattle.worker_journals.specs.Places.{first_entries};
@@ -53,7 +53,7 @@ impl History {
         requires few { vec_len journals ≤ MOST_WORKERS }
         requires by_worker { AreByWorker journals.items }
         ensures added { OnOk result (self.new ≡ with_phase self.old journals.items) }
-        ensures lawful { OnOk result (AllByRecursion IsLawful journals.items) }
+        ensures lawful { OnOk result (AllByRecursion IsLawfulJournal journals.items) }
         ensures refused { OnErr result (self.new ≡ self.old) }
     {
         let count = count_of(&journals).ok_or(AllocError)?;

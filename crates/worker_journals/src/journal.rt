@@ -2,7 +2,7 @@
 ghost use Rattle.std.specs.Prelude.{◌≡◌, ◌<◌, ◌+◌, ◌^◌, ◌==◌, Some, length, map, slice_get, IfOk};
 ghost use Rattle.std.specs.Iterator.{YieldsFirst, item_count};
 ghost use Rattle.auction_rows.specs.Choosing.{written_by};
-ghost use Rattle.worker_journals.specs.Journals.{IsLawful, ComesAfter, closed_journal, empty_journal, entry_index, entry_number, with_commit};
+ghost use Rattle.worker_journals.specs.Journals.{IsLawfulJournal, ComesAfter, closed_journal, empty_journal, entry_index, entry_number, with_commit};
 ghost use Rattle.worker_journals.specs.Places.{entry_reply, entry_request, entry_store_reply, is_refused};
 
 use crate::entries::{Answer, EntryRef};
@@ -94,7 +94,7 @@ impl Journal {
     /// How many entries there are.
     pub fn len(&self) -> usize
         ensures len { result ≡ length self.now.entries }
-        ensures lawful { IsLawful self.now }
+        ensures lawful { IsLawfulJournal self.now }
     {
         self.heads.len()
     }
@@ -102,7 +102,7 @@ impl Journal {
     // What the type keeps: the entries are lawful, and can be counted. The call does nothing.
     #[inline(always)]
     pub(crate) fn keeps_law(&self)
-        ensures lawful { IsLawful self.now }
+        ensures lawful { IsLawfulJournal self.now }
         ensures fits { length self.now.entries < 2 ^ 64 }
     {
         self.len();

@@ -10,7 +10,7 @@ mod merge;
 mod sides;
 
 pub use auction_rows::Entry;
-pub use entries::{Answer, EntryRef, Told};
+pub use entries::{Answer, EntryRef, ReplyForm};
 pub use history::{Entries, History, WorkerEntries};
 pub use journal::{Journal, JournalEntries};
 pub use merge::{entries_by_worker, journals_merge, merge_journals, numbers_come_after};

@@ -7,7 +7,7 @@ ghost use Rattle.phase_laws.specs.Order.{IsAscending, part};
 ghost use Rattle.phase_laws.specs.Numbers.{last_by};
 ghost use Rattle.auction_rows.specs.declared.rows.Entry.{Entry};
 ghost use Rattle.worker_journals.specs.Histories.{ArePhase};
-ghost use Rattle.worker_journals.specs.Journals.{IsLawful, entry_number, entry_worker, JournalView, ComesAfter};
+ghost use Rattle.worker_journals.specs.Journals.{IsLawfulJournal, entry_number, entry_worker, JournalView, ComesAfter};
 ghost use Rattle.worker_journals.specs.Merged.{AreByWorker, entries_of, entry_count, merged};
 ghost use Rattle.worker_journals.specs.Places.{IsLeastOf, first_number, lesser, number_at};
 
@@ -107,7 +107,7 @@ pub fn merge_journals(alloc: Global, journals: Vec<Journal>) -> Result<Vec<Entry
 // The number of each journal's first entry, if it has one.
 fn first_numbers(alloc: Global, journals: &[Journal]) -> Result<Vec<Option<u64>>, AllocError>
     ensures numbers { IfOk result (λ numbers. numbers.items ≡ map first_number journals.now) }
-    ensures lawful { OnOk result (AllByRecursion IsLawful journals.now) }
+    ensures lawful { OnOk result (AllByRecursion IsLawfulJournal journals.now) }
 {
     let mut numbers = Vec::with_capacity(alloc, journals.len())?;
     for journal in journals {
@@ -119,7 +119,7 @@ fn first_numbers(alloc: Global, journals: &[Journal]) -> Result<Vec<Option<u64>>
 // The number of a journal's entry at a place, if there is one.
 fn number_at(journal: &Journal, place: usize) -> Option<u64>
     ensures number { result ≡ number_at place journal.now }
-    ensures lawful { IsLawful journal.now }
+    ensures lawful { IsLawfulJournal journal.now }
 {
     if place < journal.len() {
         Some(journal.number(place))
@@ -156,7 +156,7 @@ fn lesser(least: Option<(usize, u64)>, i: usize, number: Option<u64>) -> Option<
 /// How many entries the journals have: None past 64 bits.
 pub(crate) fn count_of(journals: &[Journal]) -> Option<usize>
     ensures count { IfSome result (λ count. count ≡ entry_count journals.now) }
-    ensures lawful { OnSome result (AllByRecursion IsLawful journals.now) }
+    ensures lawful { OnSome result (AllByRecursion IsLawfulJournal journals.now) }
 {
     let mut count: usize = 0;
     for journal in journals {
@@ -185,10 +185,10 @@ pub fn numbers_come_after()
 /// worker; the part of each worker is its journal; and each entry of a journal is there once.
 pub fn journals_merge()
     ensures ascending { (journals : List JournalView) → AreByWorker journals →
-        AllByRecursion IsLawful journals →
+        AllByRecursion IsLawfulJournal journals →
         IsAscending entry_number entry_worker (merged journals) }
     ensures parts { (journals : List JournalView) (worker : ℕ) → AreByWorker journals →
-        AllByRecursion IsLawful journals →
+        AllByRecursion IsLawfulJournal journals →
         part entry_worker worker (merged journals) ≡ entries_of worker journals }
     ensures count { (journals : List JournalView) →
         length (merged journals) ≡ entry_count journals }

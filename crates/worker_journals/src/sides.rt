@@ -1,9 +1,9 @@
 //! What a journal keeps beside its heads.
 ghost use Rattle.std.specs.Prelude.{◌≡◌, ◌+◌, ◌<◌, ◌≤◌, ◌++◌, ◌∷◌, [], length, take, drop, option_to_list, vec_len, vec_capacity, IfOk};
-ghost use Rattle.worker_journals.specs.Sides.{HasRoom, SaysReply, SaysRequest, facts_in, shown_in, item_reply};
+ghost use Rattle.worker_journals.specs.Sides.{HasListRoom, SaysReply, SaysRequest, facts_in, shown_in, item_reply};
 
-use crate::entries::{Answer, Told};
-use crate::heads::{ItemSeen, Place, ShortReply, ShortRequest, UserSeen};
+use crate::entries::{Answer, ReplyForm};
+use crate::heads::{ItemSeen, ShortReply, ShortRequest, SideIndex, UserSeen};
 use auction_rows::{BidShown, Facts, ItemShown, MOST_SHOWN, Object, Reply, Request, Ten};
 use std::alloc::{AllocError, Global};
 use std::marker::Model;
@@ -22,7 +22,7 @@ pub(crate) struct Sides {
 impl Model for Sides {
     ghost use Rattle.std.specs.Prelude.{◌*◌, vec_len, vec_capacity};
     ghost use Rattle.auction_rows.specs.declared.limits.TheConstants.{MOST_SHOWN};
-    ghost use Rattle.worker_journals.specs.Sides.{SideLists, HasRoom};
+    ghost use Rattle.worker_journals.specs.Sides.{SideLists, HasListRoom};
 
     ghost Value = { SideLists };
 
@@ -35,11 +35,11 @@ impl Model for Sides {
       left = s.left;
     } };
 
-    ghost invariant = { λ s. HasRoom s.left (vec_len s.facts) (vec_capacity s.facts)
-        × HasRoom s.left (vec_len s.items) (vec_capacity s.items)
-        × HasRoom s.left (vec_len s.users) (vec_capacity s.users)
-        × HasRoom (MOST_SHOWN * s.left) (vec_len s.bids) (vec_capacity s.bids)
-        × HasRoom (MOST_SHOWN * s.left) (vec_len s.latest) (vec_capacity s.latest) };
+    ghost invariant = { λ s. HasListRoom s.left (vec_len s.facts) (vec_capacity s.facts)
+        × HasListRoom s.left (vec_len s.items) (vec_capacity s.items)
+        × HasListRoom s.left (vec_len s.users) (vec_capacity s.users)
+        × HasListRoom (MOST_SHOWN * s.left) (vec_len s.bids) (vec_capacity s.bids)
+        × HasListRoom (MOST_SHOWN * s.left) (vec_len s.latest) (vec_capacity s.latest) };
 }
 
 impl Sides {
@@ -96,9 +96,9 @@ impl Sides {
     {
         let short_request = keep_request(&mut self.facts, request);
         self.left -= 1;
-        match reply.told {
-            Told::Store(store) => (short_request, ShortReply::of_store(store)),
-            Told::Whole(whole) => {
+        match reply.form {
+            ReplyForm::Store(store) => (short_request, ShortReply::of_store(store)),
+            ReplyForm::Whole(whole) => {
                 let short_reply = keep_reply(
                     &mut self.items,
                     &mut self.users,
@@ -206,25 +206,25 @@ impl Sides {
 }
 
 // Puts a value at the end of a list, and gives its place. It takes no memory.
-fn keep_one<T>(list: &mut Vec<T>, value: T) -> Place
-    requires { HasRoom 1 (vec_len list.old) (vec_capacity list.old) }
+fn keep_one<T>(list: &mut Vec<T>, value: T) -> SideIndex
+    requires { HasListRoom 1 (vec_len list.old) (vec_capacity list.old) }
     ensures place { result ≡ vec_len list.old }
     ensures kept { list.new.items ≡ list.old.items ++ value ∷ [] }
     ensures capacity { vec_capacity list.new ≡ vec_capacity list.old }
 {
-    let place = Place::of(list.len());
+    let place = SideIndex::of(list.len());
     list.push_reserved(value);
     place
 }
 
 // Puts the values that a view shows at the end of a list, and gives the place of the first. It takes no memory.
-fn keep_all<T: Copy>(list: &mut Vec<T>, shown: &Ten<T>) -> Place
-    requires { HasRoom MOST_SHOWN (vec_len list.old) (vec_capacity list.old) }
+fn keep_all<T: Copy>(list: &mut Vec<T>, shown: &Ten<T>) -> SideIndex
+    requires { HasListRoom MOST_SHOWN (vec_len list.old) (vec_capacity list.old) }
     ensures place { result ≡ vec_len list.old }
     ensures kept { list.new.items ≡ list.old.items ++ shown.now }
     ensures capacity { vec_capacity list.new ≡ vec_capacity list.old }
 {
-    let start = Place::of(list.len());
+    let start = SideIndex::of(list.len());
     for place in 0..shown.len() {
         list.push_reserved(shown.get(place).unwrap());
     }
@@ -232,7 +232,7 @@ fn keep_all<T: Copy>(list: &mut Vec<T>, shown: &Ten<T>) -> Place
 }
 
 // The values of a list from a place on, as a view shows them.
-fn part_of<T: Copy>(list: &[T], place: Place, count: u8) -> Ten<T>
+fn part_of<T: Copy>(list: &[T], place: SideIndex, count: u8) -> Ten<T>
     requires few { count ≤ MOST_SHOWN }
     requires within { place + count ≤ length list.now }
     ensures { result ≡ take count (drop place list.now) }
@@ -248,7 +248,7 @@ fn part_of<T: Copy>(list: &[T], place: Place, count: u8) -> Ten<T>
 // A request, with the facts that it stores at the end of the facts.
 #[inline(always)]
 fn keep_request(all: &mut Vec<Facts>, request: &Request) -> ShortRequest
-    requires { HasRoom 1 (vec_len all.old) (vec_capacity all.old) }
+    requires { HasListRoom 1 (vec_len all.old) (vec_capacity all.old) }
     ensures kept { all.new.items ≡ all.old.items ++ facts_in request.now }
     ensures capacity { vec_capacity all.new ≡ vec_capacity all.old }
     ensures says { SaysRequest all.new.items result request.now }
@@ -319,10 +319,10 @@ fn keep_reply(
     latest: &mut Vec<ItemShown>,
     reply: &Reply,
 ) -> ShortReply
-    requires items { HasRoom 1 (vec_len items.old) (vec_capacity items.old) }
-    requires users { HasRoom 1 (vec_len users.old) (vec_capacity users.old) }
-    requires bids { HasRoom MOST_SHOWN (vec_len bids.old) (vec_capacity bids.old) }
-    requires latest { HasRoom MOST_SHOWN (vec_len latest.old) (vec_capacity latest.old) }
+    requires items { HasListRoom 1 (vec_len items.old) (vec_capacity items.old) }
+    requires users { HasListRoom 1 (vec_len users.old) (vec_capacity users.old) }
+    requires bids { HasListRoom MOST_SHOWN (vec_len bids.old) (vec_capacity bids.old) }
+    requires latest { HasListRoom MOST_SHOWN (vec_len latest.old) (vec_capacity latest.old) }
     ensures items { items.new.items ≡ items.old.items ++ (shown_in reply.now).items }
     ensures users { users.new.items ≡ users.old.items ++ (shown_in reply.now).users }
     ensures bids { bids.new.items ≡ bids.old.items ++ (shown_in reply.now).bids }

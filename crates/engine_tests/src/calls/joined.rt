@@ -23,7 +23,7 @@ fn begin<N: PhaseName, R: Wait + Print>(
     state: Joined,
     stashes: Vec<Stash>,
 ) -> Result<(JoinedFloor<N>, Vec<JoinedPermit<N>>), Fail>
-    requires shards { states_of state ≡ N.opening }
+    requires shards { states_of state ≡ N.initial }
     requires workers { length state.counters ≡ N.workers }
     requires one { N.workers ≡ 1 }
     requires stashes { vec_len stashes ≡ 1 }
@@ -143,7 +143,7 @@ pub(crate) fn joined_phase<N: PhaseName, R: Wait + Print>(
     store: &Request,
     history: &mut History,
 ) -> Result<Joined, Fail>
-    requires shards { states_of state ≡ N.opening }
+    requires shards { states_of state ≡ N.initial }
     requires workers { length state.counters ≡ N.workers }
     requires one { N.workers ≡ 1 }
     requires stashes { vec_len stashes ≡ 1 }

@@ -25,7 +25,7 @@ fn begin<N: PhaseName, R: Wait + Print>(
     state: Joined,
     hot: &IndexSet<Object>,
 ) -> Result<(SplitFloor<N>, Vec<SplitPermit<N>>), Fail>
-    requires shards { states_of state ≡ N.opening }
+    requires shards { states_of state ≡ N.initial }
     requires workers { length state.counters ≡ N.workers }
     requires one { N.workers ≡ 1 }
     requires phase { state.phase ≡ 1 }
@@ -122,7 +122,7 @@ pub(crate) fn split_phase<N: PhaseName, R: Wait + Print>(
     store: &Request,
     history: &mut History,
 ) -> Result<Joined, Fail>
-    requires shards { states_of state ≡ N.opening }
+    requires shards { states_of state ≡ N.initial }
     requires workers { length state.counters ≡ N.workers }
     requires one { N.workers ≡ 1 }
     requires phase { state.phase ≡ 1 }

@@ -1,6 +1,6 @@
 //! Parts of an auction that are shown to the same windows.
 ghost use Rattle.std.specs.Prelude.{◌≡◌, [], None, false, vec_len};
-ghost use Rattle.item_shards.specs.OpeningBooks.{opening_of, rows_of};
+ghost use Rattle.item_shards.specs.OpeningBooks.{opening_of, rows_of_book};
 
 use crate::comparing::assert_same;
 use crate::runs::testing::{LOOK, given_back, own_scripts, policy_of};
@@ -37,7 +37,7 @@ fn show_parts<J: WindowName, R: Threads + Wait + Sync + Abort>(
     requires publisher { board.old.publisher ≡ record { phases = []; failed = false } }
     requires told { board.old.told ≡ None }
     requires opening { opening_of book.now ≡ J.opening }
-    requires rows { rows_of book.now ≡ J.rows }
+    requires rows { rows_of_book book.now ≡ J.rows }
 {
     let policy = policy_of(2, 2);
     let scripts: [&[Request]; 2] = [&[put_up(*facts), bid(1, 10, 1), bid(1, 20, 2)], &[LOOK]];
@@ -87,7 +87,7 @@ fn show_all<J: WindowName, R: Threads + Wait + Sync + Abort>(
 ) -> Result<(), Fail>
     requires log { log ≡ J.log }
     requires opening { opening_of book.now ≡ J.opening }
-    requires rows { rows_of book.now ≡ J.rows }
+    requires rows { rows_of_book book.now ≡ J.rows }
 {
     let facts = vases(3)?;
     let (publisher, mut made) = match Publisher::<J>::new(rt, alloc, log, book, 2) {

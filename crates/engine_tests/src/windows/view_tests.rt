@@ -1,7 +1,7 @@
 //! What windows show before a phase is published, of one phase and of two, and of the rows that
 //! their auction was opened with.
 ghost use Rattle.std.specs.Prelude.{◌≡◌, ◌<◌, ◌++◌, ◌∷◌, [], length, vec_len, IfOk, false};
-ghost use Rattle.item_shards.specs.OpeningBooks.{opening_of, rows_of};
+ghost use Rattle.item_shards.specs.OpeningBooks.{opening_of, rows_of_book};
 ghost use Rattle.item_shards.specs.Serial.{CanFollow};
 ghost use Rattle.auction_window.specs.Published.{book_of};
 
@@ -190,7 +190,7 @@ fn show_opening<J: WindowName, R: Wait + Abort>(
 ) -> Result<(), Fail>
     requires log { log ≡ J.log }
     requires opening { opening_of book.now ≡ J.opening }
-    requires rows { rows_of book.now ≡ J.rows }
+    requires rows { rows_of_book book.now ≡ J.rows }
 {
     let item = item_seen(&vases(2)?, Some((20, 1)), 1, 2);
     match Publisher::<J>::new(rt, alloc, log, book, 1) {

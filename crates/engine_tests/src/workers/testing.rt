@@ -1,6 +1,6 @@
 //! Four new shards, and their boxes with the key of one worker.
 ghost use Rattle.std.specs.Prelude.{◌≡◌, length, map, IfOk};
-ghost use Rattle.shard_boxes.specs.States.{state_of, AreOpened};
+ghost use Rattle.shard_boxes.specs.States.{state_of, AreInitial};
 ghost use Rattle.phase_permits.specs.Workers.{IsUnused};
 ghost use Rattle.phase_permits.specs.Performing.{HaveOpening};
 
@@ -14,7 +14,7 @@ use std::test::Fail;
 /// Four new shards.
 pub(crate) fn four(alloc: Global) -> Result<Vec<Shard>, AllocError>
     ensures four { IfOk result (λ shards. length (map state_of shards.items) ≡ 4) }
-    ensures opened { IfOk result (λ shards. AreOpened (map state_of shards.items)) }
+    ensures opened { IfOk result (λ shards. AreInitial (map state_of shards.items)) }
     ensures users { IfOk result (λ shards. HaveOpening (map state_of shards.items) (record { users = 10; categories = 2 })) }
 {
     let mut shards = Vec::new(alloc);
@@ -30,9 +30,9 @@ pub(crate) fn boxes_of_one<N: PhaseName, R: Wait>(
     alloc: Global,
     shards: Vec<Shard>,
 ) -> Result<(Boxes<N>, Key<N>), Fail>
-    requires opening { map state_of shards.items ≡ N.opening }
-    requires four { length N.opening ≡ 4 }
-    requires opened { AreOpened N.opening }
+    requires opening { map state_of shards.items ≡ N.initial }
+    requires four { length N.initial ≡ 4 }
+    requires opened { AreInitial N.initial }
     requires workers { 1 ≡ N.workers }
     ensures boxes { IfOk result (λ made. made.1.boxes ≡ made.0) }
     ensures worker { IfOk result (λ made. made.1.worker ≡ 0) }

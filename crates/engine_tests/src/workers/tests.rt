@@ -1,6 +1,6 @@
 //! What the workers of a phase answer where one meets the end of commit numbers: no run is so long.
 ghost use Rattle.std.specs.Prelude.{◌≡◌, ◌∷◌, [], length, map};
-ghost use Rattle.shard_boxes.specs.States.{state_of, AreOpened};
+ghost use Rattle.shard_boxes.specs.States.{state_of, AreInitial};
 ghost use Rattle.phase_permits.specs.Workers.{IsUnused};
 ghost use Rattle.phase_permits.specs.Performing.{HaveOpening};
 ghost use Rattle.phase_workers.specs.Tasks.{lists};
@@ -37,7 +37,7 @@ where
     requires unused { IsUnused key }
     requires one { length scripts.now ≡ 1 }
     requires scripts { lists scripts.now ≡ [] ∷ [] }
-    requires users { HaveOpening N.opening (record { users = 10; categories = 2 }) }
+    requires users { HaveOpening N.initial (record { users = 10; categories = 2 }) }
 {
     let journal = Journal::with_room(alloc, 0, 0, 1)?;
     let mut stash = Stash::with_room(alloc, 1)?;
@@ -60,10 +60,10 @@ fn fault_over<N, R>(rt: &R, alloc: Global, shards: Vec<Shard>) -> Result<Option<
 where
     N: PhaseName + Send + Sync,
     R: Threads + Wait + Sync,
-    requires opening { map state_of shards.items ≡ N.opening }
-    requires four { length N.opening ≡ 4 }
-    requires opened { AreOpened N.opening }
-    requires users { HaveOpening N.opening (record { users = 10; categories = 2 }) }
+    requires opening { map state_of shards.items ≡ N.initial }
+    requires four { length N.initial ≡ 4 }
+    requires opened { AreInitial N.initial }
+    requires users { HaveOpening N.initial (record { users = 10; categories = 2 }) }
     requires workers { 1 ≡ N.workers }
 {
     let (boxes, key) = boxes_of_one::<N, R>(rt, alloc, shards)?;

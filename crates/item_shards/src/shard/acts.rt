@@ -65,7 +65,7 @@ impl Shard {
     /// Does the acts of a commit, one after the other, and sets the clock to its number: it gives the clock that was found. It
     /// takes no memory.
     #[inline(always)]
-    pub fn commit(&mut self, number: u64, acts: &[Act; 2]) -> u64
+    pub fn apply_acts(&mut self, number: u64, acts: &[Act; 2]) -> u64
         requires later { clock self.old < number }
         requires within { number ≤ last_number }
         requires can { CanDo self.old acts.now }

@@ -21,9 +21,9 @@ pub fn refusal_with(stock: &Option<(Facts, u32)>, request: &Request) -> Option<R
 impl Shard {
     ghost use Rattle.auction_rows.specs.declared.requests.Object.TheVariants.{Item};
     ghost use Rattle.auction_rows.specs.Book.{facts_of};
-    ghost use Rattle.item_shards.specs.Values.{left, left_in, stock, stock_in, HasLeft};
+    ghost use Rattle.item_shards.specs.Values.{quantity_left, left_in, stock, stock_in, HasInStock};
     ghost use Rattle.item_shards.specs.Contents.{with_facts, bid_on, bought_of};
-    ghost use Rattle.item_shards.specs.ShardContents.{contents, kept, clock, rooms, with_room, LiesIn, HasRoom, HasChanged, IsSameShard, ForEachBook, KeepsBooks};
+    ghost use Rattle.item_shards.specs.ShardContents.{contents, kept, clock, rooms, with_room, LiesIn, HasItemRoom, HasChanged, IsSameShard, ForEachBook, KeepsBooks};
 
     /// Makes room for an item, which no other call shows. This is the only growth after `new`. Without
     /// memory nothing has changed.
@@ -43,7 +43,7 @@ impl Shard {
         let place = parts.items.len();
         match parts.items.insert(item, ItemRecord::blank()) {
             Ok(_) => {
-                parts.places.note(item, parts.shards, place);
+                parts.hints.note(item, parts.shards, place);
                 Ok(())
             }
             Err(_) => Err(AllocError),
@@ -55,7 +55,7 @@ impl Shard {
         requires here { LiesIn self.now (Item item) }
         ensures contents { result ≡ (contents self.now (Item item)).facts }
         ensures book { ForEachBook self.now (Item item) (λ book. result ≡ facts_of book item) }
-        ensures room { IfSome result (λ _. HasRoom self.now item) }
+        ensures room { IfSome result (λ _. HasItemRoom self.now item) }
     {
         match self.record(item) {
             Some(record) => record.facts,
@@ -66,7 +66,7 @@ impl Shard {
     /// How many of an item are left, if it is stored.
     pub fn left_of(&self, item: ItemId) -> Option<u32>
         requires here { LiesIn self.now (Item item) }
-        ensures contents { result ≡ left (contents self.now (Item item)) }
+        ensures contents { result ≡ quantity_left (contents self.now (Item item)) }
         ensures book { ForEachBook self.now (Item item) (λ book. result ≡ left_in book item) }
     {
         match self.record(item) {
@@ -90,7 +90,7 @@ impl Shard {
 
     pub(crate) fn add_item(&mut self, item: ItemId, facts: Facts)
         requires here { LiesIn self.old (Item item) }
-        requires room { HasRoom self.old item }
+        requires room { HasItemRoom self.old item }
         ensures contents { HasChanged self.old self.new (Item item) (with_facts facts) }
         ensures clock { clock self.new ≡ clock self.old }
         ensures rooms { rooms self.new ≡ rooms self.old }
@@ -106,7 +106,7 @@ impl Shard {
     #[inline(never)]
     pub(crate) fn bid(&mut self, item: ItemId, bid: BidEntry)
         requires here { LiesIn self.old (Item item) }
-        requires room { HasRoom self.old item }
+        requires room { HasItemRoom self.old item }
         requires count { (kept self.old (Item item)).bids.bids + 1 < 2 ^ 64 }
         ensures contents { HasChanged self.old self.new (Item item) (bid_on bid) }
         ensures clock { clock self.new ≡ clock self.old }
@@ -122,8 +122,8 @@ impl Shard {
     #[inline(never)]
     pub(crate) fn buy(&mut self, item: ItemId, quantity: Quantity)
         requires here { LiesIn self.old (Item item) }
-        requires room { HasRoom self.old item }
-        requires left { HasLeft (kept self.old (Item item)) quantity }
+        requires room { HasItemRoom self.old item }
+        requires left { HasInStock (kept self.old (Item item)) quantity }
         ensures contents { HasChanged self.old self.new (Item item) (bought_of quantity) }
         ensures clock { clock self.new ≡ clock self.old }
         ensures rooms { rooms self.new ≡ rooms self.old }

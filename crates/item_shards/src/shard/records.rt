@@ -17,7 +17,7 @@ pub struct ItemRecord {
 
 impl ItemRecord {
     ghost use Rattle.item_shards.specs.Records.{record_value};
-    ghost use Rattle.item_shards.specs.Values.{blank, left, stock, HasLeft};
+    ghost use Rattle.item_shards.specs.Values.{blank, quantity_left, stock, HasInStock};
     ghost use Rattle.item_shards.specs.Contents.{with_facts, bid_on, bought_of, bids_merged};
 
     pub(crate) fn blank() -> ItemRecord
@@ -47,7 +47,7 @@ impl ItemRecord {
     }
 
     pub(crate) fn buy(&mut self, quantity: Quantity)
-        requires { HasLeft (record_value self.old) quantity }
+        requires { HasInStock (record_value self.old) quantity }
         ensures { record_value self.new ≡ bought_of quantity (record_value self.old) }
     {
         if let Some(facts) = self.facts {
@@ -65,7 +65,7 @@ impl ItemRecord {
 
     /// How many are left, if the item is stored.
     pub(crate) fn left(&self) -> Option<u32>
-        ensures { result ≡ left (record_value self.now) }
+        ensures { result ≡ quantity_left (record_value self.now) }
     {
         match self.facts {
             Some(facts) => Some(facts.quantity.value().saturating_sub(self.bought)),
@@ -96,18 +96,18 @@ fn quantity_fits(quantity: Quantity)
 /// The place of each worker's items in the map of items, by an item's serial over the number of shards: a look-up there
 /// needs no hash. A place is a guess: whoever asks looks at the id that is there, and a place may be missing.
 #[derive(Drop)]
-pub(crate) struct Places {
+pub(crate) struct ItemHints {
     by_worker: Vec<Vec<u32>>,
 }
 
-impl Places {
+impl ItemHints {
     /// Places of which none is noted.
-    pub(crate) fn new(alloc: Global) -> Result<Places, AllocError> {
+    pub(crate) fn new(alloc: Global) -> Result<ItemHints, AllocError> {
         let mut by_worker = Vec::with_capacity(alloc, MOST_WORKERS)?;
         for _worker in 0..MOST_WORKERS {
             by_worker.push(Vec::new(alloc))?;
         }
-        Ok(Places { by_worker })
+        Ok(ItemHints { by_worker })
     }
 
     /// The place that was noted for an item of one shard of so many.
@@ -138,7 +138,7 @@ impl Places {
 }
 
 impl Shard {
-    ghost use Rattle.item_shards.specs.ShardContents.{record_in, HasRoom, IsPlaceOf};
+    ghost use Rattle.item_shards.specs.ShardContents.{record_in, HasItemRoom, IsPlaceOf};
 
     // The place that is noted for an item, and its record, if the item lies there.
     #[inline(always)]
@@ -146,7 +146,7 @@ impl Shard {
         ensures record { IfSome result (λ found. record_in self.now item ≡ Some found.1.now) }
         ensures place { IfSome result (λ found. IsPlaceOf self.now.parts.value.items item found.0) }
     {
-        let place = self.parts.places.noted(item, self.parts.shards)?;
+        let place = self.parts.hints.noted(item, self.parts.shards)?;
         let (id, record) = self.parts.items.get_index(place)?;
         if *id == item {
             Some((place, record))
@@ -180,7 +180,7 @@ impl Shard {
     /// The place of an item in the map of items.
     #[inline(always)]
     pub(crate) fn place_of(&self, item: ItemId) -> usize
-        requires room { HasRoom self.now item }
+        requires room { HasItemRoom self.now item }
         ensures { IsPlaceOf self.now.parts.value.items item result }
     {
         match self.find(item) {

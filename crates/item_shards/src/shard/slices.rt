@@ -189,12 +189,12 @@ impl Shard {
     ghost use Rattle.auction_rows.specs.declared.requests.Object.TheVariants.{Item, User, Category};
     ghost use Rattle.item_shards.specs.Slices.{item_slice, user_slice, category_slice, IsOfBoth};
     ghost use Rattle.item_shards.specs.Contents.{bids_merged, comments_merged, items_merged};
-    ghost use Rattle.item_shards.specs.ShardContents.{contents, clock, opening, rooms, LiesIn, HasRoom, HasChanged, IsSameShard};
+    ghost use Rattle.item_shards.specs.ShardContents.{contents, clock, opening, rooms, LiesIn, HasItemRoom, HasChanged, IsSameShard};
 
     /// Merges a slice into the record of an item, which has room. It takes no memory.
     pub fn merge_item(&mut self, item: ItemId, slice: ItemSlice)
         requires here { LiesIn self.old (Item item) }
-        requires room { HasRoom self.old item }
+        requires room { HasItemRoom self.old item }
         requires count { (contents self.old (Item item)).bids.bids + slice.bids < 2 ^ 64 }
         ensures contents { HasChanged self.old self.new (Item item) (bids_merged slice) }
         ensures bids { IsOfBoth item_slice

@@ -58,8 +58,8 @@ of_all floor receipts many are = (
 )
 
 -- a permit is its worker's whatever it answers
-module _ (opening : List ShardState) (floor : FloorState) (w : ℕ) (old new : WorkerState) (was : IsReceipt floor w old) (request : Request) (index : ℕ) where
-  failed_still : (fault : PermitFault) → HasFailed opening (with_try old) new request fault → IsReceipt floor w new
+module _ (initial : List ShardState) (floor : FloorState) (w : ℕ) (old new : WorkerState) (was : IsReceipt floor w old) (request : Request) (index : ℕ) where
+  failed_still : (fault : PermitFault) → HasFailed initial (with_try old) new request fault → IsReceipt floor w new
   failed_still fault failed = record {
     boxes_are = failed.lines.boxes ∙ was.boxes_are;
     worker_is = failed.lines.worker ∙ was.worker_is;
@@ -69,12 +69,12 @@ module _ (opening : List ShardState) (floor : FloorState) (w : ℕ) (old new : W
     begun = ap (λ (s : WorkerState). s.begun) failed.worker ∙ was.begun;
   }
 
-  pub performed : (answer : Result Reply PermitFault) → IfOk answer (λ reply. HasCommitted opening (with_try old) new request index reply)
-      → IfErr answer (HasFailed opening (with_try old) new request) → IsReceipt floor w new
-  performed (Ok reply) done failed = committed opening floor w old new was request index reply done
+  pub performed : (answer : Result Reply PermitFault) → IfOk answer (λ reply. HasCommitted initial (with_try old) new request index reply)
+      → IfErr answer (HasFailed initial (with_try old) new request) → IsReceipt floor w new
+  performed (Ok reply) done failed = committed initial floor w old new was request index reply done
   performed (Err fault) done failed = failed_still fault failed
 
-  pub dealt_with : (answer : Result Done PermitFault) → IfOk answer (HasDealtWith opening (with_try old) new request index)
-      → IfErr answer (HasFailed opening (with_try old) new request) → IsReceipt floor w new
-  dealt_with (Ok done) is failed = dealt opening floor w old new was request index done is
+  pub dealt_with : (answer : Result Done PermitFault) → IfOk answer (HasDealtWith initial (with_try old) new request index)
+      → IfErr answer (HasFailed initial (with_try old) new request) → IsReceipt floor w new
+  dealt_with (Ok done) is failed = dealt initial floor w old new was request index done is
   dealt_with (Err fault) is failed = failed_still fault failed

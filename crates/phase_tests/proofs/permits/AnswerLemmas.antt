@@ -12,18 +12,18 @@ use Rattle.shard_boxes.specs.States.{ShardState}
 abbrev pub IsStill : WorkerState → WorkerState → Type 0
 IsStill old new = (new.key.boxes ≡ old.key.boxes) × (new.opening ≡ old.opening)
 
-module _ (opening : List ShardState) (old new : WorkerState) where
-  pub performed : (request : Request) (index : ℕ) (answer : Result Reply PermitFault) → IfOk answer (λ reply. HasCommitted opening (with_try old) new request index reply)
-      → IfErr answer (HasFailed opening (with_try old) new request) → IsStill old new
+module _ (initial : List ShardState) (old new : WorkerState) where
+  pub performed : (request : Request) (index : ℕ) (answer : Result Reply PermitFault) → IfOk answer (λ reply. HasCommitted initial (with_try old) new request index reply)
+      → IfErr answer (HasFailed initial (with_try old) new request) → IsStill old new
   performed request index (Ok reply) done failed = (done.transacted.put.boxes, ap (λ (d : WorkerState). d.opening) done.worker)
   performed request index (Err fault) done failed = (failed.lines.boxes, ap (λ (s : WorkerState). s.opening) failed.worker)
 
   pub performed_first : (answer : Result (Option Reply) PermitFault) → IfOk answer (λ some. IfNone some (new ≡ with_try old))
-      → IfOk answer (λ some. IfSome some (HasPerformedFirst opening (with_try old) new)) → IfErr answer (HasFailedFirst opening (with_try old) new) → IsStill old new
+      → IfOk answer (λ some. IfSome some (HasPerformedFirst initial (with_try old) new)) → IfErr answer (HasFailedFirst initial (with_try old) new) → IsStill old new
   performed_first (Ok None) none done failed = (ap (λ (p : WorkerState). p.key.boxes) none, ap (λ (p : WorkerState). p.opening) none)
   performed_first (Ok (Some reply)) none done failed = (done.committed.transacted.put.boxes, ap (λ (d : WorkerState). d.opening) done.committed.worker)
   performed_first (Err fault) none done failed = (failed.failed.lines.boxes, ap (λ (s : WorkerState). s.opening) failed.failed.worker)
 
-  pub stored : (request : Request) (index : ℕ) (answer : Option Reply) → IfNone answer (new ≡ old) → IfSome answer (HasCommitted opening old new request index) → IsStill old new
+  pub stored : (request : Request) (index : ℕ) (answer : Option Reply) → IfNone answer (new ≡ old) → IfSome answer (HasCommitted initial old new request index) → IsStill old new
   stored request index None none done = (ap (λ (p : WorkerState). p.key.boxes) none, ap (λ (p : WorkerState). p.opening) none)
   stored request index (Some reply) none done = (done.transacted.put.boxes, ap (λ (d : WorkerState). d.opening) done.worker)

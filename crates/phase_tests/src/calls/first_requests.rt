@@ -1,6 +1,6 @@
 //! A store, asked once more where it is refused memory, and a view that needs none.
 ghost use Rattle.std.specs.Prelude.{◌≡◌, length, map};
-ghost use Rattle.shard_boxes.specs.States.{state_of, AreOpened};
+ghost use Rattle.shard_boxes.specs.States.{state_of, AreInitial};
 ghost use Rattle.phase_permits.specs.Performing.{HaveOpening};
 
 use crate::calls::printing::{look_for_memory, print_journal};
@@ -22,10 +22,10 @@ pub(crate) fn store<N: PhaseName, R: Wait + Print + Abort>(
     shards: Vec<Shard>,
     request: &Request,
 ) -> Result<(Reply, usize), Fail>
-    requires opening { map state_of shards.items ≡ N.opening }
-    requires four { length N.opening ≡ 4 }
-    requires opened { AreOpened N.opening }
-    requires users { HaveOpening N.opening (record { users = 10; categories = 2 }) }
+    requires opening { map state_of shards.items ≡ N.initial }
+    requires four { length N.initial ≡ 4 }
+    requires opened { AreInitial N.initial }
+    requires users { HaveOpening N.initial (record { users = 10; categories = 2 }) }
     requires workers { 1 ≡ N.workers }
 {
     let (boxes, key) = boxes_of_one::<N, R>(rt, alloc, shards)?;
@@ -50,10 +50,10 @@ pub(crate) fn view<N: PhaseName, R: Wait + Print + Abort>(
     alloc: Global,
     shards: Vec<Shard>,
 ) -> Result<(Reply, usize), Fail>
-    requires opening { map state_of shards.items ≡ N.opening }
-    requires four { length N.opening ≡ 4 }
-    requires opened { AreOpened N.opening }
-    requires users { HaveOpening N.opening (record { users = 10; categories = 2 }) }
+    requires opening { map state_of shards.items ≡ N.initial }
+    requires four { length N.initial ≡ 4 }
+    requires opened { AreInitial N.initial }
+    requires users { HaveOpening N.initial (record { users = 10; categories = 2 }) }
     requires workers { 1 ≡ N.workers }
 {
     let (boxes, key) = boxes_of_one::<N, R>(rt, alloc, shards)?;

@@ -19,7 +19,7 @@ pub(crate) fn begin_joined<N: PhaseName, R: Wait>(
     quota: u32,
     stashes: Vec<Stash>,
 ) -> Result<u32, (Joined, Vec<Stash>, BeginFault)>
-    requires shards { states_of state ≡ N.opening }
+    requires shards { states_of state ≡ N.initial }
     requires workers { length state.counters ≡ N.workers }
     requires one { N.workers ≡ 1 }
     requires stashes { vec_len stashes ≡ 1 }
@@ -46,7 +46,7 @@ pub(crate) fn begin_split<N: PhaseName, R: Wait>(
     quota: u32,
     hot: &IndexSet<Object>,
 ) -> Result<u32, (Joined, BeginFault)>
-    requires shards { states_of state ≡ N.opening }
+    requires shards { states_of state ≡ N.initial }
     requires workers { length state.counters ≡ N.workers }
     requires one { N.workers ≡ 1 }
     requires phase { state.phase ≡ 0 }

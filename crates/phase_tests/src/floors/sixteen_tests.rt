@@ -39,7 +39,7 @@ fn joined_phase<N: PhaseName, R: Wait + Abort>(
     store: &Request,
     history: &mut History,
 ) -> Result<Joined, Fail>
-    requires shards { states_of state ≡ N.opening }
+    requires shards { states_of state ≡ N.initial }
     requires workers { length state.counters ≡ N.workers }
     requires sixteen { N.workers ≡ 16 }
     requires phase { state.phase ≡ 0 }
@@ -66,7 +66,7 @@ fn split_phase<N: PhaseName, R: Wait + Abort>(
     hot: &IndexSet<Object>,
     history: &mut History,
 ) -> Result<Joined, Fail>
-    requires shards { states_of state ≡ N.opening }
+    requires shards { states_of state ≡ N.initial }
     requires workers { length state.counters ≡ N.workers }
     requires sixteen { N.workers ≡ 16 }
     requires phase { state.phase ≡ 1 }

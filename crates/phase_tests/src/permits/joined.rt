@@ -40,9 +40,9 @@ pub(crate) fn perform<N: PhaseName, R: Wait + Abort>(
     index: u32,
 ) -> Result<Reply, PermitFault>
     requires of { permit.old.key.boxes ≡ boxes.now }
-    requires users { HaveOpening N.opening permit.old.opening }
+    requires users { HaveOpening N.initial permit.old.opening }
     ensures of { permit.new.key.boxes ≡ boxes.now }
-    ensures users { HaveOpening N.opening permit.new.opening }
+    ensures users { HaveOpening N.initial permit.new.opening }
 {
     assert!(rt; permit.left() > 0 && permit.tries() < MOST_TRIES);
     permit.perform(rt, boxes, request, index)
@@ -55,9 +55,9 @@ pub(crate) fn perform_stashed<N: PhaseName, R: Wait + Abort>(
     permit: &mut JoinedPermit<N>,
 ) -> Result<Option<Reply>, PermitFault>
     requires of { permit.old.key.boxes ≡ boxes.now }
-    requires users { HaveOpening N.opening permit.old.opening }
+    requires users { HaveOpening N.initial permit.old.opening }
     ensures of { permit.new.key.boxes ≡ boxes.now }
-    ensures users { HaveOpening N.opening permit.new.opening }
+    ensures users { HaveOpening N.initial permit.new.opening }
 {
     assert!(rt; permit.tries() < MOST_TRIES);
     permit.perform_stashed(rt, boxes)

@@ -5,7 +5,7 @@ ghost use Rattle.auction_rows.specs.declared.requests.ItemId.{ItemId as Id};
 ghost use Rattle.auction_rows.specs.declared.requests.Object.TheVariants.{Item};
 ghost use Rattle.auction_rows.specs.Footprint.{is_hot};
 ghost use Rattle.auction_rows.specs.Requests.{same_object};
-ghost use Rattle.phase_permits.specs.Slicing.{objects_of, IsStocked};
+ghost use Rattle.phase_permits.specs.Slicing.{hot_objects, IsStocked};
 ghost use Rattle.phase_permits.specs.Workers.{IsUnused};
 ghost use Rattle.phase_permits.specs.Performing.{HaveOpening};
 
@@ -28,9 +28,9 @@ pub(crate) fn split_permit<N: PhaseName>(
 ) -> Result<SplitPermit<N>, AllocError>
     requires worker { key.worker ≡ 0 }
     requires unused { IsUnused key }
-    requires distinct { IsDistinct same_object (objects_of hot.now) }
+    requires distinct { IsDistinct same_object (hot_objects hot.now) }
     requires stocked { AllByRecursion IsStocked hot.now }
-    requires stored { (item : Id) → is_hot (objects_of hot.now) (Item item) ≡ true → item.serial ≡ 0 }
+    requires stored { (item : Id) → is_hot (hot_objects hot.now) (Item item) ≡ true → item.serial ≡ 0 }
     ensures key { IfOk result (λ permit. permit.key ≡ key) }
     ensures users { IfOk result (λ permit.
         permit.opening ≡ record { users = 10; categories = 2 }) }
@@ -84,7 +84,7 @@ pub(crate) fn perform<N: PhaseName, R: Wait + Abort>(
     index: u32,
 ) -> Result<Done, PermitFault>
     requires of { permit.old.key.boxes ≡ boxes.now }
-    requires users { HaveOpening N.opening permit.old.opening }
+    requires users { HaveOpening N.initial permit.old.opening }
 {
     assert!(rt; permit.left() > 0 && permit.tries() < MOST_TRIES);
     permit.perform(rt, boxes, request, index)

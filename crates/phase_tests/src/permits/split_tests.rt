@@ -1,6 +1,6 @@
 //! Stores on hot objects alone.
 ghost use Rattle.std.specs.Prelude.{◌≡◌, length, map};
-ghost use Rattle.shard_boxes.specs.States.{state_of, AreOpened};
+ghost use Rattle.shard_boxes.specs.States.{state_of, AreInitial};
 ghost use Rattle.phase_permits.specs.Performing.{HaveOpening};
 
 use crate::comparing::assert_same;
@@ -37,10 +37,10 @@ fn bids_on_a_hot_item<N: PhaseName, R: Wait + Abort>(
     alloc: Global,
     shards: Vec<Shard>,
 ) -> Result<(), Fail>
-    requires opening { map state_of shards.items ≡ N.opening }
-    requires four { length N.opening ≡ 4 }
-    requires opened { AreOpened N.opening }
-    requires users { HaveOpening N.opening (record { users = 10; categories = 2 }) }
+    requires opening { map state_of shards.items ≡ N.initial }
+    requires four { length N.initial ≡ 4 }
+    requires opened { AreInitial N.initial }
+    requires users { HaveOpening N.initial (record { users = 10; categories = 2 }) }
     requires workers { 1 ≡ N.workers }
 {
     let (boxes, key) = boxes_of_one::<N, R>(rt, alloc, shards)?;
@@ -76,10 +76,10 @@ fn comment_on_a_hot_item<N: PhaseName, R: Wait + Abort>(
     alloc: Global,
     shards: Vec<Shard>,
 ) -> Result<(), Fail>
-    requires opening { map state_of shards.items ≡ N.opening }
-    requires four { length N.opening ≡ 4 }
-    requires opened { AreOpened N.opening }
-    requires users { HaveOpening N.opening (record { users = 10; categories = 2 }) }
+    requires opening { map state_of shards.items ≡ N.initial }
+    requires four { length N.initial ≡ 4 }
+    requires opened { AreInitial N.initial }
+    requires users { HaveOpening N.initial (record { users = 10; categories = 2 }) }
     requires workers { 1 ≡ N.workers }
 {
     let (_boxes, key) = boxes_of_one::<N, R>(rt, alloc, shards)?;
@@ -106,10 +106,10 @@ fn stores_at_the_end<N: PhaseName, R: Wait + Abort>(
     alloc: Global,
     shards: Vec<Shard>,
 ) -> Result<(), Fail>
-    requires opening { map state_of shards.items ≡ N.opening }
-    requires four { length N.opening ≡ 4 }
-    requires opened { AreOpened N.opening }
-    requires users { HaveOpening N.opening (record { users = 10; categories = 2 }) }
+    requires opening { map state_of shards.items ≡ N.initial }
+    requires four { length N.initial ≡ 4 }
+    requires opened { AreInitial N.initial }
+    requires users { HaveOpening N.initial (record { users = 10; categories = 2 }) }
     requires workers { 1 ≡ N.workers }
 {
     let (_boxes, key) = boxes_of_one::<N, R>(rt, alloc, shards)?;

@@ -16,7 +16,7 @@ returns-then-options-clause-unasked g c = IfOk-weaker c.perform_watched.result _
 pub returns-in_err-outcome-clause-cause : goal.returns-in_err-outcome-clause-cause
 returns-in_err-outcome-clause-cause g c =
     let options = c.args.options.now in
-    let rows = opened.rows_of c.args.book.now in
+    let rows = opened.rows_of_book c.args.book.now in
     let scripts = lists c.args.scripts.items in
     let fault = c.in_err-outcome.field-0.0 in
     let refused = c.run.ensures.refused in

@@ -12,7 +12,7 @@ use Rattle.auction_window.specs.Published.{book_of}
 use Rattle.item_shards.specs.OpeningBooks as opened
 use Rattle.phase_floor.specs.States.{StandsFor}
 use Rattle.auction_program.specs.Execution.{HasLastViews, IsNotPerformed, IsNotRun}
-use Rattle.auction_program.specs.Options.{opening_of}
+use Rattle.auction_program.specs.Options.{opening_asked}
 use Rattle.auction_program.specs.Report.{AreViews, IsEnd}
 use Rattle.auction_program.specs.declared.faults.Fault.TheVariants.{Run}
 use Rattle.auction_program.specs.declared.execution.Performed.{Performed}
@@ -23,18 +23,18 @@ pub returns-clause-performs : goal.returns-clause-performs
 returns-clause-performs g c =
     let W = g.J.WindowName in
     let options = c.args.options.now in
-    let rows = opened.rows_of c.args.book.now in
+    let rows = opened.rows_of_book c.args.book.now in
     let outcome = c.in_ok-outcome.outcome in
     let answers = c.in_ok-outcome.ensures in
     let history = outcome.history.entries in
     let shown = answers.board in
     let all : List (List Row) = phase_rows (length outcome.hot.items) history in
-    let book : Book = book_after (opening_of options) rows history in
+    let book : Book = book_after (opening_asked options) rows history in
     let replays = subst (λ o. ReplaysFrom o rows history) c.requires.options answers.outcome.replays in
     let end : IsEnd W.opening W.rows all all outcome.state book = record {
       known = prefix_refl all;
       counted = rows_length (length outcome.hot.items) history ∙ sym answers.outcome.phases;
-      book_is = ap (λ (rs : Book). book_of rs all) (sym c.requires.rows) ∙ shown.book_is ∙ sym (book_after-replays (opening_of options) rows history replays);
+      book_is = ap (λ (rs : Book). book_of rs all) (sym c.requires.rows) ∙ shown.book_is ∙ sym (book_after-replays (opening_asked options) rows history replays);
       opening_is = answers.outcome.opening_is ∙ c.requires.opening;
       stands = subst (λ o. StandsFor outcome.state (book_after o rows history)) c.requires.options answers.outcome.stands;
     } in
@@ -50,7 +50,7 @@ returns-clause-performs g c =
 pub returns-in_err-outcome-clause-cause : goal.returns-in_err-outcome-clause-cause
 returns-in_err-outcome-clause-cause g c =
     let options = c.args.options.now in
-    let rows = opened.rows_of c.args.book.now in
+    let rows = opened.rows_of_book c.args.book.now in
     let scripts = lists c.args.scripts.items in
     let fault = c.in_err-outcome.field-0.0 in
     let refused = c.run_shown.ensures.refused in

@@ -6,10 +6,10 @@ use Rattle.auction_text.specs.Parts.{workers_of}
 use Rattle.auction_text.specs.Readable.{readable_of}
 use Rattle.item_shards.specs.OpeningRows.{opening_rows}
 use Rattle.item_shards.specs.declared.openings.Opened.{Opened}
-use Rattle.auction_program.specs.Options.{opening_of}
+use Rattle.auction_program.specs.Options.{opening_asked}
 use Rattle.auction_program.specs.PartRuns.{Opens, StartsAt}
 use Rattle.auction_program.specs.Serving.{ArePartTold, AreTold, IsNothingTold, nothing_gone}
-use Rattle.auction_program.specs.declared.parts.Start.TheVariants.{Book}
+use Rattle.auction_program.specs.declared.parts.RunStart.TheVariants.{Book}
 use Rattle.auction_program.proofs.FirstPart.{first_not_served, first_opened, first_served}
 use Rattle.auction_program.proofs.ToldLemmas.{same_gone}
 use Rattle.auction_program.proofs.session.serve.Goals as goal
@@ -37,7 +37,7 @@ returns-in_err-served-clause-logged g c =
     first_not_served g.I.Read.remaining accepted contents options logged all c.args.teller.now c.open.new.teller c.serve_part.new.teller (workers_of c.in_ok-left.left) c.most_of_a_part.result c.in_ok-input.field-0
     (c.in_ok-input.ensures.part all can)
     c.most_of_a_part.ensures.asked c.in_ok-left.ensures.workers (record { start = Book c.in_ok-book.book; before = c.none.result })
-    (subst (λ (rs : List Opened). StartsAt options (Book c.in_ok-book.book) (opening_rows (opening_of options) (logged ++ rs))) c.as_slice.ensures.value c.in_ok-book.ensures.starts)
+    (subst (λ (rs : List Opened). StartsAt options (Book c.in_ok-book.book) (opening_rows (opening_asked options) (logged ++ rs))) c.as_slice.ensures.value c.in_ok-book.ensures.starts)
     (same_gone (gone_by c.none.result) nothing_gone c.none.ensures.phases c.none.ensures.requests)
     (subst (λ (rs : List Opened). Opens options logged rs (AreTold accepted contents c.args.teller.now c.open.new.teller)) c.as_slice.ensures.value c.in_ok-book.ensures.opens)
     c.serve_part.ensures.first)
@@ -54,7 +54,7 @@ returns-clause-all g c =
     (first_served g.I.Read.remaining accepted contents options logged all c.args.teller.now c.open.new.teller c.serve_part.new.teller (workers_of c.in_ok-left.left) c.most_of_a_part.result c.in_ok-input.field-0
     (c.in_ok-input.ensures.part all can)
     c.most_of_a_part.ensures.asked c.in_ok-left.ensures.workers (record { start = Book c.in_ok-book.book; before = c.none.result })
-    (subst (λ (rs : List Opened). StartsAt options (Book c.in_ok-book.book) (opening_rows (opening_of options) (logged ++ rs))) c.as_slice.ensures.value c.in_ok-book.ensures.starts)
+    (subst (λ (rs : List Opened). StartsAt options (Book c.in_ok-book.book) (opening_rows (opening_asked options) (logged ++ rs))) c.as_slice.ensures.value c.in_ok-book.ensures.starts)
     (same_gone (gone_by c.none.result) nothing_gone c.none.ensures.phases c.none.ensures.requests)
     (subst (λ (rs : List Opened). Opens options logged rs (AreTold accepted contents c.args.teller.now c.open.new.teller)) c.as_slice.ensures.value c.in_ok-book.ensures.opens)
     c.in_ok-served.served c.in_ok-input.ensures.workers c.in_ok-served.ensures.serves))) c.serve_rest.ensures.all
@@ -71,7 +71,7 @@ returns-clause-fault g c = λ fault is of_input.
     (first_served g.I.Read.remaining accepted contents options logged all c.args.teller.now c.open.new.teller c.serve_part.new.teller (workers_of c.in_ok-left.left) c.most_of_a_part.result c.in_ok-input.field-0
     (c.in_ok-input.ensures.part all can)
     c.most_of_a_part.ensures.asked c.in_ok-left.ensures.workers (record { start = Book c.in_ok-book.book; before = c.none.result })
-    (subst (λ (rs : List Opened). StartsAt options (Book c.in_ok-book.book) (opening_rows (opening_of options) (logged ++ rs))) c.as_slice.ensures.value c.in_ok-book.ensures.starts)
+    (subst (λ (rs : List Opened). StartsAt options (Book c.in_ok-book.book) (opening_rows (opening_asked options) (logged ++ rs))) c.as_slice.ensures.value c.in_ok-book.ensures.starts)
     (same_gone (gone_by c.none.result) nothing_gone c.none.ensures.phases c.none.ensures.requests)
     (subst (λ (rs : List Opened). Opens options logged rs (AreTold accepted contents c.args.teller.now c.open.new.teller)) c.as_slice.ensures.value c.in_ok-book.ensures.opens)
     c.in_ok-served.served c.in_ok-input.ensures.workers c.in_ok-served.ensures.serves))
@@ -88,7 +88,7 @@ returns-clause-logged g c =
     (first_served g.I.Read.remaining accepted contents options logged all c.args.teller.now c.open.new.teller c.serve_part.new.teller (workers_of c.in_ok-left.left) c.most_of_a_part.result c.in_ok-input.field-0
     (c.in_ok-input.ensures.part all can)
     c.most_of_a_part.ensures.asked c.in_ok-left.ensures.workers (record { start = Book c.in_ok-book.book; before = c.none.result })
-    (subst (λ (rs : List Opened). StartsAt options (Book c.in_ok-book.book) (opening_rows (opening_of options) (logged ++ rs))) c.as_slice.ensures.value c.in_ok-book.ensures.starts)
+    (subst (λ (rs : List Opened). StartsAt options (Book c.in_ok-book.book) (opening_rows (opening_asked options) (logged ++ rs))) c.as_slice.ensures.value c.in_ok-book.ensures.starts)
     (same_gone (gone_by c.none.result) nothing_gone c.none.ensures.phases c.none.ensures.requests)
     (subst (λ (rs : List Opened). Opens options logged rs (AreTold accepted contents c.args.teller.now c.open.new.teller)) c.as_slice.ensures.value c.in_ok-book.ensures.opens)
     c.in_ok-served.served c.in_ok-input.ensures.workers c.in_ok-served.ensures.serves)))

@@ -1,5 +1,5 @@
 use Rattle.std.proofs.Common.{◌≡◌, None, Some, subst}
-use Rattle.auction_program.specs.Serving.{AreTold, Serves}
+use Rattle.auction_program.specs.Serving.{AreTold, ServesAll}
 use Rattle.auction_program.proofs.FirstPart.{nothing_told}
 use Rattle.auction_program.proofs.ServingLemmas.{served_first}
 use Rattle.auction_program.proofs.SessionLemmas.{all_served, fault_served, next_first, next_served, session_kept}
@@ -19,7 +19,7 @@ returns-in-All-clause-logged g c = λ logged all start session.
 pub returns-in-Fault-clause-fault : goal.returns-in-Fault-clause-fault
 returns-in-Fault-clause-fault g c = λ fault is input logged all start session.
     let same : c.in-Fault.fault ≡ fault = cc in
-    subst (λ f. Serves c.args.options.now logged all (Some f) (AreTold g.L.Log.accepted g.W.Write.contents start c.loop.teller)) same
+    subst (λ f. ServesAll c.args.options.now logged all (Some f) (AreTold g.L.Log.accepted g.W.Write.contents start c.loop.teller)) same
     (fault_served g.I.Read.remaining g.L.Log.accepted g.W.Write.contents c.args.options.now logged all start c.loop.teller c.loop.teller c.loop.served c.in-Fault.fault
     (rw c.in-Fault.is at (c.loop.invariant logged all start session)))
 

@@ -6,7 +6,7 @@ use Rattle.auction_rows.specs.History.{book_after}
 use Rattle.auction_text.specs.Writing.{IsPartWritten}
 use Rattle.auction_text.specs.declared.output.WriteFault.{WriteFault}
 use Rattle.auction_program.specs.Execution.{added_text, commits_text, ArePartWritten, IsOneWritten}
-use Rattle.auction_program.specs.Options.{opening_of}
+use Rattle.auction_program.specs.Options.{opening_asked}
 use Rattle.auction_program.specs.Report.{report_of}
 use Rattle.auction_run.specs.Phases.{hot_sets}
 use Rattle.auction_program.proofs.WrittenLemmas.{nothing_added, part_of_added, report_added}
@@ -24,7 +24,7 @@ returns-in-Some g c =
     let text = commits_text options rows history in
     let added = added_text options rows history hot in
     let first : Appends old mid text = c.in_ok-write_commits.ensures.whole in
-    let report_is = report_added options.report (opening_of options) (book_after (opening_of options) rows history) history hot _ _ _ c.in-Some.is c.requires
+    let report_is = report_added options.report (opening_asked options) (book_after (opening_asked options) rows history) history hot _ _ _ c.in-Some.is c.requires
     (ap (λ sets. hot_sets sets) c.deref.ensures.value) c.if-not-options.false in
     record {
       whole = on_ok_weaker c.write_report.result
@@ -46,5 +46,5 @@ returns-then-not-options-clause-whole g c =
     let hot = hot_sets c.args.performed.now.hot.items in
     let new = g.W.Write.contents c.write_commits.new.writer in
     nothing_added (g.W.Write.contents c.args.writer.now) new new (commits_text options rows history) (added_text options rows history hot)
-    (ap (λ b. if b then report_of (opening_of options) (book_after (opening_of options) rows history) history hot else []) c.if-not-options.true)
+    (ap (λ b. if b then report_of (opening_asked options) (book_after (opening_asked options) rows history) history hot else []) c.if-not-options.true)
     c.in_ok-write_commits.ensures.whole

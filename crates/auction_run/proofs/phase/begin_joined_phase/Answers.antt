@@ -1,5 +1,5 @@
 use Rattle.std.proofs.Common.{false, length, refl, sym, ap, ◌∙◌}
-use Rattle.phase_permits.specs.Slicing.{objects_of}
+use Rattle.phase_permits.specs.Slicing.{hot_objects}
 use Rattle.auction_run.proofs.PhaseLemmas.{only_memory, not_too_long, given_quotas}
 use Rattle.run_laws.proofs.ScriptLemmas.{lists_length}
 use Rattle.auction_run.proofs.phase.begin_joined_phase.Goals as goal
@@ -29,7 +29,7 @@ returns-in-Ok-clause-begun g c =
       opening_is = start.opens.opening;
       phase_is = start.opens.phase;
       counters_are = start.opens.counters;
-      hot_are = ap objects_of start.cold;
+      hot_are = ap hot_objects start.cold;
       quotas = c.deref.result.now;
       quotas_are = given_quotas c.args.plan.now.policy c.args.plan.now.round.scripts.now c.args.state.phase _ _ _ false c.requires.joined c.requires.first c.deref.ensures.value c.in_ok-quotas.ensures.each;
       handed = c.args.stashes.items;

@@ -3,7 +3,7 @@ use Rattle.std.proofs.lemmas.Result.{IfErr-weaker, IfOk-weaker}
 use Rattle.phase_floor.specs.States.{IsBookOf}
 use Rattle.phase_workers.proofs.WorkLemmas.{err_as}
 use Rattle.auction_rows.specs.History.{book_after}
-use Rattle.item_shards.specs.OpeningBooks.{opening_of, rows_of}
+use Rattle.item_shards.specs.OpeningBooks.{opening_of, rows_of_book}
 use Rattle.run_laws.proofs.ScriptLemmas.{lists_length}
 use Rattle.auction_run.specs.declared.checks.RunFault.TheVariants.{Memory}
 use Rattle.auction_run.specs.GoingOn.{BeginsWith}
@@ -17,44 +17,44 @@ use Rattle.auction_run.proofs.runs.run_checked.Goals as goal
 pub run_from-requires-clause-begins : goal.run_from-requires-clause-begins
 run_from-requires-clause-begins g c κs within = λ cannot.
     let made = c.in_ok-state.ensures in let book = c.args.book.now in
-    cannot (rows_of book) (begins_resumed (opening_of book) (rows_of book) c.args.policy (lists c.args.scripts.now) c.in_ok-state.state _
+    cannot (rows_of_book book) (begins_resumed (opening_of book) (rows_of_book book) c.args.policy (lists c.args.scripts.now) c.in_ok-state.state _
     made.opening made.phase made.shards made.workers (lists_length c.args.scripts.now) made.counters made.stands book.is_book c.requires.workers c.requires.short)
 
 pub run_from-requires-clause-board : goal.run_from-requires-clause-board
 run_from-requires-clause-board g c κs within = λ watched.
     let made = c.in_ok-state.ensures in let book = c.args.book.now in record {
-      rows = rows_of book;
+      rows = rows_of_book book;
       before = [];
-      begins = begins_resumed (opening_of book) (rows_of book) c.args.policy (lists c.args.scripts.now) c.in_ok-state.state _
+      begins = begins_resumed (opening_of book) (rows_of_book book) c.args.policy (lists c.args.scripts.now) c.in_ok-state.state _
           made.opening made.phase made.shards made.workers (lists_length c.args.scripts.now) made.counters made.stands book.is_book c.requires.workers c.requires.short;
-      has_them = subst (λ o. g.B.Board.has c.args.board.now o (rows_of book) []) (sym made.opening) c.requires.board;
+      has_them = subst (λ o. g.B.Board.has c.args.board.now o (rows_of_book book) []) (sym made.opening) c.requires.board;
     }
 
 module _ (g : given.Over) (c : goal.After-run_from g) where
-  begins : BeginsWith c.in_ok-state.state (rows_of c.args.book.now) c.args.policy (lists c.args.scripts.now)
+  begins : BeginsWith c.in_ok-state.state (rows_of_book c.args.book.now) c.args.policy (lists c.args.scripts.now)
   begins =
       let made = c.in_ok-state.ensures in let book = c.args.book.now in
-      begins_resumed (opening_of book) (rows_of book) c.args.policy (lists c.args.scripts.now) c.in_ok-state.state _
+      begins_resumed (opening_of book) (rows_of_book book) c.args.policy (lists c.args.scripts.now) c.in_ok-state.state _
       made.opening made.phase made.shards made.workers (lists_length c.args.scripts.now) made.counters made.stands book.is_book c.requires.workers c.requires.short
 
-  has_none : g.B.Board.has c.args.board.now c.in_ok-state.state.opening (rows_of c.args.book.now) []
-  has_none = subst (λ o. g.B.Board.has c.args.board.now o (rows_of c.args.book.now) []) (sym c.in_ok-state.ensures.opening) c.requires.board
+  has_none : g.B.Board.has c.args.board.now c.in_ok-state.state.opening (rows_of_book c.args.book.now) []
+  has_none = subst (λ o. g.B.Board.has c.args.board.now o (rows_of_book c.args.book.now) []) (sym c.in_ok-state.ensures.opening) c.requires.board
 
 pub returns-clause-outcome : goal.returns-clause-outcome
 returns-clause-outcome g c =
-    let rows = rows_of c.args.book.now in let scripts = lists c.args.scripts.now in
+    let rows = rows_of_book c.args.book.now in let scripts = lists c.args.scripts.now in
     IfOk-weaker c.run_from.result _ (IsOutcome (opening_of c.args.book.now) rows c.args.policy scripts)
     (λ outcome all. subst (λ o. IsOutcome o rows c.args.policy scripts outcome) c.in_ok-state.ensures.opening (all rows (begins g c))) c.run_from.ensures.outcome
 
 pub returns-clause-left : goal.returns-clause-left
 returns-clause-left g c =
     let book = c.args.book.now in
-    IfOk-weaker c.run_from.result _ (λ outcome. IsBookOf outcome.state (book_after (opening_of book) (rows_of book) outcome.history.entries))
-    (left_book (opening_of book) (rows_of book) c.args.policy (lists c.args.scripts.now) book.is_book c.requires.workers.own) (returns-clause-outcome g c)
+    IfOk-weaker c.run_from.result _ (λ outcome. IsBookOf outcome.state (book_after (opening_of book) (rows_of_book book) outcome.history.entries))
+    (left_book (opening_of book) (rows_of_book book) c.args.policy (lists c.args.scripts.now) book.is_book c.requires.workers.own) (returns-clause-outcome g c)
 
 pub returns-clause-board : goal.returns-clause-board
 returns-clause-board g c =
-    let rows = rows_of c.args.book.now in
+    let rows = rows_of_book c.args.book.now in
     IfOk-weaker c.run_from.result _ (HasShownAll g.B.Board.has (opening_of c.args.book.now) rows c.run_from.new.board)
     (λ outcome all. subst (λ o. HasShownAll g.B.Board.has o rows c.run_from.new.board outcome) c.in_ok-state.ensures.opening (all rows [] (begins g c) (has_none g c))) c.run_from.ensures.board
 
@@ -62,13 +62,13 @@ pub returns-clause-up_to_date : goal.returns-clause-up_to_date
 returns-clause-up_to_date g c =
     let book = c.args.book.now in
     of_both c.run_from.result _ _ _
-    (λ outcome is shown. up_to_date g.B.Board.has (opening_of book) (rows_of book) [] _ outcome.history.entries c.run_from.new.board outcome.state shown is.replays is.opening_is
-    (left_book (opening_of book) (rows_of book) c.args.policy (lists c.args.scripts.now) book.is_book c.requires.workers.own outcome is))
+    (λ outcome is shown. up_to_date g.B.Board.has (opening_of book) (rows_of_book book) [] _ outcome.history.entries c.run_from.new.board outcome.state shown is.replays is.opening_is
+    (left_book (opening_of book) (rows_of_book book) c.args.policy (lists c.args.scripts.now) book.is_book c.requires.workers.own outcome is))
     (returns-clause-outcome g c) (returns-clause-board g c)
 
 pub returns-clause-board_after_fault : goal.returns-clause-board_after_fault
 returns-clause-board_after_fault g c =
-    let rows = rows_of c.args.book.now in let scripts = lists c.args.scripts.now in
+    let rows = rows_of_book c.args.book.now in let scripts = lists c.args.scripts.now in
     IfErr-weaker c.run_from.result _ (HasShownFirst g.B.Board.has g.B.Board.has_refused (opening_of c.args.book.now) rows c.args.policy scripts c.run_from.new.board)
     (λ fault all. subst (λ o. HasShownFirst g.B.Board.has g.B.Board.has_refused o rows c.args.policy scripts c.run_from.new.board fault) c.in_ok-state.ensures.opening
     (all rows [] (begins g c) (has_none g c))) c.run_from.ensures.board_after_fault
@@ -77,5 +77,5 @@ pub returns-in_err-state-clause-board_after_fault : goal.returns-in_err-state-cl
 returns-in_err-state-clause-board_after_fault g c =
     let B = g.B.Board in
     let book = c.args.book.now in
-    err_as c.from_residual.result Memory (HasShownFirst B.has B.has_refused (opening_of book) (rows_of book) c.args.policy (lists c.args.scripts.now) c.args.board.now) c.from_residual.ensures.1
-    (none_shown B.has B.has_refused (opening_of book) (rows_of book) [] c.args.policy (lists c.args.scripts.now) c.args.board.now c.requires.board Memory)
+    err_as c.from_residual.result Memory (HasShownFirst B.has B.has_refused (opening_of book) (rows_of_book book) c.args.policy (lists c.args.scripts.now) c.args.board.now) c.from_residual.ensures.1
+    (none_shown B.has B.has_refused (opening_of book) (rows_of_book book) [] c.args.policy (lists c.args.scripts.now) c.args.board.now c.requires.board Memory)

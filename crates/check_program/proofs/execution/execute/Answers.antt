@@ -13,6 +13,6 @@ returns g c =
     let reads : IfSome (g.I.Read.remaining c.args.reader) (λ bytes. input_of options.workers bytes ≡ Ok (record { rows = rows; scripts = lists c.deref.result.now })) =
     subst (λ seen. IfSome (g.I.Read.remaining c.args.reader) (λ bytes. input_of options.workers bytes ≡ Ok (record { rows = rows; scripts = lists seen })))
     (sym c.deref.ensures.value) c.in_ok-input.ensures.input in
-    known options rows (lists c.deref.result.now) (book.opening_of c.in_ok-book.book) (book.rows_of c.in_ok-book.book) c.in_ok-verdict.verdict
+    known options rows (lists c.deref.result.now) (book.opening_of c.in_ok-book.book) (book.rows_of_book c.in_ok-book.book) c.in_ok-verdict.verdict
     c.in_ok-book.ensures.opening c.in_ok-book.ensures.rows c.in_ok-book.ensures.accepted
     (g.I.Read.remaining c.args.reader) (g.H.Read.remaining c.args.history.now) reads c.in_ok-verdict.ensures.verdict c.in_ok-verdict.ensures.accepted

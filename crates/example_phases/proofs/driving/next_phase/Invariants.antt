@@ -4,7 +4,7 @@ use Rattle.example_phases.proofs.driving.next_phase.Given as goal
 
 -- each phase opens with its state's shards and workers
 abbrev pub ghosts-joined_phase : goal.ghosts-joined_phase
-ghosts-joined_phase g a = record { opening = states_of a.auction.state; workers = length a.auction.state.counters }
+ghosts-joined_phase g a = record { initial = states_of a.auction.state; workers = length a.auction.state.counters }
 
 abbrev pub ghosts-split_phase : goal.ghosts-split_phase
-ghosts-split_phase g a = record { opening = states_of a.auction.state; workers = length a.auction.state.counters }
+ghosts-split_phase g a = record { initial = states_of a.auction.state; workers = length a.auction.state.counters }

@@ -1,5 +1,5 @@
 use Rattle.std.proofs.Common.{sym, subst, arith}
-use Rattle.closing_laws.specs.Merging.{CanTake}
+use Rattle.closing_laws.specs.Merging.{CanMergeInto}
 use Rattle.phase_floor.specs.Closings.{IsKnown}
 use Rattle.phase_floor.proofs.Merges.{placed}
 use Rattle.phase_floor.proofs.close.merge.Goals as goal
@@ -11,7 +11,7 @@ merge_into-requires c =
     record {
       lies = p.lies;
       known = subst (λ opening. IsKnown opening c.args.object) (sym p.opening_is) c.requires.known;
-      can = subst (λ value. CanTake value (c.args.object, c.args.slice)) p.value_is c.requires.can;
+      can = subst (λ value. CanMergeInto value (c.args.object, c.args.slice)) p.value_is c.requires.can;
     }
 
 pub returns : goal.returns

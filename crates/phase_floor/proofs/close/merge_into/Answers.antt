@@ -2,14 +2,14 @@ use Rattle.std.proofs.Common.{subst}
 use Rattle.auction_rows.specs.declared.requests.Object.TheVariants.{Item, User, Category}
 use Rattle.item_shards.specs.declared.shard.slices.Slice.TheVariants as slice
 use Rattle.item_shards.specs.ShardContents.{LiesIn, contents, opening}
-use Rattle.closing_laws.specs.Merging.{CanTake}
+use Rattle.closing_laws.specs.Merging.{CanMergeInto}
 use Rattle.phase_floor.specs.Closings.{IsKnown}
 use Rattle.phase_floor.proofs.Merges.{room_of, with_merged}
 use Rattle.phase_floor.proofs.close.merge_into.Goals as goal
 
 pub merge_item-requires : goal.merge_item-requires
 merge_item-requires c =
-    let can = subst (λ pair. CanTake (contents c.args.shard.now pair.0) pair) (λ i. (c.in-Item-Item.is-0 i, c.in-Item-Item.is-1 i)) c.requires.can in
+    let can = subst (λ pair. CanMergeInto (contents c.args.shard.now pair.0) pair) (λ i. (c.in-Item-Item.is-0 i, c.in-Item-Item.is-1 i)) c.requires.can in
     record {
       here = subst (LiesIn c.args.shard.now) c.in-Item-Item.is-0 c.requires.lies;
       room = room_of c.args.shard.now c.in-Item-Item.item can.0;
@@ -23,7 +23,7 @@ returns-in-Item-Item c =
 
 pub merge_user-requires : goal.merge_user-requires
 merge_user-requires c =
-    let can = subst (λ pair. CanTake (contents c.args.shard.now pair.0) pair) (λ i. (c.in-User-User.is-0 i, c.in-User-User.is-1 i)) c.requires.can in
+    let can = subst (λ pair. CanMergeInto (contents c.args.shard.now pair.0) pair) (λ i. (c.in-User-User.is-0 i, c.in-User-User.is-1 i)) c.requires.can in
     record {
       here = subst (LiesIn c.args.shard.now) c.in-User-User.is-0 c.requires.lies;
       known = subst (IsKnown (opening c.args.shard.now)) c.in-User-User.is-0 c.requires.known;

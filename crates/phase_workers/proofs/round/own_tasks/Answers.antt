@@ -31,8 +31,8 @@ loop-permit-preserved g c =
     let made : task (g.P.Permit.shows c.in-Some.permit) c.as_slice.result.now c.args.round.first ≡ t =
     (λ i. task (g.P.Permit.shows c.in-Some.permit) (c.as_slice.ensures.value i) c.args.round.first)
     ∙ ap (λ (v : Vec Request Global). task (g.P.Permit.shows c.in-Some.permit) v.items c.args.round.first) (sym c.index-round-worker.is) in
-    let more = own_more (CanBeDone g.N.PhaseName.opening c.args.boxes.now)
-    (λ own. CanBeDone g.N.PhaseName.opening own.post.boxes.now (task (g.P.Permit.shows own.permit) own.script.now own.first)
+    let more = own_more (CanBeDone g.N.PhaseName.initial c.args.boxes.now)
+    (λ own. CanBeDone g.N.PhaseName.initial own.post.boxes.now (task (g.P.Permit.shows own.permit) own.script.now own.first)
     × IsPermitOf own.post.phase own.post.worker (g.P.Permit.shows own.permit))
     (λ own. task (g.P.Permit.shows own.permit) own.script.now own.first)
     c.loop-permit.made.items c.push_reserved.new.self.items
@@ -50,7 +50,7 @@ loop-permit-preserved g c =
     (next_task g.P.Permit.shows c.args.round.first (into_iter_items c.loop-permit.permits) (into_iter_items c.next.new.self) c.in-Some.permit (drop n (lists c.args.round.scripts.now))
     (drop (vec_len c.push_reserved.new.self) (lists c.args.round.scripts.now)) script.items step.0
     (next_script c.args.round.scripts.now n (vec_len c.push_reserved.new.self) script within here push.len))
-    (λ can. (subst (CanBeDone g.N.PhaseName.opening c.args.boxes.now) (sym made) can, own_post)) was.2 was.3 was.4 in (
+    (λ can. (subst (CanBeDone g.N.PhaseName.initial c.args.boxes.now) (sym made) can, own_post)) was.2 was.3 was.4 in (
       one_made _ _ _ _ _ push.len step.1 was.0,
       subst (λ n. length c.args.round.scripts.now ≤ n) (sym push.capacity) was.1,
       more.0,
@@ -80,8 +80,8 @@ loop-permit-init g c =
     λ i. tasks (map g.P.Permit.shows (sym given i)) (drop (sym made.len i) scripts) first in (
       ap (λ n. n + into_iter_len permits.result) made.len ∙ zero-add _ ∙ permits.ensures.len ∙ c.requires.workers,
       made.capacity,
-      subst (AllByRecursion (CanBeDone g.N.PhaseName.opening c.args.boxes.now)) same c.requires.can,
-      subst (AllByRecursion (λ own. CanBeDone g.N.PhaseName.opening own.post.boxes.now (task (g.P.Permit.shows own.permit) own.script.now own.first)
+      subst (AllByRecursion (CanBeDone g.N.PhaseName.initial c.args.boxes.now)) same c.requires.can,
+      subst (AllByRecursion (λ own. CanBeDone g.N.PhaseName.initial own.post.boxes.now (task (g.P.Permit.shows own.permit) own.script.now own.first)
           × IsPermitOf own.post.phase own.post.worker (g.P.Permit.shows own.permit))) (sym made.items) tt,
       (λ i. map (λ own. task (g.P.Permit.shows own.permit) own.script.now own.first) (made.items i) ++ tasks (map g.P.Permit.shows (into_iter_items permits.result)) (drop (vec_len c.in-Ok.made) scripts) first) ∙ sym same,
       subst (λ n. ArePermitsOf c.args.round.phase n (map g.P.Permit.shows (into_iter_items permits.result))) (sym made.len)

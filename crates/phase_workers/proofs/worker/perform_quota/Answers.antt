@@ -46,8 +46,8 @@ returns-in_err-perform_next-clause-stopped g c =
     let next : take (k + 1) calls ≡ take k calls ++ (first + k, request) ∷ [] =
     next_call first old.left k c.args.script.now request less c.requires.given c.index-script-index.is in
     let new : WorkerState = g.P.Permit.shows c.perform_next.new.permit in
-    err_as c.from_residual.result c.in_err-perform_next.field-0.0 (HasStopped false g.N.PhaseName.opening calls old new) c.from_residual.ensures.1
-    (stopped_next g.N.PhaseName.opening old (g.P.Permit.shows c.loop-place.permit) new c.in_err-perform_next.field-0.0 k calls (first + k, request) next
+    err_as c.from_residual.result c.in_err-perform_next.field-0.0 (HasStopped false g.N.PhaseName.initial calls old new) c.from_residual.ensures.1
+    (stopped_next g.N.PhaseName.initial old (g.P.Permit.shows c.loop-place.permit) new c.in_err-perform_next.field-0.0 k calls (first + k, request) next
     was.1 was.2 c.in_err-perform_next.ensures.failed)
 
 pub loop-place-init : goal.loop-place-init
@@ -64,7 +64,7 @@ pub perform_next-requires-clause-of : goal.perform_next-requires-clause-of
 perform_next-requires-clause-of g c = c.loop-place.invariant.0.boxes ∙ c.requires.of
 
 pub perform_next-requires-clause-opening : goal.perform_next-requires-clause-opening
-perform_next-requires-clause-opening g c = subst (HaveOpening g.N.PhaseName.opening) (sym c.loop-place.invariant.0.opening) c.requires.opening
+perform_next-requires-clause-opening g c = subst (HaveOpening g.N.PhaseName.initial) (sym c.loop-place.invariant.0.opening) c.requires.opening
 
 pub perform_next-requires-clause-left : goal.perform_next-requires-clause-left
 perform_next-requires-clause-left g c = some_left _ _ _ c.loop-place.invariant.3 (subst (λ n. c.loop-place.place < n) c.quota_left-place-end.ensures c.loop-place-test.true)

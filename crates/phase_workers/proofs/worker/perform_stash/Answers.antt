@@ -3,7 +3,7 @@ use Rattle.std.proofs.lemmas.List.{append-nil, take_all, drop_all}
 use Rattle.auction_rows.specs.declared.requests.Request.{Request}
 use Rattle.phase_permits.specs.Workers.{WorkerState}
 use Rattle.phase_permits.specs.Performing.{HaveOpening}
-use Rattle.phase_workers.specs.Working.{committed, stashed, taken, kept, hot_for, put_off, HasPerformedWaiting, HasStopped}
+use Rattle.phase_workers.specs.Working.{committed, stashed, taken, still_waiting, hot_for, put_off, HasPerformedWaiting, HasStopped}
 use Rattle.phase_workers.proofs.WorkLemmas.{same, same_after, takes_some, stash_goes, stash_more, stash_less, err_as, stopped_first, try_left, tries_by}
 use Rattle.phase_workers.proofs.worker.perform_stash.Goals as goal
 
@@ -18,10 +18,10 @@ loop-call-preserved g c =
     let own : List (ℕ × Request) = taken takes old in
     let yes : takes ≡ true = takes_some takes old k (subst (λ n. c.loop-call._call < n) c.waiting-call-end.ensures c.loop-call-test.true) in
     let step : HasPerformedWaiting true mid new = subst (λ t. HasPerformedWaiting t mid new) yes c.in_ok-perform_first.ensures.performed in
-    let waits : stashed mid ≡ drop k own = was.2 ∙ ap (λ t. kept t old ++ drop k own) yes in (
+    let waits : stashed mid ≡ drop k own = was.2 ∙ ap (λ t. still_waiting t old ++ drop k own) yes in (
       same_after old mid new was.0 step.same,
       stash_more k own (committed mid) (committed old) (committed new) (step.calls ∙ ap (λ ss. committed mid ++ take 1 ss) waits) was.1,
-      stash_less k own (stashed mid) (stashed new) step.stash waits ∙ sym (ap (λ t. kept t old ++ drop (k + 1) own) yes),
+      stash_less k own (stashed mid) (stashed new) step.stash waits ∙ sym (ap (λ t. still_waiting t old ++ drop (k + 1) own) yes),
       step.left ∙ was.3,
       omega (arith, step.tries, was.4),
       stash_goes (hot_for old) (hot_for mid) k own (stashed mid) was.0.hot waits was.5 step.goes,
@@ -32,7 +32,7 @@ returns-clause-done g c =
     let was = c.loop-call.invariant in
     let old : WorkerState = g.P.Permit.shows c.args.permit.now in
     let own : List (ℕ × Request) = taken g.P.Permit.takes_stash old in
-    let rest : List (ℕ × Request) = kept g.P.Permit.takes_stash old in
+    let rest : List (ℕ × Request) = still_waiting g.P.Permit.takes_stash old in
     let all = subst (λ n. n ≤ c.loop-call._call) c.waiting-call-end.ensures c.loop-call-test.false in
     record {
       same = was.0;
@@ -49,8 +49,8 @@ returns-in_err-perform_first-clause-stopped g c =
     let takes : Bool = g.P.Permit.takes_stash in
     let old : WorkerState = g.P.Permit.shows c.args.permit.now in
     let new : WorkerState = g.P.Permit.shows c.perform_first.new.permit in
-    err_as c.from_residual.result c.in_err-perform_first.field-0.0 (HasStopped takes g.N.PhaseName.opening (taken takes old) old new) c.from_residual.ensures.1
-    (stopped_first g.N.PhaseName.opening old (g.P.Permit.shows c.loop-call.permit) new c.in_err-perform_first.field-0.0 takes c.loop-call._call
+    err_as c.from_residual.result c.in_err-perform_first.field-0.0 (HasStopped takes g.N.PhaseName.initial (taken takes old) old new) c.from_residual.ensures.1
+    (stopped_first g.N.PhaseName.initial old (g.P.Permit.shows c.loop-call.permit) new c.in_err-perform_first.field-0.0 takes c.loop-call._call
     (takes_some takes old c.loop-call._call (subst (λ n. c.loop-call._call < n) c.waiting-call-end.ensures c.loop-call-test.true))
     was.1 was.2 was.5 c.in_err-perform_first.ensures.failed)
 
@@ -58,7 +58,7 @@ pub perform_first-requires-clause-of : goal.perform_first-requires-clause-of
 perform_first-requires-clause-of g c = c.loop-call.invariant.0.boxes ∙ c.requires.of
 
 pub perform_first-requires-clause-opening : goal.perform_first-requires-clause-opening
-perform_first-requires-clause-opening g c = subst (HaveOpening g.N.PhaseName.opening) (sym c.loop-call.invariant.0.opening) c.requires.opening
+perform_first-requires-clause-opening g c = subst (HaveOpening g.N.PhaseName.initial) (sym c.loop-call.invariant.0.opening) c.requires.opening
 
 pub perform_first-requires-clause-tries : goal.perform_first-requires-clause-tries
 perform_first-requires-clause-tries g c = try_left _ _ _ _ _ c.loop-call.invariant.4 (subst (λ n. c.loop-call._call < n) c.waiting-call-end.ensures c.loop-call-test.true) c.requires.tries

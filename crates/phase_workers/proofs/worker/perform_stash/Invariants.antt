@@ -1,5 +1,5 @@
 use Rattle.std.proofs.Common.{◌≡◌, ◌+◌, ◌++◌, ◌≤◌, [], take, drop}
-use Rattle.phase_workers.specs.Working.{committed, stashed, taken, kept, hot_for, put_off, IsSamePermit}
+use Rattle.phase_workers.specs.Working.{committed, stashed, taken, still_waiting, hot_for, put_off, IsSamePermit}
 use Rattle.phase_workers.proofs.worker.perform_stash.Given as goal
 
 -- the first so many that are taken of the stash are committed, since none is to be put off, and the others wait
@@ -9,7 +9,7 @@ invariant-loop-call g l =
     let mid = g.P.Permit.shows l.permit in
     IsSamePermit old mid
     × (committed mid ≡ committed old ++ take l._call (taken g.P.Permit.takes_stash old))
-    × (stashed mid ≡ kept g.P.Permit.takes_stash old ++ drop l._call (taken g.P.Permit.takes_stash old))
+    × (stashed mid ≡ still_waiting g.P.Permit.takes_stash old ++ drop l._call (taken g.P.Permit.takes_stash old))
     × (mid.left ≡ old.left)
     × (mid.tries ≤ old.tries + l._call)
     × (put_off (hot_for old) (take l._call (taken g.P.Permit.takes_stash old)) ≡ [])

@@ -22,8 +22,8 @@ returns-in_err-perform_stash-clause-stopped g c =
     let old : WorkerState = g.P.Permit.shows c.args.permit.now in
     let takes : Bool = g.P.Permit.takes_stash in
     let new : WorkerState = g.P.Permit.shows c.perform_stash.new.permit in
-    err_as c.from_residual.result c.in_err-perform_stash.field-0.0 (HasMetFault takes g.N.PhaseName.opening (task old c.args.script.now c.args.first) new) c.from_residual.ensures.1
-    (stopped_early g.N.PhaseName.opening old old new c.in_err-perform_stash.field-0.0 takes (taken takes old)
+    err_as c.from_residual.result c.in_err-perform_stash.field-0.0 (HasMetFault takes g.N.PhaseName.initial (task old c.args.script.now c.args.first) new) c.from_residual.ensures.1
+    (stopped_early g.N.PhaseName.initial old old new c.in_err-perform_stash.field-0.0 takes (taken takes old)
     (calls_from c.args.first old.left c.args.script.now) c.in_err-perform_stash.ensures.stopped)
 
 pub returns-clause-done : goal.returns-clause-done
@@ -43,7 +43,7 @@ returns-clause-stopped g c =
     let takes : Bool = g.P.Permit.takes_stash in
     let stash = c.in_ok-perform_stash.ensures.done in
     let calls : List (ℕ × Request) = calls_from c.args.first mid.left c.args.script.now in
-    IfErr-weaker c.perform_quota.result (HasStopped false g.N.PhaseName.opening calls mid new) (HasMetFault takes g.N.PhaseName.opening (task old c.args.script.now c.args.first) new)
-    (λ fault. stopped_late g.N.PhaseName.opening old mid new fault takes calls (calls_from c.args.first old.left c.args.script.now)
+    IfErr-weaker c.perform_quota.result (HasStopped false g.N.PhaseName.initial calls mid new) (HasMetFault takes g.N.PhaseName.initial (task old c.args.script.now c.args.first) new)
+    (λ fault. stopped_late g.N.PhaseName.initial old mid new fault takes calls (calls_from c.args.first old.left c.args.script.now)
     stash.go stash.calls stash.stash stash.same.hot (ap (λ n. calls_from c.args.first n c.args.script.now) stash.left))
     c.perform_quota.ensures.stopped

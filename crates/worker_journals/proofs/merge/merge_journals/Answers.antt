@@ -4,7 +4,7 @@ use Rattle.std.specs.List.Sorted.{IsPermutation}
 use Rattle.std.proofs.lemmas.List.{append-nil}
 use Rattle.phase_laws.specs.Order.{IsAscending, part}
 use Rattle.auction_rows.specs.declared.rows.Entry.{Entry}
-use Rattle.worker_journals.specs.Journals.{IsLawful, entry_number, entry_worker}
+use Rattle.worker_journals.specs.Journals.{IsLawfulJournal, entry_number, entry_worker}
 use Rattle.worker_journals.specs.Merged.{merged}
 use Rattle.worker_journals.specs.Places.{left_of, first_number, IsLeastOf}
 use Rattle.worker_journals.proofs.MergedLemmas.{all_entries, merged_ascends, merged_parts, merged_permutes}
@@ -30,7 +30,7 @@ loop-worker-init c =
     let value = c.deref-2.ensures.value in
     record {
       merging = starts_merging journals places numbers c.len.result (omega (arith, c.len.ensures, c.args.journals.ok.0)) c.requires.by_worker
-          (subst (AllByRecursion IsLawful) value c.in_ok-numbers.ensures.lawful) none (c.in_ok-numbers.ensures.numbers ∙ ap (map first_number) value);
+          (subst (AllByRecursion IsLawfulJournal) value c.in_ok-numbers.ensures.lawful) none (c.in_ok-numbers.ensures.numbers ∙ ap (map first_number) value);
       told = ap (λ es. es ++ merged (left_of journals places)) c.in_ok-entries.ensures.items
           ∙ ap merged (starts_before journals places numbers c.len.result none);
     }

@@ -4,7 +4,7 @@ use Rattle.engine_tests.proofs.calls.phases.two_phases.Given as goal
 
 -- each phase opens with its state's shards and its worker
 abbrev pub ghosts-joined_phase : goal.ghosts-joined_phase
-ghosts-joined_phase g a = record { opening = states_of a.state; workers = length a.state.counters }
+ghosts-joined_phase g a = record { initial = states_of a.state; workers = length a.state.counters }
 
 abbrev pub ghosts-split_phase : goal.ghosts-split_phase
-ghosts-split_phase g a = record { opening = states_of a.state; workers = length a.state.counters }
+ghosts-split_phase g a = record { initial = states_of a.state; workers = length a.state.counters }

@@ -2,4 +2,4 @@ use Rattle.phase_floor.proofs.Receipts.{dealt}
 use Rattle.engine_tests.proofs.calls.split.attempt.Goals as goal
 
 pub returns-in-Ok : goal.returns-in-Ok
-returns-in-Ok g c = dealt g.N.PhaseName.opening c.args.floor.now 0 c.args.permit.now c.perform.new.self c.requires c.args.request.now c.args.index c.in-Ok.done c.in-Ok.ensures.dealt
+returns-in-Ok g c = dealt g.N.PhaseName.initial c.args.floor.now 0 c.args.permit.now c.perform.new.self c.requires c.args.request.now c.args.index c.in-Ok.done c.in-Ok.ensures.dealt

@@ -12,12 +12,12 @@ use Rattle.phase_workers.specs.Working.{stashed, ArePermitsOf, IsPermitOf}
 use Rattle.engine_tests.proofs.workers.tests.fault_at_the_end.Goals as goal
 
 -- the task of one worker, who has no script
-alone : (opening : List ShardState) (boxes : List BoxId) (permit : WorkerState) (permits : List WorkerState) (scripts : List (List Request))
-    → permits ≡ permit ∷ [] → scripts ≡ [] ∷ [] → CanBeDone opening boxes (task permit [] 0)
-    → AllByRecursion (CanBeDone opening boxes) (tasks permits scripts 0)
-alone opening boxes permit permits scripts is are can =
-    subst (λ (ps : List WorkerState). AllByRecursion (CanBeDone opening boxes) (tasks ps scripts 0)) (sym is)
-    (subst (λ (ss : List (List Request)). AllByRecursion (CanBeDone opening boxes) (tasks (permit ∷ []) ss 0)) (sym are) (can, tt))
+alone : (initial : List ShardState) (boxes : List BoxId) (permit : WorkerState) (permits : List WorkerState) (scripts : List (List Request))
+    → permits ≡ permit ∷ [] → scripts ≡ [] ∷ [] → CanBeDone initial boxes (task permit [] 0)
+    → AllByRecursion (CanBeDone initial boxes) (tasks permits scripts 0)
+alone initial boxes permit permits scripts is are can =
+    subst (λ (ps : List WorkerState). AllByRecursion (CanBeDone initial boxes) (tasks ps scripts 0)) (sym is)
+    (subst (λ (ss : List (List Request)). AllByRecursion (CanBeDone initial boxes) (tasks (permit ∷ []) ss 0)) (sym are) (can, tt))
 
 of_one : (permit : WorkerState) (permits : List WorkerState) → permits ≡ permit ∷ [] → IsPermitOf 0 0 permit → ArePermitsOf 0 0 permits
 of_one permit permits is of = subst (λ (ps : List WorkerState). ArePermitsOf 0 0 ps) (sym is) (of, tt)
@@ -39,12 +39,12 @@ serve_all-requires-clause-can g c = λ lifetimes within.
     let permit = c.new-permit.result in
     let made = c.new-permit.ensures in
     let left = ap (λ (p : WorkerState). p.left) made in
-    alone g.N.PhaseName.opening c.args.boxes.now permit _ _
+    alone g.N.PhaseName.initial c.args.boxes.now permit _ _
     (ap (map (λ p. p)) c.push_reserved.ensures.items ∙ ap (λ l. map (λ p. p) (l ++ permit ∷ [])) c.in_ok-permits.ensures.items)
     c.requires.scripts
     (record {
       boxes_are = ap (λ (p : WorkerState). p.key.boxes) made ∙ c.requires.of;
-      opening_is = subst (HaveOpening g.N.PhaseName.opening) (sym (ap (λ (p : WorkerState). p.opening) made)) c.requires.users;
+      opening_is = subst (HaveOpening g.N.PhaseName.initial) (sym (ap (λ (p : WorkerState). p.opening) made)) c.requires.users;
       short = none_is_short;
       given = given_none permit.left left;
       tries = few_tries permit.tries (length (stashed permit)) permit.left

@@ -3,4 +3,4 @@ use Rattle.shard_boxes.specs.States.{state_of}
 use Rattle.engine_tests.proofs.workers.tests.workers_tell_the_end_of_numbers.Given as goal
 
 abbrev pub ghosts-fault_over : goal.ghosts-fault_over
-ghosts-fault_over g a = record { opening = map state_of a.shards.items; workers = 1 }
+ghosts-fault_over g a = record { initial = map state_of a.shards.items; workers = 1 }

@@ -3,7 +3,7 @@ use Rattle.auction_rows.specs.Book.{Book}
 use Rattle.auction_rows.specs.History.{IsBook}
 use Rattle.item_shards.specs.Counting.{worker_of}
 use Rattle.item_shards.specs.OpeningRows.{rows_by, opening_rows, with_opened, IsRow, AreRows, IsFirstBad, IsTooLong}
-use Rattle.item_shards.specs.Serial.{opening_of, HoldsBook}
+use Rattle.item_shards.specs.Serial.{serial_opening, HoldsBook}
 use Rattle.item_shards.proofs.OpeningBookLemmas.{not_full, not_last, rows_more, book_more, first_bad, is_book, has_workers, has_few, row_moved, not_rows, fits_in, neither, not_long, not_row, no_fault, for_memory, same_number}
 use Rattle.item_shards.proofs.openings.OpeningBook.new.Goals as goal
 
@@ -80,9 +80,9 @@ returns-in-None-clause-bad_row c = λ n e.
     let before = c.loop-index.invariant in
     let start = c.args.opening in
     let fits = fits_in c.is_too_long.result c.deref.result.now all c.if-is_too_long.false c.is_too_long.ensures (c.deref.ensures.value ∙ sym c.deref-opened-items.ensures.value) in
-    let no_row : ¬ IsRow (opening_of c.loop-index.auction) c.loop-index.book.items opened = (rw c.in-None.is at c.in_ok-row.ensures.bad) c.loop-index.book.items before.holds in
+    let no_row : ¬ IsRow (serial_opening c.loop-index.auction) c.loop-index.book.items opened = (rw c.in-None.is at c.in_ok-row.ensures.bad) c.loop-index.book.items before.holds in
     let first = first_bad start all fits i opened c.loop-index-test.true c.opened-item.is before.accepted
-    (λ row. no_row (row_moved start (opening_of c.loop-index.auction) (opening_rows start (take i all)) c.loop-index.book.items opened (sym before.opening_is) (sym before.rows_are) row)) in
+    (λ row. no_row (row_moved start (serial_opening c.loop-index.auction) (opening_rows start (take i all)) c.loop-index.book.items opened (sym before.opening_is) (sym before.rows_are) row)) in
     subst (λ rows. IsFirstBad start rows n) c.deref-opened-items.ensures.value (subst (IsFirstBad start all) (same_number (i + 1) n e) first)
 
 pub returns-in-None-clause-ok : goal.returns-in-None-clause-ok
@@ -95,7 +95,7 @@ loop-index-preserved c =
     let opened = c.opened-item.result in
     let before = c.loop-index.invariant in
     let start = c.args.opening in
-    let first = opening_of c.loop-index.auction in
+    let first = serial_opening c.loop-index.auction in
     let b = c.loop-index.book.items in
     let part = opening_rows start (take i all) in
     let fits = fits_in c.is_too_long.result c.deref.result.now all c.if-is_too_long.false c.is_too_long.ensures (c.deref.ensures.value ∙ sym c.deref-opened-items.ensures.value) in

@@ -5,7 +5,7 @@ use Rattle.auction_rows.specs.declared.values.Opening.{Opening}
 use Rattle.auction_rows.specs.declared.rows.Row.{Row}
 use Rattle.auction_rows.specs.History.{GoOn}
 use Rattle.item_shards.specs.Counting.{worker_of}
-use Rattle.item_shards.specs.Serial.{HoldsBook, opening_of}
+use Rattle.item_shards.specs.Serial.{HoldsBook, serial_opening}
 use Rattle.item_shards.proofs.SerialLemmas.{either_way, one_more, next_goes_on, front_not_full}
 use Rattle.item_shards.proofs.serial.SerialAuction.add_rows.Goals as goal
 
@@ -20,7 +20,7 @@ store-requires c =
       book = book ++ take i rows;
       holds = c.loop-row.invariant.holds book c.requires.holds c.requires.follow;
       not_full = front_not_full book rows i within c.requires.follow.few;
-      goes_on = subst (λ (start : Opening). GoOn start (book ++ take i rows) (r ∷ [])) (sym c.loop-row.invariant.opening_is) (next_goes_on book rows i r within c.row-item.is (opening_of c.args.self.now) c.requires.follow.is_book);
+      goes_on = subst (λ (start : Opening). GoOn start (book ++ take i rows) (r ∷ [])) (sym c.loop-row.invariant.opening_is) (next_goes_on book rows i r within c.row-item.is (serial_opening c.args.self.now) c.requires.follow.is_book);
       worker = subst (λ (row : Row). worker_of row < 16) (sym c.row-item.is) (All-get_or (λ row. worker_of row < 16) rows i r within c.requires.follow.workers);
     }
 

@@ -3,14 +3,14 @@ use Rattle.auction_rows.specs.Replies.{reply, row_of, next}
 use Rattle.auction_rows.specs.Book.{Book}
 use Rattle.auction_rows.specs.declared.rows.Row.{Row}
 use Rattle.std.proofs.lemmas.List.{append-nil}
-use Rattle.item_shards.specs.Serial.{opening_of, HoldsBook}
+use Rattle.item_shards.specs.Serial.{serial_opening, HoldsBook}
 use Rattle.item_shards.proofs.SerialLemmas.{goes_on, worker_of_added}
 use Rattle.item_shards.proofs.serial.SerialAuction.perform.Goals as goal
 use Rattle.item_shards.proofs.serial.SerialAuction.perform.Goals.{in-Some+in_ok-store, in_default}
 
 pub store-requires : goal.store-requires
 store-requires c =
-    let start = opening_of c.args.self.now in
+    let start = serial_opening c.args.self.now in
     let w = c.args.worker in
     let request = c.args.request in
     let b = c.requires.room.book in
@@ -26,7 +26,7 @@ store-requires c =
 
 pub returns-clause-book : goal.returns-clause-book
 returns-clause-book c = λ b holds not_full.
-    let start = opening_of c.args.self.now in
+    let start = serial_opening c.args.self.now in
     let w = c.args.worker in
     let request = c.args.request in
     let added : row_of w request (reply start b w request) ≡ c.row_of.result =

@@ -6,7 +6,7 @@ use Rattle.item_shards.specs.Writing.{writes_of}
 use Rattle.std.proofs.lemmas.Option.{get_or_from_slice_get}
 use Rattle.item_shards.specs.Counting.{stored_by, worker_of, counted, AreFew}
 use Rattle.item_shards.specs.Limits.{IsWithinLimits}
-use Rattle.item_shards.specs.Serial.{opening_of}
+use Rattle.item_shards.specs.Serial.{serial_opening}
 use Rattle.item_shards.specs.ShardContents.{contents}
 use Rattle.item_shards.proofs.SerialLemmas.{after_own, either_way, counts_next, limits_next, stored_few, stands_after, writes_can_be_done}
 use Rattle.item_shards.proofs.StandingLemmas.{stands_moved}
@@ -18,7 +18,7 @@ none = record { items = 0; bids = 0; comments = 0; buys = 0 }
 pub write-requires-clause-can : goal.write-requires-clause-can
 write-requires-clause-can c = λ rooms room.
     let shard = c.args.self.now.shard in
-    let start = opening_of c.args.self.now in
+    let start = serial_opening c.args.self.now in
     let b = c.requires.book in
     let r = c.args.row.now in
     let limits = subst IsWithinLimits (sym (after_own start b r c.requires.goes_on)) (limits_next b r c.requires.holds.limits c.requires.not_full) in
@@ -42,7 +42,7 @@ count-requires c =
 pub returns-clause-stored : goal.returns-clause-stored
 returns-clause-stored c = λ b holds not_full.
     let shard = c.args.self.now.shard in
-    let start = opening_of c.args.self.now in
+    let start = serial_opening c.args.self.now in
     let r = c.args.row.now in
     let old = c.args.self.now.stored in
     record {

@@ -3,7 +3,7 @@ use Rattle.std.specs.Prelude.{is_some}
 use Rattle.auction_rows.specs.declared.requests.Object.TheVariants.{Item}
 use Rattle.auction_rows.specs.declared.requests.Facts.{Facts}
 use Rattle.item_shards.specs.Values.{Value}
-use Rattle.item_shards.specs.ShardContents.{HasRoom}
+use Rattle.item_shards.specs.ShardContents.{HasItemRoom}
 use Rattle.item_shards.proofs.shard.Shard.facts.Goals as goal
 
 pub returns-in-Some-clause-contents : goal.returns-in-Some-clause-contents
@@ -15,7 +15,7 @@ returns-in-Some-clause-book c book hot stands cold =
 
 pub returns-in-Some-clause-room : goal.returns-in-Some-clause-room
 returns-in-Some-clause-room c =
-    let room : HasRoom c.args.self.now c.args.item = sym (ap is_some c.in-Some.ensures) in
+    let room : HasItemRoom c.args.self.now c.args.item = sym (ap is_some c.in-Some.ensures) in
     at c.in-Some.record.now.facts room where
       at : {P : Type 0} (o : Option Facts) → P → IfSome o (λ _. P)
       at None p = tt

@@ -1,5 +1,5 @@
 use Rattle.std.proofs.Common.{rules, ◌≡◌, ◌%◌, [], ◌∷◌, ◌++◌, refl}
-use Rattle.load_program.specs.declared.load.Line.{Line}
+use Rattle.load_program.specs.declared.load.ScriptLine.{ScriptLine}
 use Rattle.load_program.specs.Stored.{IsLineAt}
 use Rattle.load_program.proofs.LoadLemmas.{EachFrom-push}
 use Rattle.load_program.proofs.draws.Market.lines.Goals as goal
@@ -7,7 +7,7 @@ use Rattle.load_program.proofs.draws.Market.lines.Goals as goal
 pub loop-index-preserved : goal.loop-index-preserved
 loop-index-preserved c =
     let plan = c.args.self.now.plan in
-    let line : Line = record { worker = c.loop-index.index % plan.counts.workers; request = c.request-request.result } in
+    let line : ScriptLine = record { worker = c.loop-index.index % plan.counts.workers; request = c.request-request.result } in
     let pushed : c.push.new.self.items ≡ c.loop-index.lines.items ++ line ∷ [] = search rules in
     let is_line : IsLineAt plan c.loop-index.index line = record { worker = refl; names = c.request-request.ensures.names; share = c.request-request.ensures.share } in (
       search rules,

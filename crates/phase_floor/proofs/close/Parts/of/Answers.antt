@@ -44,8 +44,8 @@ loop-receipt-preserved g c =
           (keys.items ∙ ap (λ own. old.keys.items ++ own ∷ []) o.key)
           (counters.items ∙ ap (λ own. old.counters.items ++ own ∷ []) o.counters)
           (slices_next old.slices.items c.add.new.all.items (sliced_of (shows receipt)) c.open-journal.result.1 slices.some slices.none o.sliced o.cold));
-      finished = subst (AllByRecursion (IsFinished (length g.N.PhaseName.opening))) (sym more)
-          (all_push (IsFinished (length g.N.PhaseName.opening)) (take n (map shows all)) (shows receipt) was.finished o.finished);
+      finished = subst (AllByRecursion (IsFinished (length g.N.PhaseName.initial))) (sym more)
+          (all_push (IsFinished (length g.N.PhaseName.initial)) (take n (map shows all)) (shows receipt) was.finished o.finished);
     }
 
 pub returns-clause-parts : goal.returns-clause-parts
@@ -59,5 +59,5 @@ pub returns-clause-finished : goal.returns-clause-finished
 returns-clause-finished g c =
     let was = c.loop-receipt.invariant in let parts = c.loop-receipt in let all = c.args.receipts.items in let shows = g.R.Receipt.shows in
     let many : length (map shows all) ≡ length all = length-map all shows in
-    subst (AllByRecursion (IsFinished (length g.N.PhaseName.opening)))
+    subst (AllByRecursion (IsFinished (length g.N.PhaseName.initial)))
     (take_all (vec_len parts.keys) (map shows all) (omega (arith, many, was.count, c.in-None.ensures.steps, c.args.receipts.ok.0))) was.finished

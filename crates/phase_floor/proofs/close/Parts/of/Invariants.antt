@@ -12,5 +12,5 @@ invariant-loop-receipt g l = let all = l.fn.receipts.items in let n = vec_len l.
   room : (vec_len l.fn.receipts ≤ vec_capacity l.journals) × (vec_len l.fn.receipts ≤ vec_capacity l.stashes) × (vec_len l.fn.receipts ≤ vec_capacity l.keys)
       × (vec_len l.fn.receipts ≤ vec_capacity l.counters) × (vec_len l.fn.receipts ≤ vec_capacity l.slices);
   parts : ArePartsOf done l.journals.items l.stashes.items l.keys.items l.counters.items l.slices.items;
-  finished : AllByRecursion (IsFinished (length g.N.PhaseName.opening)) done;
+  finished : AllByRecursion (IsFinished (length g.N.PhaseName.initial)) done;
 }

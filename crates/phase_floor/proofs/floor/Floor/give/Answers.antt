@@ -5,7 +5,7 @@ use Rattle.shard_boxes.proofs.Each.{each_push, drop_next}
 use Rattle.phase_permits.specs.Workers.{no_counters}
 use Rattle.closing_laws.specs.Standing.{counters_at}
 use Rattle.phase_floor.specs.Begins.{start_of}
-use Rattle.phase_floor.specs.Floors.{FloorState, IsOpen, IsBegun, stash_at}
+use Rattle.phase_floor.specs.Floors.{FloorState, IsOpen, IsNewPermit, stash_at}
 use Rattle.phase_floor.proofs.Begins.{begun_next, can_start}
 use Rattle.phase_floor.proofs.floor.Floor.give.Goals as goal
 
@@ -16,7 +16,7 @@ invariant_of-push_reserved g c =
     let counts : c.index-counters.result.now ≡ counters_at floor.counters w =
     get_or_read c.self.inside.counters.items _ _ (omega (arith, below, c.self.invariant.workers_are)) c.index-counters.ensures no_counters
     ∙ ap (λ (f : FloorState). counters_at f.counters w) c.self.view_is in
-    can_start g.N.PhaseName.opening workers floor (subst (IsOpen g.N.PhaseName.opening workers) c.self.view_is c.self.invariant) w _ (stash_at c.args.stashes.items w) _ below (c.requires.fits w below) (c.requires.rooms w (omega (arith, below, c.requires.lens)))
+    can_start g.N.PhaseName.initial workers floor (subst (IsOpen g.N.PhaseName.initial workers) c.self.view_is c.self.invariant) w _ (stash_at c.args.stashes.items w) _ below (c.requires.fits w below) (c.requires.rooms w (omega (arith, below, c.requires.lens)))
     (begun_next floor workers w c.args.quotas.now c.args.keys.items (into_iter_items c.next.new.self) c.args.kits.items (into_iter_items c.next-in-loop-key.new.self)
     c.args.stashes.items (into_iter_items c.next-in-loop-key-2.new.self) c.requires.keys c.requires.kits below c.in-Some.key c.in-Some-next.field-0 c.in-Some-next-2.stash
     (sym step.0 ∙ was.keys) (sym c.in-Some-next.ensures.cases.0 ∙ was.kits) (sym c.in-Some-next-2.ensures.cases.0 ∙ was.stashes)
@@ -43,7 +43,7 @@ loop-key-preserved g c =
       keys = drop_next c.args.keys.items w (w + 1) key (into_iter_items c.next.new.self) next_key refl;
       kits = drop_next c.args.kits.items w (w + 1) kit (into_iter_items c.next-in-loop-key.new.self) next_kit refl;
       stashes = drop_next c.args.stashes.items w (w + 1) stash (into_iter_items c.next-in-loop-key-2.new.self) next_stash refl;
-      each = λ v d low. each_push (λ k start. IsBegun floor k (get_or c.args.quotas.now k 0) (stash_at c.args.stashes.items k) start) c.loop-key.starts.items c.push_reserved.new.self.items
+      each = λ v d low. each_push (λ k start. IsNewPermit floor k (get_or c.args.quotas.now k 0) (stash_at c.args.stashes.items k) start) c.loop-key.starts.items c.push_reserved.new.self.items
           (start_of key c.self.inside.opening counters kit.journal stash kit.slices (get_or c.args.quotas.now w 0)) d w
           (omega (arith, was.len, c.loop-key.starts.ok.0)) p.items (λ k lower. was.each k d lower) begun v low;
     }

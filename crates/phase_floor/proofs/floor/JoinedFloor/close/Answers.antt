@@ -14,13 +14,13 @@ close-requires g c = inside AreReceiptsOf c.self.inside.floor c.args.self c.args
 
 pub returns-clause-closed : goal.returns-clause-closed
 returns-clause-closed g c =
-    let entries = added c.args.history.now.entries c.close.new.history.entries in let opening = g.N.PhaseName.opening in let floor = c.args.self in let receipts = c.args.receipts.items in
+    let entries = added c.args.history.now.entries c.close.new.history.entries in let initial = g.N.PhaseName.initial in let floor = c.args.self in let receipts = c.args.receipts.items in
     let cold = ap (λ (f : FloorState). f.stocks) (sym c.self.view_is) ∙ c.self.invariant in
-    IfOk-weaker c.close.result (λ closed. HasReconciled opening floor receipts (states_of closed.0) entries) (λ closed. HasSettled opening floor receipts (states_of closed.0) entries)
-    (λ closed. has_settled opening floor receipts (states_of closed.0) entries cold c.requires)
-    (outside (λ floor receipts. IfOk c.close.result (λ closed. HasReconciled opening floor receipts (states_of closed.0) entries)) c.self.inside.floor floor receipts c.self.view_is c.close.ensures.closed)
+    IfOk-weaker c.close.result (λ closed. HasReconciled initial floor receipts (states_of closed.0) entries) (λ closed. HasSettled initial floor receipts (states_of closed.0) entries)
+    (λ closed. has_settled initial floor receipts (states_of closed.0) entries cold c.requires)
+    (outside (λ floor receipts. IfOk c.close.result (λ closed. HasReconciled initial floor receipts (states_of closed.0) entries)) c.self.inside.floor floor receipts c.self.view_is c.close.ensures.closed)
 
 pub returns-clause-leaves : goal.returns-clause-leaves
 returns-clause-leaves g c =
     let entries = added c.args.history.now.entries c.close.new.history.entries in
-    outside (λ floor receipts. IfOk c.close.result (λ closed. Leaves g.N.PhaseName.opening floor receipts entries closed.0 closed.1.items)) c.self.inside.floor c.args.self c.args.receipts.items c.self.view_is c.close.ensures.leaves
+    outside (λ floor receipts. IfOk c.close.result (λ closed. Leaves g.N.PhaseName.initial floor receipts entries closed.0 closed.1.items)) c.self.inside.floor c.args.self c.args.receipts.items c.self.view_is c.close.ensures.leaves

@@ -11,9 +11,9 @@ close-requires g c = inside AreReceiptsOf c.self.inside.floor c.args.self c.args
 pub returns-clause-closed : goal.returns-clause-closed
 returns-clause-closed g c =
     let entries = added c.args.history.now.entries c.close.new.history.entries in
-    outside (λ floor receipts. IfOk c.close.result (λ closed. HasReconciled g.N.PhaseName.opening floor receipts (states_of closed.0) entries)) c.self.inside.floor c.args.self c.args.receipts.items c.self.view_is c.close.ensures.closed
+    outside (λ floor receipts. IfOk c.close.result (λ closed. HasReconciled g.N.PhaseName.initial floor receipts (states_of closed.0) entries)) c.self.inside.floor c.args.self c.args.receipts.items c.self.view_is c.close.ensures.closed
 
 pub returns-clause-leaves : goal.returns-clause-leaves
 returns-clause-leaves g c =
     let entries = added c.args.history.now.entries c.close.new.history.entries in
-    outside (λ floor receipts. IfOk c.close.result (λ closed. Leaves g.N.PhaseName.opening floor receipts entries closed.0 closed.1.items)) c.self.inside.floor c.args.self c.args.receipts.items c.self.view_is c.close.ensures.leaves
+    outside (λ floor receipts. IfOk c.close.result (λ closed. Leaves g.N.PhaseName.initial floor receipts entries closed.0 closed.1.items)) c.self.inside.floor c.args.self c.args.receipts.items c.self.view_is c.close.ensures.leaves

@@ -1,5 +1,5 @@
 use Rattle.std.proofs.Common.{◌≡◌, ◌+◌, ◌<◌, ◌≤◌, ◌^◌, List, get_or, map, length, refl, sym, ap, ◌∙◌, subst}
-use Rattle.shard_boxes.specs.States.{ShardState, AreOpened, state_of}
+use Rattle.shard_boxes.specs.States.{ShardState, AreInitial, state_of}
 use Rattle.phase_permits.specs.Stashes.{StashState}
 use Rattle.phase_floor.specs.Begins.{AreKits, asked_in_all}
 use Rattle.phase_floor.specs.Floors.{AreStocksOf, stash_at}
@@ -21,11 +21,11 @@ new_kits-requires-clause-stocked g c = c.requires.given.stocks.stocked
 pub invariant_of-floor : goal.invariant_of-floor
 invariant_of-floor g c =
     let is = c.self.view_is in
-    let states : map state_of c.self.inside.shards.items ≡ g.N.PhaseName.opening = ap states_of is ∙ c.requires.can.shards in record {
+    let states : map state_of c.self.inside.shards.items ≡ g.N.PhaseName.initial = ap states_of is ∙ c.requires.can.shards in record {
       kept = subst (λ s. IsKept c.self.inside.opening s c.self.inside.counters.items) states c.self.invariant;
       boxes_are = c.in-Ok-new.ensures.boxes;
       workers_are = ap (λ (s : JoinedState). length s.counters) is ∙ c.requires.can.workers;
-      stocks_are = subst (λ o. AreStocksOf o g.N.PhaseName.opening c.args.stocks.items) (sym (ap (λ (s : JoinedState). s.opening) is))
+      stocks_are = subst (λ o. AreStocksOf o g.N.PhaseName.initial c.args.stocks.items) (sym (ap (λ (s : JoinedState). s.opening) is))
           (subst (λ states. AreStocksOf c.args.self.opening states c.args.stocks.items) c.requires.can.shards c.requires.given.stocks);
       not_last = subst (λ n. n + 1 < 2 ^ 64) (sym (ap (λ (s : JoinedState). s.phase) is)) c.requires.can.phase;
     }
@@ -50,7 +50,7 @@ new-requires-clause-few g c =
     subst (λ (states : List ShardState). (0 < length states) × (length states ≤ 64)) (ap states_of c.self.view_is ∙ c.requires.can.shards) (c.self.invariant.some_shards, c.self.invariant.few_shards)
 
 pub new-requires-clause-opened : goal.new-requires-clause-opened
-new-requires-clause-opened g c = subst AreOpened (ap states_of c.self.view_is ∙ c.requires.can.shards) c.self.invariant.opened
+new-requires-clause-opened g c = subst AreInitial (ap states_of c.self.view_is ∙ c.requires.can.shards) c.self.invariant.opened
 
 pub new-requires-clause-some : goal.new-requires-clause-some
 new-requires-clause-some g c =

@@ -2,7 +2,7 @@ use Rattle.std.proofs.Common.{[], List, map, refl, sym, ap, ◌∙◌, subst}
 use Rattle.std.proofs.lemmas.Bool.{false≢true}
 use Rattle.std.specs.List.{IsDistinct}
 use Rattle.auction_rows.specs.Requests.{same_object}
-use Rattle.phase_permits.specs.Slicing.{objects_of}
+use Rattle.phase_permits.specs.Slicing.{hot_objects}
 use Rattle.phase_permits.specs.Stashes.{StashState}
 use Rattle.phase_permits.proofs.Places.{distinct_objects}
 use Rattle.phase_permits.specs.Workers.{WorkerState}
@@ -36,7 +36,7 @@ returns-in-Ok-begin-clause-begun g c =
         permits = subst (λ (permits : List WorkerState). AreBegun c.in-Ok-begin.floor c.args.quotas.now (map empty_stash c.args.quotas.now) permits) (sym c.split_permits-permits.ensures)
             (subst (λ (stashes : List StashState). AreBegun c.in-Ok-begin.floor c.args.quotas.now stashes c.in-Ok-begin.starts.items) c.in-Ok-new_stashes.ensures e.begun.permits);
       };
-      hot = ap objects_of e.stocks ∙ c.in-Ok.ensures.objects ∙ c.as_slice-objects.ensures.keys;
+      hot = ap hot_objects e.stocks ∙ c.in-Ok.ensures.objects ∙ c.as_slice-objects.ensures.keys;
       known = subst (DoAllExist c.args.self.opening (states_of c.args.self)) c.as_slice-objects.ensures.keys (c.do_exist.ensures.0 c.if-not-do_exist.false);
       fits = fits c.is_too_long.result c.args.self.counters c.deref.result.now [] [] c.args.quotas.now (c.deref.ensures.value ∙ ap (λ (s : JoinedState). s.counters) c.self.view_is) refl c.is_too_long.ensures.1 c.if-is_too_long.false;
     }

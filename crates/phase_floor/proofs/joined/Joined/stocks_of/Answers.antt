@@ -5,7 +5,7 @@ use Rattle.auction_rows.specs.declared.requests.Object.{Object}
 use Rattle.auction_rows.specs.declared.requests.Object.TheVariants.{Item}
 use Rattle.auction_rows.specs.declared.requests.Facts.{Facts}
 use Rattle.phase_laws.proofs.OrderLemmas.{all_push}
-use Rattle.phase_permits.specs.Slicing.{objects_of, IsStocked}
+use Rattle.phase_permits.specs.Slicing.{hot_objects, IsStocked}
 use Rattle.closing_laws.specs.Phases.{IsReadFrom}
 use Rattle.phase_floor.specs.States.{DoesExist, states_of}
 use Rattle.phase_floor.proofs.Every.{at_place}
@@ -21,7 +21,7 @@ loop-object-preserved c =
     let objects = c.args.objects.now in let i = c.loop-object.object-index in let below : i < length objects = omega arith in
     let before = c.loop-object.stocks.items in let object = get_or objects i none in let pair : Object × Option (Facts × ℕ) = (object, c.stock_of.result) in
     let exists = at_place (DoesExist state.opening (states_of state)) objects c.requires.exist i none below in record {
-      objects = ap objects_of p.items ∙ objects_push before pair ∙ ap (λ done. done ++ object ∷ []) was.objects ∙ sym (take_more objects i none below);
+      objects = ap hot_objects p.items ∙ objects_push before pair ∙ ap (λ done. done ++ object ∷ []) was.objects ∙ sym (take_more objects i none below);
       stocked = subst (AllByRecursion IsStocked) (sym p.items) (all_push IsStocked before pair was.stocked (c.stock_of.ensures.stocked exists));
       read = subst (AllByRecursion (IsReadFrom (states_of state))) (sym p.items) (all_push (IsReadFrom (states_of state)) before pair was.read c.stock_of.ensures.read);
     }

@@ -1,13 +1,13 @@
 use Rattle.std.proofs.Common.{◌≡◌, take}
 use Rattle.std.specs.List.{AllByRecursion}
-use Rattle.phase_permits.specs.Slicing.{objects_of, IsStocked}
+use Rattle.phase_permits.specs.Slicing.{hot_objects, IsStocked}
 use Rattle.closing_laws.specs.Phases.{IsReadFrom}
 use Rattle.phase_floor.specs.States.{states_of}
 use Rattle.phase_floor.proofs.joined.Joined.stocks_of.Given as goal
 
 abbrev pub invariant-loop-object : goal.invariant-loop-object
 invariant-loop-object l = record {
-  objects : objects_of l.stocks.items ≡ take l.object-index l.objects;
+  objects : hot_objects l.stocks.items ≡ take l.object-index l.objects;
   stocked : AllByRecursion IsStocked l.stocks.items;
   read : AllByRecursion (IsReadFrom (states_of l.self)) l.stocks.items;
 }

@@ -10,4 +10,4 @@ pub invariant_of-result : goal.invariant_of-result
 invariant_of-result g c =
     let w = new_worker c.args.key c.args.opening c.args.counters c.args.journal c.args.stash [] c.args.quota c.args.clock in
     let is : c.new.result ≡ w = c.new.ensures ∙ (λ i. new_worker c.args.key c.args.opening c.args.counters c.args.journal c.args.stash (c.none-slices.ensures i) c.args.quota c.args.clock) in
-    (ap (λ (v : WorkerState). v.slices) is, subst (IsExplained (length g.N.PhaseName.opening)) (sym is) (start_explained (length g.N.PhaseName.opening) w c.requires refl refl))
+    (ap (λ (v : WorkerState). v.slices) is, subst (IsExplained (length g.N.PhaseName.initial)) (sym is) (start_explained (length g.N.PhaseName.initial) w c.requires refl refl))

@@ -5,10 +5,10 @@ use Rattle.phase_permits.proofs.joined_permit.JoinedPermit.perform.Goals as goal
 
 pub last_reply-requires : goal.last_reply-requires
 last_reply-requires g c =
-    let done : HasCommittedSome g.N.PhaseName.opening (with_try c.args.self.now) c.commit.new.self c.args.request.now c.args.index = c.in_ok-commit.ensures in
-    some_entry g.N.PhaseName.opening (with_try c.args.self.now) c.commit.new.self c.args.request.now c.args.index done.0 done.1
+    let done : HasCommittedSome g.N.PhaseName.initial (with_try c.args.self.now) c.commit.new.self c.args.request.now c.args.index = c.in_ok-commit.ensures in
+    some_entry g.N.PhaseName.initial (with_try c.args.self.now) c.commit.new.self c.args.request.now c.args.index done.0 done.1
 
 pub returns-clause-committed : goal.returns-clause-committed
 returns-clause-committed g c =
-    let done : HasCommittedSome g.N.PhaseName.opening (with_try c.args.self.now) c.commit.new.self c.args.request.now c.args.index = c.in_ok-commit.ensures in
-    as_read g.N.PhaseName.opening (with_try c.args.self.now) c.commit.new.self c.args.request.now c.args.index done.0 done.1 c.last_reply.result c.last_reply.ensures
+    let done : HasCommittedSome g.N.PhaseName.initial (with_try c.args.self.now) c.commit.new.self c.args.request.now c.args.index = c.in_ok-commit.ensures in
+    as_read g.N.PhaseName.initial (with_try c.args.self.now) c.commit.new.self c.args.request.now c.args.index done.0 done.1 c.last_reply.result c.last_reply.ensures

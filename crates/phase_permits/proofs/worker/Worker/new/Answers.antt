@@ -1,6 +1,6 @@
 use Rattle.std.proofs.Common.{◌≡◌, ℕ, ◌++◌, ◌∷◌, [], List, sym, ap, subst, ◌∙◌}
 use Rattle.phase_permits.specs.declared.worker.Counters.{Counters}
-use Rattle.phase_permits.specs.Workers.{IsLawful, begun_of, new_worker}
+use Rattle.phase_permits.specs.Workers.{IsLawfulWorker, begun_of, new_worker}
 use Rattle.phase_permits.proofs.StartLemmas.{start_lawful}
 use Rattle.phase_permits.proofs.worker.Worker.new.Goals as goal
 
@@ -9,7 +9,7 @@ unfolding begun_of
 invariant_of-result g c =
     let w = new_worker c.args.start.key c.args.start.opening c.args.start.counters c.args.start.journal c.args.start.stash c.args.start.slices c.args.start.quota c.args.start.clock in
     let begun : begun_of c.and.result.items ≡ (c.args.start.counters, c.args.start.clock) = ap begun_of (c.and.ensures ∙ ap (λ (none : List (Counters × ℕ)). none ++ (c.args.start.counters, c.args.start.clock) ∷ []) c.new.ensures) in
-    subst IsLawful (λ i. record w { begun = sym begun i; txns = sym c.new-2.ensures i }) (start_lawful w c.requires)
+    subst IsLawfulWorker (λ i. record w { begun = sym begun i; txns = sym c.new-2.ensures i }) (start_lawful w c.requires)
 
 pub returns : goal.returns
 unfolding begun_of

@@ -13,7 +13,7 @@ use Rattle.phase_permits.proofs.worker.Worker.show.Goals as goal
 
 pub returns : goal.returns
 returns g c homes key begun =
-    let opening = g.N.PhaseName.opening in
+    let initial = g.N.PhaseName.initial in
     let w = c.args.self.now in
     let request = c.args.call.request.now in
     let took = c.args.begun.taken in
@@ -21,13 +21,13 @@ returns g c homes key begun =
     let object = c.view_on-object.result.0 in
     let reply = c.view_on-object.result.1 in
     let saw = c.view_on-object.ensures in
-    let new = c.commit.new.self in
+    let new = c.add_entry.new.self in
     let found : ReadSet = record { stock = c.of.result; clocks = c.clocks_of.result } in
     let lines = λ (r : Reply). line_among number c.args.call.index (held_in took) (dealt took (Look (shown.Reply object r) ∷ Look shown.Nothing ∷ [])) in
-    let key_is : new.key ≡ c.put_all.new.key = ap (λ (s : WorkerState). s.key) c.commit.ensures.entry in
-    let put = subst (λ r. HasPutAll opening c.self.inside.key c.put_all.new.key (is_one_of (numbers_of (held_in took))) (lines r)) c.of-2.ensures c.put_all.ensures in
-    view_commits (step_of opening g.N.PhaseName.workers c.args.boxes.now key homes) w request c.args.begun begun c.requires.view new c.args.call.index reply object found saw.viewed saw.answers (λ i. record { stock = c.of.ensures i; clocks = c.clocks_of.ensures i })
-    (subst (λ (k : KeyState). HasPutAll opening w.key k (is_one_of (numbers_of (held_in took))) (lines reply)) (sym key_is)
-    (subst (λ (s : WorkerState). HasPutAll opening s.key c.put_all.new.key (is_one_of (numbers_of (held_in took))) (lines reply)) c.self.view_is put))
-    (c.commit.ensures.entry ∙ (λ i. record (with_entry (c.self.view_is i) number c.args.call.index request (c.of-3.ensures i) found) { key = sym key_is i })
+    let key_is : new.key ≡ c.put_all.new.key = ap (λ (s : WorkerState). s.key) c.add_entry.ensures.entry in
+    let put = subst (λ r. HasPutAll initial c.self.inside.key c.put_all.new.key (is_one_of (numbers_of (held_in took))) (lines r)) c.of-2.ensures c.put_all.ensures in
+    view_commits (step_of initial g.N.PhaseName.workers c.args.boxes.now key homes) w request c.args.begun begun c.requires.view new c.args.call.index reply object found saw.viewed saw.answers (λ i. record { stock = c.of.ensures i; clocks = c.clocks_of.ensures i })
+    (subst (λ (k : KeyState). HasPutAll initial w.key k (is_one_of (numbers_of (held_in took))) (lines reply)) (sym key_is)
+    (subst (λ (s : WorkerState). HasPutAll initial s.key c.put_all.new.key (is_one_of (numbers_of (held_in took))) (lines reply)) c.self.view_is put))
+    (c.add_entry.ensures.entry ∙ (λ i. record (with_entry (c.self.view_is i) number c.args.call.index request (c.of-3.ensures i) found) { key = sym key_is i })
     ∙ (λ i. record (view_entered w number c.args.call.index request reply found c.requires.view i) { key = new.key }))

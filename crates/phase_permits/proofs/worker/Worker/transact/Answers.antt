@@ -7,7 +7,7 @@ use Rattle.phase_permits.specs.declared.transaction.PermitFault.TheVariants.{Mem
 use Rattle.phase_permits.specs.Begun.{step_of}
 use Rattle.phase_permits.specs.Performing.{HasCommitted, HasFailed, asks}
 use Rattle.phase_permits.specs.Takens.{footprint_of, is_one_of, AreBack}
-use Rattle.phase_permits.specs.Workers.{WorkerState, IsLawful, begun_of}
+use Rattle.phase_permits.specs.Workers.{WorkerState, IsLawfulWorker, begun_of}
 use Rattle.phase_permits.proofs.AnswerLemmas.{item_home}
 use Rattle.phase_permits.proofs.BegunLemmas.{begun_fails, item_first}
 use Rattle.phase_permits.proofs.EmptyLemmas.{stored_performed, refused_untaken, hot_untaken}
@@ -20,35 +20,35 @@ of_err (Err e) is p = p
 
 pub returns-in-Some : goal.returns-in-Some
 returns-in-Some g c =
-    let opening = g.N.PhaseName.opening in
+    let initial = g.N.PhaseName.initial in
     let old = c.args.self.now in
     let request = c.args.request.now in
     let refused : number_refusal old.opening request ≡ Some c.in-Some.reason = sym (ap (λ (w : WorkerState). number_refusal w.opening request) c.self.view_is) ∙ sym c.number_refusal.ensures ∙ c.in-Some.is in
-    stored_performed opening old c.refuse.new.self request c.args.index c.requires.idle c.refuse.result c.refuse.ensures
-    (λ answer stored. refused_untaken old (length opening) c.args.index request c.in-Some.reason answer refused) c.requires.goes
+    stored_performed initial old c.refuse.new.self request c.args.index c.requires.idle c.refuse.result c.refuse.ensures
+    (λ answer stored. refused_untaken old (length initial) c.args.index request c.in-Some.reason answer refused) c.requires.goes
 
 pub returns-then-are_in_no_shard : goal.returns-then-are_in_no_shard
 returns-then-are_in_no_shard g c =
-    let opening = g.N.PhaseName.opening in
+    let initial = g.N.PhaseName.initial in
     let old = c.args.self.now in
     let request = c.args.request.now in
     let homes = c.homes-homes.result in
     let allowed : number_refusal old.opening request ≡ None = sym (ap (λ (w : WorkerState). number_refusal w.opening request) c.self.view_is) ∙ sym c.number_refusal.ensures ∙ c.in_default.is in
     let none = c.are_in_no_shard.ensures in
-    stored_performed opening old c.store_hot.new.self request c.args.index c.requires.idle c.store_hot.result c.store_hot.ensures
-    (λ answer stored. hot_untaken old c.store_hot.new.self (length opening) c.args.index request homes answer allowed stored
+    stored_performed initial old c.store_hot.new.self request c.args.index c.requires.idle c.store_hot.result c.store_hot.ensures
+    (λ answer stored. hot_untaken old c.store_hot.new.self (length initial) c.args.index request homes answer allowed stored
     (subst (λ n. (t : ℕ) → asks n old request t ≡ is_one_of (footprint_of homes) t) c.shards.ensures.count c.homes-homes.ensures.footprint)
     (none.item c.if-are_in_no_shard.true) (none.other c.if-are_in_no_shard.true)) c.requires.goes
 
 pub prepare-requires : goal.prepare-requires
 prepare-requires g c = record {
-  begun = item_first (step_of g.N.PhaseName.opening g.N.PhaseName.workers c.args.boxes.now c.args.self.now.key c.homes-homes.result) c.begin.new.self c.args.request.now c.in_ok-begun.begun
-      c.in_ok-begun.ensures.begun (subst IsLawful c.self-2.view_is c.self-2.invariant);
+  begun = item_first (step_of g.N.PhaseName.initial g.N.PhaseName.workers c.args.boxes.now c.args.self.now.key c.homes-homes.result) c.begin.new.self c.args.request.now c.in_ok-begun.begun
+      c.in_ok-begun.ensures.begun (subst IsLawfulWorker c.self-2.view_is c.self-2.invariant);
 }
 
 pub returns-then-is_err : goal.returns-then-is_err
 returns-then-is_err g c =
-    let opening = g.N.PhaseName.opening in
+    let initial = g.N.PhaseName.initial in
     let old = c.args.self.now in
     let w = c.begin.new.self in
     let request = c.args.request.now in
@@ -67,8 +67,8 @@ returns-then-is_err g c =
       txns = inside.txns.items;
     } in
     let begun = begun_before c.in_ok-begun.begun c.prepare.new.begun c.prepare.ensures.same c.prepare.ensures.number c.in_ok-begun.ensures.begun in
-    subst (λ (s : WorkerState). HasFailed opening s back request Memory) (λ i. record (c.begin.ensures.worker i) { key = old.key })
-    (begun_fails (step_of opening g.N.PhaseName.workers c.args.boxes.now old.key c.homes-homes.result) w request c.prepare.new.begun begun back
+    subst (λ (s : WorkerState). HasFailed initial s back request Memory) (λ i. record (c.begin.ensures.worker i) { key = old.key })
+    (begun_fails (step_of initial g.N.PhaseName.workers c.args.boxes.now old.key c.homes-homes.result) w request c.prepare.new.begun begun back
     (subst (λ (s : WorkerState). AreBack s.key c.put_back.new.key) c.self-2.view_is c.put_back.ensures)
     (of_err c.prepare.result (sym c.is_err.ensures.value ∙ c.if-is_err.true) c.prepare.ensures.refused)
     (λ i. record (c.self-2.view_is i) { key = c.put_back.new.key }))
@@ -84,15 +84,15 @@ put_store-requires-clause-seen g c =
     let w = c.begin.new.self in
     let homes_are = c.in_ok-begun.ensures.begun.homes_are in
     record {
-      fixed = λ item needs none. c.seen-seen.ensures.fixed (Item item) (length g.N.PhaseName.opening) (item_home w (length g.N.PhaseName.opening) c.args.request.now c.homes-homes.result item homes_are needs) none;
+      fixed = λ item needs none. c.seen-seen.ensures.fixed (Item item) (length g.N.PhaseName.initial) (item_home w (length g.N.PhaseName.initial) c.args.request.now c.homes-homes.result item homes_are needs) none;
       found = λ item t needs at. c.seen-seen.ensures.found item t needs at;
     }
 
 pub returns : goal.returns
 returns g c =
-    let opening = g.N.PhaseName.opening in
+    let initial = g.N.PhaseName.initial in
     let old = c.args.self.now in
     let request = c.args.request.now in
     let reply = reply_of c.reply-reply.result in
     let begun = begun_before c.in_ok-begun.begun c.prepare.new.begun c.prepare.ensures.same c.prepare.ensures.number c.in_ok-begun.ensures.begun in
-    (reply, subst (λ (s : WorkerState). HasCommitted opening s c.put_store.new.self request c.args.index reply) (λ i. record (c.begin.ensures.worker i) { key = old.key }) (c.put_store.ensures old.key begun))
+    (reply, subst (λ (s : WorkerState). HasCommitted initial s c.put_store.new.self request c.args.index reply) (λ i. record (c.begin.ensures.worker i) { key = old.key }) (c.put_store.ensures old.key begun))

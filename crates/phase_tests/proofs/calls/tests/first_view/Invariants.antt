@@ -3,4 +3,4 @@ use Rattle.shard_boxes.specs.States.{state_of}
 use Rattle.phase_tests.proofs.calls.tests.first_view.Given as goal
 
 abbrev pub ghosts-view : goal.ghosts-view
-ghosts-view g a = record { opening = map state_of a.shards.items; workers = 1 }
+ghosts-view g a = record { initial = map state_of a.shards.items; workers = 1 }

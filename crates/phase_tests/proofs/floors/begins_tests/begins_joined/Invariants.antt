@@ -3,4 +3,4 @@ use Rattle.phase_floor.specs.States.{states_of}
 use Rattle.phase_tests.proofs.floors.begins_tests.begins_joined.Given as goal
 
 abbrev pub ghosts-begin_joined : goal.ghosts-begin_joined
-ghosts-begin_joined g a = record { opening = states_of a.state; workers = length a.state.counters }
+ghosts-begin_joined g a = record { initial = states_of a.state; workers = length a.state.counters }

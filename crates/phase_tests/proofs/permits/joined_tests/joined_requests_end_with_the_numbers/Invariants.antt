@@ -3,4 +3,4 @@ use Rattle.shard_boxes.specs.States.{state_of}
 use Rattle.phase_tests.proofs.permits.joined_tests.joined_requests_end_with_the_numbers.Given as goal
 
 abbrev pub ghosts-views_at_the_end : goal.ghosts-views_at_the_end
-ghosts-views_at_the_end g a = record { opening = map state_of a.shards.items; workers = 1 }
+ghosts-views_at_the_end g a = record { initial = map state_of a.shards.items; workers = 1 }

@@ -1,7 +1,7 @@
 use Rattle.std.proofs.Common.{◌≡◌, [], length, sym, ap, ◌∙◌, arith}
 use Rattle.auction_rows.specs.declared.requests.Object.TheVariants.{Item}
 use Rattle.auction_rows.specs.Footprint.{is_hot}
-use Rattle.phase_permits.specs.Slicing.{objects_of, slices_of, stocks_of}
+use Rattle.phase_permits.specs.Slicing.{hot_objects, slices_of, stocks_of}
 use Rattle.phase_permits.proofs.Places.{stocks_of_rows}
 use Rattle.phase_floor.proofs.HotItems.{objects_of_slices}
 use Rattle.phase_tests.proofs.permits.HotLemmas.{stash_room}
@@ -24,6 +24,6 @@ new-requires-2 g c =
       limit = omega (arith, ap length stash.empty);
       counted = record { items = omega arith; bids = omega arith; comments = omega arith; buys = omega arith };
       stored = λ item is own.
-          let first : item.serial ≡ 0 = c.requires.stored item (ap (λ objects. is_hot objects (Item item)) (sym (ap objects_of slices ∙ objects_of_slices hot [])) ∙ is) in
+          let first : item.serial ≡ 0 = c.requires.stored item (ap (λ objects. is_hot objects (Item item)) (sym (ap hot_objects slices ∙ objects_of_slices hot [])) ∙ is) in
           omega (arith, first);
     }

@@ -3,4 +3,4 @@ use Rattle.phase_workers.proofs.split_permit.SplitPermitPermit.perform_next.Goal
 
 pub returns-clause-dealt : goal.returns-clause-dealt
 returns-clause-dealt g c =
-    dealt_next g.N.PhaseName.opening c.args.self.now c.commit.new.self c.args.request.now c.args.index c.in_ok-commit.field-0 c.in_ok-commit.ensures.dealt
+    dealt_next g.N.PhaseName.initial c.args.self.now c.commit.new.self c.args.request.now c.args.index c.in_ok-commit.field-0 c.in_ok-commit.ensures.dealt

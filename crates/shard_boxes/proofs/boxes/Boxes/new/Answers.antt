@@ -1,26 +1,26 @@
 use Rattle.std.proofs.Common.{◌≡◌, ◌<◌, ◌≤◌, ◌^◌, List, length, get_or, vec_capacity, sym, ap, ◌∙◌, subst}
 use Rattle.shard_boxes.specs.Keys.{BoxId, AreNewKeys}
-use Rattle.shard_boxes.specs.Leaves.{makers, AreReady}
-use Rattle.shard_boxes.proofs.Leaves.{as_many_states}
+use Rattle.shard_boxes.specs.Grants.{makers, AreReady}
+use Rattle.shard_boxes.proofs.GrantLemmas.{as_many_states}
 use Rattle.shard_boxes.proofs.boxes.Boxes.new.Goals as goal
 
-pub open_all-leaves-requires : goal.open_all-leaves-requires
-open_all-leaves-requires g c =
-    let count : c.len-count.result ≡ length g.N.PhaseName.opening = c.len-count.ensures ∙ c.args.shards.ok.0 ∙ as_many_states c.args.shards.items g.N.PhaseName.opening c.requires.opening in
+pub open_all-grants-requires : goal.open_all-grants-requires
+open_all-grants-requires g c =
+    let count : c.len-count.result ≡ length g.N.PhaseName.initial = c.len-count.ensures ∙ c.args.shards.ok.0 ∙ as_many_states c.args.shards.items g.N.PhaseName.initial c.requires.opening in
     record {
       opening = c.requires.opening;
       opened = c.requires.opened;
-      places = c.deref.ensures.len ∙ c.in-Ok.ensures.len ∙ count;
-      leaves = c.in-Ok.ensures.leaves ∙ ap (makers g.N.PhaseName.workers) (sym c.deref.ensures.value);
+      boxes = c.deref.ensures.len ∙ c.in-Ok.ensures.len ∙ count;
+      grants = c.in-Ok.ensures.grants ∙ ap (makers g.N.PhaseName.workers) (sym c.deref.ensures.value);
     }
 
 pub deal_all-keys-requires : goal.deal_all-keys-requires
 deal_all-keys-requires g c =
     let workers = g.N.PhaseName.workers in
-    let count : c.len-count.result ≡ length g.N.PhaseName.opening = c.len-count.ensures ∙ c.args.shards.ok.0 ∙ as_many_states c.args.shards.items g.N.PhaseName.opening c.requires.opening in
+    let count : c.len-count.result ≡ length g.N.PhaseName.initial = c.len-count.ensures ∙ c.args.shards.ok.0 ∙ as_many_states c.args.shards.items g.N.PhaseName.initial c.requires.opening in
     record {
-      places = c.deref-2.ensures.len ∙ c.in-Ok.ensures.len ∙ count;
-      leaves = subst (λ (places : List BoxId). AreReady places 0 workers c.open_all-leaves.result.items) (c.deref.ensures.value ∙ sym c.deref-2.ensures.value) c.open_all-leaves.ensures;
+      boxes = c.deref-2.ensures.len ∙ c.in-Ok.ensures.len ∙ count;
+      grants = subst (λ (boxes : List BoxId). AreReady boxes 0 workers c.open_all-grants.result.items) (c.deref.ensures.value ∙ sym c.deref-2.ensures.value) c.open_all-grants.ensures;
       workers = subst (λ n. n < 2 ^ 32) c.requires.workers c.ranges.workers.fits;
       rooms = c.in-Ok-make_rooms.ensures.len ∙ c.requires.workers;
       each = λ w d low. let room = c.in-Ok-make_rooms.ensures.each w d (subst (λ n. w < n) (sym c.requires.workers) low) in (room.0, subst (λ n. n ≤ vec_capacity (get_or c.in-Ok-make_rooms.rooms.items w d)) count room.1);
@@ -29,13 +29,13 @@ deal_all-keys-requires g c =
 
 pub invariant_of-result : goal.invariant_of-result
 invariant_of-result g c =
-    let count : c.len-count.result ≡ length g.N.PhaseName.opening = c.len-count.ensures ∙ c.args.shards.ok.0 ∙ as_many_states c.args.shards.items g.N.PhaseName.opening c.requires.opening in
+    let count : c.len-count.result ≡ length g.N.PhaseName.initial = c.len-count.ensures ∙ c.args.shards.ok.0 ∙ as_many_states c.args.shards.items g.N.PhaseName.initial c.requires.opening in
     (c.in-Ok.ensures.len ∙ count, c.requires.few.1, c.requires.some.0, c.in-Ok-with_capacity-2.ensures.len, subst (λ n. n ≤ vec_capacity c.in-Ok-with_capacity-2.answer) count c.in-Ok-with_capacity-2.ensures.capacity, c.requires.few.0)
 
 pub returns-clause-keys : goal.returns-clause-keys
-returns-clause-keys g c = subst (λ (places : List BoxId). AreNewKeys places g.N.PhaseName.workers c.deal_all-keys.result.items) c.deref-2.ensures.value c.deal_all-keys.ensures
+returns-clause-keys g c = subst (λ (boxes : List BoxId). AreNewKeys boxes g.N.PhaseName.workers c.deal_all-keys.result.items) c.deref-2.ensures.value c.deal_all-keys.ensures
 
 pub returns-clause-boxes : goal.returns-clause-boxes
 returns-clause-boxes g c =
-    sym c.in-Ok.places.ok.0 ∙ c.in-Ok.ensures.len ∙ c.len-count.ensures ∙ c.args.shards.ok.0
-    ∙ as_many_states c.args.shards.items g.N.PhaseName.opening c.requires.opening
+    sym c.in-Ok.boxes.ok.0 ∙ c.in-Ok.ensures.len ∙ c.len-count.ensures ∙ c.args.shards.ok.0
+    ∙ as_many_states c.args.shards.items g.N.PhaseName.initial c.requires.opening

@@ -7,7 +7,7 @@ use Rattle.shard_boxes.proofs.boxes.Boxes.put.Goals as goal
 
 pub put-requires-clause-may : goal.put-requires-clause-may
 put-requires-clause-may g c =
-    subst (λ (held : ℕ × Shard). MayPut (taken_at g.N.PhaseName.opening c.args.key.now held.0) (state_of held.1) c.args.line)
+    subst (λ (held : ℕ × Shard). MayPut (taken_at g.N.PhaseName.initial c.args.key.now held.0) (state_of held.1) c.args.line)
     (λ i. (sym c.open-number.ensures.number i, sym c.open-number.ensures.shard i)) c.requires.may
 
 pub returns : goal.returns

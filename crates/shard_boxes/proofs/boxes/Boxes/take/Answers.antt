@@ -1,11 +1,11 @@
 use Rattle.std.proofs.Common.{sym, subst}
 use Rattle.item_shards.specs.declared.shard.Shard.{Shard}
 use Rattle.shard_boxes.specs.States.{state_of}
-use Rattle.shard_boxes.specs.Lines.{IsHistory}
+use Rattle.shard_boxes.specs.Lines.{IsShardHistory}
 use Rattle.shard_boxes.specs.Keys.{seen_at}
 use Rattle.shard_boxes.proofs.boxes.Boxes.take.Goals as goal
 
 pub returns-clause-history : goal.returns-clause-history
 returns-clause-history g c =
     let s = c.args.s in
-    subst (λ (shard : Shard). IsHistory g.N.PhaseName.opening g.N.PhaseName.workers s (seen_at c.take-shard.new.self s) (state_of shard)) (sym c.new.ensures.shard) c.take-shard.ensures.history
+    subst (λ (shard : Shard). IsShardHistory g.N.PhaseName.initial g.N.PhaseName.workers s (seen_at c.take-shard.new.self s) (state_of shard)) (sym c.new.ensures.shard) c.take-shard.ensures.history

@@ -1,13 +1,13 @@
 use Rattle.std.proofs.Common.{ℕ, ◌<◌, List, refl, sym, ap, ◌∙◌, subst, arith, length}
 use Rattle.shard_boxes.specs.declared.line.Line.{Line}
 use Rattle.shard_boxes.specs.States.{state_of, state_at}
-use Rattle.shard_boxes.specs.Lines.{after}
+use Rattle.shard_boxes.specs.Lines.{after_lines}
 use Rattle.shard_boxes.specs.Keys.{SeatState, KeyState, seat_at, with_seat, put_seat}
 use Rattle.shard_boxes.specs.Helds.{MayPut}
-use Rattle.shard_boxes.specs.Passes.{LeaveState}
+use Rattle.shard_boxes.specs.Passes.{GrantState}
 use Rattle.shard_boxes.specs.Seats.{IsFor}
 use Rattle.shard_boxes.proofs.KeySteps.{read, key_after, put_seat_is}
-use Rattle.shard_boxes.proofs.Leaves.{place_is}
+use Rattle.shard_boxes.proofs.GrantLemmas.{place_is}
 use Rattle.shard_boxes.proofs.Sweeps.{each_set}
 use Rattle.shard_boxes.proofs.BoxSteps.{length-with_first}
 use Rattle.shard_boxes.proofs.key.Key.put.Goals as goal
@@ -15,9 +15,9 @@ use Rattle.shard_boxes.proofs.key.Key.put.Goals as goal
 pub put-requires-clause-place : goal.put-requires-clause-place
 put-requires-clause-place g c =
     let inside = c.self.inside in
-    let leaves = inside.leaves.items in
-    let below : c.args.s < length leaves = subst (λ n. c.args.s < n) (sym (sym inside.leaves.ok.0 ∙ c.self.invariant.1)) c.requires.known in
-    place_is leaves c.args.self.now.boxes c.args.s c.index_mut-leave.result.now c.args.place.now (ap (λ (x : KeyState). x.boxes) c.self.view_is) below c.index_mut-leave.ensures.value c.requires.place
+    let grants = inside.grants.items in
+    let below : c.args.s < length grants = subst (λ n. c.args.s < n) (sym (sym inside.grants.ok.0 ∙ c.self.invariant.1)) c.requires.known in
+    place_is grants c.args.self.now.boxes c.args.s c.index_mut-grant.result.now c.args.shard_box.now (ap (λ (x : KeyState). x.boxes) c.self.view_is) below c.index_mut-grant.ensures.value c.requires.place
 
 pub put-requires-clause-line : goal.put-requires-clause-line
 put-requires-clause-line g c = refl
@@ -25,49 +25,49 @@ put-requires-clause-line g c = refl
 pub put-requires-clause-holds : goal.put-requires-clause-holds
 put-requires-clause-holds g c =
     let inside = c.self.inside in
-    let leaves = inside.leaves.items in
-    let below : c.args.s < length leaves = subst (λ n. c.args.s < n) (sym (sym inside.leaves.ok.0 ∙ c.self.invariant.1)) c.requires.known in
-    let seat = read inside.worker leaves c.args.s c.index_mut-leave.result.now c.args.self.now c.self.view_is below c.index_mut-leave.ensures.value in
+    let grants = inside.grants.items in
+    let below : c.args.s < length grants = subst (λ n. c.args.s < n) (sym (sym inside.grants.ok.0 ∙ c.self.invariant.1)) c.requires.known in
+    let seat = read inside.worker grants c.args.s c.index_mut-grant.result.now c.args.self.now c.self.view_is below c.index_mut-grant.ensures.value in
     ap (λ (t : SeatState). t.holds) (sym seat) ∙ c.requires.holds
 
 pub put-requires-clause-may : goal.put-requires-clause-may
 put-requires-clause-may g c =
     let inside = c.self.inside in
-    let leaves = inside.leaves.items in
-    let leave = c.index_mut-leave.result.now in
-    let below : c.args.s < length leaves = subst (λ n. c.args.s < n) (sym (sym inside.leaves.ok.0 ∙ c.self.invariant.1)) c.requires.known in
-    let at = c.index_mut-leave.ensures.value in
-    let number = ap (λ (l : LeaveState). l.knows.number) at ∙ (c.self.invariant.2 c.args.s leave below).numbered in
-    let seat = read inside.worker leaves c.args.s leave c.args.self.now c.self.view_is below at in
-    subst (λ (y : ℕ × List (ℕ × Line)). MayPut (after (state_at g.N.PhaseName.opening y.0) y.1) (state_of c.args.shard) c.args.line.now) (λ i. (sym number i, (seat i).seen)) c.requires.may
+    let grants = inside.grants.items in
+    let grant = c.index_mut-grant.result.now in
+    let below : c.args.s < length grants = subst (λ n. c.args.s < n) (sym (sym inside.grants.ok.0 ∙ c.self.invariant.1)) c.requires.known in
+    let at = c.index_mut-grant.ensures.value in
+    let number = ap (λ (l : GrantState). l.knows.number) at ∙ (c.self.invariant.2 c.args.s grant below).numbered in
+    let seat = read inside.worker grants c.args.s grant c.args.self.now c.self.view_is below at in
+    subst (λ (y : ℕ × List (ℕ × Line)). MayPut (after_lines (state_at g.N.PhaseName.initial y.0) y.1) (state_of c.args.shard) c.args.line.now) (λ i. (sym number i, (seat i).seen)) c.requires.may
 
 pub returns : goal.returns
 returns g c =
     let inside = c.self.inside in
-    let leave = c.index_mut-leave.result.now in
-    let below : c.args.s < length inside.leaves.items = omega (arith, inside.leaves.ok.0, c.self.invariant.1, c.requires.known) in
-    let fit = c.self.invariant.2 c.args.s leave below in
+    let grant = c.index_mut-grant.result.now in
+    let below : c.args.s < length inside.grants.items = omega (arith, inside.grants.ok.0, c.self.invariant.1, c.requires.known) in
+    let fit = c.self.invariant.2 c.args.s grant below in
     let is = c.self.view_is in
-    let at = c.index_mut-leave.ensures.value in
-    let first = ap (λ (l : LeaveState). l.knows.first) at ∙ fit.from in
-    let alone = ap (λ (l : LeaveState). length l.knows.own) at ∙ fit.as_many in
-    key_after (λ t. put_seat inside.worker t c.args.line.now) inside.worker c.args.s inside.leaves.items leave c.put.new.leave c.args.self.now is below at (ap (λ (l : LeaveState). l.place) c.put.ensures)
-    (put_seat_is inside.worker leave c.put.new.leave c.args.line.now c.put.ensures first alone)
+    let at = c.index_mut-grant.ensures.value in
+    let first = ap (λ (l : GrantState). l.knows.first) at ∙ fit.from in
+    let alone = ap (λ (l : GrantState). length l.knows.own) at ∙ fit.as_many in
+    key_after (λ t. put_seat inside.worker t c.args.line.now) inside.worker c.args.s inside.grants.items grant c.put.new.grant c.args.self.now is below at (ap (λ (l : GrantState). l.box_id) c.put.ensures)
+    (put_seat_is inside.worker grant c.put.new.grant c.args.line.now c.put.ensures first alone)
     ∙ ap (λ (x : KeyState). with_seat c.args.self.now c.args.s (put_seat x.worker (seat_at c.args.self.now c.args.s) c.args.line.now)) is
 
 pub invariant_of-self : goal.invariant_of-self
 invariant_of-self g c =
     let inside = c.self.inside in
-    let leave = c.index_mut-leave.result.now in
-    let below : c.args.s < length inside.leaves.items = omega (arith, inside.leaves.ok.0, c.self.invariant.1, c.requires.known) in
-    let fit = c.self.invariant.2 c.args.s leave below in
-    let at = c.index_mut-leave.ensures.value in
+    let grant = c.index_mut-grant.result.now in
+    let below : c.args.s < length inside.grants.items = omega (arith, inside.grants.ok.0, c.self.invariant.1, c.requires.known) in
+    let fit = c.self.invariant.2 c.args.s grant below in
+    let at = c.index_mut-grant.ensures.value in
     let new = c.put.ensures in (
       c.self.invariant.0,
       c.self.invariant.1,
-      each_set (λ k (l : LeaveState). IsFor l k inside.worker 1) inside.leaves.items c.args.s c.put.new.leave below c.self.invariant.2 (record {
-        numbered = ap (λ (l : LeaveState). l.knows.number) new ∙ ap (λ (l : LeaveState). l.knows.number) at ∙ fit.numbered;
-        from = ap (λ (l : LeaveState). l.knows.first) new ∙ ap (λ (l : LeaveState). l.knows.first) at ∙ fit.from;
-        as_many = ap (λ (l : LeaveState). length l.knows.own) new ∙ length-with_first leave.knows.own _ ∙ ap (λ (l : LeaveState). length l.knows.own) at ∙ fit.as_many;
+      each_set (λ k (l : GrantState). IsFor l k inside.worker 1) inside.grants.items c.args.s c.put.new.grant below c.self.invariant.2 (record {
+        numbered = ap (λ (l : GrantState). l.knows.number) new ∙ ap (λ (l : GrantState). l.knows.number) at ∙ fit.numbered;
+        from = ap (λ (l : GrantState). l.knows.first) new ∙ ap (λ (l : GrantState). l.knows.first) at ∙ fit.from;
+        as_many = ap (λ (l : GrantState). length l.knows.own) new ∙ length-with_first grant.knows.own _ ∙ ap (λ (l : GrantState). length l.knows.own) at ∙ fit.as_many;
       }),
     )

@@ -1,9 +1,9 @@
 use Rattle.std.proofs.Common.{ℕ, ◌<◌, ◌++◌, List, true, ap, sym, ◌∙◌, subst, arith, length}
 use Rattle.shard_boxes.specs.declared.line.Line.{Line}
-use Rattle.shard_boxes.specs.declared.place.View.{View}
+use Rattle.shard_boxes.specs.declared.shard_box.Knowledge.{Knowledge}
 use Rattle.shard_boxes.specs.States.{state_of}
-use Rattle.shard_boxes.specs.Lines.{IsHistory, lines_of}
-use Rattle.shard_boxes.specs.Passes.{LeaveState}
+use Rattle.shard_boxes.specs.Lines.{IsShardHistory, lines_of}
+use Rattle.shard_boxes.specs.Passes.{GrantState}
 use Rattle.shard_boxes.specs.Keys.{KeyState, SeatState, taking}
 use Rattle.shard_boxes.specs.Seats.{own_of}
 use Rattle.shard_boxes.proofs.BoxSteps.{plus_zero}
@@ -14,52 +14,52 @@ use Rattle.shard_boxes.proofs.key.Key.take.Goals as goal
 pub returns-clause-key : goal.returns-clause-key
 returns-clause-key g c =
     let inside = c.self.inside in
-    let leave = c.index_mut-leave.result.now in
-    let lines = c.take.new.leave.knows.seen in
-    let below : c.args.s < length inside.leaves.items = omega (arith, inside.leaves.ok.0, c.self.invariant.1, c.requires.known) in
+    let grant = c.index_mut-grant.result.now in
+    let lines = c.take.new.grant.knows.seen in
+    let below : c.args.s < length inside.grants.items = omega (arith, inside.grants.ok.0, c.self.invariant.1, c.requires.known) in
     let knows = c.take.ensures.taken.view in
-    key_after (λ t. record t { holds = true; seen = lines }) inside.worker c.args.s inside.leaves.items leave c.take.new.leave c.args.self.now c.self.view_is below c.index_mut-leave.ensures.value c.take.ensures.place
+    key_after (λ t. record t { holds = true; seen = lines }) inside.worker c.args.s inside.grants.items grant c.take.new.grant c.args.self.now c.self.view_is below c.index_mut-grant.ensures.value c.take.ensures.place
     (λ i. record { holds = (knows i).holds; lines = own_of (knows i); seen = (knows i).seen })
-    ∙ ap (taking c.args.self.now c.args.s) (sym (seen_after inside.worker c.args.s inside.leaves.items c.take.new.leave below))
+    ∙ ap (taking c.args.self.now c.args.s) (sym (seen_after inside.worker c.args.s inside.grants.items c.take.new.grant below))
 
 pub returns-clause-holds : goal.returns-clause-holds
 returns-clause-holds g c =
     let inside = c.self.inside in
-    let below : c.args.s < length inside.leaves.items = omega (arith, inside.leaves.ok.0, c.self.invariant.1, c.requires.known) in
-    holds_after inside.worker c.args.s inside.leaves.items c.take.new.leave below ∙ ap (λ (v : View). v.holds) c.take.ensures.taken.view
+    let below : c.args.s < length inside.grants.items = omega (arith, inside.grants.ok.0, c.self.invariant.1, c.requires.known) in
+    holds_after inside.worker c.args.s inside.grants.items c.take.new.grant below ∙ ap (λ (v : Knowledge). v.holds) c.take.ensures.taken.view
 
 pub returns-clause-history : goal.returns-clause-history
 returns-clause-history g c =
-    let opening = g.N.PhaseName.opening in let workers = g.N.PhaseName.workers in
+    let initial = g.N.PhaseName.initial in let workers = g.N.PhaseName.workers in
     let inside = c.self.inside in
-    let leave = c.index_mut-leave.result.now in
+    let grant = c.index_mut-grant.result.now in
     let taken = c.take.ensures.taken in
-    let below : c.args.s < length inside.leaves.items = omega (arith, inside.leaves.ok.0, c.self.invariant.1, c.requires.known) in
-    let number = ap (λ (l : LeaveState). l.knows.number) c.index_mut-leave.ensures.value ∙ (c.self.invariant.2 c.args.s leave below).numbered in
-    let seen = seen_after inside.worker c.args.s inside.leaves.items c.take.new.leave below in
-    subst (λ (y : ℕ × List (ℕ × Line)). IsHistory opening workers y.0 y.1 (state_of c.take.result)) (λ i. (number i, sym seen i))
-    (history_of opening workers leave.knows.number c.take.new.leave.knows.seen (state_of c.take.result) taken.kept taken.state)
+    let below : c.args.s < length inside.grants.items = omega (arith, inside.grants.ok.0, c.self.invariant.1, c.requires.known) in
+    let number = ap (λ (l : GrantState). l.knows.number) c.index_mut-grant.ensures.value ∙ (c.self.invariant.2 c.args.s grant below).numbered in
+    let seen = seen_after inside.worker c.args.s inside.grants.items c.take.new.grant below in
+    subst (λ (y : ℕ × List (ℕ × Line)). IsShardHistory initial workers y.0 y.1 (state_of c.take.result)) (λ i. (number i, sym seen i))
+    (history_of initial workers grant.knows.number c.take.new.grant.knows.seen (state_of c.take.result) taken.kept taken.state)
 
 pub returns-clause-later : goal.returns-clause-later
 returns-clause-later g c =
     let inside = c.self.inside in
-    let leave = c.index_mut-leave.result.now in
+    let grant = c.index_mut-grant.result.now in
     let taken = c.take.ensures.taken in
-    let below : c.args.s < length inside.leaves.items = omega (arith, inside.leaves.ok.0, c.self.invariant.1, c.requires.known) in
-    let seen = seen_after inside.worker c.args.s inside.leaves.items c.take.new.leave below in
-    let seat = read inside.worker inside.leaves.items c.args.s leave c.args.self.now c.self.view_is below c.index_mut-leave.ensures.value in
+    let below : c.args.s < length inside.grants.items = omega (arith, inside.grants.ok.0, c.self.invariant.1, c.requires.known) in
+    let seen = seen_after inside.worker c.args.s inside.grants.items c.take.new.grant below in
+    let seat = read inside.worker inside.grants.items c.args.s grant c.args.self.now c.self.view_is below c.index_mut-grant.ensures.value in
     (taken.later.0, seen ∙ taken.later.1 ∙ ap (λ (t : SeatState). t.seen ++ taken.later.0) (sym seat))
 
 pub returns-clause-own : goal.returns-clause-own
 returns-clause-own g c =
     let inside = c.self.inside in
-    let leave = c.index_mut-leave.result.now in
+    let grant = c.index_mut-grant.result.now in
     let taken = c.take.ensures.taken in
-    let at = c.index_mut-leave.ensures.value in
-    let below : c.args.s < length inside.leaves.items = omega (arith, inside.leaves.ok.0, c.self.invariant.1, c.requires.known) in
-    let fit = c.self.invariant.2 c.args.s leave below in
-    let seen = seen_after inside.worker c.args.s inside.leaves.items c.take.new.leave below in
-    let seat = read inside.worker inside.leaves.items c.args.s leave c.args.self.now c.self.view_is below at in
-    let first = ap (λ (l : LeaveState). l.knows.first) at ∙ fit.from ∙ ap (λ (k : KeyState). k.worker) c.self.view_is in
-    let one : 0 < length leave.knows.own = omega (arith, ap (λ (l : LeaveState). length l.knows.own) at, fit.as_many) in
-    (λ i. lines_of (sym first i) (seen i)) ∙ ap (λ n. lines_of n c.take.new.leave.knows.seen) (plus_zero leave.knows.first) ∙ sym (taken.own 0 one) ∙ ap (λ (t : SeatState). t.lines) (sym seat)
+    let at = c.index_mut-grant.ensures.value in
+    let below : c.args.s < length inside.grants.items = omega (arith, inside.grants.ok.0, c.self.invariant.1, c.requires.known) in
+    let fit = c.self.invariant.2 c.args.s grant below in
+    let seen = seen_after inside.worker c.args.s inside.grants.items c.take.new.grant below in
+    let seat = read inside.worker inside.grants.items c.args.s grant c.args.self.now c.self.view_is below at in
+    let first = ap (λ (l : GrantState). l.knows.first) at ∙ fit.from ∙ ap (λ (k : KeyState). k.worker) c.self.view_is in
+    let one : 0 < length grant.knows.own = omega (arith, ap (λ (l : GrantState). length l.knows.own) at, fit.as_many) in
+    (λ i. lines_of (sym first i) (seen i)) ∙ ap (λ n. lines_of n c.take.new.grant.knows.seen) (plus_zero grant.knows.first) ∙ sym (taken.own 0 one) ∙ ap (λ (t : SeatState). t.lines) (sym seat)

@@ -2,7 +2,7 @@ use Rattle.std.proofs.Common.{◌≡◌, ◌∙◌, sym, ap, subst, map, length,
 use Rattle.std.proofs.lemmas.List.{length-map, with_items_is}
 use Rattle.std.specs.Vec.{with_items}
 use Rattle.std.specs.List.{AllByRecursion}
-use Rattle.worker_journals.specs.Journals.{IsLawful, closed_journal}
+use Rattle.worker_journals.specs.Journals.{IsLawfulJournal, closed_journal}
 use Rattle.worker_journals.specs.Merged.{entry_count}
 use Rattle.worker_journals.specs.Histories.{ArePhase, IsHistory, journals_of}
 use Rattle.worker_journals.proofs.HistoryLemmas.{history_after, kept_after}
@@ -16,7 +16,7 @@ invariant_of-self c =
 pub invariant_of-self-2 : goal.invariant_of-self-2
 invariant_of-self-2 c =
     let h = c.self.inside in
-    let lawful = subst (AllByRecursion IsLawful) c.deref.ensures.value (rw c.in_ok-count.ensures.ok_part at c.count_of.ensures.lawful) in
+    let lawful = subst (AllByRecursion IsLawfulJournal) c.deref.ensures.value (rw c.in_ok-count.ensures.ok_part at c.count_of.ensures.lawful) in
     let are : ArePhase c.args.journals.items = record { few = omega (arith, c.requires.few, c.args.journals.ok.0); by_worker = c.requires.by_worker; lawful = lawful } in
     let same : length c.close_all.new.journals ≡ c.args.journals.len =
     omega (arith, ap length c.close_all.ensures, length-map c.deref_mut.result.now closed_journal, c.deref_mut.ensures.len) in
@@ -32,7 +32,7 @@ invariant_of-self-2 c =
 pub returns-clause-added : goal.returns-clause-added
 returns-clause-added c =
     let h = c.self.inside in
-    let lawful = subst (AllByRecursion IsLawful) c.deref.ensures.value (rw c.in_ok-count.ensures.ok_part at c.count_of.ensures.lawful) in
+    let lawful = subst (AllByRecursion IsLawfulJournal) c.deref.ensures.value (rw c.in_ok-count.ensures.ok_part at c.count_of.ensures.lawful) in
     let are : ArePhase c.args.journals.items = record { few = omega (arith, c.requires.few, c.args.journals.ok.0); by_worker = c.requires.by_worker; lawful = lawful } in
     let same : length c.close_all.new.journals ≡ c.args.journals.len =
     omega (arith, ap length c.close_all.ensures, length-map c.deref_mut.result.now closed_journal, c.deref_mut.ensures.len) in

@@ -1,6 +1,6 @@
 use Rattle.std.proofs.Common.{◌≡◌, ◌<◌, ◌∙◌, ap, sym, arith}
 use Rattle.auction_rows.specs.StoreReplies.{reply_of}
-use Rattle.worker_journals.specs.Answers.{reply_told}
+use Rattle.worker_journals.specs.Answers.{reply_in_form}
 use Rattle.worker_journals.specs.Sides.{SideLists}
 use Rattle.worker_journals.proofs.KeptLemmas.{said_of}
 use Rattle.worker_journals.proofs.sides.Sides.keep.Goals as goal
@@ -23,9 +23,9 @@ keep_reply-short_reply-requires c =
 
 pub returns-in-Store-clause-reply : goal.returns-in-Store-clause-reply
 returns-in-Store-clause-reply c =
-    let told : reply_of c.in-Store.store ≡ c.args.reply.now = ap reply_told (sym c.in-Store.is) ∙ c.reply.view_is in
+    let told : reply_of c.in-Store.store ≡ c.args.reply.now = ap reply_in_form (sym c.in-Store.is) ∙ c.reply.view_is in
     said_of _ _ _ _ _ _ _ told (c.of_store.ensures _ _ _ _)
 
 pub returns-in-Whole-clause-reply : goal.returns-in-Whole-clause-reply
 returns-in-Whole-clause-reply c =
-    said_of _ _ _ _ _ _ _ (ap reply_told (sym c.in-Whole.is) ∙ c.reply.view_is) c.keep_reply-short_reply.ensures.says
+    said_of _ _ _ _ _ _ _ (ap reply_in_form (sym c.in-Whole.is) ∙ c.reply.view_is) c.keep_reply-short_reply.ensures.says

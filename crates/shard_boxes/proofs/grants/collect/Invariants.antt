@@ -1,0 +1,17 @@
+use Rattle.std.proofs.Common.{◌≡◌, ◌+◌, drop, length, [], ◌∷◌}
+use Rattle.std.specs.Vec.Iter.{into_iter_items, into_iter_len}
+use Rattle.shard_boxes.specs.Passes.{GrantState}
+use Rattle.shard_boxes.specs.Keys.{lines_at}
+use Rattle.shard_boxes.specs.Seats.{boxes_of}
+use Rattle.shard_boxes.specs.Grants.{IsFree, own_at}
+use Rattle.shard_boxes.proofs.Sweeps.{Swept}
+use Rattle.shard_boxes.proofs.grants.collect.Given as goal
+
+-- the grants of the boxes below s are collected
+abbrev pub invariant-loop-other : goal.invariant-loop-other
+invariant-loop-other g l =
+    (l.s + into_iter_len l.other-iterator ≡ length g.N.PhaseName.initial)
+    × (into_iter_items l.other-iterator ≡ drop l.s l.fn.others.items)
+    × (boxes_of l.grants.items ≡ l.boxes)
+    × Swept (λ k (x : GrantState). IsFree k l.fn.key.worker x.knows × ((e : GrantState) → x.knows.own ≡ lines_at l.fn.key k ∷ own_at l.fn.others.items k e))
+    (λ k (x : GrantState). IsFree k l.fn.key.worker x.knows × (x.knows.own ≡ lines_at l.fn.key k ∷ [])) l.grants.items l.s
