@@ -22,7 +22,7 @@ HEAD = """//! Functions that let go what has to be spent, or spend it twice.
 #![tactic(auto)]
 
 use auction_window::{Publisher, WindowName};
-use phase_permits::{JoinedPermit, SplitPermit};
+use phase_permits::{JoinedPhase, Permit, SplitPhase};
 use shard_boxes::{Boxes, Held, Key, PhaseName};
 use std::sync::Wait;
 
@@ -57,8 +57,8 @@ class Owned:
 
 OWNED = [
     Owned("held", "Held<N>", "N: PhaseName, R: Wait", "boxes.put(rt, key, held, None);", "rt: &R, boxes: &Boxes<N>, key: &mut Key<N>, "),
-    Owned("permit", "JoinedPermit<N>", "N: PhaseName", "let _ = permit.finish();"),
-    Owned("permit", "SplitPermit<N>", "N: PhaseName", "let _ = permit.finish();"),
+    Owned("permit", "Permit<N, JoinedPhase>", "N: PhaseName", "let _ = permit.finish();"),
+    Owned("permit", "Permit<N, SplitPhase>", "N: PhaseName", "let _ = permit.finish();"),
     Owned("publisher", "Publisher<J>", "J: WindowName, R: Wait", "publisher.end(rt);", "rt: &R, "),
 ]
 

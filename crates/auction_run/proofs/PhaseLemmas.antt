@@ -6,7 +6,7 @@ use Rattle.std.specs.List.{AllByRecursion, AllZip}
 use Rattle.std.proofs.Math.ListN.{get_or-map}
 use Rattle.std.proofs.Math.Seq.{drop-nil, take-nil}
 use Rattle.std.proofs.lemmas.Bool.{eq-eqb, ne_eqb, cases_lt}
-use Rattle.std.proofs.lemmas.List.{length-map, get_or_past, map-id}
+use Rattle.std.proofs.lemmas.List.{length-map, get_or_past}
 use Rattle.auction_rows.specs.declared.requests.Object.{Object}
 use Rattle.auction_rows.specs.declared.requests.Facts.{Facts}
 use Rattle.auction_rows.specs.declared.requests.Request.{Request}
@@ -173,11 +173,6 @@ pub record AreReady (initial : List ShardState) (boxes : List BoxId) (phase firs
   pub can : AllByRecursion (CanBeDone initial boxes) (tasks permits scripts first)
   pub of : ArePermitsOf phase 0 permits
 
--- permits show themselves
-pub shown : {policy : Policy} {scripts : List (List Request)} {state : JoinedState} {stashes : List StashState} {hot : List Object} {floor : FloorState} {permits : List WorkerState} →
-    HasBegunPhase policy scripts state stashes hot floor permits → HasBegunPhase policy scripts state stashes hot floor (map (λ permit. permit) permits)
-shown {policy} {scripts} {state} {stashes} {hot} {floor} {permits} begun = subst (HasBegunPhase policy scripts state stashes hot floor) (sym (map-id permits)) begun
-
 module _ {policy : Policy} {scripts : List (List Request)} {state : JoinedState} {stashes : List StashState} {hot : List Object} {first : ℕ}
     (first_is : first ≡ first_index policy state.phase) (may : MayPerform policy scripts state stashes hot)
     {floor : FloorState} {permits : List WorkerState} (begun : HasBegunPhase policy scripts state stashes hot floor permits) where
@@ -337,11 +332,7 @@ module _ {policy : Policy} {scripts : List (List Request)} {state : JoinedState}
           split_stash = λ split w. stash_left w ∙ ap (λ ss. put_off hot (ss ++ calls_given policy state.phase (script_of scripts w))) (may.split split w);
         }
 
-  -- receipts show themselves
-  module _ (takes : Bool) (receipts : List WorkerState) (served : AllZip (HasDoneTask takes) (tasks permits scripts first) (map (λ receipt. receipt) receipts)) where
-    all : AllZip (HasDoneTask takes) (tasks permits scripts first) receipts
-    all = subst (AllZip (HasDoneTask takes) (tasks permits scripts first)) (map-id receipts) served
-
+  module _ (takes : Bool) (receipts : List WorkerState) (all : AllZip (HasDoneTask takes) (tasks permits scripts first) receipts) where
     count : length receipts ≡ length permits
     count = done_count (HasDoneTask takes) permits receipts scripts first as_many all
 

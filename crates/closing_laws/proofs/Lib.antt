@@ -17,3 +17,5 @@ pub mod WorkerLemmas
 pub mod FitLemmas
 pub mod RoomLemmas
 pub mod ExampleLemmas
+pub mod LookLemmas
+pub mod RightLemmas

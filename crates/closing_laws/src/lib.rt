@@ -2,6 +2,8 @@
 //! history of the auction of one thread. The functions compute nothing: each carries laws in its contract.
 #![tactic(auto)]
 
+mod commits;
+
 ghost use Rattle.std.specs.Prelude.{◌≡◌, ◌+◌, ◌<◌, ◌≤◌, ℕ, [], length, List, map, reverse};
 ghost use Rattle.std.specs.List.{AllByRecursion, flat_map};
 ghost use Rattle.std.specs.List.Sorted.{IsPermutation};
@@ -23,6 +25,10 @@ ghost use Rattle.phase_permits.specs.Workers.{WorkerState};
 ghost use Rattle.phase_permits.specs.Slicing.{HaveAtMost, slices_in};
 
 use auction_rows::{MOST_OF_A_WORKER, MOST_WORKERS};
+pub use commits::{
+    commits_keep_work, commits_stay_explained, empty_footprints_leave_keys, one_shard_put,
+    replies_are_right, slices_of_rows,
+};
 
 /// Each shard's list holds the lines of the entries whose footprint has the shard, in the entries' order, and
 /// nothing else.

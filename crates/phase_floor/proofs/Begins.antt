@@ -1,7 +1,6 @@
 -- What a phase begins with.
-use Rattle.std.proofs.Common.{◌≡◌, ◌+◌, ◌<◌, ◌≤◌, ℕ, zero, suc, Bool, true, false, IsTrue, Option, List, [], ◌∷◌, ◌++◌, append_assoc, map, length, get_or, drop, refl, sym, ap, ◌∙◌, subst, arith}
+use Rattle.std.proofs.Common.{◌≡◌, ◌+◌, ◌<◌, ◌≤◌, ℕ, zero, suc, Bool, true, false, IsTrue, Option, List, [], ◌∷◌, map, length, get_or, drop, refl, sym, ap, ◌∙◌, subst, arith}
 use Rattle.std.specs.Global.{Vec}
-use Rattle.std.specs.List.{AllByRecursion}
 use Rattle.std.proofs.lemmas.Bool.{false≢true}
 use Rattle.std.proofs.lemmas.List.{get_or-map}
 use Rattle.auction_rows.specs.declared.values.Opening.{Opening}
@@ -15,31 +14,29 @@ use Rattle.shard_boxes.proofs.Each.{at_head}
 use Rattle.phase_permits.specs.declared.worker.Counters.{Counters}
 use Rattle.phase_permits.specs.declared.slices.Hot.{Hot}
 use Rattle.phase_permits.specs.Slicing.{slices_of}
-use Rattle.phase_permits.specs.Workers.{HasStashRoom, WorkerState, CanStart}
+use Rattle.phase_permits.specs.Workers.{CanStart, HasStashRoom, IsEmptyIf, WorkerState, new_worker}
 use Rattle.phase_permits.specs.Stashes.{StashState}
 use Rattle.phase_permits.proofs.Places.{stocks_of_rows}
-use Rattle.closing_laws.specs.Phases.{no_receipt}
 use Rattle.closing_laws.specs.Standing.{counters_at}
 use Rattle.phase_floor.specs.declared.floor.BeginFault.TheVariants.{UnknownHot, TooLong, Memory}
 use Rattle.phase_floor.specs.declared.start.Kit.{Kit}
-use Rattle.phase_floor.specs.Begins.{IsTooLong, asked_in_all, empty_stash, IsKit, AreKits, start_of, HasNoSlices, HaveStashRoom, HasRefusedJoined, HasRefusedSplit}
-use Rattle.phase_floor.specs.Floors.{FloorState, IsOpen, IsNewPermit, AreBegun, no_stash, stash_at}
+use Rattle.phase_floor.specs.Begins.{IsTooLong, asked_in_all, empty_stash, IsKit, AreKits, HaveStashRoom, HasRefusedJoined, HasRefusedSplit}
+use Rattle.phase_floor.specs.Floors.{FloorState, IsOpen, IsNewPermit, no_stash, stash_at}
 use Rattle.phase_floor.specs.States.{JoinedState, DoAllExist, states_of}
 use Rattle.phase_floor.proofs.HotItems.{objects_of_slices, hot_is_stored}
 use Rattle.phase_floor.proofs.StoredItems.{stored_before}
-use Rattle.phase_laws.proofs.ListLemmas.{every_from}
 
 -- what is made of the next key, kit and stash is begun
 pub begun_next : (floor : FloorState) (workers w : ℕ) (quotas : List ℕ) (keys keys_left : List KeyState) (kits kits_left : List Kit) (stashes stashes_left : List StashState)
     → AreNewKeys floor.boxes workers keys → AreKits floor.phase floor.stocks stashes quotas workers kits → w < workers
     → (key : KeyState) (kit : Kit) (stash : StashState) → key ∷ keys_left ≡ drop w keys → kit ∷ kits_left ≡ drop w kits → stash ∷ stashes_left ≡ drop w stashes
     → (opening : Opening) (counters : Counters) → opening ≡ floor.opening → counters ≡ counters_at floor.counters w
-    → IsNewPermit floor w (get_or quotas w 0) (stash_at stashes w) (start_of key opening counters kit.journal stash kit.slices (get_or quotas w 0))
+    → IsNewPermit floor w (get_or quotas w 0) (stash_at stashes w) (new_worker key opening counters kit.journal stash kit.slices (get_or quotas w 0) 0)
 begun_next floor workers w quotas keys keys_left kits kits_left stashes stashes_left new made below key kit stash next_key next_kit next_stash opening counters openings counts =
     let quota = get_or quotas w 0 in
     let kit_is = subst (IsKit floor.phase floor.stocks w (length (stash_at stashes w).requests + quota)) (at_head kits w kit kits_left kit next_kit) (made w kit below) in
     let stash_is = sym (at_head stashes w stash stashes_left no_stash next_stash) in record {
-      new = λ i. start_of key (openings i) (counts i) (kit_is.journal i) (stash_is i) (kit_is.slices i) quota;
+      new = λ i. new_worker key (openings i) (counts i) (kit_is.journal i) (stash_is i) (kit_is.slices i) quota 0;
       key = subst (IsNewKey floor.boxes w) (at_head keys w key keys_left no_key next_key) (new.1 w below);
     }
 
@@ -113,11 +110,6 @@ pub waiting_within : (counters : List Counters) (stashes : List StashState) (quo
     → length (stash_at stashes w).requests + get_or quotas w 0 ≤ 1000000
 waiting_within counters stashes quotas short w low = let all = within counters stashes quotas short w low in omega (arith, all)
 
--- what is made of the first of some goes to the end of others
-pub passed_on : {X : Type 0} (done now left next all : List X) (x made : X) → now ≡ done ++ made ∷ [] → made ≡ x → left ≡ x ∷ next → done ++ left ≡ all → now ++ next ≡ all
-passed_on done now left next all x made pushed same took was =
-    ap (λ l. l ++ next) (pushed ∙ ap (λ one. done ++ one ∷ []) same) ∙ append_assoc done (x ∷ []) next ∙ ap (λ l. done ++ l) (sym took) ∙ was
-
 -- a worker can start with what is begun, where it asks for no more than 1,000,000
 pub can_start : (initial : List ShardState) (workers : ℕ) (floor : FloorState) → IsOpen initial workers floor → (w quota : ℕ) (stash : StashState) (start : WorkerState) → w < workers
     → (counters_at floor.counters w).commits + length stash.requests + quota ≤ 1000000 → HasStashRoom (slices_of floor.stocks []) quota stash.room → IsNewPermit floor w quota stash start → CanStart start
@@ -141,10 +133,12 @@ can_start initial workers floor is_open w quota stash start below fits room begu
     })
 
 -- where nothing is hot no worker has slices
-pub no_slices : (floor : FloorState) (quotas : List ℕ) (stashes : List StashState) (starts : List WorkerState) → floor.stocks ≡ [] → AreBegun floor quotas stashes starts
-    → AllByRecursion HasNoSlices starts
-no_slices floor quotas stashes starts cold are =
-    every_from HasNoSlices starts no_receipt (λ w low. ap (λ (p : WorkerState). p.slices) (are.1 w no_receipt (omega (arith, low, are.0))).new ∙ ap (λ s. slices_of s []) cold)
+none_sliced : (joined : Bool) (stocks : List (Object × Option (Facts × ℕ))) → IsEmptyIf joined stocks → IsEmptyIf joined (slices_of stocks [])
+none_sliced true stocks cold = ap (λ s. slices_of s []) cold
+none_sliced false stocks cold = tt
+
+pub kit_cold : (joined : Bool) (floor : FloorState) (w room : ℕ) (given kit : Kit) → given ≡ kit → IsKit floor.phase floor.stocks w room given → IsEmptyIf joined floor.stocks → IsEmptyIf joined kit.slices
+kit_cold joined floor w room given kit same is cold = subst (λ (k : Kit). IsEmptyIf joined k.slices) same (subst (IsEmptyIf joined) (sym is.slices) (none_sliced joined floor.stocks cold))
 
 -- in empty stashes nothing waits
 nothing_waits : (quotas : List ℕ) (w : ℕ) → length (stash_at (map empty_stash quotas) w).requests ≡ 0

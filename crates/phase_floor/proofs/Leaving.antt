@@ -48,11 +48,11 @@ module _ (initial : List ShardState) (workers : ℕ) (floor : FloorState) (is_op
   shards_one = given_one initial workers floor is_open receipts are given (added old.entries new.entries) closed
 
   pub slices_known : AreKnown given (flat_map from_the_last slices)
-  slices_known = subst (AreKnown given) (sym parts.slices_are) (given_known initial workers floor is_open receipts are given (added old.entries new.entries) closed)
+  slices_known = subst (AreKnown given) (sym (ap (flat_map from_the_last) parts.slices_are)) (given_known initial workers floor is_open receipts are given (added old.entries new.entries) closed)
 
   pub slices_can : SawInTurn CanMerge after_merge given (flat_map from_the_last slices)
   slices_can =
-      subst (SawInTurn CanMerge after_merge given) (sym parts.slices_are)
+      subst (SawInTurn CanMerge after_merge given) (sym (ap (flat_map from_the_last) parts.slices_are))
       (given_can initial workers floor is_open receipts are given (added old.entries new.entries) closed (λ w below. (finished initial workers floor is_open receipts are all w below).few))
 
   pub reconciled : (states : List ShardState) → states ≡ map at_start (fold after_merge given (flat_map from_the_last slices)) → HasReconciled initial floor receipts states (added old.entries new.entries)
@@ -61,7 +61,7 @@ module _ (initial : List ShardState) (workers : ℕ) (floor : FloorState) (is_op
     closed = closed;
     order = order_of receipts;
     each = all_once receipts;
-    states_are = states_are ∙ ap (λ (order : List (Object × Slice)). map at_start (fold after_merge given order)) parts.slices_are;
+    states_are = states_are ∙ ap (λ (order : List (Object × Slice)). map at_start (fold after_merge given order)) (ap (flat_map from_the_last) parts.slices_are);
   }
 
 module _ (initial : List ShardState) (workers : ℕ) (floor : FloorState) (is_open : IsOpen initial workers floor) (receipts : List WorkerState) (are : AreReceiptsOf floor receipts)

@@ -18,7 +18,6 @@ pub mod ResumeLemmas
 pub mod ResumeActs
 pub mod ResumeKept
 pub mod Lawfully
-pub mod Shown
 pub mod Cold
 pub mod Leaving
 pub mod NextRunLemmas

@@ -3,14 +3,11 @@ use Rattle.std.specs.Prelude.{◌≡◌, ◌+◌, ◌<◌, ◌^◌, ◌↔◌, �
 use Rattle.std.specs.Global.{Vec}
 use Rattle.auction_rows.specs.declared.limits.TheConstants.{MOST_OF_A_WORKER}
 use Rattle.auction_rows.specs.declared.requests.Object.{Object}
-use Rattle.auction_rows.specs.declared.values.Opening.{Opening}
-use Rattle.shard_boxes.specs.Keys.{KeyState}
 use Rattle.shard_boxes.specs.States.{ShardState}
-use Rattle.worker_journals.specs.Journals.{JournalView, empty_journal}
+use Rattle.worker_journals.specs.Journals.{empty_journal}
 use Rattle.phase_permits.specs.declared.worker.Counters.{Counters}
-use Rattle.phase_permits.specs.declared.slices.Hot.{Hot}
 use Rattle.phase_permits.specs.Slicing.{hot_objects, slices_of}
-use Rattle.phase_permits.specs.Workers.{HasStashRoom, new_worker, WorkerState}
+use Rattle.phase_permits.specs.Workers.{HasStashRoom, WorkerState}
 use Rattle.phase_permits.specs.Stashes.{StashState}
 use Rattle.closing_laws.specs.Standing.{counters_at}
 use Rattle.phase_floor.specs.declared.floor.BeginFault.{BeginFault}
@@ -136,13 +133,3 @@ abbrev pub AreKits : ℕ → Stocks → List StashState → List ℕ → ℕ →
 AreKits phase stocks stashes quotas count kits = (w : ℕ) (d : Kit) → w < count →
     IsKit phase stocks w (length (stash_at stashes w).requests + slice_index quotas w)
     (slice_index_or kits w d)
-
--- the permit of a worker who has done nothing in the phase, of its parts
-abbrev pub start_of : KeyState → Opening → Counters → JournalView → StashState →
-    List (Object × Hot) → ℕ → WorkerState
-start_of key opening counters journal stash slices quota =
-    new_worker key opening counters journal stash slices quota 0
-
--- nothing is hot
-abbrev pub HasNoSlices : WorkerState → Type 0
-HasNoSlices start = start.slices ≡ []

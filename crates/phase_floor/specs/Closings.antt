@@ -1,6 +1,6 @@
 -- How a phase closes.
 use Rattle.std.specs.Prelude.{◌≡◌, ℕ, ◌+◌, ◌<◌, ◌≤◌, List, [], map, fold, length, reverse, ⊤}
-use Rattle.std.specs.List.{AllByRecursion, flat_map}
+use Rattle.std.specs.List.{AllByRecursion}
 use Rattle.std.specs.List.Sorted.{IsPermutation}
 use Rattle.auction_rows.specs.declared.limits.TheConstants.{MOST_OF_A_WORKER, MOST_SHARDS}
 use Rattle.auction_rows.specs.declared.values.Opening.{Opening}
@@ -155,7 +155,7 @@ pub record AreOfOne (states : List ShardState) : Type 0 where
   pub shards_is : (s : ℕ) → s < length states → (state_at states s).shards ≡ length states
   pub opening_is : HaveOpening states (opening_in states)
 
--- the parts of receipts, each kind by itself, of slices those that there are
+-- the parts of receipts, each kind by itself
 pub record ArePartsOf (receipts : List WorkerState) (journals : List JournalView)
     (stashes : List StashState) (keys : List KeyState) (counters : List Counters)
     (slices : List (List (Object × Hot))) : Type 0 where
@@ -163,4 +163,4 @@ pub record ArePartsOf (receipts : List WorkerState) (journals : List JournalView
   pub stashes_are : stashes ≡ map stash_of receipts
   pub keys_are : keys ≡ map key_of receipts
   pub counters_are : counters ≡ map counters_of receipts
-  pub slices_are : flat_map from_the_last slices ≡ flat_map from_the_last (map sliced_of receipts)
+  pub slices_are : slices ≡ map sliced_of receipts

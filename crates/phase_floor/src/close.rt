@@ -1,60 +1,24 @@
 //! How a phase closes: its receipts and their parts; the slices of all workers, merged into the
 //! shards in which their objects lie; and the shards' clocks, which are at 0 between phases.
-ghost use Rattle.std.specs.Prelude.{◌≡◌, [], length, IfSome, IfNone, ◌+◌, ◌<◌, ◌≤◌, ◌++◌, ◌∷◌, map, IfOk, OnOk, vec_len, vec_capacity, fold, OnErr};
+ghost use Rattle.std.specs.Prelude.{length, IfOk, OnOk, ◌≡◌, map, fold, ◌++◌, true, OnErr};
 ghost use Rattle.std.specs.List.{AllByRecursion, flat_map};
 ghost use Rattle.phase_laws.specs.Replay.{SawInTurn};
 ghost use Rattle.closing_laws.specs.Merging.{CanMerge, CanMergeInto, after_merge, with_slice};
 ghost use Rattle.item_shards.specs.ShardContents.{LiesIn, contents, opening};
 ghost use Rattle.worker_journals.specs.Merged.{added, merged};
 ghost use Rattle.shard_boxes.specs.States.{state_of};
-ghost use Rattle.phase_permits.specs.Workers.{WorkerState};
-ghost use Rattle.phase_floor.specs.Closings.{IsFinished, ArePartsOf, AreOfOne, AreKnown, IsKnown, opening_in, from_the_last, at_start, AreReceiptsOf, HasSettled, HasReconciled, Leaves};
+ghost use Rattle.phase_floor.specs.Closings.{ArePartsOf, IsFinished, AreOfOne, AreKnown, IsKnown, opening_in, from_the_last, at_start, AreReceiptsOf, HasSettled, HasReconciled, Leaves};
 ghost use Rattle.phase_floor.specs.States.{states_of};
 
-use crate::floor::{Floor, FloorFault, JoinedFloor, SplitFloor};
+use crate::floor::{Floor, FloorFault};
 use crate::joined::Joined;
 use auction_rows::{Object, shard_of};
 use item_shards::{Shard, Slice};
-use phase_permits::{Counters, JoinedReceipt, Slices, SplitReceipt, Stash};
+use phase_permits::{Counters, Kind, Receipt, Slices, Stash};
 use shard_boxes::{Key, PhaseName};
 use std::alloc::{AllocError, Global};
 use std::sync::Wait;
 use worker_journals::{History, Journal};
-
-/// What a worker leaves at the end of a phase.
-pub(crate) trait Receipt<N: PhaseName>: Drop {
-    /// What it shows.
-    ghost shows: { Self → WorkerState };
-
-    /// The journal, the slices, the stash, the key and the counters, which are explained by its
-    /// transactions. It takes no memory.
-    fn open(self) -> (Journal, Option<Slices>, Stash, Key<N>, Counters)
-        ensures journal { result.0 ≡ (shows self).journal }
-        ensures sliced { IfSome result.1 (λ slices. slices ≡ (shows self).slices) }
-        ensures cold { IfNone result.1 ((shows self).slices ≡ []) }
-        ensures stash { result.2 ≡ (shows self).stash }
-        ensures key { result.3 ≡ (shows self).key }
-        ensures counters { result.4 ≡ (shows self).counters }
-        ensures finished { IsFinished (length N.initial) (shows self) };
-}
-
-impl<N: PhaseName> Receipt<N> for JoinedReceipt<N> {
-    ghost shows = { λ receipt. receipt };
-
-    fn open(self) -> (Journal, Option<Slices>, Stash, Key<N>, Counters) {
-        let (journal, stash, key, counters) = self.parts();
-        (journal, None, stash, key, counters)
-    }
-}
-
-impl<N: PhaseName> Receipt<N> for SplitReceipt<N> {
-    ghost shows = { λ receipt. receipt };
-
-    fn open(self) -> (Journal, Option<Slices>, Stash, Key<N>, Counters) {
-        let (journal, slices, stash, key, counters) = self.parts();
-        (journal, Some(slices), stash, key, counters)
-    }
-}
 
 /// The journals, stashes, keys, counters and slices of a phase's workers, each in the order of the
 /// workers.
@@ -69,12 +33,15 @@ pub(crate) struct Parts<N: PhaseName> {
 
 impl<N: PhaseName> Parts<N> {
     /// Those of receipts. All memory is asked for before a receipt is opened.
-    pub(crate) fn of<R: Receipt<N>>(alloc: Global, receipts: Vec<R>) -> Result<Parts<N>, AllocError>
-        ensures parts { IfOk result (λ parts. ArePartsOf (map R.shows receipts.items)
+    pub(crate) fn of<K: Kind>(
+        alloc: Global,
+        receipts: Vec<Receipt<N, K>>,
+    ) -> Result<Parts<N>, AllocError>
+        ensures parts { IfOk result (λ parts. ArePartsOf receipts.items
             parts.journals.items parts.stashes.items parts.keys.items parts.counters.items
             parts.slices.items) }
         ensures finished { OnOk result
-            (AllByRecursion (IsFinished (length N.initial)) (map R.shows receipts.items)) }
+            (AllByRecursion (IsFinished (length N.initial)) receipts.items) }
     {
         let workers = receipts.len();
         let mut journals = Vec::with_capacity(alloc, workers)?;
@@ -83,12 +50,12 @@ impl<N: PhaseName> Parts<N> {
         let mut counters = Vec::with_capacity(alloc, workers)?;
         let mut slices = Vec::with_capacity(alloc, workers)?;
         for receipt in receipts {
-            let (journal, own, stash, key, counted) = receipt.open();
+            let (journal, own, stash, key, counted) = receipt.parts();
             journals.push_reserved(journal);
             stashes.push_reserved(stash);
             keys.push_reserved(key);
             counters.push_reserved(counted);
-            add(&mut slices, own);
+            slices.push_reserved(own);
         }
         Ok(Parts {
             journals,
@@ -97,19 +64,6 @@ impl<N: PhaseName> Parts<N> {
             counters,
             slices,
         })
-    }
-}
-
-// Adds slices at the end, if there are any.
-fn add(all: &mut Vec<Slices>, slices: Option<Slices>)
-    requires { vec_len all.old < vec_capacity all.old }
-    ensures some { IfSome slices (λ own. all.new.items ≡ all.old.items ++ own ∷ []) }
-    ensures none { IfNone slices (all.new.items ≡ all.old.items) }
-    ensures len { vec_len all.new ≤ vec_len all.old + 1 }
-    ensures room { vec_capacity all.new ≡ vec_capacity all.old }
-{
-    if let Some(own) = slices {
-        all.push_reserved(own);
     }
 }
 
@@ -180,28 +134,33 @@ pub(crate) fn reset_clocks(shards: &mut Vec<Shard>)
     }
 }
 
-impl<N: PhaseName> Floor<N> {
-    // Closes the phase, by one receipt of each worker, in order: adds it to the history, and merges
-    // all slices. All memory is asked for first.
-    fn close<R: Wait, T: Receipt<N>>(
+impl<N: PhaseName, K: Kind> Floor<N, K> {
+    /// Closes the phase, by one receipt of each worker, in order: the state after it, into which
+    /// all slices are merged, and of each stash what was not performed. The phase's journals go to
+    /// the history: their entries, by number and then worker, are at its end. All memory is asked
+    /// for first; if it is refused, the history is as it was, and the run is over.
+    pub fn close<R: Wait>(
         self,
         rt: &R,
         alloc: Global,
         history: &mut History,
-        receipts: Vec<T>,
+        receipts: Vec<Receipt<N, K>>,
     ) -> Result<(Joined, Vec<Stash>), FloorFault>
-        requires { AreReceiptsOf self (map T.shows receipts.items) }
+        requires { AreReceiptsOf self receipts.items }
         ensures history { history.new.entries
             ≡ history.old.entries ++ added history.old.entries history.new.entries }
         ensures refused { OnErr result (history.new.entries ≡ history.old.entries) }
         ensures last { OnOk result
             (merged history.new.last ≡ added history.old.entries history.new.entries) }
         ensures closed { IfOk result (λ closed.
-            HasReconciled N.initial self (map T.shows receipts.items) (states_of closed.0)
+            HasReconciled N.initial self receipts.items (states_of closed.0)
+            (added history.old.entries history.new.entries)) }
+        ensures joined { IfOk result (λ closed. K.IS_JOINED ≡ true →
+            HasSettled N.initial self receipts.items (states_of closed.0)
             (added history.old.entries history.new.entries)) }
         ensures leaves { IfOk result (λ closed.
-            Leaves N.initial self (map T.shows receipts.items)
-            (added history.old.entries history.new.entries) closed.0 closed.1.items) }
+            Leaves N.initial self receipts.items (added history.old.entries history.new.entries)
+            closed.0 closed.1.items) }
     {
         let Floor {
             opening,
@@ -227,63 +186,5 @@ impl<N: PhaseName> Floor<N> {
             counters,
         };
         Ok((state, stashes))
-    }
-}
-
-impl<N: PhaseName> JoinedFloor<N> {
-    /// Closes the phase, by one receipt of each worker, in order: the state after it, and of each
-    /// stash what was not performed. The phase's journals go to the history: their entries, by
-    /// number and then worker, are at its end. All memory is asked for first; if it is refused, the
-    /// history is as it was, and the run is over.
-    pub fn close<R: Wait>(
-        self,
-        rt: &R,
-        alloc: Global,
-        history: &mut History,
-        receipts: Vec<JoinedReceipt<N>>,
-    ) -> Result<(Joined, Vec<Stash>), FloorFault>
-        requires { AreReceiptsOf self receipts.items }
-        ensures history { history.new.entries
-            ≡ history.old.entries ++ added history.old.entries history.new.entries }
-        ensures refused { OnErr result (history.new.entries ≡ history.old.entries) }
-        ensures last { OnOk result
-            (merged history.new.last ≡ added history.old.entries history.new.entries) }
-        ensures closed { IfOk result (λ closed.
-            HasSettled N.initial self receipts.items (states_of closed.0)
-            (added history.old.entries history.new.entries)) }
-        ensures leaves { IfOk result (λ closed.
-            Leaves N.initial self receipts.items (added history.old.entries history.new.entries)
-            closed.0 closed.1.items) }
-    {
-        self.floor.close(rt, alloc, history, receipts)
-    }
-}
-
-impl<N: PhaseName> SplitFloor<N> {
-    /// Closes the phase, by one receipt of each worker, in order: the state after it, into which
-    /// all slices are merged, and the stashes. The phase's journals go to the history: their
-    /// entries, by number and then worker, are at its end. All memory is asked for first; if it is
-    /// refused, the history is as it was, and the run is over.
-    pub fn close<R: Wait>(
-        self,
-        rt: &R,
-        alloc: Global,
-        history: &mut History,
-        receipts: Vec<SplitReceipt<N>>,
-    ) -> Result<(Joined, Vec<Stash>), FloorFault>
-        requires { AreReceiptsOf self receipts.items }
-        ensures history { history.new.entries
-            ≡ history.old.entries ++ added history.old.entries history.new.entries }
-        ensures refused { OnErr result (history.new.entries ≡ history.old.entries) }
-        ensures last { OnOk result
-            (merged history.new.last ≡ added history.old.entries history.new.entries) }
-        ensures closed { IfOk result (λ closed.
-            HasReconciled N.initial self receipts.items (states_of closed.0)
-            (added history.old.entries history.new.entries)) }
-        ensures leaves { IfOk result (λ closed.
-            Leaves N.initial self receipts.items (added history.old.entries history.new.entries)
-            closed.0 closed.1.items) }
-    {
-        self.floor.close(rt, alloc, history, receipts)
     }
 }

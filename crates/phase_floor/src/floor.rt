@@ -4,10 +4,10 @@ ghost use Rattle.phase_permits.specs.Performing.{HaveOpening};
 
 use crate::start::Stocks;
 use auction_rows::Opening;
-use phase_permits::Counters;
+use phase_permits::{Counters, JoinedPhase, Kind, SplitPhase};
 use shard_boxes::{Boxes, PhaseName};
 use std::alloc::AllocError;
-use std::marker::Model;
+use std::marker::{Model, PhantomData};
 use thiserror::Error;
 
 /// Why a phase did not begin: the first that holds, in this order.
@@ -42,17 +42,25 @@ impl From<AllocError> for FloorFault {
     }
 }
 
-/// A phase that is open. In a joined one nothing is hot.
+/// A phase that is open. It ends by `close`.
 #[derive(Drop)]
-pub(crate) struct Floor<N: PhaseName> {
+pub struct Floor<N: PhaseName, K: Kind> {
     pub(crate) opening: Opening,
     pub(crate) phase: u64,
     pub(crate) counters: Vec<Counters>,
     pub(crate) stocks: Stocks,
     pub(crate) boxes: Boxes<N>,
+    pub(crate) kind: PhantomData<K>,
 }
 
-impl<N: PhaseName> Model for Floor<N> {
+/// A joined phase that is open.
+pub type JoinedFloor<N> = Floor<N, JoinedPhase>;
+
+/// A split phase that is open.
+pub type SplitFloor<N> = Floor<N, SplitPhase>;
+
+impl<N: PhaseName, K: Kind> Model for Floor<N, K> {
+    ghost use Rattle.phase_permits.specs.Workers.{IsEmptyIf};
     ghost use Rattle.phase_floor.specs.Floors.{FloorState, IsOpen};
 
     ghost Value = { FloorState };
@@ -65,72 +73,22 @@ impl<N: PhaseName> Model for Floor<N> {
       boxes = f.boxes;
     } };
 
-    ghost invariant = { λ f. IsOpen N.initial N.workers (record {
-      opening = f.opening;
-      phase = f.phase;
-      counters = f.counters.items;
-      stocks = f.stocks.items;
-      boxes = f.boxes;
-    }) };
+    ghost invariant = { λ f. IsEmptyIf K.IS_JOINED f.stocks.items
+        × IsOpen N.initial N.workers (record {
+          opening = f.opening;
+          phase = f.phase;
+          counters = f.counters.items;
+          stocks = f.stocks.items;
+          boxes = f.boxes;
+        }) };
 }
 
-impl<N: PhaseName> Floor<N> {
-    // The boxes to which the permits' keys are.
-    fn boxes(&self) -> &Boxes<N>
+impl<N: PhaseName, K: Kind> Floor<N, K> {
+    /// The boxes to which the permits' keys are. Their shards are of the phase's auction.
+    pub fn boxes(&self) -> &Boxes<N>
         ensures boxes { result.now ≡ self.now.boxes }
         ensures opening { HaveOpening N.initial self.now.opening }
     {
         &self.boxes
-    }
-}
-
-/// A joined phase that is open. It ends by `close`.
-#[derive(Drop)]
-pub struct JoinedFloor<N: PhaseName> {
-    pub(crate) floor: Floor<N>,
-}
-
-impl<N: PhaseName> Model for JoinedFloor<N> {
-    ghost use Rattle.std.specs.Prelude.{◌≡◌, []};
-    ghost use Rattle.phase_floor.specs.Floors.{FloorState};
-
-    ghost Value = { FloorState };
-
-    ghost view = { λ f. f.floor };
-
-    ghost invariant = { λ f. f.floor.stocks ≡ [] };
-}
-
-impl<N: PhaseName> JoinedFloor<N> {
-    /// The boxes to which the permits' keys are. Their shards are of the phase's auction.
-    pub fn boxes(&self) -> &Boxes<N>
-        ensures boxes { result.now ≡ self.now.boxes }
-        ensures opening { HaveOpening N.initial self.now.opening }
-    {
-        self.floor.boxes()
-    }
-}
-
-/// A split phase that is open. It ends by `close`.
-#[derive(Drop)]
-pub struct SplitFloor<N: PhaseName> {
-    pub(crate) floor: Floor<N>,
-}
-
-impl<N: PhaseName> Model for SplitFloor<N> {
-    ghost use Rattle.phase_floor.specs.Floors.{FloorState};
-
-    ghost Value = { FloorState };
-
-    ghost view = { λ f. f.floor };
-}
-
-impl<N: PhaseName> SplitFloor<N> {
-    /// The boxes to which the permits' keys are. Their shards are of the phase's auction.
-    pub fn boxes(&self) -> &Boxes<N>
-        ensures boxes { result.now ≡ self.now.boxes }
-        ensures opening { HaveOpening N.initial self.now.opening }
-    {
-        self.floor.boxes()
     }
 }

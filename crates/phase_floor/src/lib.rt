@@ -9,5 +9,5 @@ mod resumption;
 mod split;
 mod start;
 
-pub use floor::{BeginFault, FloorFault, JoinedFloor, SplitFloor};
+pub use floor::{BeginFault, Floor, FloorFault, JoinedFloor, SplitFloor};
 pub use joined::Joined;

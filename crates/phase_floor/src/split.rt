@@ -4,7 +4,7 @@ ghost use Rattle.phase_floor.specs.Begins.{CanBegin, HasRefusedSplit, OpensSplit
 
 use crate::floor::{BeginFault, SplitFloor};
 use crate::joined::Joined;
-use crate::start::{Stocks, is_too_long, new_stashes, split_permits};
+use crate::start::{Stocks, is_too_long, new_stashes};
 use auction_rows::{Facts, Object};
 use indexmap::IndexSet;
 use phase_permits::SplitPermit;
@@ -49,18 +49,9 @@ impl Joined {
         let Ok(stashes) = new_stashes(alloc, quotas) else {
             return Err((self, BeginFault::Memory));
         };
-        let Ok(permits) = Vec::with_capacity(alloc, quotas.len()) else {
-            return Err((self, BeginFault::Memory));
-        };
         match self.begin(rt, alloc, stocks, quotas, stashes) {
-            Ok((floor, starts)) => {
-                let permits = split_permits(permits, starts);
-                Ok((SplitFloor { floor }, permits))
-            }
-            Err((state, _)) => {
-                permits.destroy_empty();
-                Err((state, BeginFault::Memory))
-            }
+            Ok(begun) => Ok(begun),
+            Err((state, _)) => Err((state, BeginFault::Memory)),
         }
     }
 

@@ -1,20 +1,21 @@
 //! How a phase begins: how many requests it may perform, what its workers start it with, and the
 //! permits that are made of that.
-ghost use Rattle.std.specs.Prelude.{◌≡◌, ◌+◌, ◌<◌, length, IsTrue, ◌↔◌, ◌≤◌, ℕ, map, vec_len, IfOk, slice_index, [], vec_capacity, IfErr};
+ghost use Rattle.std.specs.Prelude.{◌≡◌, ◌+◌, ◌<◌, length, IsTrue, ◌↔◌, ◌≤◌, ℕ, map, vec_len, IfOk, slice_index, vec_capacity, IfErr};
 ghost use Rattle.std.specs.List.{AllByRecursion, IsDistinct};
 ghost use Rattle.auction_rows.specs.Requests.{same_object};
 ghost use Rattle.shard_boxes.specs.Keys.{AreNewKeys};
 ghost use Rattle.phase_permits.specs.Slicing.{hot_objects, IsStocked};
-ghost use Rattle.phase_floor.specs.Begins.{IsTooLong, AreKits, empty_stash, HasNoSlices, asked_in_all, CanBegin, CanBeGiven, HasRefusedJoined, HaveStashRoom, OpensJoined, OpensPhase};
+ghost use Rattle.phase_permits.specs.Workers.{IsEmptyIf};
+ghost use Rattle.phase_floor.specs.Begins.{IsTooLong, AreKits, empty_stash, asked_in_all, CanBegin, CanBeGiven, HasRefusedJoined, HaveStashRoom, OpensJoined, OpensPhase};
 ghost use Rattle.phase_floor.specs.Floors.{stash_at, AreBegun};
 
 use crate::floor::{BeginFault, Floor, JoinedFloor};
 use crate::joined::Joined;
-use auction_rows::{Facts, MOST_OF_A_WORKER, MOST_WORKERS, Object, Opening};
-use phase_permits::{Counters, JoinedPermit, Slices, SplitPermit, Stash};
+use auction_rows::{Facts, MOST_OF_A_WORKER, MOST_WORKERS, Object};
+use phase_permits::{Counters, JoinedPermit, Kind, Permit, Slices, Stash, WorkerStart};
 use shard_boxes::{Boxes, Key, PhaseName};
 use std::alloc::{AllocError, Global};
-use std::marker::Model;
+use std::marker::PhantomData;
 use std::sync::Wait;
 use worker_journals::Journal;
 
@@ -91,96 +92,6 @@ pub(crate) fn new_stashes(alloc: Global, quotas: &[u32]) -> Result<Vec<Stash>, A
     Ok(stashes)
 }
 
-/// What a worker starts a phase with, of either kind. It shows what the permit shows that is made
-/// of it.
-#[derive(Drop)]
-pub(crate) struct PermitStart<N: PhaseName> {
-    pub(crate) key: Key<N>,
-    pub(crate) opening: Opening,
-    pub(crate) counters: Counters,
-    pub(crate) journal: Journal,
-    pub(crate) stash: Stash,
-    pub(crate) slices: Slices,
-    pub(crate) quota: u32,
-}
-
-impl<N: PhaseName> Model for PermitStart<N> {
-    ghost use Rattle.phase_permits.specs.Workers.{WorkerState, CanStart};
-    ghost use Rattle.phase_floor.specs.Begins.{start_of};
-
-    ghost Value = { WorkerState };
-
-    ghost view = { λ s. start_of s.key s.opening s.counters s.journal s.stash s.slices s.quota };
-
-    ghost invariant = { λ s.
-        CanStart (start_of s.key s.opening s.counters s.journal s.stash s.slices s.quota) };
-}
-
-impl<N: PhaseName> PermitStart<N> {
-    // The permit of a joined phase.
-    fn joined(self) -> JoinedPermit<N>
-        requires { HasNoSlices self }
-        ensures { result ≡ self }
-    {
-        JoinedPermit::new(
-            self.key,
-            self.opening,
-            self.counters,
-            self.journal,
-            self.stash,
-            self.quota,
-            0,
-        )
-    }
-
-    // The permit of a split phase.
-    fn split(self) -> SplitPermit<N>
-        ensures { result ≡ self }
-    {
-        SplitPermit::new(
-            self.key,
-            self.opening,
-            self.counters,
-            self.journal,
-            self.stash,
-            self.slices,
-            self.quota,
-            0,
-        )
-    }
-}
-
-// The permits of a joined phase.
-pub(crate) fn joined_permits<N: PhaseName>(
-    mut permits: Vec<JoinedPermit<N>>,
-    starts: Vec<PermitStart<N>>,
-) -> Vec<JoinedPermit<N>>
-    requires empty { permits.items ≡ [] }
-    requires room { vec_len starts ≤ vec_capacity permits }
-    requires cold { AllByRecursion HasNoSlices starts.items }
-    ensures { result.items ≡ starts.items }
-{
-    for start in starts {
-        permits.push_reserved(start.joined());
-    }
-    permits
-}
-
-// The permits of a split phase.
-pub(crate) fn split_permits<N: PhaseName>(
-    mut permits: Vec<SplitPermit<N>>,
-    starts: Vec<PermitStart<N>>,
-) -> Vec<SplitPermit<N>>
-    requires empty { permits.items ≡ [] }
-    requires room { vec_len starts ≤ vec_capacity permits }
-    ensures { result.items ≡ starts.items }
-{
-    for start in starts {
-        permits.push_reserved(start.split());
-    }
-    permits
-}
-
 impl Joined {
     /// Begins a joined phase: a permit for each worker to perform what waits in its stash and its
     /// quota. The phase is of this state's shards and workers, and its number is below 2^64 - 1. If
@@ -203,33 +114,25 @@ impl Joined {
         if is_too_long(&self.counters, &stashes, quotas) {
             return Err((self, stashes, BeginFault::TooLong));
         }
-        let Ok(permits) = Vec::with_capacity(alloc, quotas.len()) else {
-            return Err((self, stashes, BeginFault::Memory));
-        };
         match self.begin(rt, alloc, Vec::new(alloc), quotas, stashes) {
-            Ok((floor, starts)) => {
-                let permits = joined_permits(permits, starts);
-                Ok((JoinedFloor { floor }, permits))
-            }
-            Err((state, stashes)) => {
-                permits.destroy_empty();
-                Err((state, stashes, BeginFault::Memory))
-            }
+            Ok(begun) => Ok(begun),
+            Err((state, stashes)) => Err((state, stashes, BeginFault::Memory)),
         }
     }
 
-    // Begins a phase of either kind: what each worker starts with. All memory is asked for before
-    // anything is moved; if it is refused, the state and the stashes come back unchanged.
-    pub(crate) fn begin<N: PhaseName, R: Wait>(
+    // Begins a phase of either kind. All memory is asked for before anything is moved; if it is
+    // refused, the state and the stashes come back unchanged.
+    pub(crate) fn begin<N: PhaseName, K: Kind, R: Wait>(
         self,
         rt: &R,
         alloc: Global,
         stocks: Stocks,
         quotas: &[u32],
         stashes: Vec<Stash>,
-    ) -> Result<(Floor<N>, Vec<PermitStart<N>>), (Joined, Vec<Stash>)>
+    ) -> Result<(Floor<N, K>, Vec<Permit<N, K>>), (Joined, Vec<Stash>)>
         requires can { CanBegin N.initial N.workers self quotas.now }
         requires stashes { vec_len stashes ≡ N.workers }
+        requires cold { IsEmptyIf K.IS_JOINED stocks.items }
         requires given { CanBeGiven self stocks.items stashes.items quotas.now }
         ensures begun { IfOk result (λ begun.
             OpensPhase self quotas.now stashes.items begun.0 begun.1.items) }
@@ -239,7 +142,7 @@ impl Joined {
         let Ok(kits) = new_kits(alloc, self.phase, &stocks, &stashes, quotas) else {
             return Err((self, stashes));
         };
-        let Ok(starts) = Vec::with_capacity(alloc, quotas.len()) else {
+        let Ok(permits) = Vec::with_capacity(alloc, quotas.len()) else {
             return Err((self, stashes));
         };
         match Boxes::new(rt, alloc, self.shards, quotas.len() as u32) {
@@ -250,27 +153,31 @@ impl Joined {
                     counters: self.counters,
                     stocks,
                     boxes,
+                    kind: PhantomData,
                 };
-                let starts = floor.give(starts, keys, kits, stashes, quotas);
-                Ok((floor, starts))
+                let permits = floor.give(permits, keys, kits, stashes, quotas);
+                Ok((floor, permits))
             }
-            Err((shards, _)) => Err((Joined { shards, ..self }, stashes)),
+            Err((shards, _)) => {
+                permits.destroy_empty();
+                Err((Joined { shards, ..self }, stashes))
+            }
         }
     }
 }
 
-impl<N: PhaseName> Floor<N> {
-    // What each worker starts with, by the keys.
+impl<N: PhaseName, K: Kind> Floor<N, K> {
+    // A permit for each worker, by the keys.
     fn give(
         &self,
-        mut starts: Vec<PermitStart<N>>,
+        mut permits: Vec<Permit<N, K>>,
         keys: Vec<Key<N>>,
         kits: Vec<Kit>,
         stashes: Vec<Stash>,
         quotas: &[u32],
-    ) -> Vec<PermitStart<N>>
-        requires empty { vec_len starts ≡ 0 }
-        requires room { N.workers ≤ vec_capacity starts }
+    ) -> Vec<Permit<N, K>>
+        requires empty { vec_len permits ≡ 0 }
+        requires room { N.workers ≤ vec_capacity permits }
         requires keys { AreNewKeys self.now.boxes N.workers keys.items }
         requires lens { (vec_len kits ≡ N.workers) × (vec_len stashes ≡ N.workers)
             × (length quotas.now ≡ N.workers) }
@@ -292,7 +199,7 @@ impl<N: PhaseName> Floor<N> {
                 unreachable!();
             };
             let counters = self.counters[w];
-            starts.push_reserved(PermitStart {
+            permits.push_reserved(Permit::from_start(WorkerStart {
                 key,
                 opening: self.opening,
                 counters,
@@ -300,9 +207,10 @@ impl<N: PhaseName> Floor<N> {
                 stash,
                 slices,
                 quota: quotas[w],
-            });
+                clock: 0,
+            }));
             w += 1;
         }
-        starts
+        permits
     }
 }

@@ -44,14 +44,11 @@ next_of_own a n is = omega (arith, is)
 
 -- an id in a reply to a store is one of the worker
 own_answer : (counters : Counters) (worker : ℕ) (request : Request) (reply : Reply) → IsReplyTo counters worker request reply → is_view request ≡ false → IsOwn worker reply
-own_answer counters worker (StoreItem facts time) reply is store = subst (IsOwn worker) (sym is) refl
-own_answer counters worker (StoreBid bidder item amount time) reply is store = subst (IsOwn worker) (sym is) refl
-own_answer counters worker (StoreComment author about item stars) reply is store = subst (IsOwn worker) (sym is) refl
-own_answer counters worker (BuyNow buyer item quantity time) reply is store = subst (IsOwn worker) (sym is) refl
 own_answer counters worker (ViewItem item) reply is store = absurd (true≢false store)
 own_answer counters worker (ViewBids item) reply is store = absurd (true≢false store)
 own_answer counters worker (ViewCategory category) reply is store = absurd (true≢false store)
 own_answer counters worker (ViewUser user) reply is store = absurd (true≢false store)
+own_answer counters worker request reply is store = subst (IsOwn worker) (sym is) refl
 
 own_by : (counters : Counters) (worker : ℕ) (request : Request) (reply : Reply) (refused : Option Refusal) → MatchOption refused (IsReplyTo counters worker request reply) (λ reason. reply ≡ Refused reason)
     → is_view request ≡ false → IsOwn worker reply
@@ -72,32 +69,21 @@ refusal_as opening (StoreItem facts time) seen other store same = item_unseen op
 refusal_as opening (StoreBid bidder item amount time) seen other store same = ap (λ s. refusal_by opening s (StoreBid bidder item amount time)) (same item refl)
 refusal_as opening (StoreComment author about item stars) seen other store same = ap (λ s. refusal_by opening s (StoreComment author about item stars)) (same item refl)
 refusal_as opening (BuyNow buyer item quantity time) seen other store same = ap (λ s. refusal_by opening s (BuyNow buyer item quantity time)) (same item refl)
-refusal_as opening (ViewItem item) seen other store same = absurd (true≢false store)
-refusal_as opening (ViewBids item) seen other store same = absurd (true≢false store)
-refusal_as opening (ViewCategory category) seen other store same = absurd (true≢false store)
-refusal_as opening (ViewUser user) seen other store same = absurd (true≢false store)
+refusal_as opening request seen other store same = absurd (true≢false store)
 
 -- the home of a request's item
 pub item_home : (w : WorkerState) (shards : ℕ) (request : Request) (homes : Homes) (item : ItemId) → AreHomesOf w shards request homes → item_of request ≡ Some item → IsHomeOf w.slices shards (Item item) homes.item
 item_home w shards (StoreItem facts time) homes item are is = absurd (cc)
-item_home w shards (StoreBid bidder own amount time) homes item are is = subst (λ i. IsHomeOf w.slices shards (Item i) homes.item) (same_Some own item is) are.0
-item_home w shards (StoreComment author about own stars) homes item are is = subst (λ i. IsHomeOf w.slices shards (Item i) homes.item) (same_Some own item is) are.0
-item_home w shards (BuyNow buyer own quantity time) homes item are is = subst (λ i. IsHomeOf w.slices shards (Item i) homes.item) (same_Some own item is) are.0
-item_home w shards (ViewItem own) homes item are is = subst (λ i. IsHomeOf w.slices shards (Item i) homes.item) (same_Some own item is) are.0
-item_home w shards (ViewBids own) homes item are is = subst (λ i. IsHomeOf w.slices shards (Item i) homes.item) (same_Some own item is) are.0
 item_home w shards (ViewCategory category) homes item are is = absurd (cc)
 item_home w shards (ViewUser user) homes item are is = absurd (cc)
+item_home w shards request homes item are is = subst (λ i. IsHomeOf w.slices shards (Item i) homes.item) (same_Some _ item is) are.0
 
 -- what a store writes has its home among them
 pub written_at : (w : WorkerState) (request : Request) (homes : Homes) → HasHomes w request homes → IsWrittenAt w.slices request homes
 written_at w (StoreItem facts time) homes has = (has.0, has.1.1)
 written_at w (StoreBid bidder item amount time) homes has = (has.0, has.1.0)
 written_at w (StoreComment author about item stars) homes has = (has.0, has.1.1)
-written_at w (BuyNow buyer item quantity time) homes has = (has.0, tt)
-written_at w (ViewItem item) homes has = (has.0, tt)
-written_at w (ViewBids item) homes has = (has.0, tt)
-written_at w (ViewCategory category) homes has = (has.0, tt)
-written_at w (ViewUser user) homes has = (has.0, tt)
+written_at w request homes has = (has.0, tt)
 
 -- an object whose home is no shard is hot
 hot_home : (hots : List (Object × Hot)) (shards : ℕ) (object : Object) (h : Home) → IsHomeOf hots shards object h → shard_at h ≡ None → is_hot (hot_objects hots) object ≡ true
@@ -137,13 +123,7 @@ hot_answered w shards known index request homes reply seen store goes are none f
 -- a request that the opening refuses
 no_row : (worker : ℕ) (request : Request) (reason : Refusal) → row_of worker request (Refused reason) ≡ None
 no_row worker (StoreItem facts time) reason = refl
-no_row worker (StoreBid bidder item amount time) reason = refl
-no_row worker (StoreComment author about item stars) reason = refl
-no_row worker (BuyNow buyer item quantity time) reason = refl
-no_row worker (ViewItem item) reason = refl
-no_row worker (ViewBids item) reason = refl
-no_row worker (ViewCategory category) reason = refl
-no_row worker (ViewUser user) reason = refl
+no_row worker request reason = refl
 
 either_reason : (b : Bool) (first by_item : Option Refusal) (reason : Refusal) → first ≡ Some reason → cond b first (option_or first by_item) ≡ Some reason
 either_reason true first by_item reason is = is

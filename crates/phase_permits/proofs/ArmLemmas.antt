@@ -1,5 +1,5 @@
 -- What each kind of store does is good on a shard that it took, by what it was answered.
-use Rattle.std.proofs.Common.{◌≡◌, ℕ, List, Option, Some, None, MatchOption, option_map, refl, subst}
+use Rattle.std.proofs.Common.{◌≡◌, ℕ, Option, Some, None, MatchOption, option_map, refl, subst}
 use Rattle.auction_rows.specs.declared.requests.BidEntry.{BidEntry}
 use Rattle.auction_rows.specs.declared.requests.BidId.{BidId}
 use Rattle.auction_rows.specs.declared.requests.BuyId.{BuyId}

@@ -12,24 +12,20 @@ use Rattle.auction_rows.specs.declared.replies.Reply.{Reply}
 use Rattle.auction_rows.specs.declared.replies.Reply.TheVariants.{ItemStored, Refused}
 use Rattle.auction_rows.specs.declared.requests.Facts.{Facts}
 use Rattle.auction_rows.specs.declared.requests.Request.{Request}
-use Rattle.auction_rows.specs.declared.requests.Request.TheVariants.{StoreItem, StoreBid, StoreComment, BuyNow, ViewItem, ViewBids, ViewCategory, ViewUser}
+use Rattle.auction_rows.specs.declared.requests.Request.TheVariants.{StoreItem, StoreBid, StoreComment, BuyNow}
 use Rattle.auction_rows.specs.Footprint.{is_hot, objects_of as objects_named}
 use Rattle.auction_rows.specs.Refusals.{number_refusal}
 use Rattle.auction_rows.specs.Requests.{item_of, is_view}
 use Rattle.item_shards.specs.ShardContents.{HasItemRoom, clock, contents}
 use Rattle.item_shards.specs.Values.{stock}
 use Rattle.shard_boxes.specs.Helds.{HeldState}
-use Rattle.shard_boxes.specs.Keys.{KeyState}
-use Rattle.shard_boxes.specs.States.{ShardState}
 use Rattle.phase_permits.specs.declared.deeds.Deeds.{Deeds}
 use Rattle.phase_permits.specs.declared.transaction.PermitFault.TheVariants.{Memory}
 use Rattle.phase_permits.specs.declared.homes.Home.{Home}
 use Rattle.phase_permits.specs.declared.homes.Home.TheVariants as home
-use Rattle.phase_permits.specs.declared.homes.Homes.{Homes}
 use Rattle.phase_permits.specs.declared.transaction.ReadSet.{ReadSet}
 use Rattle.phase_permits.specs.declared.slices.Hot.{Hot}
 use Rattle.phase_permits.specs.declared.homes.Begun.{Begun}
-use Rattle.phase_permits.specs.declared.homes.Taken.{Taken}
 use Rattle.phase_permits.specs.Begun.{Step, HasBegun, HasFirst, HasRoomFor, IsAnsweredOn, IsSeen}
 use Rattle.phase_permits.specs.Deeds.{IsReplyBy, IsNextIf, AreDeedsOf, AreGoodOn, acts_for, clocks_of, written_of, footprint_on}
 use Rattle.phase_permits.specs.Homes.{IsHomeOf}
@@ -40,7 +36,7 @@ use Rattle.phase_permits.specs.Takens.{shard_at, footprint_of, held_in, numbers_
 use Rattle.phase_permits.specs.Txns.{IsReplyTo, IsAnswered, refusal_by}
 use Rattle.phase_permits.specs.Workers.{WorkerState, IsLawfulWorker, setting_of, next_item, txn_of, after_commit}
 use Rattle.phase_permits.proofs.AnswerLemmas.{in_setting, item_home, store_answered}
-use Rattle.phase_permits.proofs.CanLemmas.{can_deal}
+use Rattle.phase_permits.proofs.WrittenLemmas.{can_deal}
 use Rattle.phase_permits.proofs.ChainLemmas.{store_commits, store_fails}
 use Rattle.phase_permits.proofs.FirstLemmas.{first_has, found_there, room_there, clocks_below}
 
@@ -50,10 +46,7 @@ item_next w (StoreItem facts time) reply is store = subst (IsNextIf w) (sym is) 
 item_next w (StoreBid bidder item amount time) reply is store = subst (IsNextIf w) (sym is) tt
 item_next w (StoreComment author about item stars) reply is store = subst (IsNextIf w) (sym is) tt
 item_next w (BuyNow buyer item quantity time) reply is store = subst (IsNextIf w) (sym is) tt
-item_next w (ViewItem item) reply is store = absurd (true≢false store)
-item_next w (ViewBids item) reply is store = absurd (true≢false store)
-item_next w (ViewCategory category) reply is store = absurd (true≢false store)
-item_next w (ViewUser user) reply is store = absurd (true≢false store)
+item_next w request reply is store = absurd (true≢false store)
 
 next_by : (w : WorkerState) (request : Request) (reply : Reply) (refused : Option Refusal) → MatchOption refused (IsReplyTo w.counters w.journal.worker request reply) (λ reason. reply ≡ Refused reason) → is_view request ≡ false → IsNextIf w reply
 next_by w request reply None is store = item_next w request reply is store
@@ -68,13 +61,7 @@ pub same_named : (w : WorkerState) (shards number index : ℕ) (request : Reques
 same_named w shards number index (StoreItem facts time) reply found allowed answered =
     let is : reply ≡ ItemStored (next_item w) = subst (λ first. MatchOption (option_or first None) (reply ≡ ItemStored (next_item w)) (λ reason. reply ≡ Refused reason)) allowed answered.answered in
     ap (λ r. objects_named (StoreItem facts time) r) is
-same_named w shards number index (StoreBid bidder item amount time) reply found allowed answered = refl
-same_named w shards number index (StoreComment author about item stars) reply found allowed answered = refl
-same_named w shards number index (BuyNow buyer item quantity time) reply found allowed answered = refl
-same_named w shards number index (ViewItem item) reply found allowed answered = refl
-same_named w shards number index (ViewBids item) reply found allowed answered = refl
-same_named w shards number index (ViewCategory category) reply found allowed answered = refl
-same_named w shards number index (ViewUser user) reply found allowed answered = refl
+same_named w shards number index request reply found allowed answered = refl
 
 -- the item that a worker stores next is not hot
 next_cold : (w : WorkerState) (b : Bool) → is_hot (hot_objects w.slices) (Item (next_item w)) ≡ b → IsLawfulWorker w → b ≡ false
@@ -93,13 +80,7 @@ item_first step w (StoreItem facts time) b begun lawful stores =
     let at = begun.homes_are.0 in
     let shard = cold_shard w.slices (length step.initial) (next_item w) homes.item at (next_cold w (is_hot (hot_objects w.slices) (Item (next_item w))) refl lawful) in
     first_has step.initial step.workers w.key w.slices b.taken homes.item homes.other (next_item w) shard.0 at shard.1 begun.taken.numbers begun.taken.taken
-item_first step w (StoreBid bidder item amount time) b begun lawful stores = absurd stores
-item_first step w (StoreComment author about item stars) b begun lawful stores = absurd stores
-item_first step w (BuyNow buyer item quantity time) b begun lawful stores = absurd stores
-item_first step w (ViewItem item) b begun lawful stores = absurd stores
-item_first step w (ViewBids item) b begun lawful stores = absurd stores
-item_first step w (ViewCategory category) b begun lawful stores = absurd stores
-item_first step w (ViewUser user) b begun lawful stores = absurd stores
+item_first step w request b begun lawful stores = absurd stores
 
 -- what was seen of an item, hot or not
 seen_by_home : (hots : List (Object × Hot)) (shards : ℕ) (item : ItemId) (h : Home) (seen found : Option (Facts × ℕ)) → IsHomeOf hots shards (Item item) h → (shard_at h ≡ None → seen ≡ stock_of (stocks_of hots) (Item item)) → found ≡ seen
@@ -109,57 +90,39 @@ seen_by_home hots shards item (home.Slice place) seen found at fixed same = fixe
 seen_by_home hots shards item (home.Shard shard) seen found at fixed same = sym same ∙ sym (ap (λ b. cond b (stock_of (stocks_of hots) (Item item)) found) (in_setting hots (Item item) at.1))
 
 module _ {N : Type 0} (step : Step) (w : WorkerState) (request : Request) (b : Begun N) (begun : HasBegun step w request b) where
-  abbrev initial : List ShardState
-  initial = step.initial
-
-  abbrev key : KeyState
-  key = step.key
-
-  abbrev homes : Homes
-  homes = step.homes
-
-  abbrev took : Taken N
-  took = b.taken
-
-  abbrev number : ℕ
-  number = b.number
-
   -- what was done on its shards, and put back, is a commit
-  pub begun_commits : (new : WorkerState) (index : ℕ) (reply : Reply) (seen : Option (Facts × ℕ)) (deeds : Deeds) (found : ReadSet) → footprint_on deeds ≡ footprint_of homes
-      → AreDeedsOf w.slices (length initial) (acts_for w.journal.worker seen request reply) deeds → found ≡ record { stock = seen; clocks = clocks_of took }
-      → IsAnswered (setting_of w (length initial)) w.counters (txn_of w number request index reply found)
-      → HasPutAll initial w.key new.key (is_one_of (numbers_of (held_in took)))
-      (line_among number index (held_in took) (dealt took (written_acts (written_of deeds number index))))
-      → new ≡ record (after_commit w number index request reply found) { key = new.key } → HasCommitted initial (record w { key = key }) new request index reply
+  pub begun_commits : (new : WorkerState) (index : ℕ) (reply : Reply) (seen : Option (Facts × ℕ)) (deeds : Deeds) (found : ReadSet) → footprint_on deeds ≡ footprint_of step.homes
+      → AreDeedsOf w.slices (length step.initial) (acts_for w.journal.worker seen request reply) deeds → found ≡ record { stock = seen; clocks = clocks_of b.taken }
+      → IsAnswered (setting_of w (length step.initial)) w.counters (txn_of w b.number request index reply found)
+      → HasPutAll step.initial w.key new.key (is_one_of (numbers_of (held_in b.taken)))
+      (line_among b.number index (held_in b.taken) (dealt b.taken (written_acts (written_of deeds b.number index))))
+      → new ≡ record (after_commit w b.number index request reply found) { key = new.key } → HasCommitted step.initial (record w { key = step.key }) new request index reply
   begun_commits new index reply seen deeds found foot owed found_is answered put committed =
-      store_commits initial (record w { key = key }) new w.key request homes took begun.taken begun.asked index number reply seen deeds found foot owed begun.allowed
-      (same_named w (length initial) number index request reply found begun.allowed answered) found_is put committed answered begun.numbered begun.within
+      store_commits step.initial (record w { key = step.key }) new w.key request step.homes b.taken begun.taken begun.asked index b.number reply seen deeds found foot owed begun.allowed
+      (same_named w (length step.initial) b.number index request reply found begun.allowed answered) found_is put committed answered begun.numbered begun.within
 
   -- and where memory was refused, and they went back as they were, it failed
-  pub begun_fails : (new : WorkerState) → AreBack w.key new.key → StoresItem request → new ≡ record w { key = new.key } → HasFailed initial (record w { key = key }) new request Memory
+  pub begun_fails : (new : WorkerState) → AreBack w.key new.key → StoresItem request → new ≡ record w { key = new.key } → HasFailed step.initial (record w { key = step.key }) new request Memory
   begun_fails new put stores same =
-      let numbered : number ≡ suc (max w.clock (greatest_by (λ (h : HeldState). clock h.shard) (held_in took))) = begun.numbered in
+      let numbered : b.number ≡ suc (max w.clock (greatest_by (λ (h : HeldState). clock h.shard) (held_in b.taken))) = begun.numbered in
       let within = begun.within in
-      store_fails initial (record w { key = key }) new w.key request homes took begun.taken begun.asked put Memory same begun.goes (omega (arith, numbered, within), stores, begun.allowed)
+      store_fails step.initial (record w { key = step.key }) new w.key request step.homes b.taken begun.taken begun.asked put Memory same begun.goes (omega (arith, numbered, within), stores, begun.allowed)
 
   -- a store
-  module _ (seen : Option (Facts × ℕ)) (store : is_view request ≡ false) (is_seen : IsSeen w request homes took seen) where
-    pub seen_answered : (index : ℕ) (reply : Reply) (found : ReadSet) → IsReplyBy w seen request reply → found ≡ record { stock = seen; clocks = clocks_of took } → IsAnswered (setting_of w (length initial)) w.counters (txn_of w number request index reply found)
+  module _ (seen : Option (Facts × ℕ)) (store : is_view request ≡ false) (is_seen : IsSeen w request step.homes b.taken seen) where
+    pub seen_answered : (index : ℕ) (reply : Reply) (found : ReadSet) → IsReplyBy w seen request reply → found ≡ record { stock = seen; clocks = clocks_of b.taken } → IsAnswered (setting_of w (length step.initial)) w.counters (txn_of w b.number request index reply found)
     seen_answered index reply found by found_is =
-        store_answered w (length initial) number index request reply found seen store begun.goes by
-        (λ item needs. seen_by_home w.slices (length initial) item homes.item seen found.stock (item_home w (length initial) request homes item begun.homes_are needs) (is_seen.fixed item needs) (ap (λ (f : ReadSet). f.stock) found_is))
+        store_answered w (length step.initial) b.number index request reply found seen store begun.goes by
+        (λ item needs. seen_by_home w.slices (length step.initial) item step.homes.item seen found.stock (item_home w (length step.initial) request step.homes item begun.homes_are needs) (is_seen.fixed item needs) (ap (λ (f : ReadSet). f.stock) found_is))
 
-    abbrev Grounds : Reply → HeldState → Type 0
-    Grounds reply held = IsAnsweredOn step w request seen reply held
-
-    -- what is known of it on each shard that it took
-    on_each : (reply : Reply) → IsReplyBy w seen request reply → HaveOpening initial w.opening → (held : List HeldState) → AllByRecursion (IsAsTaken initial step.workers w.key) held
-        → AllByRecursion (λ (h : HeldState). clock h.shard < number) held
-        → ((item : ItemId) → item_of request ≡ Some item → AllByRecursion (λ (h : HeldState). shard_at homes.item ≡ Some h.number → seen ≡ stock (contents h.shard (Item item))) held)
-        → (StoresItem request → AllByRecursion (λ (h : HeldState). shard_at homes.item ≡ Some h.number → HasItemRoom h.shard (next_item w)) held) → AllByRecursion (Grounds reply) held
-    on_each reply by opened [] all later found room = tt
-    on_each reply by opened (h ∷ held) all later found room = (
-      record {
+    -- what is so by what is known of it on each shard that it took
+    on_each : {P : HeldState → Type 0} (reply : Reply) → IsReplyBy w seen request reply → HaveOpening step.initial w.opening → ((h : HeldState) → IsAnsweredOn step w request seen reply h → P h)
+        → (held : List HeldState) → AllByRecursion (IsAsTaken step.initial step.workers w.key) held → AllByRecursion (λ (h : HeldState). clock h.shard < b.number) held
+        → ((item : ItemId) → item_of request ≡ Some item → AllByRecursion (λ (h : HeldState). shard_at step.homes.item ≡ Some h.number → seen ≡ stock (contents h.shard (Item item))) held)
+        → (StoresItem request → AllByRecursion (λ (h : HeldState). shard_at step.homes.item ≡ Some h.number → HasItemRoom h.shard (next_item w)) held) → AllByRecursion P held
+    on_each reply by opened so [] all later found room = tt
+    on_each reply by opened so (h ∷ held) all later found room = (
+      so h (record {
         taken = all.0;
         opened = opened;
         below = let within = begun.within in let less = later.0 in omega (arith, within, less);
@@ -169,22 +132,16 @@ module _ {N : Type 0} (step : Step) (w : WorkerState) (request : Request) (b : B
         next = next_reply w seen request reply by store;
         found = λ item needs. (found item needs).0;
         room = λ stores. (room stores).0;
-      },
-      on_each reply by opened held all.1 later.1 (λ item needs. (found item needs).1) (λ stores. (room stores).1),
+      }),
+      on_each reply by opened so held all.1 later.1 (λ item needs. (found item needs).1) (λ stores. (room stores).1),
     )
 
-    good_all : (a b : Option ℕ) (deeds : Deeds) (reply : Reply) → ((held : HeldState) → Grounds reply held → AreGoodOn a b deeds.first deeds.second held) → (held : List HeldState) → AllByRecursion (Grounds reply) held
-        → AllByRecursion (AreGoodOn a b deeds.first deeds.second) held
-    good_all a b deeds reply good [] all = tt
-    good_all a b deeds reply good (h ∷ held) all = (good h all.0, good_all a b deeds reply good held all.1)
-
-    pub begun_can : (reply : Reply) (deeds : Deeds) → footprint_on deeds ≡ footprint_of homes → HasRoomFor w request took → IsReplyBy w seen request reply → HaveOpening initial w.opening
-        → ((held : HeldState) → Grounds reply held → AreGoodOn (shard_at deeds.home) (shard_at deeds.other) deeds.first deeds.second held)
-        → CanBeDoneOnAll number (held_in took) (dealt took (written_acts (written_of deeds number 0)))
+    pub begun_can : (reply : Reply) (deeds : Deeds) → footprint_on deeds ≡ footprint_of step.homes → HasRoomFor w request b.taken → IsReplyBy w seen request reply → HaveOpening step.initial w.opening
+        → ((held : HeldState) → IsAnsweredOn step w request seen reply held → AreGoodOn (shard_at deeds.home) (shard_at deeds.other) deeds.first deeds.second held)
+        → CanBeDoneOnAll b.number (held_in b.taken) (dealt b.taken (written_acts (written_of deeds b.number 0)))
     begun_can reply deeds foot room by opened good =
-        let later = clocks_below took w.clock number begun.numbered in
-        can_deal number took deeds.first deeds.second (shard_at deeds.home) (shard_at deeds.other) (begun.taken.numbers ∙ sym foot) later
-        (good_all (shard_at deeds.home) (shard_at deeds.other) deeds reply good (held_in took)
-        (on_each reply by opened (held_in took) begun.taken.taken later
-        (λ item needs. found_there took (shard_at homes.item) (shard_at homes.other) item seen begun.taken.numbers (λ t at. is_seen.found item t needs at))
-        (λ stores. room_there took (shard_at homes.item) (shard_at homes.other) (next_item w) begun.taken.numbers (room stores))))
+        let later = clocks_below b.taken w.clock b.number begun.numbered in
+        can_deal b.number b.taken deeds.first deeds.second (shard_at deeds.home) (shard_at deeds.other) (begun.taken.numbers ∙ sym foot) later
+        (on_each reply by opened good (held_in b.taken) begun.taken.taken later
+        (λ item needs. found_there b.taken (shard_at step.homes.item) (shard_at step.homes.other) item seen begun.taken.numbers (λ t at. is_seen.found item t needs at))
+        (λ stores. room_there b.taken (shard_at step.homes.item) (shard_at step.homes.other) (next_item w) begun.taken.numbers (room stores)))

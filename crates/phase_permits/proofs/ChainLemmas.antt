@@ -11,13 +11,12 @@ use Rattle.auction_rows.specs.Refusals.{number_refusal}
 use Rattle.auction_rows.specs.Requests.{shard_of}
 use Rattle.item_shards.specs.declared.shard.acts.Act.{Act}
 use Rattle.item_shards.specs.CommitNumbers.{last_number}
-use Rattle.item_shards.specs.ShardContents.{clock}
 use Rattle.item_shards.specs.Writing.{padded, done_on, acts_owed}
 use Rattle.shard_boxes.specs.declared.line.Line.{Line}
 use Rattle.shard_boxes.specs.Helds.{HeldState}
 use Rattle.shard_boxes.specs.Keys.{KeyState}
-use Rattle.shard_boxes.specs.Lines.{first_two}
-use Rattle.shard_boxes.specs.States.{ShardState}
+use Rattle.shard_boxes.specs.Lines.{first_two, after_lines}
+use Rattle.shard_boxes.specs.States.{ShardState, state_at}
 use Rattle.phase_permits.specs.declared.deeds.Deeds.{Deeds}
 use Rattle.phase_permits.specs.declared.transaction.PermitFault.{PermitFault}
 use Rattle.phase_permits.specs.declared.transaction.PermitFault.TheVariants.{Memory, NumberFull}
@@ -28,19 +27,17 @@ use Rattle.phase_permits.specs.Deeds.{first_dealt, second_dealt, clocks_of, acts
 use Rattle.phase_permits.specs.Performing.{HasCommitted, HasFailed, IsCause, StoresItem, asks, shards_asked, greatest_seen}
 use Rattle.phase_permits.specs.Putting.{clock_seen, HasPutAll, IsAsTaken}
 use Rattle.phase_permits.specs.Slicing.{hot_objects}
-use Rattle.phase_permits.specs.Takens.{shard_at, footprint_of, held_in, numbers_of, is_one_of, dealt, line_among, HasTakenAll, AreBack}
+use Rattle.phase_permits.specs.Takens.{shard_at, footprint_of, greatest_held, held_in, numbers_of, is_one_of, dealt, line_among, HasTakenAll, AreBack}
 use Rattle.phase_permits.specs.Txns.{Setting, Txn, hot_of, takes, line_on, greatest_clock, clock_found, clock_in, is_put_off, IsAnswered}
 use Rattle.phase_permits.specs.Workers.{WorkerState, setting_of, next_item, txn_of, after_commit}
 use Rattle.phase_permits.proofs.WrittenLemmas.{acts_among, dealt_on, line_is, greatest_same, greatest_taken}
 use Rattle.phase_permits.proofs.HomeLemmas.{same_objects_of}
-use Rattle.phase_permits.proofs.WholeLemmas.{taken_and_put, lines_stay, others_stay, clock_was, whole_commits}
+use Rattle.phase_permits.proofs.KeyLemmas.{lines_on}
+use Rattle.phase_permits.proofs.PutAllLemmas.{taken_and_put, put_owed}
 
 module _ {N : Type 0} {workers : ℕ} (initial : List ShardState) (old new : WorkerState) (key : KeyState) (request : Request) (homes : Homes) (took : Taken N)
     (its : HasTakenAll initial workers old.key key (footprint_of homes) (held_in took))
     (asked : (t : ℕ) → asks (length initial) old request t ≡ is_one_of (footprint_of homes) t) where
-  abbrev greatest : ℕ
-  greatest = greatest_by (λ (h : HeldState). clock h.shard) (held_in took)
-
   is_held : (t : ℕ) → is_one_of (footprint_of homes) t ≡ is_one_of (numbers_of (held_in took)) t
   is_held t = ap (λ ns. is_one_of ns t) (sym its.numbers)
 
@@ -84,7 +81,7 @@ module _ {N : Type 0} {workers : ℕ} (initial : List ShardState) (old new : Wor
         line_is took number index first second t (sym (is_held t) ∙ here)
         ∙ (λ i. record { number = number; before = clock_in (sym (ap (λ (f : ReadSet). f.clocks) found_is) i) t; index = index; acts = first_two (acts_are t here i) })
 
-    greatest_is : greatest_clock z txn ≡ greatest
+    greatest_is : greatest_clock z txn ≡ greatest_held (held_in took)
     greatest_is =
         greatest_same (λ s. clock_found s txn) _ (numbers_of (held_in took)) (λ t. takes_is t ∙ is_held t)
         ∙ ap (λ clocks. greatest_by (λ s. clock_in clocks s) (numbers_of (held_in took))) (ap (λ (f : ReadSet). f.clocks) found_is)
@@ -92,11 +89,13 @@ module _ {N : Type 0} {workers : ℕ} (initial : List ShardState) (old new : Wor
 
     pub store_commits : HasPutAll initial key new.key (is_one_of (numbers_of (held_in took))) lines
         → new ≡ record (after_commit old number index request reply found) { key = new.key }
-        → IsAnswered z old.counters txn → number ≡ suc (max old.clock greatest) → number ≤ last_number → HasCommitted initial old new request index reply
-    store_commits put committed answered numbered within =
-        whole_commits initial old new request index reply number found committed answered (footprint_of homes) lines
-        (taken_and_put old.key key new.key (footprint_of homes) (held_in took) lines its put) takes_is owes
-        (numbered ∙ ap (λ g. suc (max old.clock g)) (sym greatest_is)) within
+        → IsAnswered z old.counters txn → number ≡ suc (max old.clock (greatest_held (held_in took))) → number ≤ last_number → HasCommitted initial old new request index reply
+    store_commits put committed answered numbered within = record {
+      number = number;
+      found = found;
+      transacted = record { numbered = numbered ∙ ap (λ g. suc (max old.clock g)) (sym greatest_is); within = within; put = put_owed takes_is owes (taken_and_put its put); answered = answered };
+      worker = committed;
+    }
 
   -- the cause of a fault, by the greatest of the clocks
   abbrev pub IsCauseAtMost : ℕ → PermitFault → Type 0
@@ -105,24 +104,25 @@ module _ {N : Type 0} {workers : ℕ} (initial : List ShardState) (old new : Wor
 
   -- as they were
   module _ (put : AreBack key new.key) where
-    seen_is : (held : List HeldState) → AllByRecursion (IsAsTaken initial workers key) held → greatest_by (clock_seen initial new.key) (numbers_of held) ≡ greatest_by (λ (h : HeldState). clock h.shard) held
+    seen_is : (held : List HeldState) → AllByRecursion (IsAsTaken initial workers key) held → greatest_by (clock_seen initial new.key) (numbers_of held) ≡ greatest_held held
     seen_is [] all = refl
-    seen_is (h ∷ held) all = λ i. max (clock_was old.key key new.key (footprint_of homes) (held_in took) its put h all.0 i) (seen_is held all.1 i)
+    seen_is (h ∷ held) all = λ i. max ((ap (λ lines. (after_lines (state_at initial h.number) lines).clock) (put.seen h.number) ∙ sym (ap (λ (s : ShardState). s.clock) all.0.state_is)) i) (seen_is held all.1 i)
 
-    greatest_is_seen : greatest_seen initial old new.key request ≡ max old.clock greatest
+    greatest_is_seen : greatest_seen initial old new.key request ≡ max old.clock (greatest_held (held_in took))
     greatest_is_seen =
         ap (max old.clock) (greatest_same (clock_seen initial new.key) (shards_asked (length initial) old request) (numbers_of (held_in took)) (λ t. asked t ∙ is_held t) ∙ seen_is (held_in took) its.taken)
 
+    by_fault : (fault : PermitFault) → IsCauseAtMost (max old.clock (greatest_held (held_in took))) fault → IsCause initial old new.key request fault
+    by_fault Memory cause = (subst (λ n. n < last_number) (sym greatest_is_seen) cause.0, cause.1, cause.2)
+    by_fault NumberFull cause = subst (λ n. last_number ≤ n) (sym greatest_is_seen) cause
+
     pub store_fails : (fault : PermitFault) → new ≡ record old { key = new.key } → is_put_off (hot_objects old.slices) request ≡ false
-        → IsCauseAtMost (max old.clock greatest) fault → HasFailed initial old new request fault
+        → IsCauseAtMost (max old.clock (greatest_held (held_in took))) fault → HasFailed initial old new request fault
     store_fails fault worker goes cause = record {
       worker = worker;
-      lines = lines_stay old.key key new.key (footprint_of homes) (held_in took) its put;
-      others = λ t left. others_stay old.key key new.key (footprint_of homes) (held_in took) its put t (sym (asked t) ∙ left);
+      lines = lines_on its.lines put.lines;
+      others = λ t left. let apart = sym (asked t) ∙ left in put.others t (its.holds t ∙ apart) ∙ its.others t apart;
       idle = put.idle;
       not_put_off = goes;
       cause = by_fault fault cause;
-    } where
-      by_fault : (f : PermitFault) → IsCauseAtMost (max old.clock greatest) f → IsCause initial old new.key request f
-      by_fault Memory c = (subst (λ n. n < last_number) (sym greatest_is_seen) c.0, c.1, c.2)
-      by_fault NumberFull c = subst (λ n. last_number ≤ n) (sym greatest_is_seen) c
+    }

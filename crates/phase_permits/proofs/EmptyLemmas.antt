@@ -1,5 +1,5 @@
 -- A request that takes no shard: performed it is a commit, and at the end of numbers it failed.
-use Rattle.std.proofs.Common.{◌≡◌, ℕ, suc, ◌<◌, ◌≤◌, ◌==◌, not, Bool, true, false, cond, if◌then◌else◌, List, [], ◌∷◌, length, map, filter, Option, Some, None, Result, Ok, Err, is_some, refl, sym, ap, subst, ◌∙◌, ◌↔◌, arith}
+use Rattle.std.proofs.Common.{◌≡◌, ℕ, suc, max, ◌<◌, ◌≤◌, ◌==◌, not, Bool, true, false, cond, if◌then◌else◌, List, [], ◌∷◌, length, map, filter, Option, Some, None, Result, Ok, Err, is_some, refl, sym, ap, subst, ◌∙◌, ◌↔◌, arith}
 use Rattle.std.specs.Prelude.{IsNone, IfSome}
 use Rattle.std.specs.List.{AllByRecursion, list_any}
 use Rattle.std.proofs.Math.Nat.{lt_of_not-le}
@@ -9,12 +9,11 @@ use Rattle.auction_rows.specs.declared.replies.Reply.{Reply}
 use Rattle.auction_rows.specs.declared.requests.Object.{Object}
 use Rattle.auction_rows.specs.declared.requests.Object.TheVariants.{Item, User}
 use Rattle.auction_rows.specs.declared.requests.Request.{Request}
-use Rattle.auction_rows.specs.declared.requests.Request.TheVariants.{StoreItem, StoreBid, StoreComment, BuyNow, ViewItem, ViewBids, ViewCategory, ViewUser}
+use Rattle.auction_rows.specs.declared.requests.Request.TheVariants.{StoreBid, StoreComment}
 use Rattle.auction_rows.specs.Footprint.{is_hot, objects_of as objects_named}
 use Rattle.auction_rows.specs.Refusals.{number_refusal}
 use Rattle.auction_rows.specs.Requests.{shard_of}
 use Rattle.item_shards.specs.CommitNumbers.{last_number}
-use Rattle.shard_boxes.specs.Keys.{KeyState}
 use Rattle.shard_boxes.specs.States.{ShardState}
 use Rattle.phase_permits.specs.declared.transaction.PermitFault.{PermitFault}
 use Rattle.phase_permits.specs.declared.transaction.PermitFault.TheVariants.{Memory, NumberFull}
@@ -29,20 +28,8 @@ use Rattle.phase_permits.specs.Workers.{WorkerState, IsIdle, setting_of, hot_txn
 use Rattle.phase_permits.proofs.AnswerLemmas.{in_setting}
 use Rattle.phase_permits.proofs.BegunLemmas.{same_named}
 use Rattle.phase_permits.proofs.WrittenLemmas.{greatest_same}
-use Rattle.phase_permits.proofs.KeyLemmas.{seen_still}
-use Rattle.phase_permits.proofs.WholeLemmas.{whole_commits}
-
-none_put : (initial : List ShardState) (key : KeyState) → IsIdle key → HasPutAll initial key key (is_one_of []) (λ t. no_line)
-none_put initial key idle = record {
-  lines = λ t. refl;
-  puts = λ t took. absurd (false≢true took);
-  others = λ t left. refl;
-  seen = seen_still key;
-  idle = idle;
-  worker = refl;
-  boxes = refl;
-  seats = refl;
-}
+use Rattle.phase_permits.proofs.KeyLemmas.{lines_still}
+use Rattle.phase_permits.proofs.PutAllLemmas.{none_put, put_owed}
 
 module _ (initial : List ShardState) (old new : WorkerState) (request : Request) (index : ℕ) (idle : IsIdle old.key) where
   abbrev Untaken : Reply → Type 0
@@ -52,17 +39,26 @@ module _ (initial : List ShardState) (old new : WorkerState) (request : Request)
   stored_commits answer stored below untaken =
       let key_is : new.key ≡ old.key = ap (λ (w : WorkerState). w.key) stored.worker in
       let zero : greatest_clock (setting_of old (length initial)) (hot_txn old request index answer) ≡ 0 = greatest_same (λ s. clock_found s (hot_txn old request index answer)) _ [] untaken in
-      whole_commits initial old new request index answer (suc old.clock) nothing
-      (stored.worker ∙ (λ i. record (after_commit old (suc old.clock) index request answer nothing) { key = sym key_is i }))
-      (stored.answered (length initial)) [] (λ t. no_line) (subst (λ key. HasPutAll initial old.key key (is_one_of []) (λ t. no_line)) (sym key_is) (none_put initial old.key idle))
-      untaken (λ t took. absurd (false≢true took)) (omega (arith, zero)) (omega (arith, below))
+      let numbered : suc old.clock ≡ suc (max old.clock (greatest_clock (setting_of old (length initial)) (hot_txn old request index answer))) = omega (arith, zero) in
+      let within : suc old.clock ≤ last_number = omega (arith, below) in
+      record {
+        number = suc old.clock;
+        found = nothing;
+        transacted = record {
+          numbered = numbered;
+          within = within;
+          put = put_owed untaken (λ t took. absurd (false≢true took)) (subst (λ key. HasPutAll initial old.key key (is_one_of []) (λ t. no_line)) (sym key_is) (none_put initial old.key idle));
+          answered = stored.answered (length initial);
+        };
+        worker = stored.worker ∙ (λ i. record (after_commit old (suc old.clock) index request answer nothing) { key = sym key_is i });
+      }
 
   full_fails : new ≡ old → last_number ≤ old.clock → is_put_off (hot_objects old.slices) request ≡ false → HasFailed initial old new request NumberFull
   full_fails same full goes =
       let key_is : new.key ≡ old.key = ap (λ (w : WorkerState). w.key) same in
       subst (λ (w : WorkerState). HasFailed initial old w request NumberFull) (sym same) record {
         worker = refl;
-        lines = record { boxes = refl; worker = refl; seats = refl; lines = λ t. refl; seen = seen_still old.key };
+        lines = lines_still old.key;
         others = λ t left. refl;
         idle = idle;
         not_put_off = goes;
@@ -99,14 +95,9 @@ none_if true objects is = refl
 none_if false objects is = is
 
 all_hot : (w : WorkerState) (request : Request) (reply : Reply) → IsHotStore w.slices request → AllByRecursion (λ object. is_hot (hot_objects (stocks_of w.slices)) object ≡ true) (objects_named request reply)
-all_hot w (StoreItem facts time) reply hot = absurd hot
 all_hot w (StoreBid bidder item amount time) reply hot = (in_setting w.slices (Item item) hot, tt)
 all_hot w (StoreComment author about item stars) reply hot = (in_setting w.slices (Item item) hot.0, (in_setting w.slices (User about) hot.1, tt))
-all_hot w (BuyNow buyer item quantity time) reply hot = absurd hot
-all_hot w (ViewItem item) reply hot = absurd hot
-all_hot w (ViewBids item) reply hot = absurd hot
-all_hot w (ViewCategory category) reply hot = absurd hot
-all_hot w (ViewUser user) reply hot = absurd hot
+all_hot w request reply hot = absurd hot
 
 hot_store_untaken : (w : WorkerState) (shards index : ℕ) (request : Request) (answer : Reply) → IsHotStore w.slices request → (t : ℕ) → takes (setting_of w shards) t (hot_txn w request index answer) ≡ false
 hot_store_untaken w shards index request answer hot t =

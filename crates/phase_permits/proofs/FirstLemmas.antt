@@ -1,8 +1,6 @@
 -- The first shard that was taken: the one in which the item of a request lies.
-use Rattle.std.proofs.Common.{◌≡◌, ℕ, suc, max, ◌<◌, ◌≤◌, ◌==◌, Bool, true, false, cond, List, [], ◌∷◌, length, map, Option, Some, None, refl, sym, ap, subst, ◌∙◌, arith}
+use Rattle.std.proofs.Common.{◌≡◌, ℕ, suc, max, ◌<◌, ◌≤◌, List, [], ◌∷◌, length, map, Option, Some, refl, sym, ap, subst, ◌∙◌, arith, inl, inr}
 use Rattle.std.specs.List.{AllByRecursion}
-use Rattle.std.proofs.lemmas.Bool.{eq-eqb, true≢false}
-use Rattle.std.proofs.lemmas.Option.{same_Some}
 use Rattle.phase_laws.specs.Numbers.{greatest_by}
 use Rattle.auction_rows.specs.declared.requests.ItemId.{ItemId}
 use Rattle.auction_rows.specs.declared.requests.Object.{Object}
@@ -28,20 +26,14 @@ use Rattle.phase_permits.specs.Homes.{IsHomeOf}
 use Rattle.phase_permits.specs.Putting.{IsAsTaken}
 use Rattle.phase_permits.specs.Takens.{shard_at, each_once, held_in, numbers_of, is_one_of, AreApart}
 use Rattle.phase_permits.specs.Workers.{WorkerState}
-use Rattle.phase_permits.proofs.WrittenLemmas.{first_in, apart_of}
+use Rattle.phase_permits.proofs.WrittenLemmas.{LieInOne, in_one, in_two}
 use Rattle.phase_permits.proofs.GoodLemmas.{home_number}
 
-first_of : (c : Bool) (s u : ℕ) → first_in (cond c (s ∷ []) (s ∷ u ∷ [])) ≡ s
-first_of true s u = refl
-first_of false s u = refl
-
-first_is : (a b : Option ℕ) (t : ℕ) → a ≡ Some t → first_in (each_once a b) ≡ t
-first_is None b t is = absurd (cc)
-first_is (Some s) None t is = same_Some s t is
-first_is (Some s) (Some u) t is = first_of (s == u) s u ∙ same_Some s t is
+-- of the shards that were taken for it the first is that in which it lies
+number_is : (n : ℕ) (a b : Option ℕ) (t : ℕ) → LieInOne n a b → a ≡ Some t → n ≡ t
+number_is n a b t lies at = elim lies [ inl l ↦ cc (l.0, at) | inr more ↦ elim more [ inl l ↦ absurd (cc (l.0, at)) | inr l ↦ cc (l.0, at) ] ]
 
 module _ {N : Type 0} (initial : List ShardState) (workers : ℕ) (key : KeyState) (hots : List (Object × Hot)) (took : Taken N) (h k : Home) where
-  -- an item whose home is a shard lies in the first
   lies_first : (held : HeldState) (item : ItemId) (t : ℕ) → IsHomeOf hots (length initial) (Item item) h → shard_at h ≡ Some t → IsAsTaken initial workers key held → held.number ≡ t → LiesIn held.shard (Item item)
   lies_first held item t at is its number =
       ap (shard_of (Item item)) its.shards_is ∙ sym (home_number hots (length initial) t (Item item) h at is) ∙ sym number ∙ sym its.number_is
@@ -52,16 +44,13 @@ module _ {N : Type 0} (initial : List ShardState) (workers : ℕ) (key : KeyStat
     where
       go : (its : Taken N) → numbers_of (held_in its) ≡ each_once (shard_at h) (shard_at k) → AllByRecursion (IsAsTaken initial workers key) (held_in its) → FirstHas its item
       go taken.Nothing numbers all = tt
-      go (taken.One one) numbers all = lies_first one item t at is all.0 (ap first_in numbers ∙ first_is (shard_at h) (shard_at k) t is)
-      go (taken.Two one other) numbers all = lies_first one item t at is all.0 (ap first_in numbers ∙ first_is (shard_at h) (shard_at k) t is)
-
--- of two shards the item's is the first
-not_second : (one other : ℕ) (a b : Option ℕ) → one ∷ other ∷ [] ≡ each_once a b → a ≡ Some other → ⊥
-not_second one other a b numbers is =
-    let same : one ≡ other = ap first_in numbers ∙ first_is a b other is in
-    true≢false (sym (eq-eqb one other same) ∙ apart_of one other a b numbers)
+      go (taken.One one) numbers all = lies_first one item t at is all.0 (number_is one.number (shard_at h) (shard_at k) t (in_one one.number (shard_at h) (shard_at k) numbers) is)
+      go (taken.Two one other) numbers all = let lies = in_two one.number other.number (shard_at h) (shard_at k) numbers in lies_first one item t at is all.0 (cc (lies.0, is))
 
 -- so what the first has is what the item's shard has
+not_second : (one other : ℕ) (a b : Option ℕ) → one ∷ other ∷ [] ≡ each_once a b → a ≡ Some other → ⊥
+not_second one other a b numbers at = let lies = in_two one other a b numbers in lies.2 (cc (lies.0, at))
+
 pub found_there : {N : Type 0} (took : Taken N) (a b : Option ℕ) (item : ItemId) (seen : Option (Facts × ℕ)) → numbers_of (held_in took) ≡ each_once a b → ((t : ℕ) → a ≡ Some t → seen ≡ stock_on took item)
     → AllByRecursion (λ (h : HeldState). a ≡ Some h.number → seen ≡ stock (contents h.shard (Item item))) (held_in took)
 found_there taken.Nothing a b item seen numbers is = tt
@@ -87,28 +76,21 @@ module _ (initial : List ShardState) (workers : ℕ) (key : KeyState) where
 
   pub taken_before : {N : Type 0} (took now : Taken N) → states_in now ≡ states_in took → AllByRecursion (IsAsTaken initial workers key) (held_in took) → AllByRecursion (IsAsTaken initial workers key) (held_in now)
   taken_before taken.Nothing taken.Nothing same all = tt
-  taken_before taken.Nothing (taken.One one) same all = absurd (cc)
-  taken_before taken.Nothing (taken.Two one other) same all = absurd (cc)
-  taken_before (taken.One h) taken.Nothing same all = absurd (cc)
   taken_before (taken.One h) (taken.One one) same all = (as_before h one (cc) all.0, tt)
-  taken_before (taken.One h) (taken.Two one other) same all = absurd (cc)
-  taken_before (taken.Two h k) taken.Nothing same all = absurd (cc)
-  taken_before (taken.Two h k) (taken.One one) same all = absurd (cc)
   taken_before (taken.Two h k) (taken.Two one other) same all = (as_before h one (cc) all.0, (as_before k other (cc) all.1.0, tt))
+  taken_before took now same all = absurd (cc)
 
 -- what is read of their states
 by_states : {N : Type 0} {A : Type 0} (f : ℕ → ShardState → A) (took : Taken N) → map (λ (h : HeldState). f h.number (state_of h.shard)) (held_in took) ≡ map (λ (p : ℕ × ShardState). f p.0 p.1) (states_in took)
 by_states f taken.Nothing = refl
-by_states f (taken.One one) = refl
-by_states f (taken.Two one other) = refl
+by_states f took = refl
 
 pub numbers_before : {N : Type 0} (took now : Taken N) → states_in now ≡ states_in took → numbers_of (held_in now) ≡ numbers_of (held_in took)
 numbers_before took now same = by_states (λ n s. n) now ∙ ap (map (λ (p : ℕ × ShardState). p.0)) same ∙ sym (by_states (λ n s. n) took)
 
 greatest_by_states : {N : Type 0} (took : Taken N) → greatest_by (λ (h : HeldState). clock h.shard) (held_in took) ≡ greatest_by (λ (p : ℕ × ShardState). p.1.clock) (states_in took)
 greatest_by_states taken.Nothing = refl
-greatest_by_states (taken.One one) = refl
-greatest_by_states (taken.Two one other) = refl
+greatest_by_states took = refl
 
 pub greatest_before : {N : Type 0} (took now : Taken N) → states_in now ≡ states_in took → greatest_by (λ (h : HeldState). clock h.shard) (held_in now) ≡ greatest_by (λ (h : HeldState). clock h.shard) (held_in took)
 greatest_before took now same = greatest_by_states now ∙ ap (greatest_by (λ (p : ℕ × ShardState). p.1.clock)) same ∙ sym (greatest_by_states took)

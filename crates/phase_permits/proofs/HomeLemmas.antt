@@ -1,17 +1,14 @@
 -- The footprint of a request is the shards among the homes of its objects.
-use Rattle.std.proofs.Common.{◌≡◌, ◌≢◌, ℕ, ◌==◌, ◌||◌, not, Bool, true, false, cond, if◌then◌else◌, List, [], ◌∷◌, map, filter, Some, None, is_some, refl, sym, ap, subst, ◌∙◌, ◌⊎◌, inl, inr}
+use Rattle.std.proofs.Common.{◌≡◌, ◌≢◌, ℕ, ◌==◌, ◌||◌, not, Bool, true, false, cond, if◌then◌else◌, List, [], ◌∷◌, map, filter, Some, None, is_some, refl, sym, ap, ◌∙◌, ◌⊎◌, inl, inr}
 use Rattle.std.specs.List.{list_any}
 use Rattle.std.proofs.lemmas.Bool.Decides.{eqb_tells}
 use Rattle.auction_rows.specs.declared.requests.Object.{Object}
-use Rattle.auction_rows.specs.Footprint.{is_hot, objects_of as objects_named}
 use Rattle.auction_rows.specs.Requests.{shard_of}
-use Rattle.auction_rows.specs.declared.requests.Object.TheVariants.{Item, User, Category}
 use Rattle.auction_rows.specs.declared.replies.Reply.TheVariants.{ItemStored}
 use Rattle.auction_rows.specs.declared.requests.Request.{Request}
-use Rattle.auction_rows.specs.declared.requests.Request.TheVariants.{BuyNow, ViewItem, ViewBids, ViewCategory, ViewUser}
+use Rattle.auction_rows.specs.Footprint.{is_hot, objects_of as objects_named}
 use Rattle.auction_rows.specs.Refusals.{number_refusal}
 use Rattle.phase_permits.specs.Performing.{asks}
-use Rattle.phase_permits.specs.Txns.{is_put_off}
 use Rattle.phase_permits.specs.Workers.{WorkerState, next_item}
 use Rattle.phase_permits.specs.declared.homes.Home.{Home}
 use Rattle.phase_permits.specs.declared.homes.Home.TheVariants as home
@@ -52,8 +49,7 @@ module _ (shards : ℕ) (hots : List (Object × Hot)) where
 
   pub asks_other : (object : Object) (h : Home) → IsHomeOf hots shards object h → (t : ℕ) → is_in shards Hots (object ∷ []) t ≡ is_one_of (each_once None (shard_at h)) t
   asks_other object home.Nowhere is t = absurd is
-  asks_other object (home.Slice place) is t = one shards Hots object [] true is.1 t
-  asks_other object (home.Shard s) is t = one shards Hots object [] false is.1 t ∙ ap (λ n. (n == t) || false) (sym is.0)
+  asks_other object h is t = asks_one object h is t
 
   -- a shard in which both lie is named once
   once : (a b t : ℕ) → (((a == b) ≡ true) × (a ≡ b)) ⊎ (((a == b) ≡ false) × (a ≢ b)) → ((a == t) || ((b == t) || false)) ≡ is_one_of (each_once (Some a) (Some b)) t
@@ -83,19 +79,3 @@ asked w shards request r none is t =
 pub no_other : (b : Bool) → (b || (false || false)) ≡ false → b ≡ false
 no_other true is = is
 no_other false is = refl
-
-module _ (hot : List Object) (request : Request) (goes : is_put_off hot request ≡ false) where
-  pub bought_cold : (buyer : ℕ) (item : _) (quantity time : ℕ) → request ≡ BuyNow buyer item quantity time → is_hot hot (Item item) ≡ false
-  bought_cold buyer item quantity time is = no_other (is_hot hot (Item item)) (subst (λ r. is_put_off hot r ≡ false) is goes)
-
-  pub item_cold : (item : _) → request ≡ ViewItem item → is_hot hot (Item item) ≡ false
-  item_cold item is = no_other (is_hot hot (Item item)) (subst (λ r. is_put_off hot r ≡ false) is goes)
-
-  pub bids_cold : (item : _) → request ≡ ViewBids item → is_hot hot (Item item) ≡ false
-  bids_cold item is = no_other (is_hot hot (Item item)) (subst (λ r. is_put_off hot r ≡ false) is goes)
-
-  pub category_cold : (category : ℕ) → request ≡ ViewCategory category → is_hot hot (Category category) ≡ false
-  category_cold category is = no_other (is_hot hot (Category category)) (subst (λ r. is_put_off hot r ≡ false) is goes)
-
-  pub user_cold : (user : ℕ) → request ≡ ViewUser user → is_hot hot (User user) ≡ false
-  user_cold user is = no_other (is_hot hot (User user)) (subst (λ r. is_put_off hot r ≡ false) is goes)

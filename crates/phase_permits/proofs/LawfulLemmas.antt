@@ -2,23 +2,23 @@
 use Rattle.std.proofs.Common.{◌≡◌, ℕ, ◌+◌, ◌-◌, ◌<◌, ◌≤◌, List, [], ◌∷◌, length, refl, sym, ap, subst, ◌∙◌, arith, length-append}
 use Rattle.phase_laws.proofs.NumberLemmas.{last-push}
 use Rattle.auction_rows.specs.declared.requests.Object.{Object}
-use Rattle.auction_rows.specs.declared.requests.Object.TheVariants.{Item, User, Category}
+use Rattle.auction_rows.specs.declared.requests.Object.TheVariants.{Item}
 use Rattle.auction_rows.specs.declared.replies.Reply.{Reply}
-use Rattle.auction_rows.specs.declared.replies.Reply.TheVariants.{ItemStored, BidStored, CommentStored, Bought, ItemSeen, BidsSeen, CategorySeen, UserSeen, Refused}
+use Rattle.auction_rows.specs.declared.replies.Reply.TheVariants.{ItemStored, BidStored, CommentStored, Bought}
 use Rattle.auction_rows.specs.declared.requests.Request.{Request}
 use Rattle.auction_rows.specs.Footprint.{is_hot}
 use Rattle.item_shards.specs.declared.shard.acts.Act.{Act}
-use Rattle.item_shards.specs.declared.shard.acts.Act.TheVariants.{AddItem, ListItem, Bid, Comment, Buy, Look}
-use Rattle.item_shards.specs.declared.shard.slices.Slice.{Slice}
 use Rattle.phase_laws.specs.Numbers.{last_by}
 use Rattle.worker_journals.specs.Journals.{JournalView, entry_number, commit_in, with_commit}
 use Rattle.phase_permits.specs.declared.worker.Counters.{Counters}
 use Rattle.phase_permits.specs.declared.transaction.ReadSet.{ReadSet}
 use Rattle.phase_permits.specs.declared.slices.Hot.{Hot}
-use Rattle.phase_permits.specs.Slicing.{hot_objects, with_slice_changed, slices_after_act, slices_after_acts, HaveAtMost}
+use Rattle.phase_permits.specs.Slicing.{hot_objects, slices_after_acts, HaveAtMost}
 use Rattle.phase_permits.specs.Stashes.{StashState}
 use Rattle.phase_permits.specs.Txns.{counters_after}
-use Rattle.phase_permits.specs.Workers.{WorkerState, AreCounted, HasStashRoom, IsLawfulWorker, after_commit}
+use Rattle.phase_permits.specs.Workers.{WorkerState, AreCounted, HasStashRoom, IsLawfulWorker}
+use Rattle.phase_permits.proofs.HomeLemmas.{same_objects_of}
+use Rattle.phase_permits.proofs.PermitLemmas.{stocks-acts}
 
 -- What a commit counts: itself, and at most one store.
 pub record CountsOne (old new : Counters) : Type 0 where
@@ -37,11 +37,7 @@ counts_one c (ItemStored id) = record { commits = refl; items = omega arith; bid
 counts_one c (BidStored id) = record { commits = refl; items = omega arith; bids = omega arith; comments = omega arith; buys = omega arith; stores = omega arith }
 counts_one c (CommentStored id) = record { commits = refl; items = omega arith; bids = omega arith; comments = omega arith; buys = omega arith; stores = omega arith }
 counts_one c (Bought id) = record { commits = refl; items = omega arith; bids = omega arith; comments = omega arith; buys = omega arith; stores = omega arith }
-counts_one c (ItemSeen seller category name start closes highest bidder bids left) = no_store c
-counts_one c (BidsSeen bids) = no_store c
-counts_one c (CategorySeen items) = no_store c
-counts_one c (UserSeen rating comments) = no_store c
-counts_one c (Refused reason) = no_store c
+counts_one c reply = no_store c
 
 pub still_counted : (counters : Counters) (reply : Reply) → AreCounted counters → AreCounted (counters_after counters reply)
 still_counted c reply is =
@@ -49,76 +45,42 @@ still_counted c reply is =
     record { items = omega (arith, one, is.items); bids = omega (arith, one, is.bids); comments = omega (arith, one, is.comments); buys = omega (arith, one, is.buys) }
 
 -- acts leave the objects
-objects-changed : (object : Object) (change : Slice → Slice) (hots : List (Object × Hot)) → hot_objects (with_slice_changed object change hots) ≡ hot_objects hots
-objects-changed object change [] = refl
-objects-changed object change (hot ∷ hots) = ap (λ objects. hot.0 ∷ objects) (objects-changed object change hots)
-
-objects-act : (hots : List (Object × Hot)) (act : Act) → hot_objects (slices_after_act hots act) ≡ hot_objects hots
-objects-act hots (AddItem id facts) = refl
-objects-act hots (ListItem category item) = objects-changed (Category category) _ hots
-objects-act hots (Bid id bid) = objects-changed (Item id) _ hots
-objects-act hots (Comment user stars) = objects-changed (User user) _ hots
-objects-act hots (Buy id quantity) = refl
-objects-act hots (Look shown) = refl
-
 pub objects-acts : (hots : List (Object × Hot)) (acts : List Act) → hot_objects (slices_after_acts hots acts) ≡ hot_objects hots
-objects-acts hots [] = refl
-objects-acts hots (act ∷ acts) = objects-acts (slices_after_act hots act) acts ∙ objects-act hots act
+objects-acts hots acts = sym (same_objects_of (slices_after_acts hots acts)) ∙ ap hot_objects (stocks-acts hots acts) ∙ same_objects_of hots
 
--- the stash has room for one less
-room_less : (hots slices : List (Object × Hot)) (left room : ℕ) → hot_objects slices ≡ hot_objects hots → HasStashRoom hots left room → HasStashRoom slices (left - 1) room
-room_less hots [] left room same is = tt
-room_less [] (hot ∷ slices) left room same is = absurd (cc)
-room_less (first ∷ hots) (hot ∷ slices) left room same is = omega (arith, is)
+-- the stash has room for no more
+room_as : (hots slices : List (Object × Hot)) (left less room : ℕ) → less ≤ left → hot_objects slices ≡ hot_objects hots → HasStashRoom hots left room → HasStashRoom slices less room
+room_as hots [] left less room fewer same is = tt
+room_as [] (hot ∷ slices) left less room fewer same is = absurd (cc)
+room_as (first ∷ hots) (hot ∷ slices) left less room fewer same is = omega (arith, fewer, is)
 
--- the worker is lawful after a commit of the quota, where its slices are of few operations
-pub lawful_after : (w : WorkerState) (number index : ℕ) (request : Request) (reply : Reply) (found : ReadSet) (slices : List (Object × Hot)) → IsLawfulWorker w → 0 < w.left → w.clock < number
-    → hot_objects slices ≡ hot_objects w.slices → HaveAtMost (w.counters.commits + 1) slices → IsLawfulWorker (record (after_commit w number index request reply found) { slices = slices })
-lawful_after w number index request reply found slices is some after same few =
-    let one = counts_one w.counters reply in
-    let longer = length-append w.journal.entries (commit_in w.journal number index request reply ∷ []) in
-    let last = last-push entry_number 0 w.journal.entries (commit_in w.journal number index request reply) in
-    let limit = is.room.limit in
-    let room = is.room.room in
-    let commits = one.commits in
-    record {
-      room = record {
-        counted = still_counted w.counters reply is.room.counted;
-        limit = omega (arith, commits, limit);
-        room = omega (arith, longer, room);
-        latest = omega (arith, last);
-      };
-      few = subst (λ n. HaveAtMost n slices) (sym commits) few;
-      stash_room = room_less w.slices slices w.left w.stash.room same is.stash_room;
-      stored = λ item hot own.
-          let less = is.stored item (ap (λ objects. is_hot objects (Item item)) (sym same) ∙ hot) own in
-          omega (arith, less, one.items);
-    }
-
--- so is whatever has its counters, its journal, its stash, its quota and its clock
+-- a worker with the counters, the journal, the stash, the quota and the clock after a commit of a lawful one is lawful, where its slices are of few operations
 pub lawful_as : (w new : WorkerState) (number index : ℕ) (request : Request) (reply : Reply) (found : ReadSet) → IsLawfulWorker w → 0 < w.left → w.clock < number
     → new.counters ≡ counters_after w.counters reply → new.journal ≡ with_commit w.journal number index request reply → new.stash ≡ w.stash → new.left ≡ w.left - 1 → new.clock ≡ number
     → hot_objects new.slices ≡ hot_objects w.slices → HaveAtMost (w.counters.commits + 1) new.slices → IsLawfulWorker new
 lawful_as w new number index request reply found is some after counts keeps stays less clocked same few =
-    let made = lawful_after w number index request reply found new.slices is some after same few in
-    let commits = ap (λ (c : Counters). c.commits) counts in
-    let entries = ap (λ (j : JournalView). length j.entries) keeps in
+    let entry = commit_in w.journal number index request reply in
+    let one = counts_one w.counters reply in
+    let commits = ap (λ (c : Counters). c.commits) counts ∙ one.commits in
+    let entries = ap (λ (j : JournalView). length j.entries) keeps ∙ length-append w.journal.entries (entry ∷ []) in
     let rooms = ap (λ (j : JournalView). j.room) keeps in
     let waits = ap (λ (s : StashState). length s.requests) stays in
-    let limit = made.room.limit in
-    let room = made.room.room in
+    let last = ap (λ (j : JournalView). last_by entry_number 0 j.entries) keeps ∙ last-push entry_number 0 w.journal.entries entry in
+    let limit = is.room.limit in
+    let room = is.room.room in
     record {
       room = record {
-        counted = subst AreCounted (sym counts) made.room.counted;
+        counted = subst AreCounted (sym counts) (still_counted w.counters reply is.room.counted);
         limit = omega (arith, commits, waits, less, limit);
         room = omega (arith, entries, rooms, waits, less, room);
-        latest = subst (λ n. last_by entry_number 0 new.journal.entries ≤ n) (sym clocked) (subst (λ (j : JournalView). last_by entry_number 0 j.entries ≤ number) (sym keeps) made.room.latest);
+        latest = omega (arith, last, clocked);
       };
-      few = subst (λ n. HaveAtMost n new.slices) (sym commits) made.few;
-      stash_room = subst (λ (s : StashState). HasStashRoom new.slices new.left s.room) (sym stays) (subst (λ n. HasStashRoom new.slices n w.stash.room) (sym less) made.stash_room);
+      few = subst (λ n. HaveAtMost n new.slices) (sym commits) few;
+      stash_room = subst (λ (s : StashState). HasStashRoom new.slices new.left s.room) (sym stays) (room_as w.slices new.slices w.left new.left w.stash.room (omega (arith, less)) same is.stash_room);
       stored = λ item hot own.
-          let fewer = made.stored item hot (own ∙ ap (λ (j : JournalView). j.worker) keeps) in
-          subst (λ (c : Counters). item.serial < c.items) (sym counts) fewer;
+          let fewer = is.stored item (ap (λ objects. is_hot objects (Item item)) (sym same) ∙ hot) (own ∙ ap (λ (j : JournalView). j.worker) keeps) in
+          let items = ap (λ (c : Counters). c.items) counts in
+          omega (arith, fewer, items, one.items);
     }
 
 -- so is a lawful worker with other slices of the same objects, of few operations
@@ -126,10 +88,6 @@ pub lawful_sliced : (w : WorkerState) (slices : List (Object × Hot)) → IsLawf
 lawful_sliced w slices is same few = record {
   room = record { counted = is.room.counted; limit = is.room.limit; room = is.room.room; latest = is.room.latest };
   few = few;
-  stash_room = room_same w.slices slices w.left w.stash.room same is.stash_room;
+  stash_room = room_as w.slices slices w.left w.left w.stash.room (omega arith) same is.stash_room;
   stored = λ item hot own. is.stored item (ap (λ objects. is_hot objects (Item item)) (sym same) ∙ hot) own;
-} where
-  room_same : (hots slices : List (Object × Hot)) (left room : ℕ) → hot_objects slices ≡ hot_objects hots → HasStashRoom hots left room → HasStashRoom slices left room
-  room_same hots [] left room same is = tt
-  room_same [] (hot ∷ slices) left room same is = absurd (cc)
-  room_same (first ∷ hots) (hot ∷ slices) left room same is = is
+}

@@ -1,7 +1,6 @@
 pub mod AnswerLemmas
 pub mod ArmLemmas
 pub mod BegunLemmas
-pub mod CanLemmas
 pub mod ChainLemmas
 pub mod WrittenLemmas
 pub mod DeedLemmas
@@ -14,14 +13,11 @@ pub mod Keeping
 pub mod KeyLemmas
 pub mod LastLemmas
 pub mod LawfulLemmas
-pub mod LookLemmas
 pub mod NumberLemmas
-pub mod Pairs
 pub mod PermitLemmas
 pub mod Places
 pub mod PutAllLemmas
 pub mod PutLemmas
-pub mod RightLemmas
 pub mod RoomLemmas
 pub mod RowSlices
 pub mod SlicedLemmas
@@ -29,6 +25,5 @@ pub mod StartLemmas
 pub mod StashLemmas
 pub mod StashedLemmas
 pub mod TakeLemmas
-pub mod TakenLemmas
 pub mod ViewLemmas
-pub mod WholeLemmas
+pub mod UntouchedLemmas

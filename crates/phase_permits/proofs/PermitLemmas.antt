@@ -1,5 +1,6 @@
 -- What a permit does with a request leaves it explained by its transactions.
 use Rattle.std.proofs.Common.{◌≡◌, ℕ, Bool, true, false, cond, List, [], ◌∷◌, length, Result, Ok, Err, refl, sym, ap, subst, ◌∙◌}
+use Rattle.std.proofs.lemmas.Bool.{false≢true}
 use Rattle.auction_rows.specs.declared.requests.Object.{Object}
 use Rattle.auction_rows.specs.declared.requests.Object.TheVariants.{Item, User, Category}
 use Rattle.auction_rows.specs.declared.replies.Reply.{Reply}
@@ -16,9 +17,9 @@ use Rattle.shard_boxes.specs.States.{ShardState}
 use Rattle.phase_permits.specs.declared.transaction.PermitFault.{PermitFault}
 use Rattle.phase_permits.specs.declared.slices.Hot.{Hot}
 use Rattle.phase_permits.specs.Performing.{HasCommitted, HasFailed, HasPerformed}
-use Rattle.phase_permits.specs.Slicing.{stocks_of, slices_of, slice_with_bid, slice_with_comment, slice_with_item, with_slice_changed, slices_after_act, slices_after_acts}
+use Rattle.phase_permits.specs.Slicing.{hot_objects, stocks_of, slices_of, slice_with_bid, slice_with_comment, slice_with_item, with_slice_changed, slices_after_act, slices_after_acts}
 use Rattle.phase_permits.specs.Txns.{Setting, is_put_off}
-use Rattle.phase_permits.specs.Workers.{WorkerState, CanStart, IsExplained, setting_of, txn_of, work_of, after_putting_off, with_try}
+use Rattle.phase_permits.specs.Workers.{WorkerState, IsEmptyIf, CanStart, IsExplained, IsPermit, setting_of, txn_of, work_of, after_putting_off, with_first_unstashed, with_try}
 use Rattle.phase_permits.specs.Works.{Work, IsWorkOf, with_txn}
 use Rattle.phase_permits.proofs.Keeping.{commit_keeps}
 
@@ -32,12 +33,10 @@ stocks-changed object change [] = refl
 stocks-changed object change (hot ∷ hots) = λ i. (hot.0, fixed_if (same_object object hot.0) change hot.1 i) ∷ stocks-changed object change hots i
 
 stocks-act : (hots : List (Object × Hot)) (act : Act) → stocks_of (slices_after_act hots act) ≡ stocks_of hots
-stocks-act hots (AddItem id facts) = refl
 stocks-act hots (ListItem category item) = stocks-changed (Category category) (slice_with_item item) hots
 stocks-act hots (Bid id bid) = stocks-changed (Item id) (slice_with_bid bid) hots
 stocks-act hots (Comment user stars) = stocks-changed (User user) (slice_with_comment stars) hots
-stocks-act hots (Buy id quantity) = refl
-stocks-act hots (Look shown) = refl
+stocks-act hots act = refl
 
 pub stocks-acts : (hots : List (Object × Hot)) (acts : List Act) → stocks_of (slices_after_acts hots acts) ≡ stocks_of hots
 stocks-acts hots [] = refl
@@ -85,7 +84,7 @@ commit_explained initial old new request index answer done is =
     }
 
 -- so does a fault
-pub fail_explained : (initial : List ShardState) (shards : ℕ) (old new : WorkerState) (request : Request) (fault : PermitFault) → HasFailed initial old new request fault → IsExplained shards old → IsExplained shards new
+fail_explained : (initial : List ShardState) (shards : ℕ) (old new : WorkerState) (request : Request) (fault : PermitFault) → HasFailed initial old new request fault → IsExplained shards old → IsExplained shards new
 fail_explained initial shards old new request fault failed is =
     let owner : old.key.worker ≡ new.key.worker = sym failed.lines.worker in
     let back : WorkerState = record old { key = new.key } in
@@ -96,16 +95,9 @@ fail_explained initial shards old new request fault failed is =
       work = subst (λ (n : ℕ). IsWorkOf (setting_of old shards) n (work_of back)) owner (subst (λ (did : Work). IsWorkOf (setting_of old shards) old.key.worker did) same is.work);
     })
 
-pub performed_explained : (initial : List ShardState) (old new : WorkerState) (request : Request) (index : ℕ) (result : Result Unit PermitFault) → HasPerformed initial old new request index result → IsExplained (length initial) old → IsExplained (length initial) new
+performed_explained : (initial : List ShardState) (old new : WorkerState) (request : Request) (index : ℕ) (result : Result Unit PermitFault) → HasPerformed initial old new request index result → IsExplained (length initial) old → IsExplained (length initial) new
 performed_explained initial old new request index (Ok done) performed is = commit_explained initial old new request index performed.0 performed.1 is
 performed_explained initial old new request index (Err fault) failed is = fail_explained initial (length initial) old new request fault failed is
-
--- and a try, a request that is put off, and one that is taken out of the stash
-pub tried_explained : (shards : ℕ) (w : WorkerState) → IsExplained shards w → IsExplained shards (with_try w)
-tried_explained shards w is = record { worker = is.worker; idle = is.idle; work = is.work }
-
-pub off_explained : (shards : ℕ) (w : WorkerState) (index : ℕ) (request : Request) → IsExplained shards w → IsExplained shards (after_putting_off w index request)
-off_explained shards w index request is = record { worker = is.worker; idle = is.idle; work = is.work }
 
 -- where nothing is hot, no request is put off, and no slice is written
 pub none_put_off : (request : Request) → is_put_off [] request ≡ false
@@ -127,8 +119,32 @@ no_slices (Comment user stars ∷ acts) = no_slices acts
 no_slices (Buy id quantity ∷ acts) = no_slices acts
 no_slices (Look shown ∷ acts) = no_slices acts
 
-pub stays_joined : (initial : List ShardState) (old new : WorkerState) (request : Request) (index : ℕ) (result : Result Unit PermitFault) → HasPerformed initial old new request index result → old.slices ≡ [] → new.slices ≡ []
-stays_joined initial old new request index (Ok done) performed none =
+kind_stays : (joined : Bool) (initial : List ShardState) (old new : WorkerState) (request : Request) (index : ℕ) (result : Result Unit PermitFault) → HasPerformed initial old new request index result → IsEmptyIf joined old.slices → IsEmptyIf joined new.slices
+kind_stays false initial old new request index result performed cold = tt
+kind_stays true initial old new request index (Ok done) performed cold =
     let acts = writes_if (row_of old.journal.worker request performed.0) in
-    ap (λ (w : WorkerState). w.slices) performed.1.worker ∙ ap (λ hots. slices_after_acts hots acts) none ∙ no_slices acts
-stays_joined initial old new request index (Err fault) failed none = ap (λ (w : WorkerState). w.slices) failed.worker ∙ none
+    ap (λ (w : WorkerState). w.slices) performed.1.worker ∙ ap (λ hots. slices_after_acts hots acts) cold ∙ no_slices acts
+kind_stays true initial old new request index (Err fault) failed cold = ap (λ (w : WorkerState). w.slices) failed.worker ∙ cold
+
+pub not_put_off : (joined : Bool) (hots : List (Object × Hot)) (request : Request) → IsEmptyIf joined hots → joined ≡ true → is_put_off (hot_objects hots) request ≡ false
+not_put_off true hots request cold is = ap (λ (hots : List (Object × Hot)). is_put_off (hot_objects hots) request) cold ∙ none_put_off request
+not_put_off false hots request cold is = absurd (false≢true is)
+
+-- so a permit stays one
+module _ (joined : Bool) (shards : ℕ) (w : WorkerState) where
+  pub tried_permit : IsPermit joined shards w → IsPermit joined shards (with_try w)
+  tried_permit is = (is.0, record { worker = is.1.worker; idle = is.1.idle; work = is.1.work })
+
+  pub off_permit : (index : ℕ) (request : Request) → IsPermit joined shards w → IsPermit joined shards (after_putting_off w index request)
+  off_permit index request is = (is.0, record { worker = is.1.worker; idle = is.1.idle; work = is.1.work })
+
+  pub called_permit : IsPermit joined shards w → IsPermit joined shards (with_first_unstashed w)
+  called_permit is = (is.0, record { worker = is.1.worker; idle = is.1.idle; work = is.1.work })
+
+  pub back_permit : IsPermit joined shards (with_first_unstashed w) → IsPermit joined shards w
+  back_permit is = (is.0, record { worker = is.1.worker; idle = is.1.idle; work = is.1.work })
+
+pub performed_permit : (joined : Bool) (initial : List ShardState) (old new : WorkerState) (request : Request) (index : ℕ) (result : Result Unit PermitFault) → HasPerformed initial old new request index result
+    → IsPermit joined (length initial) old → IsPermit joined (length initial) new
+performed_permit joined initial old new request index result performed is =
+    (kind_stays joined initial old new request index result performed is.0, performed_explained initial old new request index result performed is.1)

@@ -1,7 +1,7 @@
 -- The slices by place: what is found there, and what a write there leaves.
-use Rattle.std.proofs.Common.{◌≡◌, ℕ, zero, suc, ◌++◌, ◌∷◌, [], Bool, true, false, cond, if◌then◌else◌, ◌||◌, List, map, take, slice_get, get_or, position, IfSome, Option, Some, None, is_some, refl, sym, ap, subst, ◌∙◌}
+use Rattle.std.proofs.Common.{◌≡◌, ℕ, zero, suc, ◌++◌, ◌∷◌, [], Bool, true, false, cond, if◌then◌else◌, ◌||◌, List, map, take, slice_get, get_or, position, IfSome, Option, option_map, Some, None, is_some, refl, sym, ap, subst, ◌∙◌}
 use Rattle.std.proofs.lemmas.List.Quantifiers.{position-Some}
-use Rattle.std.proofs.lemmas.Option.{slice_get-get_or}
+use Rattle.std.proofs.lemmas.Option.{slice_get-get_or, slice_get-map}
 use Rattle.std.specs.List.{IsDistinct, AllByRecursion}
 use Rattle.std.specs.Map.{lookup}
 use Rattle.indexmap.specs.Layout.{set_value_at}
@@ -43,10 +43,19 @@ placed object change (hot ∷ hots) (suc place) old new distinct at is written =
     (λ i. (hot.0, cond (sym apart i) (record hot.1 { slice = change hot.1.slice }) hot.1) ∷ placed object change hots place old new distinct.1 at is written i)
 
 -- an object that stands at a place has a slice there
+stands : (object : Object) (hots : List (Object × Hot)) (place : ℕ) → IsAt hots place object → (hot : Hot) × (slice_get hots place ≡ Some (object, hot))
+stands object [] place at = absurd (cc)
+stands object (hot ∷ hots) zero at = (hot.1, ap (λ (o : Option Object). option_map (λ name. (name, hot.1)) o) at)
+stands object (hot ∷ hots) (suc place) at = stands object hots place at
+
+pub none_at : {A : Type 0} (object : Object) (hots : List (Object × Hot)) (place : ℕ) → IsAt hots place object → None ≡ slice_get hots place → A
+none_at object hots place at none = let some = none ∙ (stands object hots place at).1 in absurd (cc)
+
 pub none_there : {A : Type 0} (object : Object) (hots : List (Object × Hot)) (place : ℕ) → IsAt hots place object → None ≡ slice_get (map (λ hot. hot.1) hots) place → A
-none_there object [] place at none = absurd (cc)
-none_there object (hot ∷ hots) zero at none = absurd (cc)
-none_there object (hot ∷ hots) (suc place) at none = none_there object hots place at none
+none_there object hots place at none =
+    let there = stands object hots place at in
+    let some : None ≡ Some there.0 = none ∙ slice_get-map (λ (hot : Object × Hot). hot.1) hots place ∙ ap (option_map (λ (hot : Object × Hot). hot.1)) there.1 in
+    absurd (cc)
 
 -- so it is with the slices as they are seen
 pub write_seen : (object : Object) (change : Slice → Slice) (hots seen now : List (Object × Hot)) (place : ℕ) (old new : Hot) → hots ≡ seen → IsDistinct object_eq.it (hot_objects hots) → IsAt seen place object
@@ -139,26 +148,12 @@ stock_found object hot (first ∷ hots) is =
 
 -- the object that is read at a place is the one that stands there
 pub at_and_there : (object : Object) (hots : List (Object × Hot)) (place : ℕ) (key : Object) (hot : Hot) → IsAt hots place object → Some (key, hot) ≡ slice_get hots place → key ≡ object
-at_and_there object [] place key hot at is = absurd (cc)
-at_and_there object (first ∷ hots) zero key hot at is =
-    let read : first ≡ (key, hot) = cc in
-    let stands : first.0 ≡ object = cc in
-    sym (ap (λ (h : Object × Hot). h.0) read) ∙ stands
-at_and_there object (first ∷ hots) (suc place) key hot at is = at_and_there object hots place key hot at is
-
-pub none_at : {A : Type 0} (object : Object) (hots : List (Object × Hot)) (place : ℕ) → IsAt hots place object → None ≡ slice_get hots place → A
-none_at object [] place at none = absurd (cc)
-none_at object (hot ∷ hots) zero at none = absurd (cc)
-none_at object (hot ∷ hots) (suc place) at none = none_at object hots place at none
+at_and_there object hots place key hot at is = let same : (key, hot) ≡ (object, (stands object hots place at).0) = cc (is ∙ (stands object hots place at).1) in ap (λ (h : Object × Hot). h.0) same
 
 -- an object that is read at a place stands there
 pub at_where_read : (object : Object) (hots : List (Object × Hot)) (place : ℕ) (key : Object) (hot : Hot) → Some (key, hot) ≡ slice_get hots place → object_eq.it key object ≡ true → IsAt hots place object
-at_where_read object [] place key hot read is = absurd (cc)
-at_where_read object (first ∷ hots) zero key hot read is =
-    let here : first ≡ (key, hot) = cc in
-    let same : key ≡ object = same_object-true key object (sym (eq_is_same key object) ∙ is) in
-    λ i. Some ((ap (λ (h : Object × Hot). h.0) here ∙ same) i)
-at_where_read object (first ∷ hots) (suc place) key hot read is = at_where_read object hots place key hot read is
+at_where_read object hots place key hot read is =
+    slice_get-map (λ (hot : Object × Hot). hot.0) hots place ∙ ap (option_map (λ (hot : Object × Hot). hot.0)) (sym read) ∙ ap Some (same_object-true key object (sym (eq_is_same key object) ∙ is))
 
 or_right : (a b : Bool) → b ≡ true → (a || b) ≡ true
 or_right true b is = refl

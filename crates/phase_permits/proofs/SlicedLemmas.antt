@@ -1,17 +1,16 @@
 -- What a store does to the slices of its worker.
-use Rattle.std.proofs.Common.{◌≡◌, ℕ, ◌==◌, Bool, true, false, cond, List, [], ◌∷◌, refl, sym, ap, subst, ◌∙◌}
-use Rattle.std.proofs.lemmas.Bool.{eq-eqb, or_parts}
+use Rattle.std.proofs.Common.{◌≡◌, ℕ, ◌==◌, Bool, true, false, cond, List, [], ◌∷◌, refl, sym, ◌∙◌}
+use Rattle.std.proofs.lemmas.Bool.{or_parts}
 use Rattle.auction_rows.specs.declared.requests.BidId.{BidId}
 use Rattle.auction_rows.specs.declared.requests.CommentId.{CommentId}
 use Rattle.auction_rows.specs.declared.requests.ItemId.{ItemId}
 use Rattle.auction_rows.specs.declared.requests.Object.{Object}
-use Rattle.auction_rows.specs.declared.requests.Object.TheVariants.{Item, User, Category}
 use Rattle.auction_rows.specs.declared.values.Stars.{Stars}
 use Rattle.auction_rows.specs.declared.replies.StoreReply.{StoreReply}
 use Rattle.auction_rows.specs.declared.replies.StoreReply.TheVariants as store
 use Rattle.auction_rows.specs.declared.requests.Facts.{Facts}
 use Rattle.auction_rows.specs.declared.requests.Request.{Request}
-use Rattle.auction_rows.specs.declared.requests.Request.TheVariants.{StoreItem, StoreBid, StoreComment, BuyNow, ViewItem, ViewBids, ViewCategory, ViewUser}
+use Rattle.auction_rows.specs.declared.requests.Request.TheVariants.{StoreItem, StoreBid, StoreComment, BuyNow}
 use Rattle.auction_rows.specs.declared.rows.Row.TheVariants as row
 use Rattle.auction_rows.specs.Footprint.{is_hot}
 use Rattle.auction_rows.specs.Replies.{row_of, row_if}
@@ -24,8 +23,7 @@ use Rattle.phase_permits.specs.declared.homes.Home.{Home}
 use Rattle.phase_permits.specs.declared.homes.Home.TheVariants as home
 use Rattle.phase_permits.specs.declared.slices.Hot.{Hot}
 use Rattle.phase_permits.specs.Homes.{IsHomeOf}
-use Rattle.phase_permits.specs.Slicing.{hot_objects, with_slice_changed, slice_with_bid, slice_with_comment, slice_with_item, slices_after_acts}
-use Rattle.phase_permits.specs.Txns.{IsOwn}
+use Rattle.phase_permits.specs.Slicing.{hot_objects, with_slice_changed, slices_after_acts}
 
 -- what is written of a cold object changes no slice
 pub cold_kept : (hots : List (Object × Hot)) (object : Object) (change : Slice → Slice) → is_hot (hot_objects hots) object ≡ false → with_slice_changed object change hots ≡ hots
@@ -41,65 +39,20 @@ unsliced hots shards object change home.Nowhere none is = absurd is
 unsliced hots shards object change (home.Slice place) none is = absurd (none place refl)
 unsliced hots shards object change (home.Shard shard) none is = sym (cold_kept hots object change is.1)
 
-module _ (hots new : List (Object × Hot)) (worker : ℕ) (request : Request) (reply : StoreReply) (own : IsOwn worker (reply_of reply)) where
-  abbrev Written : List (Object × Hot)
-  Written = slices_after_acts hots (writes_if (row_of worker request (reply_of reply)))
-
-  -- a new item, a bid and a comment
-  pub item_written : (facts : Facts) (time : ℕ) (id : ItemId) → request ≡ StoreItem facts time → reply ≡ store.ItemStored id
-      → new ≡ with_slice_changed (Category facts.category) (slice_with_item (record { time = time; id = id })) hots → new ≡ Written
-  item_written facts time id asked told is =
-      is ∙ sym (ap (λ b. slices_after_acts hots (writes_if (row_if b (row.Item (record { id = id; facts = facts; time = time }))))) (eq-eqb id.worker worker (subst (λ r. IsOwn worker (reply_of r)) told own)))
-      ∙ (λ i. slices_after_acts hots (writes_if (row_of worker (sym asked i) (reply_of (sym told i)))))
-
-  pub bid_written : (bidder : ℕ) (item : ItemId) (amount time : ℕ) (id : BidId) → request ≡ StoreBid bidder item amount time → reply ≡ store.BidStored id
-      → new ≡ with_slice_changed (Item item) (slice_with_bid (record { amount = amount; time = time; id = id; bidder = bidder })) hots → new ≡ Written
-  bid_written bidder item amount time id asked told is =
-      is ∙ sym (ap (λ b. slices_after_acts hots (writes_if (row_if b (row.Bid (record { id = id; item = item; bidder = bidder; amount = amount; time = time }))))) (eq-eqb id.worker worker (subst (λ r. IsOwn worker (reply_of r)) told own)))
-      ∙ (λ i. slices_after_acts hots (writes_if (row_of worker (sym asked i) (reply_of (sym told i)))))
-
-  pub comment_written : (author about : ℕ) (item : ItemId) (stars : Stars) (id : CommentId) → request ≡ StoreComment author about item stars → reply ≡ store.CommentStored id
-      → new ≡ with_slice_changed (User about) (slice_with_comment stars) hots → new ≡ Written
-  comment_written author about item stars id asked told is =
-      is ∙ sym (ap (λ b. slices_after_acts hots (writes_if (row_if b (row.Comment (record { id = id; author = author; about = about; item = item; stars = stars }))))) (eq-eqb id.worker worker (subst (λ r. IsOwn worker (reply_of r)) told own)))
-      ∙ (λ i. slices_after_acts hots (writes_if (row_of worker (sym asked i) (reply_of (sym told i)))))
-
 -- where the reply is no id of the kind nothing is written
-no_item : (hots : List (Object × Hot)) (worker : ℕ) (facts : Facts) (time : ℕ) (reply : StoreReply) → ((id : ItemId) → reply ≡ store.ItemStored id → ⊥) → hots ≡ slices_after_acts hots (writes_if (row_of worker (StoreItem facts time) (reply_of reply)))
+pub no_item : (hots : List (Object × Hot)) (worker : ℕ) (facts : Facts) (time : ℕ) (reply : StoreReply) → ((id : ItemId) → reply ≡ store.ItemStored id → ⊥) → hots ≡ slices_after_acts hots (writes_if (row_of worker (StoreItem facts time) (reply_of reply)))
 no_item hots worker facts time (store.ItemStored id) none = absurd (none id refl)
-no_item hots worker facts time (store.BidStored id) none = refl
-no_item hots worker facts time (store.CommentStored id) none = refl
-no_item hots worker facts time (store.Bought id) none = refl
-no_item hots worker facts time (store.Refused reason) none = refl
+no_item hots worker facts time reply none = refl
 
-no_bid : (hots : List (Object × Hot)) (worker bidder : ℕ) (item : ItemId) (amount time : ℕ) (reply : StoreReply) → ((id : BidId) → reply ≡ store.BidStored id → ⊥)
+pub no_bid : (hots : List (Object × Hot)) (worker bidder : ℕ) (item : ItemId) (amount time : ℕ) (reply : StoreReply) → ((id : BidId) → reply ≡ store.BidStored id → ⊥)
     → hots ≡ slices_after_acts hots (writes_if (row_of worker (StoreBid bidder item amount time) (reply_of reply)))
-no_bid hots worker bidder item amount time (store.ItemStored id) none = refl
 no_bid hots worker bidder item amount time (store.BidStored id) none = absurd (none id refl)
-no_bid hots worker bidder item amount time (store.CommentStored id) none = refl
-no_bid hots worker bidder item amount time (store.Bought id) none = refl
-no_bid hots worker bidder item amount time (store.Refused reason) none = refl
+no_bid hots worker bidder item amount time reply none = refl
 
-no_comment : (hots : List (Object × Hot)) (worker author about : ℕ) (item : ItemId) (stars : Stars) (reply : StoreReply) → ((id : CommentId) → reply ≡ store.CommentStored id → ⊥)
+pub no_comment : (hots : List (Object × Hot)) (worker author about : ℕ) (item : ItemId) (stars : Stars) (reply : StoreReply) → ((id : CommentId) → reply ≡ store.CommentStored id → ⊥)
     → hots ≡ slices_after_acts hots (writes_if (row_of worker (StoreComment author about item stars) (reply_of reply)))
-no_comment hots worker author about item stars (store.ItemStored id) none = refl
-no_comment hots worker author about item stars (store.BidStored id) none = refl
 no_comment hots worker author about item stars (store.CommentStored id) none = absurd (none id refl)
-no_comment hots worker author about item stars (store.Bought id) none = refl
-no_comment hots worker author about item stars (store.Refused reason) none = refl
-
-module _ (hots : List (Object × Hot)) (worker : ℕ) (request : Request) (reply : StoreReply) where
-  abbrev Unwritten : Type 0
-  Unwritten = hots ≡ slices_after_acts hots (writes_if (row_of worker request (reply_of reply)))
-
-  pub item_unwritten : (facts : Facts) (time : ℕ) → request ≡ StoreItem facts time → ((id : ItemId) → reply ≡ store.ItemStored id → ⊥) → Unwritten
-  item_unwritten facts time asked none = no_item hots worker facts time reply none ∙ ap (λ r. slices_after_acts hots (writes_if (row_of worker r (reply_of reply)))) (sym asked)
-
-  pub bid_unwritten : (bidder : ℕ) (item : ItemId) (amount time : ℕ) → request ≡ StoreBid bidder item amount time → ((id : BidId) → reply ≡ store.BidStored id → ⊥) → Unwritten
-  bid_unwritten bidder item amount time asked none = no_bid hots worker bidder item amount time reply none ∙ ap (λ r. slices_after_acts hots (writes_if (row_of worker r (reply_of reply)))) (sym asked)
-
-  pub comment_unwritten : (author about : ℕ) (item : ItemId) (stars : Stars) → request ≡ StoreComment author about item stars → ((id : CommentId) → reply ≡ store.CommentStored id → ⊥) → Unwritten
-  comment_unwritten author about item stars asked none = no_comment hots worker author about item stars reply none ∙ ap (λ r. slices_after_acts hots (writes_if (row_of worker r (reply_of reply)))) (sym asked)
+no_comment hots worker author about item stars reply none = refl
 
 -- nor where the request is no store that is splittable
 buy_unwritten : (hots : List (Object × Hot)) (b : Bool) (r : _) → hots ≡ slices_after_acts hots (writes_if (row_if b (row.Buy r)))
@@ -113,12 +66,6 @@ pub unwritten : (hots : List (Object × Hot)) (worker : ℕ) (request : Request)
 unwritten hots worker (StoreItem facts time) reply a b c = absurd (a facts time refl)
 unwritten hots worker (StoreBid bidder item amount time) reply a b c = absurd (b bidder item amount time refl)
 unwritten hots worker (StoreComment author about item stars) reply a b c = absurd (c author about item stars refl)
-unwritten hots worker (BuyNow buyer item quantity time) (store.ItemStored id) a b c = refl
-unwritten hots worker (BuyNow buyer item quantity time) (store.BidStored id) a b c = refl
-unwritten hots worker (BuyNow buyer item quantity time) (store.CommentStored id) a b c = refl
 unwritten hots worker (BuyNow buyer item quantity time) (store.Bought id) a b c = buy_unwritten hots (id.worker == worker) _
-unwritten hots worker (BuyNow buyer item quantity time) (store.Refused reason) a b c = refl
-unwritten hots worker (ViewItem item) reply a b c = refl
-unwritten hots worker (ViewBids item) reply a b c = refl
-unwritten hots worker (ViewCategory category) reply a b c = refl
-unwritten hots worker (ViewUser user) reply a b c = refl
+unwritten hots worker (BuyNow buyer item quantity time) reply a b c = refl
+unwritten hots worker request reply a b c = refl

@@ -7,8 +7,8 @@ use Rattle.shard_boxes.specs.States.{ShardState}
 use Rattle.phase_permits.specs.declared.transaction.PermitFault.{PermitFault}
 use Rattle.phase_permits.specs.declared.transaction.PermitFault.TheVariants.{Memory, NumberFull}
 use Rattle.phase_permits.specs.Putting.{HasSameLines}
-use Rattle.phase_permits.specs.Performing.{HasFailed, HasFailedFirst, IsCause}
-use Rattle.phase_permits.specs.Workers.{WorkerState, IsIdle, with_first_unstashed}
+use Rattle.phase_permits.specs.Performing.{HasCommitted, HasCommittedSome, HasFailed, HasFailedFirst, HasPerformedFirstSome, IsCause}
+use Rattle.phase_permits.specs.Workers.{WorkerState, IsIdle, with_first_unstashed, with_try}
 
 -- where there is no first, there is none
 pub no_first : {A : Type 0} (items : List A) → None ≡ slice_get items 0 → items ≡ []
@@ -72,3 +72,16 @@ failed_first initial old new back index request fault first some failed before s
         cause = subst (λ (k : KeyState). IsCause initial old k request fault) key (same_cause initial old new.key request fault failed.cause);
       };
     }
+
+-- and one that was performed was the first
+pub performed_first : (initial : List ShardState) (old called new : WorkerState) (index : ℕ) (request : Request) → Some (index, request) ≡ slice_get old.stash.requests 0 → called ≡ with_first_unstashed old
+    → HasCommittedSome initial (with_try called) new request index → HasPerformedFirstSome initial (with_try old) new
+performed_first initial old called new index request first is done = (
+  done.0,
+  record {
+    index = index;
+    request = request;
+    first = sym first;
+    committed = subst (λ (w : WorkerState). HasCommitted initial (with_try w) new request index done.0) is done.1;
+  },
+)

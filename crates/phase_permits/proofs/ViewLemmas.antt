@@ -70,36 +70,27 @@ shard_cold hots shards object (home.Shard shard) at cold = (shard, refl)
 
 -- a view shows one object
 pub shows_one : (request : Request) → is_view request ≡ true → (object : Object) × (viewed request ≡ Some object)
-shows_one (StoreItem facts time) view = absurd (false≢true view)
-shows_one (StoreBid bidder item amount time) view = absurd (false≢true view)
-shows_one (StoreComment author about item stars) view = absurd (false≢true view)
-shows_one (BuyNow buyer item quantity time) view = absurd (false≢true view)
 shows_one (ViewItem item) view = (Item item, refl)
 shows_one (ViewBids item) view = (Item item, refl)
 shows_one (ViewCategory category) view = (Category category, refl)
 shows_one (ViewUser user) view = (User user, refl)
+shows_one request view = absurd (false≢true view)
 
 -- the acts of a view are its look
 view_acts : (worker : ℕ) (request : Request) (reply : Reply) (object : Object) → viewed request ≡ Some object → acts_for worker None request reply ≡ Look (shown.Reply object reply) ∷ []
-view_acts worker (StoreItem facts time) reply object is = absurd (cc)
-view_acts worker (StoreBid bidder item amount time) reply object is = absurd (cc)
-view_acts worker (StoreComment author about item stars) reply object is = absurd (cc)
-view_acts worker (BuyNow buyer item quantity time) reply object is = absurd (cc)
 view_acts worker (ViewItem item) reply object is = ap (λ o. Look (shown.Reply o reply) ∷ []) (same_Some (Item item) object is)
 view_acts worker (ViewBids item) reply object is = ap (λ o. Look (shown.Reply o reply) ∷ []) (same_Some (Item item) object is)
 view_acts worker (ViewCategory category) reply object is = ap (λ o. Look (shown.Reply o reply) ∷ []) (same_Some (Category category) object is)
 view_acts worker (ViewUser user) reply object is = ap (λ o. Look (shown.Reply o reply) ∷ []) (same_Some (User user) object is)
+view_acts worker request reply object is = absurd (cc)
 
 -- and no slice has its operation
 pub view_entered : (w : WorkerState) (number index : ℕ) (request : Request) (reply : Reply) (found : ReadSet) → is_view request ≡ true → with_entry w number index request reply found ≡ after_commit w number index request reply found
-view_entered w number index (StoreItem facts time) reply found view = absurd (false≢true view)
-view_entered w number index (StoreBid bidder item amount time) reply found view = absurd (false≢true view)
-view_entered w number index (StoreComment author about item stars) reply found view = absurd (false≢true view)
-view_entered w number index (BuyNow buyer item quantity time) reply found view = absurd (false≢true view)
 view_entered w number index (ViewItem item) reply found view = refl
 view_entered w number index (ViewBids item) reply found view = refl
 view_entered w number index (ViewCategory category) reply found view = refl
 view_entered w number index (ViewUser user) reply found view = refl
+view_entered w number index request reply found view = absurd (false≢true view)
 
 module _ {N : Type 0} (step : Step) (w : WorkerState) (request : Request) (b : Begun N) (begun : HasBegun step w request b) (view : is_view request ≡ true) where
   abbrev initial : List ShardState

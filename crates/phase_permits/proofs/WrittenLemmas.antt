@@ -1,11 +1,15 @@
--- The acts that are dealt to the shards that were taken are those that are done there, and the clocks that were found are theirs.
-use Rattle.std.proofs.Common.{◌≡◌, ◌≢◌, ℕ, max, ◌≤◌, ◌==◌, ◌||◌, Bool, true, false, cond, List, [], ◌∷◌, Option, Some, None, refl, sym, ap, ◌∙◌, ◌⊎◌, inl, inr, arith}
-use Rattle.std.specs.List.{list_any}
+-- The acts that are dealt to the shards that were taken are those that are done there, and can be done there, and the clocks that were found are theirs.
+use Rattle.std.proofs.Common.{◌≡◌, ◌≢◌, ℕ, max, ◌<◌, ◌≤◌, ◌==◌, ◌||◌, Bool, true, false, cond, List, [], ◌∷◌, Option, Some, None, refl, sym, ap, ◌∙◌, ◌⊎◌, inl, inr, arith}
+use Rattle.std.specs.List.{AllByRecursion, list_any}
+use Rattle.std.proofs.Math.Bool.{or-false}
 use Rattle.std.proofs.lemmas.Bool.{eq-eqb, ne_eqb, false≢true}
 use Rattle.std.proofs.lemmas.Bool.Decides.{eqb_tells}
 use Rattle.phase_laws.specs.Numbers.{greatest_by}
 use Rattle.item_shards.specs.declared.shard.acts.Act.{Act}
-use Rattle.item_shards.specs.ShardContents.{clock}
+use Rattle.item_shards.specs.declared.shard.acts.Act.TheVariants.{Look}
+use Rattle.item_shards.specs.declared.shard.acts.Shown.TheVariants as shown
+use Rattle.item_shards.specs.Contents.{after_act}
+use Rattle.item_shards.specs.ShardContents.{clock, contents}
 use Rattle.item_shards.specs.Writing.{padded}
 use Rattle.shard_boxes.specs.Helds.{HeldState}
 use Rattle.shard_boxes.specs.Lines.{first_two}
@@ -13,90 +17,42 @@ use Rattle.phase_permits.specs.declared.homes.Home.{Home}
 use Rattle.phase_permits.specs.declared.homes.Home.TheVariants as home
 use Rattle.phase_permits.specs.declared.homes.Taken.{Taken}
 use Rattle.phase_permits.specs.declared.homes.Taken.TheVariants as taken
-use Rattle.phase_permits.specs.Deeds.{is_at, deeds_on, first_dealt, second_dealt, clocks_of}
+use Rattle.phase_permits.specs.Deeds.{is_at, deeds_on, first_dealt, second_dealt, clocks_of, IsGood, AreGoodOn}
 use Rattle.phase_permits.specs.Putting.{alone_in}
-use Rattle.phase_permits.specs.Takens.{shard_at, each_once, held_in, numbers_of, is_one_of, dealt, no_line, line_among}
+use Rattle.phase_permits.specs.Takens.{shard_at, each_once, greatest_held, held_in, numbers_of, is_one_of, dealt, no_line, line_among, CanBeDoneOn, CanBeDoneOnAll}
 use Rattle.phase_permits.specs.Txns.{clock_in}
 
--- whether a shard is that of an object, if it lies in one
-abbrev at : Option ℕ → ℕ → Bool
-at None t = false
-at (Some s) t = s == t
+-- where two objects lie, whose shards were taken, each once
+abbrev pub LieInOne : ℕ → Option ℕ → Option ℕ → Type 0
+LieInOne n a b = ((a ≡ Some n) × (b ≡ None)) ⊎ (((a ≡ None) × (b ≡ Some n)) ⊎ ((a ≡ Some n) × (b ≡ Some n)))
 
-at_home : (h : Home) (t : ℕ) → is_at h t ≡ at (shard_at h) t
-at_home home.Nowhere t = refl
-at_home (home.Slice place) t = refl
-at_home (home.Shard s) t = refl
+abbrev pub LieInTwo : ℕ → ℕ → Option ℕ → Option ℕ → Type 0
+LieInTwo n m a b = (a ≡ Some n) × (b ≡ Some m) × (n ≢ m)
 
-abbrev pub first_in : List ℕ → ℕ
-first_in [] = 0
-first_in (n ∷ ns) = n
+-- two shards are one or two
+once : (s u : ℕ) → ((each_once (Some s) (Some u) ≡ s ∷ []) × (s ≡ u)) ⊎ ((each_once (Some s) (Some u) ≡ s ∷ u ∷ []) × (s ≢ u))
+once s u = elim (eqb_tells s u) [
+  | inl h ↦ inl (ap (λ c. cond c (s ∷ []) (s ∷ u ∷ [])) h.0, h.1)
+  | inr h ↦ inr (ap (λ c. cond c (s ∷ []) (s ∷ u ∷ [])) h.0, h.1)
+]
 
-abbrev pub second_in : List ℕ → ℕ
-second_in [] = 0
-second_in (n ∷ ns) = first_in ns
+both_in : (n s u : ℕ) → n ∷ [] ≡ s ∷ [] → s ≡ u → LieInOne n (Some s) (Some u)
+both_in n s u is same = let first : s ≡ n = cc in inr (inr (ap Some first, ap Some (sym same ∙ first)))
 
-abbrev pub how_many : List ℕ → ℕ
-how_many [] = 0
-how_many (n ∷ []) = 1
-how_many (n ∷ m ∷ ns) = 2
+pub in_one : (n : ℕ) (a b : Option ℕ) → n ∷ [] ≡ each_once a b → LieInOne n a b
+in_one n None None is = absurd (cc)
+in_one n (Some s) None is = let first : s ≡ n = cc in inl (ap Some first, refl)
+in_one n None (Some u) is = let first : u ≡ n = cc in inr (inl (refl, ap Some first))
+in_one n (Some s) (Some u) is = elim (once s u) [ inl h ↦ both_in n s u (is ∙ h.0) h.1 | inr h ↦ absurd (cc (is ∙ h.0)) ]
 
-pub other_once : (u : ℕ) → each_once None (Some u) ≡ u ∷ []
-other_once u = refl
+each_in : (n m s u : ℕ) → n ∷ m ∷ [] ≡ s ∷ u ∷ [] → s ≢ u → LieInTwo n m (Some s) (Some u)
+each_in n m s u is apart = let first : s ≡ n = cc in let second : u ≡ m = cc in (ap Some first, ap Some second, λ same. apart (first ∙ same ∙ sym second))
 
-one_is : (b : Bool) → (b || false) ≡ true → b ≡ true
-one_is true is = refl
-one_is false is = is
-
--- acts by whether their objects lie in the shard
-abbrev chosen : Act → Act → Bool → Bool → List Act
-chosen x y a b = padded (cond a (x ∷ cond b (y ∷ []) []) (cond b (y ∷ []) []))
-
--- one shard that was taken
-one_dealt : (n t : ℕ) (x y : Act) (a b : Option ℕ) → n ∷ [] ≡ each_once a b → (n == t) ≡ true → first_dealt x y a b ∷ second_dealt x y a b ∷ [] ≡ chosen x y (at a t) (at b t)
-one_dealt n t x y None None is here = absurd (cc)
-one_dealt n t x y (Some s) None is here = let n_is : n ≡ s = ap first_in is in sym (ap (λ a. chosen x y a false) (ap (λ k. k == t) (sym n_is) ∙ here))
-one_dealt n t x y None (Some u) is here = let n_is : n ≡ u = ap first_in (is ∙ other_once u) in sym (ap (λ b. chosen x y false b) (ap (λ k. k == t) (sym n_is) ∙ here))
-one_dealt n t x y (Some s) (Some u) is here = go (eqb_tells s u)
-  where
-    go : (((s == u) ≡ true) × (s ≡ u)) ⊎ (((s == u) ≡ false) × (s ≢ u)) → x ∷ y ∷ [] ≡ chosen x y (s == t) (u == t)
-    go (inl h) =
-        let n_is : n ≡ s = ap first_in (is ∙ ap (λ c. cond c (s ∷ []) (s ∷ u ∷ [])) h.0) in
-        let there : (s == t) ≡ true = ap (λ k. k == t) (sym n_is) ∙ here in
-        λ i. chosen x y (sym there i) (sym (ap (λ v. v == t) (sym h.1) ∙ there) i)
-    go (inr h) = let long = ap how_many (is ∙ ap (λ c. cond c (s ∷ []) (s ∷ u ∷ [])) h.0) in absurd (omega (arith, long))
-
--- two
-two_dealt : (n m t : ℕ) (x y : Act) (a b : Option ℕ) → n ∷ m ∷ [] ≡ each_once a b → ((n == t) || ((m == t) || false)) ≡ true
-    → cond (n == t) (alone_in (first_dealt x y a b)) (cond (m == t) (alone_in (second_dealt x y a b)) []) ≡ chosen x y (at a t) (at b t)
-two_dealt n m t x y None None is here = absurd (cc)
-two_dealt n m t x y (Some s) None is here = let long = ap how_many is in absurd (omega (arith, long))
-two_dealt n m t x y None (Some u) is here = let long = ap how_many (is ∙ other_once u) in absurd (omega (arith, long))
-two_dealt n m t x y (Some s) (Some u) is here = go (eqb_tells s u)
-  where
-    go : (((s == u) ≡ true) × (s ≡ u)) ⊎ (((s == u) ≡ false) × (s ≢ u)) → cond (n == t) (alone_in x) (cond (m == t) (alone_in y) []) ≡ chosen x y (s == t) (u == t)
-    go (inl h) = let long = ap how_many (is ∙ ap (λ c. cond c (s ∷ []) (s ∷ u ∷ [])) h.0) in absurd (omega (arith, long))
-    go (inr h) = by (eqb_tells n t)
-      where
-        both : n ∷ m ∷ [] ≡ s ∷ u ∷ []
-        both = is ∙ ap (λ c. cond c (s ∷ []) (s ∷ u ∷ [])) h.0
-
-        n_is : n ≡ s
-        n_is = ap first_in both
-
-        m_is : m ≡ u
-        m_is = ap second_in both
-
-        by : (((n == t) ≡ true) × (n ≡ t)) ⊎ (((n == t) ≡ false) × (n ≢ t)) → cond (n == t) (alone_in x) (cond (m == t) (alone_in y) []) ≡ chosen x y (s == t) (u == t)
-        by (inl at_n) =
-            let on_s : (s == t) ≡ true = ap (λ k. k == t) (sym n_is) ∙ at_n.0 in
-            let off_u : (u == t) ≡ false = ne_eqb u t (λ e. h.1 (sym n_is ∙ at_n.1 ∙ sym e)) in
-            ap (λ c. cond c (alone_in x) (cond (m == t) (alone_in y) [])) at_n.0 ∙ (λ i. chosen x y (sym on_s i) (sym off_u i))
-        by (inr off_n) =
-            let on_m : (m == t) ≡ true = one_is (m == t) (ap (λ c. c || ((m == t) || false)) (sym off_n.0) ∙ here) in
-            let off_s : (s == t) ≡ false = ap (λ k. k == t) (sym n_is) ∙ off_n.0 in
-            let on_u : (u == t) ≡ true = ap (λ k. k == t) (sym m_is) ∙ on_m in
-            (λ i. cond (off_n.0 i) (alone_in x) (cond (on_m i) (alone_in y) [])) ∙ (λ i. chosen x y (sym off_s i) (sym on_u i))
+pub in_two : (n m : ℕ) (a b : Option ℕ) → n ∷ m ∷ [] ≡ each_once a b → LieInTwo n m a b
+in_two n m (Some s) (Some u) is = elim (once s u) [ inl h ↦ absurd (cc (is ∙ h.0)) | inr h ↦ each_in n m s u (is ∙ h.0) h.1 ]
+in_two n m None None is = absurd (cc)
+in_two n m None (Some u) is = absurd (cc)
+in_two n m (Some s) None is = absurd (cc)
 
 -- the acts that are dealt to the shard of this number
 abbrev pub acts_among : List HeldState → List (List Act) → ℕ → List Act
@@ -104,18 +60,55 @@ acts_among [] acts t = []
 acts_among (h ∷ held) [] t = []
 acts_among (h ∷ held) (a ∷ acts) t = cond (h.number == t) a (acts_among held acts t)
 
-dealt_at : {N : Type 0} (took : Taken N) (x y : Act) (a b : Option ℕ) → numbers_of (held_in took) ≡ each_once a b → (t : ℕ) → is_one_of (numbers_of (held_in took)) t ≡ true
-    → acts_among (held_in took) (dealt took (first_dealt x y a b ∷ second_dealt x y a b ∷ [])) t ≡ chosen x y (at a t) (at b t)
-dealt_at taken.Nothing x y a b is t here = absurd (false≢true here)
-dealt_at (taken.One one) x y a b is t here =
-    let on = one_is (one.number == t) here in
-    ap (λ c. cond c (first_dealt x y a b ∷ second_dealt x y a b ∷ []) []) on ∙ one_dealt one.number t x y a b is on
-dealt_at (taken.Two one other) x y a b is t here = two_dealt one.number other.number t x y a b is here
+-- whether a shard is that of an object, if it lies in one
+abbrev at : Option ℕ → ℕ → Bool
+at None t = false
+at (Some s) t = s == t
+
+at_home : (h : Home) (t : ℕ) → at (shard_at h) t ≡ is_at h t
+at_home home.Nowhere t = refl
+at_home h t = refl
 
 -- what is dealt to a shard is what is done there
+dealt_at : {N : Type 0} (took : Taken N) (x y : Act) (a b : Option ℕ) → numbers_of (held_in took) ≡ each_once a b → (t : ℕ) → is_one_of (numbers_of (held_in took)) t ≡ true
+    → acts_among (held_in took) (dealt took (first_dealt x y a b ∷ second_dealt x y a b ∷ [])) t ≡ padded (cond (at a t) (x ∷ cond (at b t) (y ∷ []) []) (cond (at b t) (y ∷ []) []))
+dealt_at taken.Nothing x y a b numbers t here = absurd (false≢true here)
+dealt_at (taken.One one) x y a b numbers t here =
+    let is : (one.number == t) ≡ true = sym (or-false (one.number == t)) ∙ here in
+    elim (in_one one.number a b numbers) [ inl l ↦ rw (l.0, l.1, is) refl | inr more ↦ elim more [ inl l ↦ rw (l.0, l.1, is) refl | inr l ↦ rw (l.0, l.1, is) refl ] ]
+dealt_at (taken.Two one other) x y a b numbers t here =
+    let lies = in_two one.number other.number a b numbers in
+    elim (eqb_tells one.number t) [
+      | inl h ↦ rw (lies.0, lies.1, h.0, ne_eqb other.number t (λ e. lies.2 (h.1 ∙ sym e))) refl
+      | inr h ↦ rw (lies.0, lies.1, h.0, sym (or-false (other.number == t)) ∙ ap (λ c. c || ((other.number == t) || false)) (sym h.0) ∙ here) refl
+    ]
+
 pub dealt_on : {N : Type 0} (took : Taken N) (x y : Act) (h k : Home) → numbers_of (held_in took) ≡ each_once (shard_at h) (shard_at k) → (t : ℕ) → is_one_of (numbers_of (held_in took)) t ≡ true
     → acts_among (held_in took) (dealt took (first_dealt x y (shard_at h) (shard_at k) ∷ second_dealt x y (shard_at h) (shard_at k) ∷ [])) t ≡ deeds_on x y h k t
-dealt_on took x y h k is t here = dealt_at took x y (shard_at h) (shard_at k) is t here ∙ (λ i. chosen x y (sym (at_home h t) i) (sym (at_home k t) i))
+dealt_on took x y h k numbers t here =
+    dealt_at took x y (shard_at h) (shard_at k) numbers t here
+    ∙ (λ i. padded (cond (at_home h t i) (x ∷ cond (at_home k t i) (y ∷ []) []) (cond (at_home k t i) (y ∷ []) [])))
+
+-- acts that are good on each shard in which their objects lie can be done on all that were taken
+both_done : (number : ℕ) (h : HeldState) (x y : Act) → clock h.shard < number → IsGood h.shard (contents h.shard) x → IsGood h.shard (after_act (contents h.shard) x) y → CanBeDoneOn number h (x ∷ y ∷ [])
+both_done number h x y later one other = record { later = later; can = (one.0, (other.0, tt)); looks = (one.1, (other.1, tt)) }
+
+alone_done : (number : ℕ) (h : HeldState) (x : Act) → clock h.shard < number → IsGood h.shard (contents h.shard) x → CanBeDoneOn number h (alone_in x)
+alone_done number h x later one = both_done number h x (Look shown.Nothing) later one (tt, tt)
+
+pub can_deal : {N : Type 0} (number : ℕ) (took : Taken N) (x y : Act) (a b : Option ℕ) → numbers_of (held_in took) ≡ each_once a b → AllByRecursion (λ (h : HeldState). clock h.shard < number) (held_in took)
+    → AllByRecursion (AreGoodOn a b x y) (held_in took) → CanBeDoneOnAll number (held_in took) (dealt took (first_dealt x y a b ∷ second_dealt x y a b ∷ []))
+can_deal number taken.Nothing x y a b numbers later good = tt
+can_deal number (taken.One one) x y a b numbers later good = elim (in_one one.number a b numbers) [
+  | inl l ↦ rw (l.0, l.1) (alone_done number one x later.0 (good.0.first l.0), tt)
+  | inr more ↦ elim more [
+    | inl l ↦ rw (l.0, l.1) (alone_done number one y later.0 (good.0.second l.1), tt)
+    | inr l ↦ rw (l.0, l.1) (both_done number one x y later.0 (good.0.first l.0) (good.0.after l.0 l.1), tt)
+  ]
+]
+can_deal number (taken.Two one other) x y a b numbers later good =
+    let lies = in_two one.number other.number a b numbers in
+    rw (lies.0, lies.1) (alone_done number one x later.0 (good.0.first lies.0), (alone_done number other y later.1.0 (good.1.0.second lies.1), tt))
 
 -- and its line says so, with the clock that was found
 two_lines : (b c : Bool) (number index before after : ℕ) (x y : List Act) → (b || (c || false)) ≡ true
@@ -134,7 +127,7 @@ pub line_is : {N : Type 0} (took : Taken N) (number index : ℕ) (x y : Act) (t 
     → line_among number index (held_in took) (dealt took (x ∷ y ∷ [])) t
     ≡ record { number = number; before = clock_in (clocks_of took) t; index = index; acts = first_two (acts_among (held_in took) (dealt took (x ∷ y ∷ [])) t) }
 line_is taken.Nothing number index x y t here = absurd (false≢true here)
-line_is (taken.One one) number index x y t here = one_line (one.number == t) number index (clock one.shard) (x ∷ y ∷ []) (one_is (one.number == t) here)
+line_is (taken.One one) number index x y t here = one_line (one.number == t) number index (clock one.shard) (x ∷ y ∷ []) (sym (or-false (one.number == t)) ∙ here)
 line_is (taken.Two one other) number index x y t here = two_lines (one.number == t) (other.number == t) number index (clock one.shard) (clock other.shard) (alone_in x) (alone_in y) here
 
 -- the greatest over numbers is that over any others that are the same ones
@@ -164,22 +157,8 @@ greatest_same f ns ms same =
     omega (arith, under, over)
 
 -- the greatest clock that was found is that of the shards that were taken
-pub apart_of : (n m : ℕ) (a b : Option ℕ) → n ∷ m ∷ [] ≡ each_once a b → (n == m) ≡ false
-apart_of n m None None is = absurd (cc)
-apart_of n m (Some s) None is = let long = ap how_many is in absurd (omega (arith, long))
-apart_of n m None (Some u) is = let long = ap how_many (is ∙ other_once u) in absurd (omega (arith, long))
-apart_of n m (Some s) (Some u) is = go (eqb_tells s u)
-  where
-    go : (((s == u) ≡ true) × (s ≡ u)) ⊎ (((s == u) ≡ false) × (s ≢ u)) → (n == m) ≡ false
-    go (inl h) = let long = ap how_many (is ∙ ap (λ c. cond c (s ∷ []) (s ∷ u ∷ [])) h.0) in absurd (omega (arith, long))
-    go (inr h) =
-        let both : n ∷ m ∷ [] ≡ s ∷ u ∷ [] = is ∙ ap (λ c. cond c (s ∷ []) (s ∷ u ∷ [])) h.0 in
-        ne_eqb n m (λ e. h.1 (sym (ap first_in both) ∙ e ∙ ap second_in both))
-
-pub greatest_taken : {N : Type 0} (took : Taken N) (a b : Option ℕ) → numbers_of (held_in took) ≡ each_once a b
-    → greatest_by (λ t. clock_in (clocks_of took) t) (numbers_of (held_in took)) ≡ greatest_by (λ (h : HeldState). clock h.shard) (held_in took)
-greatest_taken taken.Nothing a b is = refl
-greatest_taken (taken.One one) a b is = ap (λ c. max (cond c (clock one.shard) 0) 0) (eq-eqb one.number one.number refl)
-greatest_taken (taken.Two one other) a b is =
-    λ i. max (cond (eq-eqb one.number one.number refl i) (clock one.shard) (cond (other.number == one.number) (clock other.shard) 0))
-    (max (cond (apart_of one.number other.number a b is i) (clock one.shard) (cond (eq-eqb other.number other.number refl i) (clock other.shard) 0)) 0)
+pub greatest_taken : {N : Type 0} (took : Taken N) (a b : Option ℕ) → numbers_of (held_in took) ≡ each_once a b → greatest_by (λ t. clock_in (clocks_of took) t) (numbers_of (held_in took)) ≡ greatest_held (held_in took)
+greatest_taken taken.Nothing a b numbers = refl
+greatest_taken (taken.One one) a b numbers = rw (eq-eqb one.number one.number refl) refl
+greatest_taken (taken.Two one other) a b numbers =
+    rw (eq-eqb one.number one.number refl, ne_eqb one.number other.number (in_two one.number other.number a b numbers).2, eq-eqb other.number other.number refl) refl

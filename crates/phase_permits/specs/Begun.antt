@@ -6,7 +6,7 @@ use Rattle.auction_rows.specs.declared.requests.Object.TheVariants.{Item, User, 
 use Rattle.auction_rows.specs.declared.replies.Reply.{Reply}
 use Rattle.auction_rows.specs.declared.requests.Facts.{Facts}
 use Rattle.auction_rows.specs.declared.requests.Request.{Request}
-use Rattle.auction_rows.specs.declared.requests.Request.TheVariants.{StoreItem, StoreBid, StoreComment, BuyNow, ViewItem, ViewBids, ViewCategory, ViewUser}
+use Rattle.auction_rows.specs.declared.requests.Request.TheVariants.{ViewItem, ViewBids, ViewCategory, ViewUser}
 use Rattle.auction_rows.specs.Refusals.{number_refusal}
 use Rattle.auction_rows.specs.Requests.{item_of}
 use Rattle.item_shards.specs.CommitNumbers.{last_number}
@@ -144,14 +144,11 @@ HaveFootprint request homes deeds =
 
 -- the object that a view shows
 abbrev pub viewed : Request → Option Object
-viewed (StoreItem facts time) = None
-viewed (StoreBid bidder item amount time) = None
-viewed (StoreComment author about item stars) = None
-viewed (BuyNow buyer item quantity time) = None
 viewed (ViewItem item) = Some (Item item)
 viewed (ViewBids item) = Some (Item item)
 viewed (ViewCategory category) = Some (Category category)
 viewed (ViewUser user) = Some (User user)
+viewed request = None
 
 -- a shard can show what a view asks for, which lies there
 pub record CanView (shard : Shard) (request : Request) : Type 0 where

@@ -11,7 +11,7 @@ use Rattle.phase_permits.specs.declared.slices.Hot.{Hot}
 use Rattle.phase_permits.specs.Takens.{each_once, shard_at}
 use Rattle.auction_rows.specs.declared.requests.Object.TheVariants.{Item}
 use Rattle.auction_rows.specs.declared.replies.Reply.{Reply}
-use Rattle.auction_rows.specs.declared.replies.Reply.TheVariants.{ItemStored, BidStored, CommentStored, Bought, ItemSeen, BidsSeen, CategorySeen, UserSeen, Refused}
+use Rattle.auction_rows.specs.declared.replies.Reply.TheVariants.{ItemStored, Refused}
 use Rattle.auction_rows.specs.declared.requests.Facts.{Facts}
 use Rattle.auction_rows.specs.declared.requests.Request.{Request}
 use Rattle.item_shards.specs.declared.shard.acts.Act.{Act}
@@ -107,14 +107,7 @@ footprint_on deeds = each_once (shard_at deeds.home) (shard_at deeds.other)
 -- an item that is stored is the worker's next
 abbrev pub IsNextIf : WorkerState → Reply → Type 0
 IsNextIf w (ItemStored id) = id ≡ next_item w
-IsNextIf w (BidStored id) = ⊤
-IsNextIf w (CommentStored id) = ⊤
-IsNextIf w (Bought id) = ⊤
-IsNextIf w (ItemSeen seller category name start closes highest bidder bids left) = ⊤
-IsNextIf w (BidsSeen bids) = ⊤
-IsNextIf w (CategorySeen items) = ⊤
-IsNextIf w (UserSeen rating comments) = ⊤
-IsNextIf w (Refused reason) = ⊤
+IsNextIf w reply = ⊤
 
 -- an act can be done on a shard that has come to these contents, and is no false look
 abbrev pub IsGood : Shard → Contents → Act → Type 0

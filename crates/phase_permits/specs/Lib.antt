@@ -3,10 +3,10 @@ pub mod Slicing
 pub mod Txns
 pub mod Works
 pub mod Workers
+pub mod WorkerFields
 pub mod Putting
 pub mod Takens
 pub mod Performing
 pub mod Homes
 pub mod Deeds
 pub mod Begun
-pub mod Replying

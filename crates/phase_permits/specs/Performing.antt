@@ -1,11 +1,11 @@
 -- What becomes of a request.
-use Rattle.std.specs.Prelude.{◌≡◌, ℕ, suc, max, ◌<◌, ◌≤◌, Bool, true, false, if◌then◌else◌, List, [], ◌∷◌, ◌++◌, length, Some, None, Result, Ok, Err, ⊤, slice_get}
+use Rattle.std.specs.Prelude.{◌≡◌, ℕ, suc, max, ◌<◌, ◌≤◌, Bool, true, false, List, [], length, Some, None, Result, Ok, Err, ⊤, slice_get}
 use Rattle.phase_laws.specs.Numbers.{greatest_by}
 use Rattle.auction_rows.specs.declared.values.Opening.{Opening}
 use Rattle.auction_rows.specs.declared.replies.Reply.{Reply}
 use Rattle.auction_rows.specs.declared.replies.Reply.TheVariants.{ItemStored}
 use Rattle.auction_rows.specs.declared.requests.Request.{Request}
-use Rattle.auction_rows.specs.declared.requests.Request.TheVariants.{StoreItem, StoreBid, StoreComment, BuyNow, ViewItem, ViewBids, ViewCategory, ViewUser}
+use Rattle.auction_rows.specs.declared.requests.Request.TheVariants.{StoreItem}
 use Rattle.auction_rows.specs.declared.rows.Entry.{Entry}
 use Rattle.auction_rows.specs.Footprint.{footprint, takes_shard}
 use Rattle.auction_rows.specs.Refusals.{number_refusal}
@@ -113,13 +113,7 @@ greatest_seen initial w key request =
 -- whether a request stores an item
 abbrev pub StoresItem : Request → Type 0
 StoresItem (StoreItem facts time) = ⊤
-StoresItem (StoreBid bidder item amount time) = ⊥
-StoresItem (StoreComment author about item stars) = ⊥
-StoresItem (BuyNow buyer item quantity time) = ⊥
-StoresItem (ViewItem item) = ⊥
-StoresItem (ViewBids item) = ⊥
-StoresItem (ViewCategory category) = ⊥
-StoresItem (ViewUser user) = ⊥
+StoresItem request = ⊥
 
 -- NumberFull exactly where the greatest clock is at the end of numbers, and Memory of an accepted
 -- store of an item alone

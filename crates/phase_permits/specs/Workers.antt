@@ -1,5 +1,5 @@
 -- A worker in a phase.
-use Rattle.std.specs.Prelude.{◌≡◌, ℕ, suc, ◌+◌, ◌-◌, ◌<◌, ◌≤◌, true, false, List, [], ◌∷◌, ◌++◌, Option, None, length, option_map, slice_get, ⊤}
+use Rattle.std.specs.Prelude.{◌≡◌, ℕ, suc, ◌+◌, ◌-◌, ◌<◌, ◌≤◌, Bool, true, false, List, [], ◌∷◌, ◌++◌, Option, None, length, option_map, slice_get, ⊤}
 use Rattle.phase_laws.specs.Numbers.{last_by}
 use Rattle.auction_rows.specs.declared.requests.ItemId.{ItemId}
 use Rattle.auction_rows.specs.declared.requests.Object.{Object}
@@ -151,6 +151,11 @@ with_first_unstashed w = record w { stash = without_first w.stash; left = w.left
 abbrev pub with_try : WorkerState → WorkerState
 with_try w = record w { tries = w.tries + 1 }
 
+-- there are none in a joined phase
+abbrev pub IsEmptyIf : {A : Type 0} → Bool → List A → Type 0
+IsEmptyIf true items = items ≡ []
+IsEmptyIf false items = ⊤
+
 -- the key holds no shard
 abbrev pub IsIdle : KeyState → Type 0
 IsIdle key = (shard : ℕ) → holds_at key shard ≡ false
@@ -174,6 +179,10 @@ pub record IsExplained (shards : ℕ) (w : WorkerState) : Type 0 where
   pub worker : w.journal.worker ≡ w.key.worker
   pub idle : IsIdle w.key
   pub work : IsWorkOf (setting_of w shards) w.key.worker (work_of w)
+
+-- What is true of a permit, of a joined phase or a split one with so many shards.
+abbrev pub IsPermit : Bool → ℕ → WorkerState → Type 0
+IsPermit joined shards w = IsEmptyIf joined w.slices × IsExplained shards w
 
 -- a worker as a phase begins
 abbrev pub new_worker : KeyState → Opening → Counters → JournalView → StashState →

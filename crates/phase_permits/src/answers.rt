@@ -7,16 +7,18 @@ ghost use Rattle.auction_rows.specs.Refusals.{number_refusal};
 ghost use Rattle.auction_rows.specs.Requests.{is_view, item_of};
 ghost use Rattle.auction_rows.specs.StoreReplies.{reply_of};
 ghost use Rattle.auction_rows.specs.declared.requests.Facts.{Facts as FactsValue};
-ghost use Rattle.auction_rows.specs.declared.requests.Object.TheVariants.{Item};
 ghost use Rattle.item_shards.specs.declared.shard.acts.Act.TheVariants.{Look};
 ghost use Rattle.item_shards.specs.declared.shard.acts.Shown.TheVariants as shown;
-ghost use Rattle.item_shards.specs.Looking.{IsTrueOf, view_like};
-ghost use Rattle.item_shards.specs.ShardContents.{LiesIn, contents};
+ghost use Rattle.item_shards.specs.Looking.{IsTrueOf};
+ghost use Rattle.item_shards.specs.ShardContents.{contents};
 ghost use Rattle.item_shards.specs.Writing.{looks_of};
 ghost use Rattle.phase_permits.specs.declared.worker.Counters.{Counters as CountersValue};
-ghost use Rattle.phase_permits.specs.Begun.{CanView, IsOnOne, viewed};
-ghost use Rattle.phase_permits.specs.Takens.{held_in};
-ghost use Rattle.phase_permits.specs.Txns.{IsReplyTo, SuitsBids, SuitsItem};
+ghost use Rattle.phase_permits.specs.Begun.{CanView, FirstHas, IsOnOne, viewed};
+ghost use Rattle.phase_permits.specs.Deeds.{IsReplyBy, stock_on};
+ghost use Rattle.phase_permits.specs.Homes.{IsHomeOf};
+ghost use Rattle.phase_permits.specs.Slicing.{stocks_of, stock_of};
+ghost use Rattle.phase_permits.specs.Takens.{held_in, shard_at};
+ghost use Rattle.phase_permits.specs.Txns.{IsReplyTo};
 
 use crate::homes::{Home, Homes, Taken, stock_in};
 use crate::worker::Worker;
@@ -27,13 +29,6 @@ use item_shards::{Shard, refusal_with};
 use shard_boxes::PhaseName;
 
 impl<N: PhaseName> Worker<N> {
-    ghost use Rattle.phase_permits.specs.Begun.{FirstHas};
-    ghost use Rattle.phase_permits.specs.Deeds.{IsReplyBy, stock_on};
-    ghost use Rattle.phase_permits.specs.Homes.{IsHomeOf};
-    ghost use Rattle.phase_permits.specs.Slicing.{stocks_of, stock_of};
-    ghost use Rattle.phase_permits.specs.Takens.{shard_at};
-    ghost use Rattle.phase_permits.specs.Txns.{IsReplyTo};
-
     /// What a store sees of the item that it needs: of a hot one what is fixed, of another one what
     /// its shard has.
     #[inline(always)]
@@ -79,25 +74,12 @@ impl<N: PhaseName> Worker<N> {
         requires store { is_view request.now ≡ false }
         ensures { IsReplyBy self.now seen.now request.now (reply_of result) }
     {
-        match refusal_with(seen, request) {
-            Some(reason) => StoreReply::Refused(reason),
-            None => self.accept(request),
+        if let Some(reason) = refusal_with(seen, request) {
+            return StoreReply::Refused(reason);
         }
-    }
-
-    // The worker's next id of the kind of a store.
-    #[inline(always)]
-    fn accept(&self, request: &Request) -> StoreReply
-        requires store { is_view request.now ≡ false }
-        ensures { IsReplyTo self.now.counters self.now.journal.worker request.now
-            (reply_of result) }
-    {
         let worker = self.journal.worker();
         match *request {
-            Request::StoreItem { .. } => StoreReply::ItemStored(ItemId {
-                worker,
-                serial: self.counters.items,
-            }),
+            Request::StoreItem { .. } => StoreReply::ItemStored(self.next_item()),
             Request::StoreBid { .. } => StoreReply::BidStored(BidId {
                 worker,
                 serial: self.counters.bids,
@@ -145,30 +127,12 @@ fn view(shard: &Shard, request: &Request) -> (Object, Reply)
     ensures shown { IsTrueOf (contents shard.now) (shown.Reply result.0 result.1) }
 {
     match *request {
-        Request::ViewItem { item } => (Object::Item(item), item_seen(shard, item)),
-        Request::ViewBids { item } => (Object::Item(item), bids_seen(shard, item)),
+        Request::ViewItem { item } => (Object::Item(item), shard.view_item(item)),
+        Request::ViewBids { item } => (Object::Item(item), shard.view_bids(item)),
         Request::ViewCategory { category } => {
             (Object::Category(category), shard.view_category(category))
         }
         Request::ViewUser { user } => (Object::User(user), shard.view_user(user)),
         _ => unreachable!(),
     }
-}
-
-// The reply to a view of an item, which is what its shard shows.
-fn item_seen(shard: &Shard, item: ItemId) -> Reply
-    requires { LiesIn shard.now (Item item) }
-    ensures shown { result ≡ view_like result (Item item) (contents shard.now (Item item)) }
-    ensures suits { SuitsItem result }
-{
-    shard.view_item(item)
-}
-
-// The reply to a view of an item's bids, which is what its shard shows.
-fn bids_seen(shard: &Shard, item: ItemId) -> Reply
-    requires { LiesIn shard.now (Item item) }
-    ensures shown { result ≡ view_like result (Item item) (contents shard.now (Item item)) }
-    ensures suits { SuitsBids result }
-{
-    shard.view_bids(item)
 }

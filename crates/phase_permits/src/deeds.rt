@@ -23,8 +23,7 @@ pub(crate) struct Call<'a> {
     pub(crate) index: u32,
 }
 
-/// A store of the quota whose reply is known, with where its objects are and what it saw of the
-/// item that it needs.
+/// A store whose reply is known, with the homes of its objects and what it saw of its item.
 #[derive(Drop)]
 pub(crate) struct Store<'a> {
     pub(crate) call: Call<'a>,
@@ -43,8 +42,7 @@ pub(crate) struct Deeds {
 }
 
 impl Deeds {
-    /// Those of a store with this reply, by what it saw of its item, where its objects have these
-    /// homes.
+    /// Those of a store with this reply, which saw this of its item.
     #[inline]
     pub(crate) fn of(
         request: &Request,
@@ -144,8 +142,7 @@ impl Deeds {
         }
     }
 
-    /// The two acts as they are dealt to the shards: both on the one that holds what they are
-    /// about, or one on each of two.
+    /// The two acts as they are dealt: both to one shard, or one to each of two.
     #[inline(always)]
     pub(crate) fn written(self, number: u64, index: u32) -> Written
         ensures { result ≡ written_of self number index }
@@ -192,8 +189,7 @@ pub(crate) struct Written {
     pub(crate) second: Act,
 }
 
-/// Does two acts on a shard that is as it was taken, at a number after its clock, and puts it back
-/// with their line.
+/// Does two acts on a shard that is as it was taken, and puts it back with their line.
 #[inline(always)]
 pub(crate) fn put_with_line<N: PhaseName, R: Wait>(
     rt: &R,
@@ -209,18 +205,12 @@ pub(crate) fn put_with_line<N: PhaseName, R: Wait>(
     ensures { IsPutWith N.initial key.old key.new held
         (line_of written.number written.index (written_acts written) held.shard) }
 {
-    let Written {
-        number,
-        index,
-        first,
-        second,
-    } = written;
-    let acts = [first, second];
-    let before = held.shard_mut().apply_acts(number, &acts);
+    let acts = [written.first, written.second];
+    let before = held.shard_mut().apply_acts(written.number, &acts);
     let line = Line {
-        number,
+        number: written.number,
         before,
-        index,
+        index: written.index,
         acts: Acts::of(&acts),
     };
     boxes.put(rt, key, held, Some(line));

@@ -5,8 +5,8 @@ ghost use Rattle.auction_rows.specs.Footprint.{is_hot};
 ghost use Rattle.auction_rows.specs.declared.requests.Object.{Object as ObjectValue};
 ghost use Rattle.item_shards.specs.CommitNumbers.{last_number};
 ghost use Rattle.phase_permits.specs.declared.slices.Hot.{Hot};
-ghost use Rattle.phase_permits.specs.Homes.{IsHomeOf};
-ghost use Rattle.phase_permits.specs.Takens.{each_once, shard_at, footprint_of, greatest_held, held_in, numbers_of, is_one_of, dealt, line_among, HasTakenAll, AreHeldAll, AreBack, CanBeDoneOnAll, IsReady};
+ghost use Rattle.phase_permits.specs.Homes.{IsHomeOf, AreHomesOf};
+ghost use Rattle.phase_permits.specs.Takens.{each_once, shard_at, footprint_of, is_one_of, greatest_held, held_in, numbers_of, dealt, line_among, HasTakenAll, AreHeldAll, AreBack, CanBeDoneOnAll, IsReady};
 ghost use Rattle.phase_permits.specs.Slicing.{hot_objects};
 ghost use Rattle.phase_permits.specs.Begun.{states_in, FirstHas, FirstHasRoom};
 ghost use Rattle.phase_permits.specs.Deeds.{clocks_of, stock_on};
@@ -51,27 +51,13 @@ pub(crate) struct Homes {
     pub(crate) other: Home,
 }
 
-impl Homes {
-    /// Whether none is in a shard.
-    #[inline(always)]
-    pub(crate) fn are_in_no_shard(&self) -> bool
-        ensures item { result ≡ true → shard_at self.now.item ≡ None }
-        ensures other { result ≡ true → shard_at self.now.other ≡ None }
-    {
-        matches!((self.item.shard(), self.other.shard()), (None, None))
-    }
-}
-
 impl<N: PhaseName> Worker<N> {
     ghost use Rattle.auction_rows.specs.Refusals.{number_refusal};
-    ghost use Rattle.phase_permits.specs.Homes.{AreHomesOf};
     ghost use Rattle.phase_permits.specs.Performing.{asks};
-    ghost use Rattle.phase_permits.specs.Takens.{footprint_of, is_one_of};
     ghost use Rattle.phase_permits.specs.Txns.{is_put_off};
 
-    /// Where the objects are of a request that the opening does not refuse and that is not put off,
-    /// in a phase with so many shards: the shards among them are its footprint. What it views and
-    /// the item that it buys are not hot, since it is not put off, nor is the item that it stores.
+    /// Where the objects are of a request: the shards among them are its footprint. What it views
+    /// or buys is not hot, since it is not put off, nor is the item that it stores.
     #[inline(always)]
     pub(crate) fn homes(&self, request: &Request, shards: u32) -> Homes
         requires some { 0 < shards }
@@ -217,8 +203,7 @@ pub(crate) fn clocks_of<N: PhaseName>(taken: &Taken<N>) -> [Option<(u32, u64)>; 
     }
 }
 
-/// What the shards have of an item that lies in the first of them: its facts and how many are left,
-/// where it is stored.
+/// What the shards have of an item that lies in the first of them.
 #[inline(always)]
 pub(crate) fn stock_in<N: PhaseName>(taken: &Taken<N>, item: ItemId) -> Option<(Facts, u32)>
     requires { FirstHas taken.now item }
@@ -264,8 +249,7 @@ pub(crate) fn put_back<N: PhaseName, R: Wait>(
     }
 }
 
-/// Does two acts on the shards, both on the one or one on each of two, at a number after their
-/// clocks, and puts them back with their lines.
+/// Does two acts on the one shard, or one on each of two, and puts them back with their lines.
 #[inline(always)]
 pub(crate) fn put_all<N: PhaseName, R: Wait>(
     rt: &R,

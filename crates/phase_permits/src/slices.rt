@@ -1,8 +1,10 @@
 //! A worker's slices of the objects that are split.
-ghost use Rattle.std.specs.Prelude.{◌≡◌, ◌-◌, ◌↔◌, ◌++◌, ◌∷◌, [], IfOk, IfSome, IsNone, ℕ, length, take, is_some};
+ghost use Rattle.std.specs.Prelude.{◌≡◌, ◌+◌, ◌-◌, ◌↔◌, ◌++◌, ◌∷◌, [], IfOk, IfSome, IsNone, List, ℕ, length, take, is_some};
 ghost use Rattle.std.specs.List.{IsDistinct, AllByRecursion};
+ghost use Rattle.auction_rows.specs.declared.requests.Object.{Object as ObjectValue};
 ghost use Rattle.item_shards.specs.declared.shard.slices.Slice.{Slice as SliceValue};
-ghost use Rattle.phase_permits.specs.Slicing.{HasAtMost};
+ghost use Rattle.phase_permits.specs.declared.slices.Hot.{Hot as HotValue};
+ghost use Rattle.phase_permits.specs.Slicing.{hot_objects, slices_of, stocks_of, stock_of, slices_in, with_slice_changed, slices_after_acts, IsAt, IsStocked, HasAtMost, HaveAtMost, slice_with_bid, slice_with_comment, slice_with_item, slice_of};
 
 use crate::homes::{Home, Homes};
 use auction_rows::{
@@ -26,8 +28,6 @@ pub(crate) trait Operation: Copy {
 }
 
 impl Operation for BidEntry {
-    ghost use Rattle.phase_permits.specs.Slicing.{slice_with_bid};
-
     ghost applied = { slice_with_bid };
 
     #[inline(always)]
@@ -39,8 +39,6 @@ impl Operation for BidEntry {
 }
 
 impl Operation for Stars {
-    ghost use Rattle.phase_permits.specs.Slicing.{slice_with_comment};
-
     ghost applied = { slice_with_comment };
 
     fn apply_to(self, slice: &mut Slice) {
@@ -51,8 +49,6 @@ impl Operation for Stars {
 }
 
 impl Operation for ItemEntry {
-    ghost use Rattle.phase_permits.specs.Slicing.{slice_with_item};
-
     ghost applied = { slice_with_item };
 
     fn apply_to(self, slice: &mut Slice) {
@@ -72,7 +68,6 @@ pub struct Hot {
 
 impl Hot {
     ghost use Rattle.item_shards.specs.Values.{blank};
-    ghost use Rattle.phase_permits.specs.Slicing.{slice_of};
 
     // Of an object to which nothing is applied.
     fn new(object: Object, stock: Option<(Facts, u32)>) -> Hot
@@ -101,13 +96,7 @@ pub struct Slices {
 }
 
 impl Model for Slices {
-    ghost use Rattle.std.specs.Prelude.{List};
-    ghost use Rattle.auction_rows.specs.declared.requests.Object.{Object};
-    ghost use Rattle.std.specs.List.{AllByRecursion};
-    ghost use Rattle.phase_permits.specs.declared.slices.Hot.{Hot};
-    ghost use Rattle.phase_permits.specs.Slicing.{stocks_of, IsStocked};
-
-    ghost Value = { List (Object × Hot) };
+    ghost Value = { List (ObjectValue × HotValue) };
 
     ghost view = { λ s. s.hot.entries };
 
@@ -115,11 +104,8 @@ impl Model for Slices {
 }
 
 impl Slices {
-    ghost use Rattle.auction_rows.specs.declared.requests.Object.{Object};
     ghost use Rattle.auction_rows.specs.Requests.{same_object};
     ghost use Rattle.auction_rows.specs.Footprint.{is_hot};
-    ghost use Rattle.phase_permits.specs.Slicing.{hot_objects, slices_of, stocks_of, stock_of, slices_in, with_slice_changed, slices_after_acts, IsAt, IsStocked, HaveAtMost};
-    ghost use Rattle.std.specs.Prelude.{◌+◌};
     ghost use Rattle.auction_rows.specs.Replies.{row_of};
     ghost use Rattle.auction_rows.specs.StoreReplies.{reply_of};
     ghost use Rattle.item_shards.specs.Writing.{writes_if};
@@ -144,13 +130,16 @@ impl Slices {
         ensures { IfOk result (λ slices. slices ≡ slices_of hot.now []) }
     {
         let mut slices = IndexMap::with_capacity(alloc, hot.len())?;
+        let mut guesses = [0; 64];
         for (object, stock) in hot {
+            if let Some(guess) = guesses.get_mut(guess_for(*object)) {
+                *guess = (slices.len() % 256) as u8;
+            }
             match slices.insert(*object, Hot::new(*object, *stock)) {
                 Ok(_) => {}
                 Err(_) => return Err(AllocError),
             }
         }
-        let guesses = guesses_of(&slices);
         Ok(Slices {
             hot: slices,
             guesses,
@@ -198,7 +187,7 @@ impl Slices {
     /// What is fixed of the object at a place: of an item its facts, and how many are left.
     #[inline(always)]
     pub(crate) fn stock_at(&self, place: usize) -> Option<(Facts, u32)>
-        ensures { (object : Object) → IsAt self.now place object →
+        ensures { (object : ObjectValue) → IsAt self.now place object →
             result ≡ stock_of (stocks_of self.now) object }
     {
         match self.hot.get_index(place) {
@@ -207,33 +196,23 @@ impl Slices {
         }
     }
 
-    /// Applies an operation to the slice at a place, where that is of its kind.
-    #[inline(always)]
-    pub(crate) fn apply<O: Operation>(&mut self, place: usize, operation: O)
-        requires { HaveAtMost MOST_OF_A_WORKER self.old }
-        ensures { (object : Object) → IsAt self.old place object →
-            self.new ≡ with_slice_changed object (O.applied operation) self.old }
-    {
-        if let Some(hot) = self.hot.get_index_mut(place) {
-            operation.apply_to(&mut hot.slice);
-        }
-    }
-
-    // Applies an operation to the slice of an object with this home, where the object is hot and
-    // the slice of the operation's kind.
+    // Applies an operation to the slice at a home, where there is one of the operation's kind.
     #[inline(always)]
     fn apply_at<O: Operation>(&mut self, home: Home, operation: O)
         requires { HaveAtMost MOST_OF_A_WORKER self.old }
-        ensures { (object : Object) → (shards : ℕ) → IsHomeOf self.old shards object home →
+        ensures { (object : ObjectValue) → (shards : ℕ) → IsHomeOf self.old shards object home →
             self.new ≡ with_slice_changed object (O.applied operation) self.old }
     {
-        if let Home::Slice(place) = home {
-            self.apply(place, operation);
-        }
+        let Home::Slice(place) = home else {
+            return;
+        };
+        let Some(hot) = self.hot.get_index_mut(place) else {
+            return;
+        };
+        operation.apply_to(&mut hot.slice);
     }
 
-    /// Applies what a store writes to the slice of its object, where it is accepted and that is
-    /// hot.
+    /// Applies what an accepted store writes to the slice of its object, where that is hot.
     #[inline(always)]
     pub(crate) fn store(&mut self, request: &Request, reply: StoreReply, homes: &Homes)
         requires few { HaveAtMost MOST_OF_A_WORKER self.old }
@@ -275,21 +254,6 @@ impl Slices {
             _ => {}
         }
     }
-}
-
-// A guess for each object: of two with the same one the last has it.
-fn guesses_of(hot: &IndexMap<Object, Hot>) -> [u8; 64] {
-    let mut guesses = [0; 64];
-    for place in 0u8..64 {
-        let Some((object, _)) = hot.get_index(place as usize) else {
-            break;
-        };
-        let guess = guess_for(*object);
-        if guess < guesses.len() {
-            guesses[guess] = place;
-        }
-    }
-    guesses
 }
 
 // Which of the guesses is that of an object's place.

@@ -95,12 +95,11 @@ impl<N: PhaseName> Worker<N> {
             return self.refuse(call, reason);
         }
         let homes = self.homes(request, boxes.shards());
-        if homes.are_in_no_shard() {
+        if let (None, None) = (homes.item.shard(), homes.other.shard()) {
             return self.store_hot(call, &homes);
         }
 
-        // The shards of the footprint are taken, in ascending order, each once, before anything is
-        // read.
+        // The shards are taken in ascending order, each once, before anything is read.
         let mut begun = self.begin(rt, boxes, request, &homes)?;
         if is_view(*request) {
             self.show(rt, boxes, begun, call);
@@ -268,8 +267,7 @@ impl<N: PhaseName> Worker<N> {
         self.add_entry(number, call, &Answer::of(&reply), &found);
     }
 
-    // Does what a store does on the shards that were taken, puts them back with their lines, and
-    // commits it.
+    // Does a store's acts on the shards that were taken, puts these back, and commits it.
     #[inline]
     fn put_store<R: Wait>(&mut self, rt: &R, boxes: &Boxes<N>, begun: Begun<N>, store: &Store<'_>)
         requires store { is_view store.now.call.request.now ≡ false }

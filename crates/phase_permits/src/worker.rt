@@ -1,7 +1,13 @@
 //! A worker in a phase, and what it has committed.
 ghost use Rattle.std.specs.Prelude.{◌≡◌, ◌<◌, ◌+◌, false, true, [], length, slice_get, Some, IfNone, IfSome};
+ghost use Rattle.auction_rows.specs.declared.requests.Object.TheVariants.{Item};
 ghost use Rattle.auction_rows.specs.Footprint.{is_hot};
+ghost use Rattle.auction_rows.specs.StoreReplies.{reply_of};
+ghost use Rattle.phase_permits.specs.Homes.{IsWrittenAt};
 ghost use Rattle.phase_permits.specs.Slicing.{hot_objects, HaveAtMost};
+ghost use Rattle.phase_permits.specs.Txns.{is_put_off, counters_after, IsOwn};
+ghost use Rattle.phase_permits.specs.WorkerFields.{state_in, AreLawful};
+ghost use Rattle.phase_permits.specs.Workers.{WorkerState, AreCounted, next_item, last_reply, with_try, after_putting_off, with_first_unstashed, with_entry, after_commit};
 
 use crate::deeds::{Call, Store};
 use crate::slices::Slices;
@@ -15,9 +21,7 @@ use shard_boxes::{Key, PhaseName};
 use std::marker::Model;
 use worker_journals::{Answer, Journal, ReplyForm};
 
-/// What a worker has in a phase: its right to take shards, and what no other worker touches: its
-/// counters, its journal, its stash, its slices of what is split, the requests of its quota that
-/// are left, and its clock.
+/// What a worker has in a phase: its right to take shards, and what no other worker touches.
 #[derive(Drop)]
 pub(crate) struct Worker<N: PhaseName> {
     pub(crate) key: Key<N>,
@@ -35,90 +39,26 @@ pub(crate) struct Worker<N: PhaseName> {
 }
 
 /// What a worker starts a phase with.
-pub(crate) struct WorkerStart<N: PhaseName> {
-    pub(crate) key: Key<N>,
-    pub(crate) opening: Opening,
-    pub(crate) counters: Counters,
-    pub(crate) journal: Journal,
-    pub(crate) stash: Stash,
-    pub(crate) slices: Slices,
-    pub(crate) quota: u32,
-    pub(crate) clock: u64,
+pub struct WorkerStart<N: PhaseName> {
+    pub key: Key<N>,
+    pub opening: Opening,
+    pub counters: Counters,
+    pub journal: Journal,
+    pub stash: Stash,
+    pub slices: Slices,
+    pub quota: u32,
+    pub clock: u64,
 }
 
 impl<N: PhaseName> Model for Worker<N> {
-    ghost use Rattle.phase_permits.specs.Workers.{WorkerState, IsLawfulWorker, begun_of};
-
     ghost Value = { WorkerState };
 
-    ghost view = { λ w. record {
-      key = w.key;
-      opening = w.opening;
-      begun = begun_of w.begun.items;
-      counters = w.counters;
-      journal = w.journal;
-      stash = w.stash;
-      slices = w.slices;
-      left = w.left;
-      tries = w.tries;
-      clock = w.clock;
-      txns = w.txns.items;
-    } };
+    ghost view = { state_in };
 
-    ghost invariant = { λ w. IsLawfulWorker (record {
-      key = w.key;
-      opening = w.opening;
-      begun = begun_of w.begun.items;
-      counters = w.counters;
-      journal = w.journal;
-      stash = w.stash;
-      slices = w.slices;
-      left = w.left;
-      tries = w.tries;
-      clock = w.clock;
-      txns = w.txns.items;
-    }) };
+    ghost invariant = { AreLawful };
 }
 
 impl<N: PhaseName> Worker<N> {
-    ghost use Rattle.auction_rows.specs.declared.requests.Object.TheVariants.{Item};
-    ghost use Rattle.auction_rows.specs.StoreReplies.{reply_of};
-    ghost use Rattle.phase_permits.specs.Homes.{IsWrittenAt};
-    ghost use Rattle.phase_permits.specs.Txns.{is_put_off, IsOwn};
-    ghost use Rattle.phase_permits.specs.Workers.{CanStart, IsLawfulWorker, new_worker, next_item, last_reply, with_try, after_putting_off, with_first_unstashed, with_entry, after_commit};
-
-    /// A worker as a phase begins. It takes no memory.
-    pub(crate) fn new(start: WorkerStart<N>) -> Worker<N>
-        requires { CanStart (new_worker start.key start.opening start.counters start.journal
-            start.stash start.slices start.quota start.clock) }
-        ensures { result ≡ new_worker start.key start.opening start.counters start.journal
-            start.stash start.slices start.quota start.clock }
-    {
-        let WorkerStart {
-            key,
-            opening,
-            counters,
-            journal,
-            stash,
-            slices,
-            quota,
-            clock,
-        } = start;
-        Worker {
-            key,
-            opening,
-            counters,
-            journal,
-            stash,
-            slices,
-            left: quota,
-            tries: 0,
-            clock,
-            begun: GhostList::new().and(&counters, &clock),
-            txns: GhostList::new(),
-        }
-    }
-
     /// Counts a try.
     #[inline(always)]
     pub(crate) fn count_try(&mut self)
@@ -148,21 +88,18 @@ impl<N: PhaseName> Worker<N> {
         self.slices.place_of(object).is_some()
     }
 
-    /// Whether a request waits for the next joined phase: it can't be split, and touches a hot
-    /// object.
+    /// Whether a request waits: it can't be split, and touches a hot object.
     #[inline(always)]
     pub(crate) fn is_put_off(&self, request: &Request) -> bool
         ensures { result ≡ is_put_off (hot_objects self.now.slices) request.now }
     {
         match *request {
-            Request::StoreItem { .. } | Request::StoreBid { .. } | Request::StoreComment { .. } => {
-                false
-            }
-            Request::BuyNow { item, .. } => self.is_hot(Object::Item(item)),
-            Request::ViewItem { item } => self.is_hot(Object::Item(item)),
-            Request::ViewBids { item } => self.is_hot(Object::Item(item)),
+            Request::BuyNow { item, .. }
+            | Request::ViewItem { item }
+            | Request::ViewBids { item } => self.is_hot(Object::Item(item)),
             Request::ViewCategory { category } => self.is_hot(Object::Category(category)),
             Request::ViewUser { user } => self.is_hot(Object::User(user)),
+            _ => false,
         }
     }
 
@@ -176,8 +113,7 @@ impl<N: PhaseName> Worker<N> {
         self.stash.push(index, *request);
     }
 
-    /// Takes the first stashed request into the quota, where nothing is hot: None exactly where
-    /// there is none, and then nothing has changed. It takes no memory.
+    /// Takes the first stashed request into the quota, if there is one. It takes no memory.
     pub(crate) fn unstash(&mut self) -> Option<(u32, Request)>
         requires joined { self.old.slices ≡ [] }
         ensures first { result ≡ slice_get self.old.stash.requests 0 }
@@ -191,8 +127,7 @@ impl<N: PhaseName> Worker<N> {
         Some(first)
     }
 
-    /// Puts the request that was last taken out of the stash back in front of it. It takes no
-    /// memory.
+    /// Puts the request that was last taken out of the stash back in front of it.
     pub(crate) fn restash(&mut self)
         requires joined { self.old.slices ≡ [] }
         requires called { 0 < length self.old.stash.done }
@@ -204,8 +139,7 @@ impl<N: PhaseName> Worker<N> {
         self.stash.recall();
     }
 
-    /// Commits a request of the quota, but for its slices, at a number after the clock. It takes no
-    /// memory.
+    /// Commits a request of the quota, but for its slices. It takes no memory.
     #[inline(always)]
     pub(crate) fn add_entry(
         &mut self,
@@ -237,8 +171,7 @@ impl<N: PhaseName> Worker<N> {
         self.clock = number;
     }
 
-    /// Commits a store of the quota, at a number after the clock: the slice of what it writes has
-    /// its operation, where that is hot. It takes no memory.
+    /// Commits a store of the quota, and applies it to the slice of what it writes.
     #[inline(always)]
     pub(crate) fn add_store(&mut self, number: u64, store: &Store<'_>, found: &ReadSet)
         requires left { 0 < self.old.left }
@@ -264,31 +197,6 @@ impl<N: PhaseName> Worker<N> {
         let last = self.journal.entry(self.journal.len() - 1);
         last.reply()
     }
-
-    /// What a receipt gives of it.
-    pub(crate) fn parts(self) -> (Journal, Slices, Stash, Key<N>, Counters)
-        ensures journal { result.0 ≡ self.journal }
-        ensures slices { result.1 ≡ self.slices }
-        ensures stash { result.2 ≡ self.stash }
-        ensures key { result.3 ≡ self.key }
-        ensures counters { result.4 ≡ self.counters }
-        ensures lawful { IsLawfulWorker self }
-    {
-        let Worker {
-            key,
-            opening: _,
-            counters,
-            journal,
-            stash,
-            slices,
-            left: _,
-            tries: _,
-            clock: _,
-            begun: _,
-            txns: _,
-        } = self;
-        (journal, slices, stash, key, counters)
-    }
 }
 
 /// How many items, bids, comments and purchases a worker has had accepted over the whole run, and
@@ -303,10 +211,6 @@ pub struct Counters {
 }
 
 impl Counters {
-    ghost use Rattle.auction_rows.specs.StoreReplies.{reply_of};
-    ghost use Rattle.phase_permits.specs.Txns.{counters_after};
-    ghost use Rattle.phase_permits.specs.Workers.{AreCounted};
-
     // Counts a commit with this reply.
     #[inline(always)]
     pub(crate) fn count(&mut self, reply: &Answer<'_>)

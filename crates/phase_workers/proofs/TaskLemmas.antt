@@ -33,10 +33,9 @@ next_within n left rest all one so_far = omega (arith, one, so_far)
 pub one_made : (n m left rest all : ℕ) → m ≡ n + 1 → left + 1 ≡ rest → n + rest ≡ all → m + left ≡ all
 one_made n m left rest all longer one so_far = omega (arith, longer, one, so_far)
 
-pub next_task : {P : Type 0} (shows : P → WorkerState) (first : ℕ) (left next : List P) (permit : P) (rest after : List (List Request)) (script : List Request) →
-    left ≡ permit ∷ next → rest ≡ script ∷ after → tasks (map shows left) rest first ≡ task (shows permit) script first ∷ tasks (map shows next) after first
-next_task shows first left next permit rest after script is are =
-    ap (λ ps. tasks (map shows ps) rest first) is ∙ ap (λ ss. tasks (map shows (permit ∷ next)) ss first) are
+pub next_task : (first : ℕ) (left next : List WorkerState) (permit : WorkerState) (rest after : List (List Request)) (script : List Request) →
+    left ≡ permit ∷ next → rest ≡ script ∷ after → tasks left rest first ≡ task permit script first ∷ tasks next after first
+next_task first left next permit rest after script is are = ap (λ ps. tasks ps rest first) is ∙ ap (λ ss. tasks (permit ∷ next) ss first) are
 
 -- one worker's task more is made
 pub own_more : {D : Type 0} (Can : Task → Type 0) (CanDo : D → Type 0) (of : D → Task) (owns now : List D) (own : D) (rest next all : List Task) (t : Task) →
@@ -56,40 +55,40 @@ own_more Can CanDo of owns now own rest next all t push is more can left made wh
     )
 
 -- what each worker's answer keeps of its task
-module _ {D T : Type 0} (of : D → Task) (left : T → WorkerState) (takes : Bool) (initial : List ShardState) where
-  abbrev Keeps : D → WorkerAnswer T → Type 0
-  Keeps own answer = OnOk answer.done (HasDoneTask takes (of own) (left answer.receipt)) × IfErr answer.done (HasMetFault takes initial (of own) (left answer.receipt))
+module _ {D : Type 0} (of : D → Task) (takes : Bool) (initial : List ShardState) where
+  abbrev Keeps : D → WorkerAnswer WorkerState → Type 0
+  Keeps own answer = OnOk answer.done (HasDoneTask takes (of own) answer.receipt) × IfErr answer.done (HasMetFault takes initial (of own) answer.receipt)
 
-  pub as_many : (owns : List D) (answers : List (WorkerAnswer T)) → AllZip Keeps owns answers → length answers ≡ length owns
+  pub as_many : (owns : List D) (answers : List (WorkerAnswer WorkerState)) → AllZip Keeps owns answers → length answers ≡ length owns
   as_many owns answers kept = AllZip-long Keeps owns answers kept
 
-  done_by : (owns : List D) (receipts : List T) → AllZip Keeps owns (map without_fault receipts) → AllZip (HasDoneTask takes) (map of owns) (map left receipts)
+  done_by : (owns : List D) (receipts : List WorkerState) → AllZip Keeps owns (map without_fault receipts) → AllZip (HasDoneTask takes) (map of owns) receipts
   done_by [] [] kept = tt
   done_by [] (r ∷ rs) kept = absurd kept
   done_by (d ∷ ds) [] kept = absurd kept
   done_by (d ∷ ds) (r ∷ rs) kept = (kept.0.0, done_by ds rs kept.1)
 
   -- where no worker met a fault, all tasks are done
-  pub all_done : (owns : List D) (answers : List (WorkerAnswer T)) (receipts : List T) (ts : List Task) →
-      AllZip Keeps owns answers → answers ≡ map without_fault receipts → map of owns ≡ ts → AllZip (HasDoneTask takes) ts (map left receipts)
+  pub all_done : (owns : List D) (answers : List (WorkerAnswer WorkerState)) (receipts : List WorkerState) (ts : List Task) →
+      AllZip Keeps owns answers → answers ≡ map without_fault receipts → map of owns ≡ ts → AllZip (HasDoneTask takes) ts receipts
   all_done owns answers receipts ts kept none are =
-      subst (λ us. AllZip (HasDoneTask takes) us (map left receipts)) are (done_by owns receipts (subst (AllZip Keeps owns) none kept))
+      subst (λ us. AllZip (HasDoneTask takes) us receipts) are (done_by owns receipts (subst (AllZip Keeps owns) none kept))
 
   -- the fault of the least worker that met one is that of the first task that was not done
-  first_met : (owns : List D) (answers : List (WorkerAnswer T)) (fault : PermitFault) → AllZip Keeps owns answers → first_fault answers ≡ Some fault →
+  first_met : (owns : List D) (answers : List (WorkerAnswer WorkerState)) (fault : PermitFault) → AllZip Keeps owns answers → first_fault answers ≡ Some fault →
       IsFirstFault takes initial (map of owns) fault
   first_met [] [] fault kept is = absurd (let none : None ≡ Some fault = is in cc)
   first_met [] (a ∷ more) fault kept is = absurd kept
   first_met (d ∷ ds) [] fault kept is = absurd kept
   first_met (d ∷ ds) (a ∷ more) fault kept is = at a.done kept.0.0 kept.0.1 is (λ later. first_met ds more fault kept.1 later)
     where
-      at : {U : Type 0} (done : Result U PermitFault) → OnOk done (HasDoneTask takes (of d) (left a.receipt)) → IfErr done (HasMetFault takes initial (of d) (left a.receipt)) →
+      at : {U : Type 0} (done : Result U PermitFault) → OnOk done (HasDoneTask takes (of d) a.receipt) → IfErr done (HasMetFault takes initial (of d) a.receipt) →
           fault_or done (first_fault more) ≡ Some fault → (first_fault more ≡ Some fault → IsFirstFault takes initial (map of ds) fault) →
           IsFirstFault takes initial (map of (d ∷ ds)) fault
-      at (Ok u) ok err first again = inr ((left a.receipt, ok), again first)
-      at (Err f) ok err first again = inl (left a.receipt, subst (HasMetFault takes initial (of d) (left a.receipt)) (ap (λ o. unwrap_or o fault) first) err)
+      at (Ok u) ok err first again = inr ((a.receipt, ok), again first)
+      at (Err f) ok err first again = inl (a.receipt, subst (HasMetFault takes initial (of d) a.receipt) (ap (λ o. unwrap_or o fault) first) err)
 
-  pub fault_met : (owns : List D) (answers : List (WorkerAnswer T)) (ts : List Task) (fault : PermitFault) → AllZip Keeps owns answers →
+  pub fault_met : (owns : List D) (answers : List (WorkerAnswer WorkerState)) (ts : List Task) (fault : PermitFault) → AllZip Keeps owns answers →
       first_fault answers ≡ Some fault → map of owns ≡ ts → IsFirstFault takes initial ts fault
   fault_met owns answers ts fault kept is are = subst (λ us. IsFirstFault takes initial us fault) are (first_met owns answers fault kept is)
 

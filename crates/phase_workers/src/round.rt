@@ -5,11 +5,10 @@ ghost use Rattle.std.specs.List.{AllByRecursion, AllZip};
 ghost use Rattle.phase_workers.specs.Tasks.{lists, task, tasks, CanBeDone, HasDoneTask, HasMetFault, without_fault, first_fault, IsFirstFault, IsFaultBy};
 ghost use Rattle.phase_workers.specs.Working.{IsPermitOf, ArePermitsOf};
 
-use crate::permit::Permit;
 use crate::threads::{Job, work};
-use crate::worker::{Gate, Post, perform_task};
+use crate::worker::{Gate, Post, perform_task, waiting};
 use auction_rows::{MOST_WORKERS, Request};
-use phase_permits::PermitFault;
+use phase_permits::{Kind, Permit, PermitFault, Receipt};
 use shard_boxes::{Boxes, PhaseName};
 use std::alloc::{AllocError, AllocFailed, Global};
 use std::sync::Wait;
@@ -86,15 +85,15 @@ pub(crate) struct WorkerAnswer<T> {
 }
 
 /// A worker's task in a phase, with all that it takes to do it. Let go, its permit is spent.
-pub(crate) struct WorkerTask<'a, N: PhaseName, P: Permit<N>, R, G> {
+pub(crate) struct WorkerTask<'a, N: PhaseName, K: Kind, R, G> {
     rt: &'a R,
     post: Post<'a, N, G>,
-    permit: P,
+    permit: Permit<N, K>,
     script: &'a [Request],
     first: usize,
 }
 
-impl<'a, N: PhaseName, P: Permit<N>, R, G> Drop for WorkerTask<'a, N, P, R, G> {
+impl<'a, N: PhaseName, K: Kind, R, G> Drop for WorkerTask<'a, N, K, R, G> {
     fn drop(self) {
         let Self {
             rt: _,
@@ -103,23 +102,23 @@ impl<'a, N: PhaseName, P: Permit<N>, R, G> Drop for WorkerTask<'a, N, P, R, G> {
             script: _,
             first: _,
         } = self;
-        drop(permit.spend());
+        drop(permit.finish());
     }
 }
 
-impl<'a, N: PhaseName, P: Permit<N>, R: Wait, G: Gate> Job for WorkerTask<'a, N, P, R, G> {
-    type Answer = WorkerAnswer<P::Receipt>;
+impl<'a, N: PhaseName, K: Kind, R: Wait, G: Gate> Job for WorkerTask<'a, N, K, R, G> {
+    type Answer = WorkerAnswer<Receipt<N, K>>;
 
     ghost can_work = { λ own.
-        CanBeDone N.initial own.post.boxes.now (task (P.shows own.permit) own.script.now own.first)
-        × IsPermitOf own.post.phase own.post.worker (P.shows own.permit) };
+        CanBeDone N.initial own.post.boxes.now (task own.permit own.script.now own.first)
+        × IsPermitOf own.post.phase own.post.worker own.permit };
 
-    ghost keeps = { λ own answer. OnOk answer.done (HasDoneTask P.takes_stash
-        (task (P.shows own.permit) own.script.now own.first) (P.leaves answer.receipt))
-        × IfErr answer.done (HasMetFault P.takes_stash N.initial
-        (task (P.shows own.permit) own.script.now own.first) (P.leaves answer.receipt)) };
+    ghost keeps = { λ own answer. OnOk answer.done (HasDoneTask K.IS_JOINED
+        (task own.permit own.script.now own.first) answer.receipt)
+        × IfErr answer.done (HasMetFault K.IS_JOINED N.initial
+        (task own.permit own.script.now own.first) answer.receipt) };
 
-    fn work(self) -> WorkerAnswer<P::Receipt> {
+    fn work(self) -> WorkerAnswer<Receipt<N, K>> {
         let WorkerTask {
             rt,
             post,
@@ -129,7 +128,7 @@ impl<'a, N: PhaseName, P: Permit<N>, R: Wait, G: Gate> Job for WorkerTask<'a, N,
         } = self;
         let done = perform_task(rt, &post, &mut permit, script, first);
         WorkerAnswer {
-            receipt: permit.spend(),
+            receipt: permit.finish(),
             done,
         }
     }
@@ -139,31 +138,30 @@ impl<'a, N: PhaseName, P: Permit<N>, R: Wait, G: Gate> Job for WorkerTask<'a, N,
 /// if the round is short and the gate needs no threads, and gives their receipts in order. If a
 /// thread can't be started the fault is `Spawn`, else that of the least worker that met one; all
 /// threads have ended, and all permits are spent.
-pub fn serve_all<N, P, R, G>(
+pub fn serve_all<N, K, R, G>(
     rt: &R,
     alloc: Global,
     boxes: &Boxes<N>,
-    permits: Vec<P>,
+    permits: Vec<Permit<N, K>>,
     round: Round<'_, G>,
-) -> Result<Vec<P::Receipt>, ServingFault>
+) -> Result<Vec<Receipt<N, K>>, ServingFault>
 where
     N: PhaseName + Send + Sync,
-    P: Permit<N> + Send,
-    P::Receipt: Send,
+    K: Kind + Send,
     R: Threads + Wait + Sync,
     G: Gate + Sync,
     requires workers { vec_len permits ≡ length round.scripts.now }
     requires few { length round.scripts.now ≤ MOST_WORKERS }
     requires can { AllByRecursion (CanBeDone N.initial boxes.now)
-        (tasks (map P.shows permits.items) (lists round.scripts.now) round.first) }
-    requires of { ArePermitsOf round.phase 0 (map P.shows permits.items) }
+        (tasks permits.items (lists round.scripts.now) round.first) }
+    requires of { ArePermitsOf round.phase 0 permits.items }
     ensures done { IfOk result (λ receipts.
-        AllZip (HasDoneTask P.takes_stash)
-        (tasks (map P.shows permits.items) (lists round.entry.scripts.now) round.entry.first)
-        (map P.leaves receipts.items)) }
+        AllZip (HasDoneTask K.IS_JOINED)
+        (tasks permits.items (lists round.entry.scripts.now) round.entry.first)
+        receipts.items) }
     ensures fault { IfErr result (IsFaultBy (length (lists round.entry.scripts.now))
-        (IsFirstFault P.takes_stash N.initial
-        (tasks (map P.shows permits.items) (lists round.entry.scripts.now) round.entry.first))) }
+        (IsFirstFault K.IS_JOINED N.initial
+        (tasks permits.items (lists round.entry.scripts.now) round.entry.first))) }
 {
     let gate = round.gate;
     let own_tasks = own_tasks(rt, alloc, boxes, permits, round)?;
@@ -174,34 +172,34 @@ where
 }
 
 // How many requests the tasks are to perform.
-fn requests_of<N: PhaseName, P: Permit<N>, R, G>(tasks: &[WorkerTask<'_, N, P, R, G>]) -> u64 {
+fn requests_of<N: PhaseName, K: Kind, R, G>(tasks: &[WorkerTask<'_, N, K, R, G>]) -> u64 {
     let mut requests = 0u64;
     for own in tasks {
-        requests = requests.saturating_add(own.permit.waiting() as u64);
-        requests = requests.saturating_add(u64::from(own.permit.quota_left()));
+        requests = requests.saturating_add(waiting(&own.permit) as u64);
+        requests = requests.saturating_add(u64::from(own.permit.left()));
     }
     requests
 }
 
 // The task of each worker.
-fn own_tasks<'a, N: PhaseName, P: Permit<N>, R, G>(
+fn own_tasks<'a, N: PhaseName, K: Kind, R, G>(
     rt: &'a R,
     alloc: Global,
     boxes: &'a Boxes<N>,
-    permits: Vec<P>,
+    permits: Vec<Permit<N, K>>,
     round: Round<'a, G>,
-) -> Result<Vec<WorkerTask<'a, N, P, R, G>>, AllocError>
+) -> Result<Vec<WorkerTask<'a, N, K, R, G>>, AllocError>
     requires workers { vec_len permits ≡ length round.scripts.now }
     requires few { length round.scripts.now ≤ MOST_WORKERS }
     requires can { AllByRecursion (CanBeDone N.initial boxes.now)
-        (tasks (map P.shows permits.items) (lists round.scripts.now) round.first) }
-    requires of { ArePermitsOf round.phase 0 (map P.shows permits.items) }
+        (tasks permits.items (lists round.scripts.now) round.first) }
+    requires of { ArePermitsOf round.phase 0 permits.items }
     ensures can { IfOk result (λ made. AllByRecursion (λ own.
-        CanBeDone N.initial own.post.boxes.now (task (P.shows own.permit) own.script.now own.first)
-        × IsPermitOf own.post.phase own.post.worker (P.shows own.permit)) made.items) }
+        CanBeDone N.initial own.post.boxes.now (task own.permit own.script.now own.first)
+        × IsPermitOf own.post.phase own.post.worker own.permit) made.items) }
     ensures tasks { IfOk result (λ made.
-        map (λ own. task (P.shows own.permit) own.script.now own.first) made.items
-        ≡ tasks (map P.shows permits.items) (lists round.entry.scripts.now) round.entry.first) }
+        map (λ own. task own.permit own.script.now own.first) made.items
+        ≡ tasks permits.items (lists round.entry.scripts.now) round.entry.first) }
 {
     let mut permits = permits.into_iter();
     let Ok(mut made) = Vec::with_capacity(alloc, round.scripts.len()) else {
@@ -228,9 +226,9 @@ fn own_tasks<'a, N: PhaseName, P: Permit<N>, R, G>(
 }
 
 // Spends the permits that are left.
-fn spend_all<N: PhaseName, P: Permit<N>>(mut permits: IntoIter<P>) {
+fn spend_all<N: PhaseName, K: Kind>(mut permits: IntoIter<Permit<N, K>>) {
     while let Some(permit) = permits.next() {
-        drop(permit.spend());
+        drop(permit.finish());
     }
     permits.destroy_empty();
 }

@@ -1,13 +1,12 @@
 //! What a worker does in a phase of a run, and where it can be watched.
-ghost use Rattle.std.specs.Prelude.{◌≡◌, ◌+◌, ◌-◌, ◌≤◌, ◌<◌, ◌++◌, false, length, OnOk, IfErr};
+ghost use Rattle.std.specs.Prelude.{◌≡◌, ◌+◌, ◌-◌, ◌≤◌, ◌<◌, ◌++◌, false, true, length, OnOk, IfErr};
 ghost use Rattle.phase_permits.specs.Performing.{HasFailed, HaveOpening, HasFailedFirst};
 ghost use Rattle.phase_permits.specs.Workers.{with_try};
 ghost use Rattle.phase_workers.specs.Tasks.{task, CanBeDone, HasDoneTask, HasMetFault};
 ghost use Rattle.phase_workers.specs.Working.{calls_from, committed, stashed, taken, hot_for, put_off, not_put_off, IsPermitOf, IsSamePermit, HasDealtWithNext, HasPerformedStash, HasPerformedWaiting, HasStopped};
 
-use crate::permit::Permit;
 use auction_rows::{MOST_OF_A_WORKER, MOST_TRIES, Request};
-use phase_permits::PermitFault;
+use phase_permits::{Kind, Permit, PermitFault};
 use shard_boxes::{Boxes, PhaseName};
 use std::sync::Wait;
 
@@ -64,94 +63,103 @@ impl<'a, N: PhaseName, G: Gate> Post<'a, N, G> {
 /// Does a worker's task: what waits in its permit, and then the permit's quota of the script, from
 /// its request `first` on, in the order of their indexes. After a fault, which is the first, the
 /// permit performs nothing more.
-pub(crate) fn perform_task<N: PhaseName, P: Permit<N>, R: Wait, G: Gate>(
+pub(crate) fn perform_task<N: PhaseName, K: Kind, R: Wait, G: Gate>(
     rt: &R,
     post: &Post<'_, N, G>,
-    permit: &mut P,
+    permit: &mut Permit<N, K>,
     script: &[Request],
     first: usize,
 ) -> Result<(), PermitFault>
     requires can { CanBeDone N.initial post.now.boxes.now
-        (task (P.shows permit.old) script.now first) }
-    requires post { IsPermitOf post.now.phase post.now.worker (P.shows permit.old) }
-    ensures done { OnOk result (HasDoneTask P.takes_stash
-        (task (P.shows permit.old) script.now first) (P.shows permit.new)) }
-    ensures stopped { IfErr result (HasMetFault P.takes_stash N.initial
-        (task (P.shows permit.old) script.now first) (P.shows permit.new)) }
+        (task permit.old script.now first) }
+    requires post { IsPermitOf post.now.phase post.now.worker permit.old }
+    ensures done { OnOk result (HasDoneTask K.IS_JOINED
+        (task permit.old script.now first) permit.new) }
+    ensures stopped { IfErr result (HasMetFault K.IS_JOINED N.initial
+        (task permit.old script.now first) permit.new) }
 {
     perform_stash(rt, post, permit)?;
     perform_quota(rt, post, permit, script, first)
 }
 
 // What the phase takes of the stash, the request that waits longest first.
-fn perform_stash<N: PhaseName, P: Permit<N>, R: Wait, G: Gate>(
+fn perform_stash<N: PhaseName, K: Kind, R: Wait, G: Gate>(
     rt: &R,
     post: &Post<'_, N, G>,
-    permit: &mut P,
+    permit: &mut Permit<N, K>,
 ) -> Result<(), PermitFault>
-    requires of { (P.shows permit.old).key.boxes ≡ post.now.boxes.now }
-    requires opening { HaveOpening N.initial (P.shows permit.old).opening }
-    requires tries { (P.shows permit.old).tries
-        + length (taken P.takes_stash (P.shows permit.old)) ≤ MOST_TRIES }
+    requires of { permit.old.key.boxes ≡ post.now.boxes.now }
+    requires opening { HaveOpening N.initial permit.old.opening }
+    requires tries { permit.old.tries
+        + length (taken K.IS_JOINED permit.old) ≤ MOST_TRIES }
     ensures done { OnOk result
-        (HasPerformedStash P.takes_stash (P.shows permit.old) (P.shows permit.new)) }
-    ensures stopped { IfErr result (HasStopped P.takes_stash N.initial
-        (taken P.takes_stash (P.shows permit.old)) (P.shows permit.old) (P.shows permit.new)) }
+        (HasPerformedStash K.IS_JOINED permit.old permit.new) }
+    ensures stopped { IfErr result (HasStopped K.IS_JOINED N.initial
+        (taken K.IS_JOINED permit.old) permit.old permit.new) }
 {
-    for _call in 0..permit.waiting() {
+    for _call in 0..waiting(permit) {
         perform_first(rt, post, permit)?;
     }
     Ok(())
 }
 
+// How many requests of the stash are performed in this phase.
+pub(crate) fn waiting<N: PhaseName, K: Kind>(permit: &Permit<N, K>) -> usize
+    ensures { result ≡ length (taken K.IS_JOINED permit.now) }
+{
+    if K::IS_JOINED { permit.stashed() } else { 0 }
+}
+
 // Of these the one that waits longest, if any.
-fn perform_first<N: PhaseName, P: Permit<N>, R: Wait, G: Gate>(
+fn perform_first<N: PhaseName, K: Kind, R: Wait, G: Gate>(
     rt: &R,
     post: &Post<'_, N, G>,
-    permit: &mut P,
+    permit: &mut Permit<N, K>,
 ) -> Result<(), PermitFault>
-    requires of { (P.shows permit.old).key.boxes ≡ post.now.boxes.now }
-    requires opening { HaveOpening N.initial (P.shows permit.old).opening }
-    requires tries { (P.shows permit.old).tries < MOST_TRIES }
+    requires joined { K.IS_JOINED ≡ true }
+    requires of { permit.old.key.boxes ≡ post.now.boxes.now }
+    requires opening { HaveOpening N.initial permit.old.opening }
+    requires tries { permit.old.tries < MOST_TRIES }
     ensures performed { OnOk result
-        (HasPerformedWaiting P.takes_stash (P.shows permit.old) (P.shows permit.new)) }
+        (HasPerformedWaiting K.IS_JOINED permit.old permit.new) }
     ensures failed { IfErr result
-        (HasFailedFirst N.initial (with_try (P.shows permit.old)) (P.shows permit.new)) }
+        (HasFailedFirst N.initial (with_try permit.old) permit.new) }
 {
-    let Some((index, _request)) = permit.first_waiting() else {
+    let Some((index, _request)) = permit.first_stashed() else {
         return Ok(());
     };
     post.arrive(index);
-    let done = permit.perform_waiting(rt, post.boxes);
+    let done = permit.commit_stashed(rt, post.boxes);
     post.leave(index);
-    done
+    done?;
+    Ok(())
 }
 
 // The quota, in the order of the script.
-fn perform_quota<N: PhaseName, P: Permit<N>, R: Wait, G: Gate>(
+fn perform_quota<N: PhaseName, K: Kind, R: Wait, G: Gate>(
     rt: &R,
     post: &Post<'_, N, G>,
-    permit: &mut P,
+    permit: &mut Permit<N, K>,
     script: &[Request],
     first: usize,
 ) -> Result<(), PermitFault>
-    requires of { (P.shows permit.old).key.boxes ≡ post.now.boxes.now }
-    requires opening { HaveOpening N.initial (P.shows permit.old).opening }
+    requires of { permit.old.key.boxes ≡ post.now.boxes.now }
+    requires opening { HaveOpening N.initial permit.old.opening }
     requires short { length script.now ≤ MOST_OF_A_WORKER }
-    requires given { (P.shows permit.old).left ≤ length script.now - first }
-    requires tries { (P.shows permit.old).tries + (P.shows permit.old).left ≤ MOST_TRIES }
-    ensures same { OnOk result (IsSamePermit (P.shows permit.old) (P.shows permit.new)) }
-    ensures calls { OnOk result (committed (P.shows permit.new) ≡ committed (P.shows permit.old)
-        ++ not_put_off (hot_for (P.shows permit.old))
-        (calls_from first (P.shows permit.old).left script.now)) }
-    ensures stash { OnOk result (stashed (P.shows permit.new) ≡ stashed (P.shows permit.old)
-        ++ put_off (hot_for (P.shows permit.old))
-        (calls_from first (P.shows permit.old).left script.now)) }
+    requires given { permit.old.left ≤ length script.now - first }
+    requires tries { permit.old.tries + permit.old.left ≤ MOST_TRIES }
+    ensures same { OnOk result (IsSamePermit permit.old permit.new) }
+    ensures calls { OnOk result (committed permit.new ≡ committed permit.old
+        ++ not_put_off (hot_for permit.old)
+        (calls_from first permit.old.left script.now)) }
+    ensures stash { OnOk result (stashed permit.new ≡ stashed permit.old
+        ++ put_off (hot_for permit.old)
+        (calls_from first permit.old.left script.now)) }
     ensures stopped { IfErr result (HasStopped false N.initial
-        (calls_from first (P.shows permit.old).left script.now)
-        (P.shows permit.old) (P.shows permit.new)) }
+        (calls_from first permit.old.left script.now)
+        permit.old permit.new) }
 {
-    for place in 0..permit.quota_left() {
+    for place in 0..permit.left() {
         let index = first + place as usize;
         perform_next(rt, post, permit, &script[index], index as u32)?;
     }
@@ -159,24 +167,25 @@ fn perform_quota<N: PhaseName, P: Permit<N>, R: Wait, G: Gate>(
 }
 
 // A request of the quota.
-fn perform_next<N: PhaseName, P: Permit<N>, R: Wait, G: Gate>(
+fn perform_next<N: PhaseName, K: Kind, R: Wait, G: Gate>(
     rt: &R,
     post: &Post<'_, N, G>,
-    permit: &mut P,
+    permit: &mut Permit<N, K>,
     request: &Request,
     index: u32,
 ) -> Result<(), PermitFault>
-    requires of { (P.shows permit.old).key.boxes ≡ post.now.boxes.now }
-    requires opening { HaveOpening N.initial (P.shows permit.old).opening }
-    requires left { 0 < (P.shows permit.old).left }
-    requires tries { (P.shows permit.old).tries < MOST_TRIES }
+    requires of { permit.old.key.boxes ≡ post.now.boxes.now }
+    requires opening { HaveOpening N.initial permit.old.opening }
+    requires left { 0 < permit.old.left }
+    requires tries { permit.old.tries < MOST_TRIES }
     ensures dealt { OnOk result
-        (HasDealtWithNext (index, request.now) (P.shows permit.old) (P.shows permit.new)) }
+        (HasDealtWithNext (index, request.now) permit.old permit.new) }
     ensures failed { IfErr result
-        (HasFailed N.initial (with_try (P.shows permit.old)) (P.shows permit.new) request.now) }
+        (HasFailed N.initial (with_try permit.old) permit.new request.now) }
 {
     post.arrive(index);
-    let done = permit.perform_next(rt, post.boxes, request, index);
+    let done = permit.commit(rt, post.boxes, request, index);
     post.leave(index);
-    done
+    done?;
+    Ok(())
 }

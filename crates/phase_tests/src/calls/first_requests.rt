@@ -37,7 +37,7 @@ pub(crate) fn store<N: PhaseName, R: Wait + Print + Abort>(
         let _ = println!(rt; "first store, {} left: {fault}", permit.left());
         answer = perform(rt, &boxes, &mut permit, request, 0);
     }
-    let (journal, _stash, _key, _counters) = permit.finish().parts();
+    let (journal, _slices, _stash, _key, _counters) = permit.finish().parts();
     let reply = answer.map_err(Fail::new)?;
     let _ = println!(rt; "first store, 2 left: {reply:?}");
     print_journal(rt, &journal);
@@ -62,7 +62,7 @@ pub(crate) fn view<N: PhaseName, R: Wait + Print + Abort>(
     let _ = println!(rt; "first view permit: {} left", permit.left());
     look_for_memory(rt, alloc);
     let answer = perform(rt, &boxes, &mut permit, &Request::ViewUser { user: 10 }, 0);
-    let (journal, _stash, _key, _counters) = permit.finish().parts();
+    let (journal, _slices, _stash, _key, _counters) = permit.finish().parts();
     let reply = answer.map_err(Fail::new)?;
     let _ = println!(rt; "first view: {reply:?}");
     look_for_memory(rt, alloc);

@@ -1,7 +1,7 @@
 use Rattle.std.proofs.Common.{false, ◌∙◌, sym, subst}
 use Rattle.auction_run.specs.declared.checks.RunFault.TheVariants.{Memory}
 use Rattle.auction_run.specs.Phases.{IsMet, lists, told}
-use Rattle.auction_run.proofs.PhaseLemmas.{failed, fault_met, as_many, shown, are_ready, receipts_are, closed_phase}
+use Rattle.auction_run.proofs.PhaseLemmas.{failed, fault_met, as_many, are_ready, receipts_are, closed_phase}
 use Rattle.run_laws.proofs.ScriptLemmas.{lists_length}
 use Rattle.auction_run.proofs.phase.perform_split_phase.Goals as goal
 
@@ -18,14 +18,14 @@ serve_all-requires-clause-workers g c κs within =
 
 pub serve_all-requires-clause-can : goal.serve_all-requires-clause-can
 serve_all-requires-clause-can g c κs within =
-    (are_ready c.requires.plan.1 c.requires.may (shown c.in_ok-floor.ensures.begun) c.boxes.ensures.boxes c.boxes.ensures.opening c.requires.plan.0).can
+    (are_ready c.requires.plan.1 c.requires.may c.in_ok-floor.ensures.begun c.boxes.ensures.boxes c.boxes.ensures.opening c.requires.plan.0).can
 
 pub serve_all-requires-clause-of : goal.serve_all-requires-clause-of
 serve_all-requires-clause-of g c κs within =
-    (are_ready c.requires.plan.1 c.requires.may (shown c.in_ok-floor.ensures.begun) c.boxes.ensures.boxes c.boxes.ensures.opening c.requires.plan.0).of
+    (are_ready c.requires.plan.1 c.requires.may c.in_ok-floor.ensures.begun c.boxes.ensures.boxes c.boxes.ensures.opening c.requires.plan.0).of
 
 pub close-requires : goal.close-requires
-close-requires g c = receipts_are c.requires.plan.1 c.requires.may (shown c.in_ok-floor.ensures.begun) false c.in_ok-receipts.receipts.items c.in_ok-receipts.ensures.done
+close-requires g c = receipts_are c.requires.plan.1 c.requires.may c.in_ok-floor.ensures.begun false c.in_ok-receipts.receipts.items c.in_ok-receipts.ensures.done
 
 pub returns-in_err-receipts : goal.returns-in_err-receipts
 returns-in_err-receipts g c =
@@ -41,7 +41,7 @@ returns g c =
     record {
       history = c.close.ensures.history;
       last = closed.last;
-      closed = closed_phase c.requires.plan.1 c.requires.may (shown c.in_ok-floor.ensures.begun) false c.in_ok-receipts.receipts.items c.in_ok-receipts.ensures.done c.requires.shards c.requires.split
+      closed = closed_phase c.requires.plan.1 c.requires.may c.in_ok-floor.ensures.begun false c.in_ok-receipts.receipts.items c.in_ok-receipts.ensures.done c.requires.shards c.requires.split
           (record { state = c.in_ok-state.state; stashes = c.in_ok-state.stashes }) closed.leaves;
       fault = tt;
     }

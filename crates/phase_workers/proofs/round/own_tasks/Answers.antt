@@ -24,17 +24,17 @@ loop-permit-preserved g c =
     let same : c.len-worker.result ≡ n = c.len-worker.ensures in
     let within : n < length c.args.round.scripts.now = next_within _ _ _ _ step.1 was.0 in
     let here : script ≡ get_or c.args.round.scripts.now n script = c.index-round-worker.is ∙ ap (λ m. get_or c.args.round.scripts.now m script) same in
-    let of_left : ArePermitsOf c.args.round.phase n (map g.P.Permit.shows (into_iter_items c.loop-permit.permits)) = was.5 in
-    let of_all = subst (λ ps. ArePermitsOf c.args.round.phase n (map g.P.Permit.shows ps)) step.0 of_left in
-    let own_post = subst (λ m. IsPermitOf c.args.round.phase m (g.P.Permit.shows c.in-Some.permit)) (sym same) of_all.0 in
-    let t : Task = task (g.P.Permit.shows c.in-Some.permit) script.items c.args.round.first in
-    let made : task (g.P.Permit.shows c.in-Some.permit) c.as_slice.result.now c.args.round.first ≡ t =
-    (λ i. task (g.P.Permit.shows c.in-Some.permit) (c.as_slice.ensures.value i) c.args.round.first)
-    ∙ ap (λ (v : Vec Request Global). task (g.P.Permit.shows c.in-Some.permit) v.items c.args.round.first) (sym c.index-round-worker.is) in
+    let of_left : ArePermitsOf c.args.round.phase n (into_iter_items c.loop-permit.permits) = was.5 in
+    let of_all = subst (λ ps. ArePermitsOf c.args.round.phase n ps) step.0 of_left in
+    let own_post = subst (λ m. IsPermitOf c.args.round.phase m c.in-Some.permit) (sym same) of_all.0 in
+    let t : Task = task c.in-Some.permit script.items c.args.round.first in
+    let made : task c.in-Some.permit c.as_slice.result.now c.args.round.first ≡ t =
+    (λ i. task c.in-Some.permit (c.as_slice.ensures.value i) c.args.round.first)
+    ∙ ap (λ (v : Vec Request Global). task c.in-Some.permit v.items c.args.round.first) (sym c.index-round-worker.is) in
     let more = own_more (CanBeDone g.N.PhaseName.initial c.args.boxes.now)
-    (λ own. CanBeDone g.N.PhaseName.initial own.post.boxes.now (task (g.P.Permit.shows own.permit) own.script.now own.first)
-    × IsPermitOf own.post.phase own.post.worker (g.P.Permit.shows own.permit))
-    (λ own. task (g.P.Permit.shows own.permit) own.script.now own.first)
+    (λ own. CanBeDone g.N.PhaseName.initial own.post.boxes.now (task own.permit own.script.now own.first)
+    × IsPermitOf own.post.phase own.post.worker own.permit)
+    (λ own. task own.permit own.script.now own.first)
     c.loop-permit.made.items c.push_reserved.new.self.items
     (record {
       rt = c.args.rt;
@@ -43,11 +43,11 @@ loop-permit-preserved g c =
       script = c.as_slice.result;
       first = c.args.round.first;
     })
-    (tasks (map g.P.Permit.shows (into_iter_items c.loop-permit.permits)) (drop n (lists c.args.round.scripts.now)) c.args.round.first)
-    (tasks (map g.P.Permit.shows (into_iter_items c.next.new.self)) (drop (vec_len c.push_reserved.new.self) (lists c.args.round.scripts.now)) c.args.round.first)
-    (tasks (map g.P.Permit.shows c.args.permits.items) (lists c.args.round.scripts.now) c.args.round.first) t push.items
+    (tasks (into_iter_items c.loop-permit.permits) (drop n (lists c.args.round.scripts.now)) c.args.round.first)
+    (tasks (into_iter_items c.next.new.self) (drop (vec_len c.push_reserved.new.self) (lists c.args.round.scripts.now)) c.args.round.first)
+    (tasks c.args.permits.items (lists c.args.round.scripts.now) c.args.round.first) t push.items
     made
-    (next_task g.P.Permit.shows c.args.round.first (into_iter_items c.loop-permit.permits) (into_iter_items c.next.new.self) c.in-Some.permit (drop n (lists c.args.round.scripts.now))
+    (next_task c.args.round.first (into_iter_items c.loop-permit.permits) (into_iter_items c.next.new.self) c.in-Some.permit (drop n (lists c.args.round.scripts.now))
     (drop (vec_len c.push_reserved.new.self) (lists c.args.round.scripts.now)) script.items step.0
     (next_script c.args.round.scripts.now n (vec_len c.push_reserved.new.self) script within here push.len))
     (λ can. (subst (CanBeDone g.N.PhaseName.initial c.args.boxes.now) (sym made) can, own_post)) was.2 was.3 was.4 in (
@@ -57,7 +57,7 @@ loop-permit-preserved g c =
       more.1,
       more.2,
       (let next : suc n ≡ vec_len c.push_reserved.new.self = sym (push.len ∙ add-one n) in
-          subst (λ m. ArePermitsOf c.args.round.phase m (map g.P.Permit.shows (into_iter_items c.next.new.self))) next of_all.1),
+          subst (λ m. ArePermitsOf c.args.round.phase m (into_iter_items c.next.new.self)) next of_all.1),
     )
 
 pub push_reserved-requires : goal.push_reserved-requires
@@ -76,16 +76,16 @@ loop-permit-init g c =
     let made = c.in-Ok.ensures in
     let scripts = lists c.args.round.scripts.now in
     let first : ℕ = c.args.round.first in
-    let same : tasks (map g.P.Permit.shows c.args.permits.items) scripts first ≡ tasks (map g.P.Permit.shows (into_iter_items permits.result)) (drop (vec_len c.in-Ok.made) scripts) first =
-    λ i. tasks (map g.P.Permit.shows (sym given i)) (drop (sym made.len i) scripts) first in (
+    let same : tasks c.args.permits.items scripts first ≡ tasks (into_iter_items permits.result) (drop (vec_len c.in-Ok.made) scripts) first =
+    λ i. tasks (sym given i) (drop (sym made.len i) scripts) first in (
       ap (λ n. n + into_iter_len permits.result) made.len ∙ zero-add _ ∙ permits.ensures.len ∙ c.requires.workers,
       made.capacity,
       subst (AllByRecursion (CanBeDone g.N.PhaseName.initial c.args.boxes.now)) same c.requires.can,
-      subst (AllByRecursion (λ own. CanBeDone g.N.PhaseName.initial own.post.boxes.now (task (g.P.Permit.shows own.permit) own.script.now own.first)
-          × IsPermitOf own.post.phase own.post.worker (g.P.Permit.shows own.permit))) (sym made.items) tt,
-      (λ i. map (λ own. task (g.P.Permit.shows own.permit) own.script.now own.first) (made.items i) ++ tasks (map g.P.Permit.shows (into_iter_items permits.result)) (drop (vec_len c.in-Ok.made) scripts) first) ∙ sym same,
-      subst (λ n. ArePermitsOf c.args.round.phase n (map g.P.Permit.shows (into_iter_items permits.result))) (sym made.len)
-          (subst (λ ps. ArePermitsOf c.args.round.phase 0 (map g.P.Permit.shows ps)) (sym given) c.requires.of),
+      subst (AllByRecursion (λ own. CanBeDone g.N.PhaseName.initial own.post.boxes.now (task own.permit own.script.now own.first)
+          × IsPermitOf own.post.phase own.post.worker own.permit)) (sym made.items) tt,
+      (λ i. map (λ own. task own.permit own.script.now own.first) (made.items i) ++ tasks (into_iter_items permits.result) (drop (vec_len c.in-Ok.made) scripts) first) ∙ sym same,
+      subst (λ n. ArePermitsOf c.args.round.phase n (into_iter_items permits.result)) (sym made.len)
+          (subst (λ ps. ArePermitsOf c.args.round.phase 0 ps) (sym given) c.requires.of),
     )
 
 pub returns : goal.returns
@@ -98,7 +98,7 @@ returns g c =
     let none = none_left left.items _ left.ok.0 c.in_default-next.ensures.cases.0 in
     record {
       can = was.3;
-      tasks = all_done (map (λ own. task (g.P.Permit.shows own.permit) own.script.now own.first) made.items)
-          (tasks (map g.P.Permit.shows left.items) (drop (vec_len made) scripts) first) (tasks (map g.P.Permit.shows c.args.permits.items) scripts first)
-          (ap (λ ps. tasks (map g.P.Permit.shows ps) (drop (vec_len made) scripts) first) none) was.4;
+      tasks = all_done (map (λ own. task own.permit own.script.now own.first) made.items)
+          (tasks left.items (drop (vec_len made) scripts) first) (tasks c.args.permits.items scripts first)
+          (ap (λ ps. tasks ps (drop (vec_len made) scripts) first) none) was.4;
     }

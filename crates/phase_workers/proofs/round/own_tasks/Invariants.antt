@@ -11,13 +11,13 @@ invariant-loop-permit g l =
     (vec_len l.made + into_iter_len l.permits ≡ length l.round.scripts.now)
     × (length l.round.scripts.now ≤ vec_capacity l.made)
     × AllByRecursion (CanBeDone g.N.PhaseName.initial l.boxes)
-    (tasks (map g.P.Permit.shows (into_iter_items l.permits)) (drop (vec_len l.made) (lists l.round.scripts.now)) l.round.first)
-    × AllByRecursion (λ own. CanBeDone g.N.PhaseName.initial own.post.boxes.now (task (g.P.Permit.shows own.permit) own.script.now own.first)
-    × IsPermitOf own.post.phase own.post.worker (g.P.Permit.shows own.permit)) l.made.items
-    × (map (λ own. task (g.P.Permit.shows own.permit) own.script.now own.first) l.made.items
-    ++ tasks (map g.P.Permit.shows (into_iter_items l.permits)) (drop (vec_len l.made) (lists l.round.scripts.now)) l.round.first
-    ≡ tasks (map g.P.Permit.shows l.fn.permits.items) (lists l.round.scripts.now) l.round.first)
-    × ArePermitsOf l.round.phase (vec_len l.made) (map g.P.Permit.shows (into_iter_items l.permits))
+    (tasks (into_iter_items l.permits) (drop (vec_len l.made) (lists l.round.scripts.now)) l.round.first)
+    × AllByRecursion (λ own. CanBeDone g.N.PhaseName.initial own.post.boxes.now (task own.permit own.script.now own.first)
+    × IsPermitOf own.post.phase own.post.worker own.permit) l.made.items
+    × (map (λ own. task own.permit own.script.now own.first) l.made.items
+    ++ tasks (into_iter_items l.permits) (drop (vec_len l.made) (lists l.round.scripts.now)) l.round.first
+    ≡ tasks l.fn.permits.items (lists l.round.scripts.now) l.round.first)
+    × ArePermitsOf l.round.phase (vec_len l.made) (into_iter_items l.permits)
 
 abbrev pub decreases-loop-permit : goal.decreases-loop-permit
 decreases-loop-permit g l = into_iter_len l.permits

@@ -15,14 +15,14 @@ pub loop-place-preserved : goal.loop-place-preserved
 loop-place-preserved g c =
     let was = c.loop-place.invariant in
     let step = c.in_ok-perform_next.ensures.dealt in
-    let old : WorkerState = g.P.Permit.shows c.args.permit.now in
-    let mid : WorkerState = g.P.Permit.shows c.loop-place.permit in
-    let new : WorkerState = g.P.Permit.shows c.perform_next.new.permit in
+    let old : WorkerState = c.args.permit.now in
+    let mid : WorkerState = c.loop-place.permit in
+    let new : WorkerState = c.perform_next.new.permit in
     let first : ℕ = c.args.first in
     let k : ℕ = c.loop-place.place in
     let request : Request = c.index-script-index.result in
     let calls : List (ℕ × Request) = calls_from c.args.first old.left c.args.script.now in
-    let less : c.loop-place.place < old.left = subst (λ n. c.loop-place.place < n) c.quota_left-place-end.ensures c.loop-place-test.true in
+    let less : c.loop-place.place < old.left = subst (λ n. c.loop-place.place < n) c.left-place-end.ensures c.loop-place-test.true in
     let next : take (k + 1) calls ≡ take k calls ++ (first + k, request) ∷ [] =
     next_call first old.left k c.args.script.now request less c.requires.given c.index-script-index.is in (
       same_after old mid new was.0 step.same,
@@ -37,28 +37,28 @@ loop-place-preserved g c =
 pub returns-in_err-perform_next-clause-stopped : goal.returns-in_err-perform_next-clause-stopped
 returns-in_err-perform_next-clause-stopped g c =
     let was = c.loop-place.invariant in
-    let old : WorkerState = g.P.Permit.shows c.args.permit.now in
+    let old : WorkerState = c.args.permit.now in
     let first : ℕ = c.args.first in
     let k : ℕ = c.loop-place.place in
     let request : Request = c.index-script-index.result in
     let calls : List (ℕ × Request) = calls_from c.args.first old.left c.args.script.now in
-    let less : c.loop-place.place < old.left = subst (λ n. c.loop-place.place < n) c.quota_left-place-end.ensures c.loop-place-test.true in
+    let less : c.loop-place.place < old.left = subst (λ n. c.loop-place.place < n) c.left-place-end.ensures c.loop-place-test.true in
     let next : take (k + 1) calls ≡ take k calls ++ (first + k, request) ∷ [] =
     next_call first old.left k c.args.script.now request less c.requires.given c.index-script-index.is in
-    let new : WorkerState = g.P.Permit.shows c.perform_next.new.permit in
+    let new : WorkerState = c.perform_next.new.permit in
     err_as c.from_residual.result c.in_err-perform_next.field-0.0 (HasStopped false g.N.PhaseName.initial calls old new) c.from_residual.ensures.1
-    (stopped_next g.N.PhaseName.initial old (g.P.Permit.shows c.loop-place.permit) new c.in_err-perform_next.field-0.0 k calls (first + k, request) next
+    (stopped_next g.N.PhaseName.initial old c.loop-place.permit new c.in_err-perform_next.field-0.0 k calls (first + k, request) next
     was.1 was.2 c.in_err-perform_next.ensures.failed)
 
 pub loop-place-init : goal.loop-place-init
 loop-place-init g c =
-    let old : WorkerState = g.P.Permit.shows c.args.permit.now in
+    let old : WorkerState = c.args.permit.now in
     (same old, sym (append-nil (committed old)), sym (append-nil (stashed old)), add-zero _, sym (add-zero _))
 
 pub bounds-script-index : goal.bounds-script-index
 bounds-script-index g c =
-    let old : WorkerState = g.P.Permit.shows c.args.permit.now in
-    within_script _ _ _ _ (subst (λ n. c.loop-place.place < n) c.quota_left-place-end.ensures c.loop-place-test.true) c.requires.given
+    let old : WorkerState = c.args.permit.now in
+    within_script _ _ _ _ (subst (λ n. c.loop-place.place < n) c.left-place-end.ensures c.loop-place-test.true) c.requires.given
 
 pub perform_next-requires-clause-of : goal.perform_next-requires-clause-of
 perform_next-requires-clause-of g c = c.loop-place.invariant.0.boxes ∙ c.requires.of
@@ -67,10 +67,10 @@ pub perform_next-requires-clause-opening : goal.perform_next-requires-clause-ope
 perform_next-requires-clause-opening g c = subst (HaveOpening g.N.PhaseName.initial) (sym c.loop-place.invariant.0.opening) c.requires.opening
 
 pub perform_next-requires-clause-left : goal.perform_next-requires-clause-left
-perform_next-requires-clause-left g c = some_left _ _ _ c.loop-place.invariant.3 (subst (λ n. c.loop-place.place < n) c.quota_left-place-end.ensures c.loop-place-test.true)
+perform_next-requires-clause-left g c = some_left _ _ _ c.loop-place.invariant.3 (subst (λ n. c.loop-place.place < n) c.left-place-end.ensures c.loop-place-test.true)
 
 pub perform_next-requires-clause-tries : goal.perform_next-requires-clause-tries
-perform_next-requires-clause-tries g c = try_left _ _ _ _ _ (le_of_eq c.loop-place.invariant.4) (subst (λ n. c.loop-place.place < n) c.quota_left-place-end.ensures c.loop-place-test.true) c.requires.tries
+perform_next-requires-clause-tries g c = try_left _ _ _ _ _ (le_of_eq c.loop-place.invariant.4) (subst (λ n. c.loop-place.place < n) c.left-place-end.ensures c.loop-place-test.true) c.requires.tries
 
 whole : (place left : ℕ) (calls : List (ℕ × Request)) → left ≤ place → take place (take left calls) ≡ take left calls
 whole place left calls past = take_all place (take left calls) (omega (arith, length-take left calls, past))
@@ -80,12 +80,12 @@ returns-clause-same g c = c.loop-place.invariant.0
 
 pub returns-clause-calls : goal.returns-clause-calls
 returns-clause-calls g c =
-    let old : WorkerState = g.P.Permit.shows c.args.permit.now in
+    let old : WorkerState = c.args.permit.now in
     c.loop-place.invariant.1 ∙ ap (λ calls. committed old ++ not_put_off (hot_for old) calls)
-    (whole c.loop-place.place old.left (drop c.args.first (numbered 0 c.args.script.now)) (subst (λ n. n ≤ c.loop-place.place) c.quota_left-place-end.ensures c.loop-place-test.false))
+    (whole c.loop-place.place old.left (drop c.args.first (numbered 0 c.args.script.now)) (subst (λ n. n ≤ c.loop-place.place) c.left-place-end.ensures c.loop-place-test.false))
 
 pub returns-clause-stash : goal.returns-clause-stash
 returns-clause-stash g c =
-    let old : WorkerState = g.P.Permit.shows c.args.permit.now in
+    let old : WorkerState = c.args.permit.now in
     c.loop-place.invariant.2 ∙ ap (λ calls. stashed old ++ put_off (hot_for old) calls)
-    (whole c.loop-place.place old.left (drop c.args.first (numbered 0 c.args.script.now)) (subst (λ n. n ≤ c.loop-place.place) c.quota_left-place-end.ensures c.loop-place-test.false))
+    (whole c.loop-place.place old.left (drop c.args.first (numbered 0 c.args.script.now)) (subst (λ n. n ≤ c.loop-place.place) c.left-place-end.ensures c.loop-place-test.false))

@@ -10,10 +10,10 @@ use Rattle.phase_workers.proofs.worker.perform_stash.Goals as goal
 pub loop-call-preserved : goal.loop-call-preserved
 loop-call-preserved g c =
     let was = c.loop-call.invariant in
-    let takes : Bool = g.P.Permit.takes_stash in
-    let old : WorkerState = g.P.Permit.shows c.args.permit.now in
-    let mid : WorkerState = g.P.Permit.shows c.loop-call.permit in
-    let new : WorkerState = g.P.Permit.shows c.perform_first.new.permit in
+    let takes : Bool = g.K.Kind.IS_JOINED in
+    let old : WorkerState = c.args.permit.now in
+    let mid : WorkerState = c.loop-call.permit in
+    let new : WorkerState = c.perform_first.new.permit in
     let k : ℕ = c.loop-call._call in
     let own : List (ℕ × Request) = taken takes old in
     let yes : takes ≡ true = takes_some takes old k (subst (λ n. c.loop-call._call < n) c.waiting-call-end.ensures c.loop-call-test.true) in
@@ -30,9 +30,9 @@ loop-call-preserved g c =
 pub returns-clause-done : goal.returns-clause-done
 returns-clause-done g c =
     let was = c.loop-call.invariant in
-    let old : WorkerState = g.P.Permit.shows c.args.permit.now in
-    let own : List (ℕ × Request) = taken g.P.Permit.takes_stash old in
-    let rest : List (ℕ × Request) = still_waiting g.P.Permit.takes_stash old in
+    let old : WorkerState = c.args.permit.now in
+    let own : List (ℕ × Request) = taken g.K.Kind.IS_JOINED old in
+    let rest : List (ℕ × Request) = still_waiting g.K.Kind.IS_JOINED old in
     let all = subst (λ n. n ≤ c.loop-call._call) c.waiting-call-end.ensures c.loop-call-test.false in
     record {
       same = was.0;
@@ -46,13 +46,17 @@ returns-clause-done g c =
 pub returns-in_err-perform_first-clause-stopped : goal.returns-in_err-perform_first-clause-stopped
 returns-in_err-perform_first-clause-stopped g c =
     let was = c.loop-call.invariant in
-    let takes : Bool = g.P.Permit.takes_stash in
-    let old : WorkerState = g.P.Permit.shows c.args.permit.now in
-    let new : WorkerState = g.P.Permit.shows c.perform_first.new.permit in
+    let takes : Bool = g.K.Kind.IS_JOINED in
+    let old : WorkerState = c.args.permit.now in
+    let new : WorkerState = c.perform_first.new.permit in
     err_as c.from_residual.result c.in_err-perform_first.field-0.0 (HasStopped takes g.N.PhaseName.initial (taken takes old) old new) c.from_residual.ensures.1
-    (stopped_first g.N.PhaseName.initial old (g.P.Permit.shows c.loop-call.permit) new c.in_err-perform_first.field-0.0 takes c.loop-call._call
+    (stopped_first g.N.PhaseName.initial old c.loop-call.permit new c.in_err-perform_first.field-0.0 takes c.loop-call._call
     (takes_some takes old c.loop-call._call (subst (λ n. c.loop-call._call < n) c.waiting-call-end.ensures c.loop-call-test.true))
     was.1 was.2 was.5 c.in_err-perform_first.ensures.failed)
+
+pub perform_first-requires-clause-joined : goal.perform_first-requires-clause-joined
+perform_first-requires-clause-joined g c =
+    takes_some g.K.Kind.IS_JOINED c.args.permit.now c.loop-call._call (subst (λ n. c.loop-call._call < n) c.waiting-call-end.ensures c.loop-call-test.true)
 
 pub perform_first-requires-clause-of : goal.perform_first-requires-clause-of
 perform_first-requires-clause-of g c = c.loop-call.invariant.0.boxes ∙ c.requires.of
@@ -69,5 +73,5 @@ both_parts false calls = sym (append-nil calls)
 
 pub loop-call-init : goal.loop-call-init
 loop-call-init g c =
-    let old : WorkerState = g.P.Permit.shows c.args.permit.now in
-    (same old, sym (append-nil (committed old)), both_parts g.P.Permit.takes_stash (stashed old), refl, le_of_eq (sym (add-zero _)), refl)
+    let old : WorkerState = c.args.permit.now in
+    (same old, sym (append-nil (committed old)), both_parts g.K.Kind.IS_JOINED (stashed old), refl, le_of_eq (sym (add-zero _)), refl)

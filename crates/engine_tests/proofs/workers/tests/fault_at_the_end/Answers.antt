@@ -1,4 +1,4 @@
-use Rattle.std.proofs.Common.{◌≡◌, ℕ, ◌+◌, ◌-◌, ◌≤◌, List, [], ◌∷◌, ◌++◌, length, map, refl, sym, ap, subst, ◌∙◌, arith}
+use Rattle.std.proofs.Common.{◌≡◌, ℕ, ◌+◌, ◌-◌, ◌≤◌, List, [], ◌∷◌, ◌++◌, length, refl, sym, ap, subst, ◌∙◌, arith}
 use Rattle.std.proofs.lemmas.Bool.{false≢true}
 use Rattle.std.specs.List.{AllByRecursion}
 use Rattle.auction_rows.specs.declared.requests.Request.{Request}
@@ -40,7 +40,7 @@ serve_all-requires-clause-can g c = λ lifetimes within.
     let made = c.new-permit.ensures in
     let left = ap (λ (p : WorkerState). p.left) made in
     alone g.N.PhaseName.initial c.args.boxes.now permit _ _
-    (ap (map (λ p. p)) c.push_reserved.ensures.items ∙ ap (λ l. map (λ p. p) (l ++ permit ∷ [])) c.in_ok-permits.ensures.items)
+    (c.push_reserved.ensures.items ∙ ap (λ (l : List WorkerState). l ++ permit ∷ []) c.in_ok-permits.ensures.items)
     c.requires.scripts
     (record {
       boxes_are = ap (λ (p : WorkerState). p.key.boxes) made ∙ c.requires.of;
@@ -57,7 +57,7 @@ serve_all-requires-clause-of g c = λ lifetimes within.
     let permit = c.new-permit.result in
     let made = c.new-permit.ensures in
     of_one permit _
-    (ap (map (λ p. p)) c.push_reserved.ensures.items ∙ ap (λ l. map (λ p. p) (l ++ permit ∷ [])) c.in_ok-permits.ensures.items)
+    (c.push_reserved.ensures.items ∙ ap (λ (l : List WorkerState). l ++ permit ∷ []) c.in_ok-permits.ensures.items)
     (record {
       phase_is = ap (λ (p : WorkerState). p.journal.phase) made ∙ ap (λ (j : JournalView). j.phase) c.in_ok-journal.ensures;
       worker_is = ap (λ (p : WorkerState). p.key.worker) made ∙ c.requires.worker;

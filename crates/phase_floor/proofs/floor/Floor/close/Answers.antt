@@ -1,4 +1,4 @@
-use Rattle.std.proofs.Common.{◌++◌, ◌+◌, List, map, length, sym, ap, ◌∙◌, subst, arith}
+use Rattle.std.proofs.Common.{◌++◌, ◌+◌, Bool, List, map, length, sym, ap, ◌∙◌, subst, arith}
 use Rattle.std.proofs.lemmas.List.{length-map}
 use Rattle.shard_boxes.specs.Closed.{AreSpent}
 use Rattle.shard_boxes.specs.Keys.{BoxId, KeyState}
@@ -9,72 +9,85 @@ use Rattle.worker_journals.proofs.AddedLemmas.{added_front, last_merged}
 use Rattle.closing_laws.specs.Phases.{journal_of}
 use Rattle.phase_floor.specs.Closings.{at_start}
 use Rattle.phase_floor.specs.Floors.{FloorState, IsOpen}
+use Rattle.phase_permits.specs.Workers.{IsEmptyIf}
 use Rattle.phase_floor.proofs.Closings.{nothing_added, in_order, are_spent}
+use Rattle.phase_floor.proofs.Cold.{has_settled}
 use Rattle.phase_floor.proofs.Leaving.{shards_one, slices_known, slices_can, reconciled, kept_left, leaves}
 use Rattle.phase_floor.proofs.floor.Floor.close.Goals as goal
 
 pub add_phase-requires-clause-few : goal.add_phase-requires-clause-few
 add_phase-requires-clause-few g c =
-    let e = c.in_ok-journals.ensures in let receipts = map g.T.Receipt.shows c.args.receipts.items in
-    let is_open = subst (IsOpen g.N.PhaseName.initial g.N.PhaseName.workers) c.self.view_is c.self.invariant in
+    let e = c.in_ok-journals.ensures in let receipts = c.args.receipts.items in
+    let is_open = subst (IsOpen g.N.PhaseName.initial g.N.PhaseName.workers) c.self.view_is c.self.invariant.1 in
     omega (arith, ap length e.parts.journals_are, length-map receipts journal_of, c.requires.0, is_open.workers_are, is_open.kept.few_workers, c.in_ok-journals.field-0.journals.ok.0)
 
 pub add_phase-requires-clause-by_worker : goal.add_phase-requires-clause-by_worker
 add_phase-requires-clause-by_worker g c =
     let e = c.in_ok-journals.ensures in let initial = g.N.PhaseName.initial in let workers = g.N.PhaseName.workers in
     subst AreByWorker (sym e.parts.journals_are)
-    (in_order initial workers c.args.self (subst (IsOpen initial workers) c.self.view_is c.self.invariant) (map g.T.Receipt.shows c.args.receipts.items) c.requires e.finished)
+    (in_order initial workers c.args.self (subst (IsOpen initial workers) c.self.view_is c.self.invariant.1) c.args.receipts.items c.requires e.finished)
 
 pub close-shards-requires : goal.close-shards-requires
 close-shards-requires g c =
     let e = c.in_ok-journals.ensures in let initial = g.N.PhaseName.initial in let workers = g.N.PhaseName.workers in
-    let spent = are_spent initial workers c.args.self (subst (IsOpen initial workers) c.self.view_is c.self.invariant) (map g.T.Receipt.shows c.args.receipts.items) c.requires e.finished in
+    let spent = are_spent initial workers c.args.self (subst (IsOpen initial workers) c.self.view_is c.self.invariant.1) c.args.receipts.items c.requires e.finished in
     subst (λ (boxes : List BoxId). AreSpent boxes workers c.in_ok-journals.field-0.keys.items) (sym (ap (λ (f : FloorState). f.boxes) c.self.view_is))
     (subst (λ (keys : List KeyState). AreSpent c.args.self.boxes workers keys) (sym e.parts.keys_are) spent)
 
 pub merge_all-requires-clause-shards : goal.merge_all-requires-clause-shards
 merge_all-requires-clause-shards g c =
-    let initial = g.N.PhaseName.initial in let workers = g.N.PhaseName.workers in let receipts = map g.T.Receipt.shows c.args.receipts.items in
+    let initial = g.N.PhaseName.initial in let workers = g.N.PhaseName.workers in let receipts = c.args.receipts.items in
     let e = c.in_ok-journals.ensures in let h = c.in_ok-add_phase.ensures in let parts = c.in_ok-journals.field-0 in
-    let is_open = subst (IsOpen initial workers) c.self.view_is c.self.invariant in
+    let is_open = subst (IsOpen initial workers) c.self.view_is c.self.invariant.1 in
     shards_one initial workers c.args.self is_open receipts c.requires e.finished (map state_of c.close-shards.result.items) c.args.history.now c.add_phase.new.self parts.journals.items parts.stashes.items parts.keys.items parts.counters.items parts.slices.items e.parts h.added h.lawful c.close-shards.ensures
 
 pub merge_all-requires-clause-known : goal.merge_all-requires-clause-known
 merge_all-requires-clause-known g c =
-    let initial = g.N.PhaseName.initial in let workers = g.N.PhaseName.workers in let receipts = map g.T.Receipt.shows c.args.receipts.items in
+    let initial = g.N.PhaseName.initial in let workers = g.N.PhaseName.workers in let receipts = c.args.receipts.items in
     let e = c.in_ok-journals.ensures in let h = c.in_ok-add_phase.ensures in let parts = c.in_ok-journals.field-0 in
-    let is_open = subst (IsOpen initial workers) c.self.view_is c.self.invariant in
+    let is_open = subst (IsOpen initial workers) c.self.view_is c.self.invariant.1 in
     slices_known initial workers c.args.self is_open receipts c.requires e.finished (map state_of c.close-shards.result.items) c.args.history.now c.add_phase.new.self parts.journals.items parts.stashes.items parts.keys.items parts.counters.items parts.slices.items e.parts h.added h.lawful c.close-shards.ensures
 
 pub merge_all-requires-clause-can : goal.merge_all-requires-clause-can
 merge_all-requires-clause-can g c =
-    let initial = g.N.PhaseName.initial in let workers = g.N.PhaseName.workers in let receipts = map g.T.Receipt.shows c.args.receipts.items in
+    let initial = g.N.PhaseName.initial in let workers = g.N.PhaseName.workers in let receipts = c.args.receipts.items in
     let e = c.in_ok-journals.ensures in let h = c.in_ok-add_phase.ensures in let parts = c.in_ok-journals.field-0 in
-    let is_open = subst (IsOpen initial workers) c.self.view_is c.self.invariant in
+    let is_open = subst (IsOpen initial workers) c.self.view_is c.self.invariant.1 in
     slices_can initial workers c.args.self is_open receipts c.requires e.finished (map state_of c.close-shards.result.items) c.args.history.now c.add_phase.new.self parts.journals.items parts.stashes.items parts.keys.items parts.counters.items parts.slices.items e.parts h.added h.lawful c.close-shards.ensures
 
 pub invariant_of-state : goal.invariant_of-state
 invariant_of-state g c =
-    let initial = g.N.PhaseName.initial in let workers = g.N.PhaseName.workers in let receipts = map g.T.Receipt.shows c.args.receipts.items in
+    let initial = g.N.PhaseName.initial in let workers = g.N.PhaseName.workers in let receipts = c.args.receipts.items in
     let e = c.in_ok-journals.ensures in let h = c.in_ok-add_phase.ensures in let parts = c.in_ok-journals.field-0 in
-    let is_open = subst (IsOpen initial workers) c.self.view_is c.self.invariant in
+    let is_open = subst (IsOpen initial workers) c.self.view_is c.self.invariant.1 in
     kept_left initial workers c.args.self is_open receipts c.requires e.finished (added c.args.history.now.entries c.add_phase.new.self.entries)
     c.reset_clocks.new.shards.items (reconciled initial workers c.args.self is_open receipts c.requires e.finished (map state_of c.close-shards.result.items) c.args.history.now c.add_phase.new.self parts.journals.items parts.stashes.items parts.keys.items parts.counters.items parts.slices.items e.parts h.added h.lawful c.close-shards.ensures (map state_of c.reset_clocks.new.shards.items) (c.reset_clocks.ensures ∙ ap (map at_start) c.merge_all.ensures))
     c.self.inside.opening parts.counters.items (ap (λ (f : FloorState). f.opening) c.self.view_is) e.parts.counters_are
 
 pub returns-clause-closed : goal.returns-clause-closed
 returns-clause-closed g c =
-    let initial = g.N.PhaseName.initial in let workers = g.N.PhaseName.workers in let receipts = map g.T.Receipt.shows c.args.receipts.items in
+    let initial = g.N.PhaseName.initial in let workers = g.N.PhaseName.workers in let receipts = c.args.receipts.items in
     let e = c.in_ok-journals.ensures in let h = c.in_ok-add_phase.ensures in let parts = c.in_ok-journals.field-0 in
-    let is_open = subst (IsOpen initial workers) c.self.view_is c.self.invariant in
+    let is_open = subst (IsOpen initial workers) c.self.view_is c.self.invariant.1 in
     reconciled initial workers c.args.self is_open receipts c.requires e.finished (map state_of c.close-shards.result.items) c.args.history.now c.add_phase.new.self parts.journals.items parts.stashes.items parts.keys.items parts.counters.items parts.slices.items e.parts h.added h.lawful c.close-shards.ensures
     (map state_of c.reset_clocks.new.shards.items) (c.reset_clocks.ensures ∙ ap (map at_start) c.merge_all.ensures)
 
+pub returns-clause-joined : goal.returns-clause-joined
+returns-clause-joined g c joined =
+    let initial = g.N.PhaseName.initial in let workers = g.N.PhaseName.workers in let receipts = c.args.receipts.items in
+    let e = c.in_ok-journals.ensures in let h = c.in_ok-add_phase.ensures in let parts = c.in_ok-journals.field-0 in
+    let is_open = subst (IsOpen initial workers) c.self.view_is c.self.invariant.1 in
+    let cold = ap (λ (f : FloorState). f.stocks) (sym c.self.view_is) ∙ subst (λ (b : Bool). IsEmptyIf b c.self.inside.stocks.items) joined c.self.invariant.0 in
+    let states = map state_of c.reset_clocks.new.shards.items in
+    has_settled initial c.args.self receipts states (added c.args.history.now.entries c.add_phase.new.self.entries) cold c.requires
+    (reconciled initial workers c.args.self is_open receipts c.requires e.finished (map state_of c.close-shards.result.items) c.args.history.now c.add_phase.new.self parts.journals.items parts.stashes.items parts.keys.items parts.counters.items parts.slices.items e.parts h.added h.lawful c.close-shards.ensures
+    states (c.reset_clocks.ensures ∙ ap (map at_start) c.merge_all.ensures))
+
 pub returns-clause-leaves : goal.returns-clause-leaves
 returns-clause-leaves g c =
-    let initial = g.N.PhaseName.initial in let workers = g.N.PhaseName.workers in let receipts = map g.T.Receipt.shows c.args.receipts.items in
+    let initial = g.N.PhaseName.initial in let workers = g.N.PhaseName.workers in let receipts = c.args.receipts.items in
     let e = c.in_ok-journals.ensures in let h = c.in_ok-add_phase.ensures in let parts = c.in_ok-journals.field-0 in
-    let is_open = subst (IsOpen initial workers) c.self.view_is c.self.invariant in
+    let is_open = subst (IsOpen initial workers) c.self.view_is c.self.invariant.1 in
     leaves initial workers c.args.self is_open receipts c.requires e.finished (added c.args.history.now.entries c.add_phase.new.self.entries)
     c.reset_clocks.new.shards.items (reconciled initial workers c.args.self is_open receipts c.requires e.finished (map state_of c.close-shards.result.items) c.args.history.now c.add_phase.new.self parts.journals.items parts.stashes.items parts.keys.items parts.counters.items parts.slices.items e.parts h.added h.lawful c.close-shards.ensures (map state_of c.reset_clocks.new.shards.items) (c.reset_clocks.ensures ∙ ap (map at_start) c.merge_all.ensures))
     c.self.inside.opening parts.counters.items (ap (λ (f : FloorState). f.opening) c.self.view_is) e.parts.counters_are

@@ -1,22 +1,29 @@
 use Rattle.std.proofs.Common.{◌≡◌, ◌+◌, ◌<◌, get_or, length, refl, sym, ap, ◌∙◌, subst, arith}
 use Rattle.std.proofs.lemmas.List.{get_or_read}
 use Rattle.std.specs.Vec.Iter.{into_iter_items}
-use Rattle.shard_boxes.proofs.Each.{each_push, drop_next}
-use Rattle.phase_permits.specs.Workers.{no_counters}
+use Rattle.shard_boxes.proofs.Each.{at_head, each_push, drop_next}
+use Rattle.phase_permits.specs.Workers.{IsEmptyIf, no_counters}
 use Rattle.closing_laws.specs.Standing.{counters_at}
-use Rattle.phase_floor.specs.Begins.{start_of}
 use Rattle.phase_floor.specs.Floors.{FloorState, IsOpen, IsNewPermit, stash_at}
-use Rattle.phase_floor.proofs.Begins.{begun_next, can_start}
+use Rattle.phase_floor.proofs.Begins.{begun_next, can_start, kit_cold}
 use Rattle.phase_floor.proofs.floor.Floor.give.Goals as goal
 
-pub invariant_of-push_reserved : goal.invariant_of-push_reserved
-invariant_of-push_reserved g c =
+pub from_start-requires-clause-kind : goal.from_start-requires-clause-kind
+from_start-requires-clause-kind g c =
+    let was = c.loop-key.invariant in let step = c.in-Some.ensures.steps in let w = c.loop-key.w in let floor = c.args.self.now in
+    let kits = c.args.kits.items in let kit = c.in-Some-next.field-0 in let left = into_iter_items c.next-in-loop-key.new.self in
+    let below : w < g.N.PhaseName.workers = omega (arith, step.1, was.keys_left) in
+    let cold = subst (λ (f : FloorState). IsEmptyIf g.K.Kind.IS_JOINED f.stocks) c.self.view_is c.self.invariant.0 in
+    kit_cold g.K.Kind.IS_JOINED floor w _ (get_or kits w kit) kit (at_head kits w kit left kit (sym c.in-Some-next.ensures.cases.0 ∙ was.kits)) (c.requires.kits w kit below) cold
+
+pub from_start-requires-clause-can : goal.from_start-requires-clause-can
+from_start-requires-clause-can g c =
     let was = c.loop-key.invariant in let step = c.in-Some.ensures.steps in let w = c.loop-key.w in let floor = c.args.self.now in let workers = g.N.PhaseName.workers in
     let below : w < workers = omega (arith, step.1, was.keys_left) in
     let counts : c.index-counters.result.now ≡ counters_at floor.counters w =
-    get_or_read c.self.inside.counters.items _ _ (omega (arith, below, c.self.invariant.workers_are)) c.index-counters.ensures no_counters
+    get_or_read c.self.inside.counters.items _ _ (omega (arith, below, c.self.invariant.1.workers_are)) c.index-counters.ensures no_counters
     ∙ ap (λ (f : FloorState). counters_at f.counters w) c.self.view_is in
-    can_start g.N.PhaseName.initial workers floor (subst (IsOpen g.N.PhaseName.initial workers) c.self.view_is c.self.invariant) w _ (stash_at c.args.stashes.items w) _ below (c.requires.fits w below) (c.requires.rooms w (omega (arith, below, c.requires.lens)))
+    can_start g.N.PhaseName.initial workers floor (subst (IsOpen g.N.PhaseName.initial workers) c.self.view_is c.self.invariant.1) w _ (stash_at c.args.stashes.items w) _ below (c.requires.fits w below) (c.requires.rooms w (omega (arith, below, c.requires.lens)))
     (begun_next floor workers w c.args.quotas.now c.args.keys.items (into_iter_items c.next.new.self) c.args.kits.items (into_iter_items c.next-in-loop-key.new.self)
     c.args.stashes.items (into_iter_items c.next-in-loop-key-2.new.self) c.requires.keys c.requires.kits below c.in-Some.key c.in-Some-next.field-0 c.in-Some-next-2.stash
     (sym step.0 ∙ was.keys) (sym c.in-Some-next.ensures.cases.0 ∙ was.kits) (sym c.in-Some-next-2.ensures.cases.0 ∙ was.stashes)
@@ -30,7 +37,7 @@ loop-key-preserved g c =
     let next_key = sym step.0 ∙ was.keys in let next_kit = sym next.0 ∙ was.kits in let next_stash = sym after.0 ∙ was.stashes in
     let below : w < workers = omega (arith, step.1, was.keys_left) in
     let counts : counters ≡ counters_at floor.counters w =
-    get_or_read c.self.inside.counters.items _ _ (omega (arith, below, c.self.invariant.workers_are)) c.index-counters.ensures no_counters
+    get_or_read c.self.inside.counters.items _ _ (omega (arith, below, c.self.invariant.1.workers_are)) c.index-counters.ensures no_counters
     ∙ ap (λ (f : FloorState). counters_at f.counters w) c.self.view_is in
     let begun = begun_next floor workers w c.args.quotas.now c.args.keys.items (into_iter_items c.next.new.self) c.args.kits.items (into_iter_items c.next-in-loop-key.new.self)
     c.args.stashes.items (into_iter_items c.next-in-loop-key-2.new.self) c.requires.keys c.requires.kits below key kit stash next_key next_kit next_stash
@@ -43,16 +50,16 @@ loop-key-preserved g c =
       keys = drop_next c.args.keys.items w (w + 1) key (into_iter_items c.next.new.self) next_key refl;
       kits = drop_next c.args.kits.items w (w + 1) kit (into_iter_items c.next-in-loop-key.new.self) next_kit refl;
       stashes = drop_next c.args.stashes.items w (w + 1) stash (into_iter_items c.next-in-loop-key-2.new.self) next_stash refl;
-      each = λ v d low. each_push (λ k start. IsNewPermit floor k (get_or c.args.quotas.now k 0) (stash_at c.args.stashes.items k) start) c.loop-key.starts.items c.push_reserved.new.self.items
-          (start_of key c.self.inside.opening counters kit.journal stash kit.slices (get_or c.args.quotas.now w 0)) d w
-          (omega (arith, was.len, c.loop-key.starts.ok.0)) p.items (λ k lower. was.each k d lower) begun v low;
+      each = λ v d low. each_push (λ k start. IsNewPermit floor k (get_or c.args.quotas.now k 0) (stash_at c.args.stashes.items k) start) c.loop-key.permits.items c.push_reserved.new.self.items
+          c.from_start.result d w
+          (omega (arith, was.len, c.loop-key.permits.ok.0)) p.items (λ k lower. was.each k d lower) (subst (IsNewPermit floor w (get_or c.args.quotas.now w 0) (stash_at c.args.stashes.items w)) (sym c.from_start.ensures) begun) v low;
     }
 
 pub returns : goal.returns
 returns g c =
     let was = c.loop-key.invariant in
     let all : c.loop-key.w ≡ g.N.PhaseName.workers = omega (arith, was.keys_left, c.in-None.ensures.steps) in
-    let many = ap (λ (f : FloorState). length f.counters) (sym c.self.view_is) ∙ c.self.invariant.workers_are in (
-      omega (arith, all, many, was.len, c.loop-key.starts.ok.0),
+    let many = ap (λ (f : FloorState). length f.counters) (sym c.self.view_is) ∙ c.self.invariant.1.workers_are in (
+      omega (arith, all, many, was.len, c.loop-key.permits.ok.0),
       λ w d low. was.each w d (omega (arith, all, many, low)),
     )

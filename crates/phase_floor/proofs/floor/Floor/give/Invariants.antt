@@ -6,13 +6,13 @@ use Rattle.phase_floor.proofs.floor.Floor.give.Given as goal
 
 abbrev pub invariant-loop-key : goal.invariant-loop-key
 invariant-loop-key g l = let workers = g.N.PhaseName.workers in record {
-  len : vec_len l.starts ≡ l.w;
-  room : workers ≤ vec_capacity l.starts;
+  len : vec_len l.permits ≡ l.w;
+  room : workers ≤ vec_capacity l.permits;
   keys_left : l.w + into_iter_len l.key-iterator ≡ workers;
   kits_left : l.w + into_iter_len l.kits ≡ workers;
   stashes_left : l.w + into_iter_len l.stashes ≡ workers;
   keys : into_iter_items l.key-iterator ≡ drop l.w l.fn.keys.items;
   kits : into_iter_items l.kits ≡ drop l.w l.fn.kits.items;
   stashes : into_iter_items l.stashes ≡ drop l.w l.fn.stashes.items;
-  each : (w : ℕ) (d : WorkerState) → w < l.w → IsNewPermit l.self w (get_or l.quotas w 0) (stash_at l.fn.stashes.items w) (get_or l.starts.items w d);
+  each : (w : ℕ) (d : WorkerState) → w < l.w → IsNewPermit l.self w (get_or l.quotas w 0) (stash_at l.fn.stashes.items w) (get_or l.permits.items w d);
 }

@@ -21,17 +21,20 @@ new_kits-requires-clause-stocked g c = c.requires.given.stocks.stocked
 pub invariant_of-floor : goal.invariant_of-floor
 invariant_of-floor g c =
     let is = c.self.view_is in
-    let states : map state_of c.self.inside.shards.items ≡ g.N.PhaseName.initial = ap states_of is ∙ c.requires.can.shards in record {
-      kept = subst (λ s. IsKept c.self.inside.opening s c.self.inside.counters.items) states c.self.invariant;
-      boxes_are = c.in-Ok-new.ensures.boxes;
-      workers_are = ap (λ (s : JoinedState). length s.counters) is ∙ c.requires.can.workers;
-      stocks_are = subst (λ o. AreStocksOf o g.N.PhaseName.initial c.args.stocks.items) (sym (ap (λ (s : JoinedState). s.opening) is))
-          (subst (λ states. AreStocksOf c.args.self.opening states c.args.stocks.items) c.requires.can.shards c.requires.given.stocks);
-      not_last = subst (λ n. n + 1 < 2 ^ 64) (sym (ap (λ (s : JoinedState). s.phase) is)) c.requires.can.phase;
-    }
+    let states : map state_of c.self.inside.shards.items ≡ g.N.PhaseName.initial = ap states_of is ∙ c.requires.can.shards in (
+      c.requires.cold,
+      record {
+        kept = subst (λ s. IsKept c.self.inside.opening s c.self.inside.counters.items) states c.self.invariant;
+        boxes_are = c.in-Ok-new.ensures.boxes;
+        workers_are = ap (λ (s : JoinedState). length s.counters) is ∙ c.requires.can.workers;
+        stocks_are = subst (λ o. AreStocksOf o g.N.PhaseName.initial c.args.stocks.items) (sym (ap (λ (s : JoinedState). s.opening) is))
+            (subst (λ states. AreStocksOf c.args.self.opening states c.args.stocks.items) c.requires.can.shards c.requires.given.stocks);
+        not_last = subst (λ n. n + 1 < 2 ^ 64) (sym (ap (λ (s : JoinedState). s.phase) is)) c.requires.can.phase;
+      },
+    )
 
-pub give-starts-requires-clause-fits : goal.give-starts-requires-clause-fits
-give-starts-requires-clause-fits g c = λ w below.
+pub give-permits-requires-clause-fits : goal.give-permits-requires-clause-fits
+give-permits-requires-clause-fits g c = λ w below.
     subst (λ cs. asked_in_all cs c.args.stashes.items c.args.quotas.now w ≤ 1000000) (sym (ap (λ (s : JoinedState). s.counters) c.self.view_is))
     (within c.args.self.counters c.args.stashes.items c.args.quotas.now c.requires.given.fits w (subst (λ n. w < n) (sym c.requires.can.workers) below))
 
@@ -56,14 +59,14 @@ pub new-requires-clause-some : goal.new-requires-clause-some
 new-requires-clause-some g c =
     subst (λ n. (0 < n) × (n ≤ 16)) (ap (λ (s : JoinedState). length s.counters) c.self.view_is ∙ c.requires.can.workers) (c.self.invariant.some_workers, c.self.invariant.few_workers)
 
-pub give-starts-requires-clause-keys : goal.give-starts-requires-clause-keys
-give-starts-requires-clause-keys g c = c.in-Ok-new.ensures.keys
+pub give-permits-requires-clause-keys : goal.give-permits-requires-clause-keys
+give-permits-requires-clause-keys g c = c.in-Ok-new.ensures.keys
 
-pub give-starts-requires-clause-lens : goal.give-starts-requires-clause-lens
-give-starts-requires-clause-lens g c = (c.in-Ok.ensures.len ∙ c.requires.can.quotas, c.requires.stashes, c.requires.can.quotas)
+pub give-permits-requires-clause-lens : goal.give-permits-requires-clause-lens
+give-permits-requires-clause-lens g c = (c.in-Ok.ensures.len ∙ c.requires.can.quotas, c.requires.stashes, c.requires.can.quotas)
 
-pub give-starts-requires-clause-kits : goal.give-starts-requires-clause-kits
-give-starts-requires-clause-kits g c =
+pub give-permits-requires-clause-kits : goal.give-permits-requires-clause-kits
+give-permits-requires-clause-kits g c =
     subst (λ n. AreKits c.self.inside.phase c.args.stocks.items c.args.stashes.items c.args.quotas.now n c.in-Ok.kits.items) c.requires.can.quotas
     (subst (λ (stashes : List StashState). AreKits c.self.inside.phase c.args.stocks.items stashes c.args.quotas.now (length c.args.quotas.now) c.in-Ok.kits.items) c.deref.ensures.value c.in-Ok.ensures.each)
 
@@ -80,8 +83,8 @@ returns-in-Ok-new-clause-begun g c = record {
   opening = ap (λ (s : JoinedState). s.opening) c.self.view_is;
   phase = ap (λ (s : JoinedState). s.phase) c.self.view_is;
   counters = ap (λ (s : JoinedState). s.counters) c.self.view_is;
-  permits = c.give-starts.ensures;
+  permits = c.give-permits.ensures;
 }
 
-pub give-starts-requires-clause-rooms : goal.give-starts-requires-clause-rooms
-give-starts-requires-clause-rooms g c = c.requires.given.rooms
+pub give-permits-requires-clause-rooms : goal.give-permits-requires-clause-rooms
+give-permits-requires-clause-rooms g c = c.requires.given.rooms

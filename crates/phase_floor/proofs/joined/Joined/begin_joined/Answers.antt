@@ -1,10 +1,9 @@
-use Rattle.std.proofs.Common.{[], List, refl, sym, ap, ◌∙◌, subst}
+use Rattle.std.proofs.Common.{[], refl, sym, ap, ◌∙◌, subst}
 use Rattle.std.specs.List.{IsDistinct}
 use Rattle.auction_rows.specs.Requests.{same_object}
-use Rattle.phase_permits.specs.Workers.{WorkerState}
-use Rattle.phase_floor.specs.Floors.{AreBegun, AreStocksOf}
+use Rattle.phase_floor.specs.Floors.{AreStocksOf}
 use Rattle.phase_floor.specs.States.{JoinedState, states_of}
-use Rattle.phase_floor.proofs.Begins.{fits, joined_memory, joined_too_long, no_slices, no_stashes, too_long}
+use Rattle.phase_floor.proofs.Begins.{fits, joined_memory, joined_too_long, no_stashes, too_long}
 use Rattle.phase_floor.proofs.joined.Joined.begin_joined.Goals as goal
 
 no_two : IsDistinct same_object []
@@ -19,20 +18,13 @@ begin-requires-clause-given g c = record {
   rooms = no_stashes c.new.result.items c.args.stashes.items c.args.quotas.now c.new.ensures.items;
 }
 
-pub joined_permits-permits-requires-clause-cold : goal.joined_permits-permits-requires-clause-cold
-joined_permits-permits-requires-clause-cold g c =
-    let e = c.in-Ok-begin.ensures in
-    no_slices c.in-Ok-begin.floor c.args.quotas.now c.args.stashes.items c.in-Ok-begin.starts.items (e.stocks ∙ c.new.ensures.items) e.begun.permits
+pub begin-requires-clause-cold : goal.begin-requires-clause-cold
+begin-requires-clause-cold g c = c.new.ensures.items
 
-pub returns-in-Ok-begin-clause-begun : goal.returns-in-Ok-begin-clause-begun
-returns-in-Ok-begin-clause-begun g c =
-    let e = c.in-Ok-begin.ensures in record {
-      opens = record {
-        opening = e.begun.opening;
-        phase = e.begun.phase;
-        counters = e.begun.counters;
-        permits = subst (λ (permits : List WorkerState). AreBegun c.in-Ok-begin.floor c.args.quotas.now c.args.stashes.items permits) (sym c.joined_permits-permits.ensures) e.begun.permits;
-      };
+pub returns-in-Ok-clause-begun : goal.returns-in-Ok-clause-begun
+returns-in-Ok-clause-begun g c =
+    let e = c.in-Ok.ensures in record {
+      opens = e.begun;
       cold = e.stocks ∙ c.new.ensures.items;
       fits = fits c.is_too_long.result c.args.self.counters c.deref.result.now c.args.stashes.items c.deref-2.result.now c.args.quotas.now
           (c.deref.ensures.value ∙ ap (λ (s : JoinedState). s.counters) c.self.view_is) c.deref-2.ensures.value c.is_too_long.ensures.1 c.if-is_too_long.false;
@@ -43,12 +35,6 @@ returns-then-is_too_long-clause-refused g c =
     joined_too_long c.args.self c.args.stashes c.args.quotas.now c.args.self c.args.stashes refl refl
     (too_long c.is_too_long.result c.args.self.counters c.deref.result.now c.args.stashes.items c.deref-2.result.now c.args.quotas.now
     (c.deref.ensures.value ∙ ap (λ (s : JoinedState). s.counters) c.self.view_is) c.deref-2.ensures.value c.is_too_long.ensures.0 c.if-is_too_long.true)
-
-pub returns-in_default-clause-refused : goal.returns-in_default-clause-refused
-returns-in_default-clause-refused g c =
-    joined_memory c.args.self c.args.stashes c.args.quotas.now c.args.self c.args.stashes refl refl
-    (fits c.is_too_long.result c.args.self.counters c.deref.result.now c.args.stashes.items c.deref-2.result.now c.args.quotas.now
-    (c.deref.ensures.value ∙ ap (λ (s : JoinedState). s.counters) c.self.view_is) c.deref-2.ensures.value c.is_too_long.ensures.1 c.if-is_too_long.false)
 
 pub returns-in-Err-clause-refused : goal.returns-in-Err-clause-refused
 returns-in-Err-clause-refused g c =

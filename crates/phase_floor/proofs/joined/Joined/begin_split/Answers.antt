@@ -1,12 +1,11 @@
-use Rattle.std.proofs.Common.{[], List, map, refl, sym, ap, ◌∙◌, subst}
+use Rattle.std.proofs.Common.{[], List, refl, sym, ap, ◌∙◌, subst}
 use Rattle.std.proofs.lemmas.Bool.{false≢true}
 use Rattle.std.specs.List.{IsDistinct}
 use Rattle.auction_rows.specs.Requests.{same_object}
 use Rattle.phase_permits.specs.Slicing.{hot_objects}
 use Rattle.phase_permits.specs.Stashes.{StashState}
 use Rattle.phase_permits.proofs.Places.{distinct_objects}
-use Rattle.phase_permits.specs.Workers.{WorkerState}
-use Rattle.phase_floor.specs.Begins.{HaveStashRoom, IsTooLong, empty_stash}
+use Rattle.phase_floor.specs.Begins.{HaveStashRoom, IsTooLong}
 use Rattle.phase_floor.specs.Floors.{AreBegun}
 use Rattle.phase_floor.specs.States.{JoinedState, DoAllExist, states_of}
 use Rattle.phase_floor.proofs.Begins.{fits, not_too_long, own_stashes, split_memory, split_too_long, split_unknown, too_long}
@@ -33,8 +32,7 @@ returns-in-Ok-begin-clause-begun g c =
         opening = e.begun.opening;
         phase = e.begun.phase;
         counters = e.begun.counters;
-        permits = subst (λ (permits : List WorkerState). AreBegun c.in-Ok-begin.floor c.args.quotas.now (map empty_stash c.args.quotas.now) permits) (sym c.split_permits-permits.ensures)
-            (subst (λ (stashes : List StashState). AreBegun c.in-Ok-begin.floor c.args.quotas.now stashes c.in-Ok-begin.starts.items) c.in-Ok-new_stashes.ensures e.begun.permits);
+        permits = subst (λ (stashes : List StashState). AreBegun c.in-Ok-begin.begun.0 c.args.quotas.now stashes c.in-Ok-begin.begun.1.items) c.in-Ok-new_stashes.ensures e.begun.permits;
       };
       hot = ap hot_objects e.stocks ∙ c.in-Ok.ensures.objects ∙ c.as_slice-objects.ensures.keys;
       known = subst (DoAllExist c.args.self.opening (states_of c.args.self)) c.as_slice-objects.ensures.keys (c.do_exist.ensures.0 c.if-not-do_exist.false);
@@ -60,12 +58,6 @@ returns-in_default-clause-refused g c =
 
 pub returns-in_default-new_stashes-clause-refused : goal.returns-in_default-new_stashes-clause-refused
 returns-in_default-new_stashes-clause-refused g c =
-    split_memory c.args.self c.args.quotas.now c.args.hot.now.keys c.args.self refl
-    (subst (DoAllExist c.args.self.opening (states_of c.args.self)) c.as_slice-objects.ensures.keys (c.do_exist.ensures.0 c.if-not-do_exist.false))
-    (fits c.is_too_long.result c.args.self.counters c.deref.result.now [] [] c.args.quotas.now (c.deref.ensures.value ∙ ap (λ (s : JoinedState). s.counters) c.self.view_is) refl c.is_too_long.ensures.1 c.if-is_too_long.false)
-
-pub returns-in_default-with_capacity-clause-refused : goal.returns-in_default-with_capacity-clause-refused
-returns-in_default-with_capacity-clause-refused g c =
     split_memory c.args.self c.args.quotas.now c.args.hot.now.keys c.args.self refl
     (subst (DoAllExist c.args.self.opening (states_of c.args.self)) c.as_slice-objects.ensures.keys (c.do_exist.ensures.0 c.if-not-do_exist.false))
     (fits c.is_too_long.result c.args.self.counters c.deref.result.now [] [] c.args.quotas.now (c.deref.ensures.value ∙ ap (λ (s : JoinedState). s.counters) c.self.view_is) refl c.is_too_long.ensures.1 c.if-is_too_long.false)

@@ -3,28 +3,15 @@ use Rattle.auction_rows.specs.Replies.{row_of}
 use Rattle.auction_rows.specs.StoreReplies.{reply_of}
 use Rattle.item_shards.specs.Writing.{writes_if}
 use Rattle.phase_permits.specs.Slicing.{hot_objects, HaveAtMost}
-use Rattle.phase_permits.specs.Workers.{WorkerState, begun_of}
+use Rattle.phase_permits.specs.Workers.{WorkerState}
 use Rattle.phase_permits.proofs.LawfulLemmas.{lawful_sliced, objects-acts, counts_one}
 use Rattle.phase_permits.proofs.worker.Worker.add_store.Goals as goal
 
 pub invariant_of-self : goal.invariant_of-self
 invariant_of-self g c =
     let inside = c.self.inside in
-    let w : WorkerState = record {
-      key = inside.key;
-      opening = inside.opening;
-      begun = begun_of inside.begun.items;
-      counters = inside.counters;
-      journal = inside.journal;
-      stash = inside.stash;
-      slices = inside.slices;
-      left = inside.left;
-      tries = inside.tries;
-      clock = inside.clock;
-      txns = inside.txns.items;
-    } in
     let old = c.args.self.now in
     let commits = ap (λ (s : WorkerState). s.counters.commits) (c.self.view_is ∙ c.add_entry.ensures.entry) ∙ (counts_one old.counters (reply_of c.args.store.now.reply)).commits in
     let few = c.store.ensures.few old.counters.commits (subst (λ (s : WorkerState). HaveAtMost old.counters.commits s.slices) (sym c.self.view_is) c.add_entry.ensures.few) in
-    lawful_sliced w c.store.new.self c.self.invariant (ap hot_objects (c.store.ensures.written old.journal.worker c.requires.own) ∙ objects-acts inside.slices (writes_if (row_of old.journal.worker c.args.store.now.call.request.now (reply_of c.args.store.now.reply))))
+    lawful_sliced _ c.store.new.self c.self.invariant (ap hot_objects (c.store.ensures.written old.journal.worker c.requires.own) ∙ objects-acts inside.slices (writes_if (row_of old.journal.worker c.args.store.now.call.request.now (reply_of c.args.store.now.reply))))
     (subst (λ n. HaveAtMost n c.store.new.self) (sym commits) few)

@@ -7,7 +7,8 @@ use Rattle.phase_permits.specs.declared.transaction.PermitFault.TheVariants.{Mem
 use Rattle.phase_permits.specs.Begun.{step_of}
 use Rattle.phase_permits.specs.Performing.{HasCommitted, HasFailed, asks}
 use Rattle.phase_permits.specs.Takens.{footprint_of, is_one_of, AreBack}
-use Rattle.phase_permits.specs.Workers.{WorkerState, IsLawfulWorker, begun_of}
+use Rattle.phase_permits.specs.WorkerFields.{state_in}
+use Rattle.phase_permits.specs.Workers.{WorkerState, IsLawfulWorker}
 use Rattle.phase_permits.proofs.AnswerLemmas.{item_home}
 use Rattle.phase_permits.proofs.BegunLemmas.{begun_fails, item_first}
 use Rattle.phase_permits.proofs.EmptyLemmas.{stored_performed, refused_untaken, hot_untaken}
@@ -27,18 +28,17 @@ returns-in-Some g c =
     stored_performed initial old c.refuse.new.self request c.args.index c.requires.idle c.refuse.result c.refuse.ensures
     (λ answer stored. refused_untaken old (length initial) c.args.index request c.in-Some.reason answer refused) c.requires.goes
 
-pub returns-then-are_in_no_shard : goal.returns-then-are_in_no_shard
-returns-then-are_in_no_shard g c =
+pub returns-in-None-None : goal.returns-in-None-None
+returns-in-None-None g c =
     let initial = g.N.PhaseName.initial in
     let old = c.args.self.now in
     let request = c.args.request.now in
     let homes = c.homes-homes.result in
     let allowed : number_refusal old.opening request ≡ None = sym (ap (λ (w : WorkerState). number_refusal w.opening request) c.self.view_is) ∙ sym c.number_refusal.ensures ∙ c.in_default.is in
-    let none = c.are_in_no_shard.ensures in
     stored_performed initial old c.store_hot.new.self request c.args.index c.requires.idle c.store_hot.result c.store_hot.ensures
     (λ answer stored. hot_untaken old c.store_hot.new.self (length initial) c.args.index request homes answer allowed stored
     (subst (λ n. (t : ℕ) → asks n old request t ≡ is_one_of (footprint_of homes) t) c.shards.ensures.count c.homes-homes.ensures.footprint)
-    (none.item c.if-are_in_no_shard.true) (none.other c.if-are_in_no_shard.true)) c.requires.goes
+    (sym c.shard.ensures ∙ c.in-None-None.is-0) (sym c.shard-2.ensures ∙ c.in-None-None.is-1)) c.requires.goes
 
 pub prepare-requires : goal.prepare-requires
 prepare-requires g c = record {
@@ -52,21 +52,8 @@ returns-then-is_err g c =
     let old = c.args.self.now in
     let w = c.begin.new.self in
     let request = c.args.request.now in
-    let inside = c.self-2.inside in
-    let back : WorkerState = record {
-      key = c.put_back.new.key;
-      opening = inside.opening;
-      begun = begun_of inside.begun.items;
-      counters = inside.counters;
-      journal = inside.journal;
-      stash = inside.stash;
-      slices = inside.slices;
-      left = inside.left;
-      tries = inside.tries;
-      clock = inside.clock;
-      txns = inside.txns.items;
-    } in
     let begun = begun_before c.in_ok-begun.begun c.prepare.new.begun c.prepare.ensures.same c.prepare.ensures.number c.in_ok-begun.ensures.begun in
+    let back : WorkerState = record (state_in c.self-2.inside) { key = c.put_back.new.key } in
     subst (λ (s : WorkerState). HasFailed initial s back request Memory) (λ i. record (c.begin.ensures.worker i) { key = old.key })
     (begun_fails (step_of initial g.N.PhaseName.workers c.args.boxes.now old.key c.homes-homes.result) w request c.prepare.new.begun begun back
     (subst (λ (s : WorkerState). AreBack s.key c.put_back.new.key) c.self-2.view_is c.put_back.ensures)

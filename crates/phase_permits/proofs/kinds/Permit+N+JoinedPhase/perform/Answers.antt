@@ -1,0 +1,19 @@
+use Rattle.std.proofs.Common.{refl, subst}
+use Rattle.phase_permits.specs.Performing.{HasCommittedSome, HasDealt}
+use Rattle.phase_permits.specs.Workers.{with_try}
+use Rattle.phase_permits.proofs.LastLemmas.{some_entry, as_read}
+use Rattle.phase_permits.proofs.kinds.Permit+N+JoinedPhase.perform.Goals as goal
+
+pub last_reply-requires : goal.last_reply-requires
+last_reply-requires g c =
+    let is = c.in_ok-commit.ensures in
+    let done : HasCommittedSome g.N.PhaseName.initial (with_try c.args.self.now) c.commit.new.self c.args.request.now c.args.index =
+    subst (HasDealt g.N.PhaseName.initial (with_try c.args.self.now) c.commit.new.self c.args.request.now c.args.index) (is.joined refl) is.dealt in
+    some_entry g.N.PhaseName.initial (with_try c.args.self.now) c.commit.new.self c.args.request.now c.args.index done.0 done.1
+
+pub returns-clause-committed : goal.returns-clause-committed
+returns-clause-committed g c =
+    let is = c.in_ok-commit.ensures in
+    let done : HasCommittedSome g.N.PhaseName.initial (with_try c.args.self.now) c.commit.new.self c.args.request.now c.args.index =
+    subst (HasDealt g.N.PhaseName.initial (with_try c.args.self.now) c.commit.new.self c.args.request.now c.args.index) (is.joined refl) is.dealt in
+    as_read g.N.PhaseName.initial (with_try c.args.self.now) c.commit.new.self c.args.request.now c.args.index done.0 done.1 c.last_reply.result c.last_reply.ensures

@@ -1,8 +1,0 @@
-use Rattle.phase_permits.proofs.RightLemmas.{commit_leaves, failure_leaves}
-use Rattle.phase_permits.proofs.laws.empty_footprints_leave_keys.Goals as goal
-
-pub returns-clause-commits : goal.returns-clause-commits
-returns-clause-commits c = commit_leaves
-
-pub returns-clause-failures : goal.returns-clause-failures
-returns-clause-failures c = failure_leaves

@@ -1,8 +1,0 @@
-use Rattle.phase_permits.proofs.RightLemmas.{txn_right, commit_right}
-use Rattle.phase_permits.proofs.laws.replies_are_right.Goals as goal
-
-pub returns-clause-txns : goal.returns-clause-txns
-returns-clause-txns c = txn_right
-
-pub returns-clause-commits : goal.returns-clause-commits
-returns-clause-commits c = commit_right
