@@ -38,21 +38,32 @@ commits_text options book history =
     else if options.history then history_text history
     else replies_text history
 
--- what is added to that: the report, where the options ask for it
+-- what is added to that: the report, if the options ask for it
 abbrev pub added_text : Options → Book → List Entry → List (List Object) → List ℕ
 added_text options book history hot =
-    if options.report then report_of (opening_asked options) (book_after (opening_asked options) book history) history hot else []
+    if options.report then report_of (opening_asked options)
+    (book_after (opening_asked options) book history) history hot else []
+
+-- this holds of the two texts of a run from a book: what the options ask for, and what is added
+abbrev pub OfTexts : Options → Book → Performed → (List ℕ → List ℕ → Type 0) → Type 0
+OfTexts options book performed Holds =
+    Holds (commits_text options book performed.history.entries)
+    (added_text options book performed.history.entries (hot_sets performed.hot.items))
 
 -- The input has no fault and asks for these rows, each a row at its place, and for these scripts.
-pub record AsksFor (options : Options) (input : List ℕ) (rows : List Opened) (scripts : List (List Request)) : Type 0 where
+pub record AsksFor (options : Options) (input : List ℕ) (rows : List Opened)
+    (scripts : List (List Request)) : Type 0 where
   pub reads : input_of options.workers input ≡ Ok (record { rows = rows; scripts = scripts })
   pub are_rows : AreRows (opening_asked options) rows
 
--- A run of these scripts from a book is within the limits: none of the four causes for which one is refused.
+-- A run of these scripts from a book is within the limits: none of the four causes for which one
+-- is refused.
 abbrev pub IsAllowed : Policy → Book → List (List Request) → Type 0
-IsAllowed policy book scripts = HaveWorkers book scripts × (HasShards policy × (HasQuotas policy × AreShort book scripts))
+IsAllowed policy book scripts =
+    HaveWorkers book scripts × (HasShards policy × (HasQuotas policy × AreShort book scripts))
 
--- Two texts answer an input: what the options ask for of a run of its scripts, from the book of its rows, and what is added.
+-- Two texts answer an input: what the options ask for of a run of its scripts, from the book of its
+-- rows, and what is added.
 pub record IsAnsweredBy (options : Options) (input : List ℕ) (text added : List ℕ) : Type 0 where
   -- what the input asks for
   pub rows : List Opened
@@ -66,14 +77,16 @@ pub record IsAnsweredBy (options : Options) (input : List ℕ) (text added : Lis
   pub few : ¬ IsTooLong rows
   pub allowed : IsAllowed (policy_of options) (opening_rows (opening_asked options) rows) scripts
   -- the run answers the scripts, from the book of the rows
-  pub runs : IsAnswer (opening_asked options) (opening_rows (opening_asked options) rows) (policy_of options) scripts hot history
+  pub runs : IsAnswer (opening_asked options) (opening_rows (opening_asked options) rows)
+      (policy_of options) scripts hot history
   -- the first text is what the options ask for
   pub text_is : text ≡ commits_text options (opening_rows (opening_asked options) rows) history
   -- the second is the report, or nothing
   pub added_is : added ≡ added_text options (opening_rows (opening_asked options) rows) history hot
 
 -- Two texts answer the input, and this holds of them.
-pub record Answers (options : Options) (input : List ℕ) (Holds : List ℕ → List ℕ → Type 0) : Type 0 where
+pub record Answers (options : Options) (input : List ℕ)
+    (Holds : List ℕ → List ℕ → Type 0) : Type 0 where
   pub text : List ℕ
   pub added : List ℕ
   pub answered : IsAnsweredBy options input text added
@@ -89,10 +102,12 @@ ArePartWritten old new text added = IsPartWritten old new (text ++ added)
 
 -- nothing was written, or before a report the first one whole
 abbrev pub IsOneWritten : Options → Option (List ℕ) → Option (List ℕ) → List ℕ → List ℕ → Type 0
-IsOneWritten options old new text added = Keeps old new ⊎ (IsTrue options.report × Appends old new text)
+IsOneWritten options old new text added =
+    Keeps old new ⊎ (IsTrue options.report × Appends old new text)
 
 -- The input has no fault, and this holds of the rows and scripts that it asks for.
-pub record OfInput (options : Options) (input : List ℕ) (Holds : List Opened → List (List Request) → Type 0) : Type 0 where
+pub record OfInput (options : Options) (input : List ℕ)
+    (Holds : List Opened → List (List Request) → Type 0) : Type 0 where
   pub rows : List Opened
   pub scripts : List (List Request)
   pub reads : input_of options.workers input ≡ Ok (record { rows = rows; scripts = scripts })
@@ -104,13 +119,16 @@ IsRefused opening resume.TooLong rows = IsTooLong rows
 IsRefused opening (resume.BadRow n) rows = (¬ IsTooLong rows) × IsFirstBad opening rows n
 IsRefused opening resume.Memory rows = ¬ IsTooLong rows
 
--- why a run of scripts from a book was refused, by the first that doesn't hold; the last three faults are met while it goes on: Spawn where
--- there is a thread to start, and of the other two no clause says when
+-- why a run of scripts from a book was refused, by the first that doesn't hold; the last three
+-- faults are met while it goes on: Spawn if there is a thread to start, and of the other two no
+-- clause says when
 abbrev pub IsNotRun : Policy → RunFault → Book → List (List Request) → Type 0
 IsNotRun policy run.Workers book scripts = ¬ HaveWorkers book scripts
 IsNotRun policy run.Shards book scripts = HaveWorkers book scripts × ¬ HasShards policy
-IsNotRun policy run.Quota book scripts = HaveWorkers book scripts × (HasShards policy × ¬ HasQuotas policy)
-IsNotRun policy run.TooLong book scripts = HaveWorkers book scripts × (HasShards policy × (HasQuotas policy × ¬ AreShort book scripts))
+IsNotRun policy run.Quota book scripts =
+    HaveWorkers book scripts × (HasShards policy × ¬ HasQuotas policy)
+IsNotRun policy run.TooLong book scripts =
+    HaveWorkers book scripts × (HasShards policy × (HasQuotas policy × ¬ AreShort book scripts))
 IsNotRun policy run.Spawn book scripts = 1 < length scripts
 IsNotRun policy run.Memory book scripts = Unit {0}
 IsNotRun policy run.NumberFull book scripts = Unit {0}
@@ -118,17 +136,22 @@ IsNotRun policy run.NumberFull book scripts = Unit {0}
 -- the outcome of a run answers these scripts, from a book
 abbrev pub AnswersScripts : Options → Book → List (List Request) → Outcome → Type 0
 AnswersScripts options book scripts outcome =
-    IsAnswer (opening_asked options) book (policy_of options) scripts (hot_sets outcome.hot.items) outcome.history.entries
+    IsAnswer (opening_asked options) book (policy_of options) scripts
+    (hot_sets outcome.hot.items) outcome.history.entries
 
--- the lines of its report, where there are some, are the views that the book at its end gives
+-- the lines of its report, if there are some, are the views that the book at its end gives
 abbrev pub HasLastViews : Options → Book → List Entry → Option ReportLines → Type 0
 HasLastViews options book history lines = IfSome lines (λ shown.
-    AreViews (opening_asked options) (book_after (opening_asked options) book history) shown.categories.items shown.users.items)
+    AreViews (opening_asked options) (book_after (opening_asked options) book history)
+    shown.categories.items shown.users.items)
 
--- The scripts are performed from a book: the run is within the limits, its history answers them, and its lines are the last views.
-pub record Performs (options : Options) (book : Book) (scripts : List (List Request)) (performed : Performed) : Type 0 where
+-- The scripts are performed from a book: the run is within the limits, its history answers them,
+-- and its lines are the last views.
+pub record Performs (options : Options) (book : Book) (scripts : List (List Request))
+    (performed : Performed) : Type 0 where
   pub allowed : IsAllowed (policy_of options) book scripts
-  pub answer : IsAnswer (opening_asked options) book (policy_of options) scripts (hot_sets performed.hot.items) performed.history.entries
+  pub answer : IsAnswer (opening_asked options) book (policy_of options) scripts
+      (hot_sets performed.hot.items) performed.history.entries
   pub lines : HasLastViews options book performed.history.entries performed.lines
 
 -- why scripts were not performed: no window could be made for a report, or the run was refused
@@ -159,15 +182,19 @@ IsUnwritten Locked = Unit {0}
 IsUnwritten (LogRecord fault) = Unit {0}
 IsUnwritten (Log fault) = Unit {0}
 
--- Why the program failed, by the input: a fault in the input is its first one, a row that is refused is the first, and a run is refused
--- for its first cause.
+-- Why the program failed, by the input: a fault in the input is its first one, a row that is
+-- refused is the first, and a run is refused for its first cause.
 abbrev pub IsCausedBy : Options → List ℕ → Fault → Type 0
 IsCausedBy options input (Usage fault) = ⊥
-IsCausedBy options input (Read fault) = IsInputFault fault → input_of options.workers input ≡ Err fault
-IsCausedBy options input (Resume fault) = OfInput options input (λ rows scripts. IsRefused (opening_asked options) fault rows)
-IsCausedBy options input (Make fault) = IsTrue options.report × OfInput options input (λ rows scripts. AreRows (opening_asked options) rows)
+IsCausedBy options input (Read fault) =
+    IsInputFault fault → input_of options.workers input ≡ Err fault
+IsCausedBy options input (Resume fault) =
+    OfInput options input (λ rows scripts. IsRefused (opening_asked options) fault rows)
+IsCausedBy options input (Make fault) = IsTrue options.report
+    × OfInput options input (λ rows scripts. AreRows (opening_asked options) rows)
 IsCausedBy options input (Run fault) = OfInput options input (λ rows scripts.
-    AreRows (opening_asked options) rows × IsNotRun (policy_of options) fault (opening_rows (opening_asked options) rows) scripts)
+    AreRows (opening_asked options) rows
+    × IsNotRun (policy_of options) fault (opening_rows (opening_asked options) rows) scripts)
 IsCausedBy options input (Write fault) = Answers options input (λ text added. Unit {0})
 IsCausedBy options input Report = ⊥
 IsCausedBy options input OpenLog = ⊥

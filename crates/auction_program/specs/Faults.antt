@@ -19,7 +19,7 @@ status Locked = 5
 status (LogRecord fault) = 5
 status (Log fault) = 5
 
--- the words of the parser of options, where it refused the program's
+-- the words of the parser of options, if it refused the program's
 abbrev pub parser_words : Fault → Option (List ℕ)
 parser_words (Usage fault) = usage_words fault
 parser_words (Read fault) = None

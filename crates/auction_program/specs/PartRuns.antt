@@ -5,10 +5,9 @@ use Rattle.auction_rows.specs.declared.requests.Request.{Request}
 use Rattle.auction_rows.specs.declared.rows.Entry.{Entry}
 use Rattle.auction_rows.specs.Book.{Book}
 use Rattle.auction_rows.specs.History.{book_after}
-use Rattle.auction_text.specs.Moved.{Gone, all_moved, gone_by}
+use Rattle.auction_text.specs.Moved.{Gone, gone_by}
 use Rattle.auction_text.specs.Parts.{GoesOn, KeepsWorkers}
 use Rattle.auction_text.specs.Readable.{Readable}
-use Rattle.auction_text.specs.RowLines.{rows_text}
 use Rattle.auction_text.specs.Scripts.{rows}
 use Rattle.auction_text.specs.declared.record.ReadFault.{ReadFault}
 use Rattle.auction_text.specs.declared.parts.PartEnd.{PartEnd}
@@ -18,9 +17,8 @@ use Rattle.item_shards.specs.OpeningRows.{AreRows, IsTooLong, opening_rows}
 use Rattle.item_shards.specs.declared.openings.Opened.{Opened}
 use Rattle.phase_floor.specs.States.{IsBookOf}
 use Rattle.run_laws.specs.Answers.{IsAnswer}
-use Rattle.auction_program.specs.Execution.{commits_text}
 use Rattle.auction_program.specs.Options.{opening_asked, policy_of}
-use Rattle.auction_program.specs.Serving.{ArePartRuns, PartRun, book_in, gone_past, nothing_gone, opening_text, served_rows, served_text, unlogged_rows}
+use Rattle.auction_program.specs.Serving.{ArePartRuns, OfPart, PartRun, book_in, gone_past, nothing_gone, opening_text, served_rows, served_text, unlogged_rows}
 use Rattle.auction_program.specs.declared.faults.Fault.{Fault}
 use Rattle.auction_program.specs.declared.faults.Fault.TheVariants.{Read}
 use Rattle.auction_program.specs.declared.options.Options.{Options}
@@ -30,8 +28,10 @@ use Rattle.auction_program.specs.declared.parts.RunStart.TheVariants.{Book as Op
 
 -- a run begins at this book
 abbrev pub StartsAt : Options → RunStart → Book → Type 0
-StartsAt options (Opening book) rows = (opened.opening_of book ≡ opening_asked options) × (opened.rows_of_book book ≡ rows)
-StartsAt options (State state) rows = (state.opening ≡ opening_asked options) × IsBookOf state rows
+StartsAt options (Opening book) rows =
+    (opened.opening_of book ≡ opening_asked options) × (opened.rows_of_book book ≡ rows)
+StartsAt options (State state) rows =
+    (state.opening ≡ opening_asked options) × IsBookOf state rows
 
 -- a fault that comes after what it is about was read
 abbrev pub IsPastReading : Fault → Type 0
@@ -45,42 +45,52 @@ gone_with gone phases scripts = record {
 }
 
 -- Scripts are run from a book, and this holds of the rows that this adds and of the text.
-pub record RunsPart (options : Options) (book : Book) (gone : Gone) (scripts : List (List Request)) (Holds : List ℕ → List ℕ → Type 0) : Type 0 where
+pub record RunsPart (options : Options) (book : Book) (gone : Gone) (scripts : List (List Request))
+    (Holds : List ℕ → List ℕ → Type 0) : Type 0 where
   pub hot : List (List Object)
   pub history : List Entry
   pub answer : IsAnswer (opening_asked options) book (policy_of options) scripts hot history
-  pub holds : Holds (rows_text [] history) (commits_text options [] (all_moved gone history))
+  pub holds : OfPart options gone history Holds
 
 -- The same, and the next part begins here.
-pub record ServesPart (options : Options) (book : Book) (gone : Gone) (scripts : List (List Request)) (served : Served) (Holds : List ℕ → List ℕ → Type 0) : Type 0 where
+pub record ServesPart (options : Options) (book : Book) (gone : Gone)
+    (scripts : List (List Request)) (served : Served)
+    (Holds : List ℕ → List ℕ → Type 0) : Type 0 where
   pub runs : RunsPart options book gone scripts Holds
   pub starts : StartsAt options served.start (book_after (opening_asked options) book runs.history)
   pub before : gone_by served.before ≡ gone_with gone (length runs.hot) scripts
 
--- Rows of a log, and then those of an input, open an auction, and this holds of those that the log has not and of the text.
-pub record Opens (options : Options) (logged rows : List Opened) (Holds : List ℕ → List ℕ → Type 0) : Type 0 where
+-- Rows of a log, and then those of an input, open an auction, and this holds of those that the log
+-- has not and of the text.
+pub record Opens (options : Options) (logged rows : List Opened)
+    (Holds : List ℕ → List ℕ → Type 0) : Type 0 where
   pub are_rows : AreRows (opening_asked options) (logged ++ rows)
   pub few : ¬ IsTooLong (logged ++ rows)
-  pub holds : Holds (unlogged_rows (length logged) (opening_rows (opening_asked options) (logged ++ rows)))
+  pub holds : Holds
+      (unlogged_rows (length logged) (opening_rows (opening_asked options) (logged ++ rows)))
       (opening_text options (opening_rows (opening_asked options) (logged ++ rows)))
 
 -- the book that a part leaves
 abbrev pub book_past : Options → Book → PartRun → Book
 book_past options book part = book_after (opening_asked options) book part.history
 
--- These first records of all are served in parts, this holds of the rows and of the text, and the next part begins here.
-pub record HasServed (options : Options) (logged : List Opened) (all said : List Record) (served : Served) (Holds : List ℕ → List ℕ → Type 0) : Type 0 where
+-- These first records of all are served in parts, this holds of the rows and of the text, and the
+-- next part begins here.
+pub record HasServed (options : Options) (logged : List Opened) (all said : List Record)
+    (served : Served) (Holds : List ℕ → List ℕ → Type 0) : Type 0 where
   pub are_rows : AreRows (opening_asked options) (logged ++ rows all)
   pub few : ¬ IsTooLong (logged ++ rows all)
   pub parts : List PartRun
   pub said_is : said ≡ flat_map (λ part. part.said) parts
   pub runs : ArePartRuns options (book_in options logged all) parts
-  pub starts : StartsAt options served.start (fold (book_past options) (book_in options logged all) parts)
+  pub starts : StartsAt options served.start
+      (fold (book_past options) (book_in options logged all) parts)
   pub before : gone_by served.before ≡ fold (gone_past options) nothing_gone parts
   pub holds : Holds (served_rows options logged all parts) (served_text options logged all parts)
 
 -- An input is served so far, and goes on so.
-pub record IsSession {R : Type 0} (remaining : R → Option (List ℕ)) (options : Options) (logged : List Opened) (all : Readable) (served : Served) (end : PartEnd R)
+pub record IsSession {R : Type 0} (remaining : R → Option (List ℕ)) (options : Options)
+    (logged : List Opened) (all : Readable) (served : Served) (end : PartEnd R)
     (Holds : List ℕ → List ℕ → Type 0) : Type 0 where
   pub said : List Record
   pub so_far : HasServed options logged all.said said served Holds

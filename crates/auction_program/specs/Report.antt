@@ -19,7 +19,8 @@ use Rattle.auction_program.specs.declared.texts.Viewed.TheVariants.{Categories, 
 
 -- the replies that a book gives to the views of so many numbers from 0
 abbrev pub views : Opening → Book → (ℕ → Request) → ℕ → List Reply
-views opening book view count = map (λ number. reply opening book 0 (view number)) (range_with_len 0 count)
+views opening book view count =
+    map (λ number. reply opening book 0 (view number)) (range_with_len 0 count)
 
 -- the view of a number
 abbrev pub view_of : Viewed → ℕ → Request
@@ -34,7 +35,8 @@ user_views opening book = views opening book ViewUser opening.users
 
 -- the report of a history and its hot sets, with the views of all categories and users
 abbrev pub report_of : Opening → Book → List Entry → List (List Object) → List ℕ
-report_of opening book history hot = report_text history hot (category_views opening book) (user_views opening book)
+report_of opening book history hot =
+    report_text history hot (category_views opening book) (user_views opening book)
 
 -- These are the replies of a book to the views of all categories and users.
 pub record AreViews (opening : Opening) (book : Book) (categories users : List Reply) : Type 0 where
@@ -42,7 +44,8 @@ pub record AreViews (opening : Opening) (book : Book) (categories users : List R
   pub users_are : users ≡ user_views opening book
 
 -- The end of a run from these rows, as a window and the state know it.
-pub record IsEnd (opening : Opening) (rows : Book) (window all : List (List Row)) (state : JoinedState) (book : Book) : Type 0 where
+pub record IsEnd (opening : Opening) (rows : Book) (window all : List (List Row))
+    (state : JoinedState) (book : Book) : Type 0 where
   -- the window has shown all phases, or was told of them
   pub known : IsPrefix all window
   -- there are as many as the state has behind it

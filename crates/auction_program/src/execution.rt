@@ -31,9 +31,9 @@ use worker_journals::History;
 
 /// Opens an auction with the rows that the reader gives, performs its scripts, one thread a worker,
 /// and writes the replies, the history or the rows, and then the report, as the options say. The
-/// first byte is written once all scripts are performed. Where the writer then fails, a prefix of
-/// the text was written; where memory is refused for a text, the texts before it; and after any
-/// other fault nothing.
+/// first byte is written once all scripts are performed. If the writer then fails, a prefix of the
+/// text was written; if memory is refused for a text, the texts before it; and after any other
+/// fault nothing.
 pub fn execute<R: Threads + Wait + Sync, I: Read + Drop, W: Write>(
     rt: &R,
     alloc: Global,
@@ -43,12 +43,15 @@ pub fn execute<R: Threads + Wait + Sync, I: Read + Drop, W: Write>(
 ) -> Result<(), Fault>
     ensures answers { OnOk result (IfSome (I.remaining reader) (λ input.
         Answers options.now input (AreWritten (W.contents writer.old) (W.contents writer.new)))) }
-    ensures part { result ≡ Err (Fault.Write WriteFault.Write) → IfSome (I.remaining reader) (λ input.
-        Answers options.now input (ArePartWritten (W.contents writer.old) (W.contents writer.new))) }
-    ensures memory { result ≡ Err (Fault.Write WriteFault.Memory) → IfSome (I.remaining reader) (λ input.
-        Answers options.now input (IsOneWritten options.now (W.contents writer.old) (W.contents writer.new))) }
+    ensures part { result ≡ Err (Fault.Write WriteFault.Write) →
+        IfSome (I.remaining reader) (λ input. Answers options.now input
+        (ArePartWritten (W.contents writer.old) (W.contents writer.new))) }
+    ensures memory { result ≡ Err (Fault.Write WriteFault.Memory) →
+        IfSome (I.remaining reader) (λ input. Answers options.now input
+        (IsOneWritten options.now (W.contents writer.old) (W.contents writer.new))) }
     ensures unwritten { IfErr result (λ fault. IsUnwritten fault → writer.new ≡ writer.old) }
-    ensures cause { IfErr result (λ fault. IfSome (I.remaining reader) (λ input. IsCausedBy options.now input fault)) }
+    ensures cause { IfErr result (λ fault. IfSome (I.remaining reader) (λ input.
+        IsCausedBy options.now input fault)) }
 {
     let input = read_scripts(alloc, reader, options.workers)?;
     let book = OpeningBook::new(alloc, options.opening(), input.rows)?;
@@ -83,7 +86,7 @@ fn told_of(outcome: Outcome, lines: Option<ReportLines>) -> Performed
     }
 }
 
-/// Performs the scripts from a book on. Where a report is asked for, its lines are read through a
+/// Performs the scripts from a book on. If a report is asked for, its lines are read through a
 /// window that was told of all phases.
 pub fn perform<R: Threads + Wait + Sync>(
     rt: &R,
@@ -93,8 +96,10 @@ pub fn perform<R: Threads + Wait + Sync>(
     options: &Options,
 ) -> Result<Performed, Fault>
     requires { opened.opening_of book.now ≡ opening_asked options.now }
-    ensures performs { IfOk result (Performs options.now (opened.rows_of_book book.now) (lists scripts.items)) }
-    ensures unasked { IfOk result (λ performed. ¬ IsTrue options.now.report → performed.lines ≡ None) }
+    ensures performs { IfOk result (
+        Performs options.now (opened.rows_of_book book.now) (lists scripts.items)) }
+    ensures unasked { IfOk result (λ performed.
+        ¬ IsTrue options.now.report → performed.lines ≡ None) }
     ensures cause { IfErr result (λ fault.
         IsNotPerformed options.now fault (opened.rows_of_book book.now) (lists scripts.items)) }
 {
@@ -119,7 +124,8 @@ fn perform_watched<J: WindowName, R: Threads + Wait + Sync>(
     requires rows { opened.rows_of_book book.now ≡ J.rows }
     requires options { opened.opening_of book.now ≡ opening_asked options.now }
     requires report { IsTrue options.now.report }
-    ensures performs { IfOk result (Performs options.now (opened.rows_of_book book.now) (lists scripts.items)) }
+    ensures performs { IfOk result (
+        Performs options.now (opened.rows_of_book book.now) (lists scripts.items)) }
     ensures cause { IfErr result (λ fault.
         IsNotPerformed options.now fault (opened.rows_of_book book.now) (lists scripts.items)) }
 {
@@ -147,7 +153,8 @@ fn watch<J: WindowName, R: Threads + Wait + Sync>(
     requires opening { opened.opening_of book.now ≡ J.opening }
     requires rows { opened.rows_of_book book.now ≡ J.rows }
     requires options { opened.opening_of book.now ≡ opening_asked options.now }
-    ensures performs { IfOk result (Performs options.now (opened.rows_of_book book.now) (lists scripts.items)) }
+    ensures performs { IfOk result (
+        Performs options.now (opened.rows_of_book book.now) (lists scripts.items)) }
     ensures cause { IfErr result (λ fault.
         IsNotPerformed options.now fault (opened.rows_of_book book.now) (lists scripts.items)) }
 {
@@ -157,7 +164,7 @@ fn watch<J: WindowName, R: Threads + Wait + Sync>(
     Ok(told_of(outcome, lines))
 }
 
-// The lines of the report at the end of a run: none where memory was refused for them.
+// The lines of the report at the end of a run: none if memory was refused for them.
 fn last_lines<J: WindowName>(
     alloc: Global,
     told: Option<Told<J>>,

@@ -39,10 +39,12 @@ pub fn open<L: Log, W: Write>(
     rows: &[Opened],
     options: &Options,
 ) -> Result<OpeningBook, Fault>
-    ensures opens { OnOk result (Opens options.now logged.items rows.now (AreTold L.accepted W.contents teller.old teller.new)) }
-    ensures starts { IfOk result (λ book.
-        StartsAt options.now (RunStart.Book book) (opening_rows (opening_asked options.now) (logged.items ++ rows.now))) }
-    ensures first { Opens options.now logged.items rows.now (ArePartTold L.accepted W.contents teller.old teller.new)
+    ensures opens { OnOk result (Opens options.now logged.items rows.now
+        (AreTold L.accepted W.contents teller.old teller.new)) }
+    ensures starts { IfOk result (λ book. StartsAt options.now (RunStart.Book book)
+        (opening_rows (opening_asked options.now) (logged.items ++ rows.now))) }
+    ensures first { Opens options.now logged.items rows.now
+        (ArePartTold L.accepted W.contents teller.old teller.new)
         ⊎ IsNothingTold L.accepted W.contents teller.old teller.new }
     ensures fault { IfErr result IsPastReading }
 {

@@ -37,7 +37,7 @@ pub struct Options {
     /// How many categories there are, at most 1,000,000.
     pub categories: u32,
     /// How many requests are answered at a time at most, while more are to come: at most 1,000,000,
-    /// and 0 where all are read first.
+    /// and 0 if all are read first.
     pub live: u32,
     /// Whether the history is written in place of the replies.
     pub history: bool,
@@ -120,7 +120,8 @@ fn command<'a>(alloc: Global) -> Result<Command<'a>, AllocError>
 }
 
 fn options_of(matches: &ArgMatches<'_>) -> Options
-    ensures given { HaveNumbers program (one_text (found_of matches.now)) → result ≡ options_of (one_text (found_of matches.now)) }
+    ensures given { HaveNumbers program (one_text (found_of matches.now)) →
+        result ≡ options_of (one_text (found_of matches.now)) }
     ensures range { AreInRange result }
 {
     Options {
@@ -139,16 +140,18 @@ fn options_of(matches: &ArgMatches<'_>) -> Options
     }
 }
 
-/// The options that the words give, the first of which is the program's name. Where they say
-/// nothing else: one worker, 4 shards, phases of 64 requests, the threshold 8, 8 hot objects, 100
-/// users, 10 categories, all requests are read first, there is no log, and the replies alone are
-/// written. Words that are refused, or that ask for help, are answered in `clap`'s words.
+/// The options that the words give, the first of which is the program's name. If they say nothing
+/// else: one worker, 4 shards, phases of 64 requests, the threshold 8, 8 hot objects, 100 users, 10
+/// categories, all requests are read first, there is no log, and only the replies are written.
+/// Words that are refused, or that ask for help, are answered in `clap`'s words.
 pub fn read_options(alloc: Global, words: &[String]) -> Result<Invocation, UsageFault>
     ensures given { IfOk result (λ asked. asked.options ≡ options_in (map string_bytes words.now)) }
-    ensures log { IfOk result (λ asked. option_map string_bytes asked.log ≡ log_in (map string_bytes words.now)) }
+    ensures log { IfOk result (λ asked.
+        option_map string_bytes asked.log ≡ log_in (map string_bytes words.now)) }
     ensures range { IfOk result (λ asked. AreInRange asked.options) }
     ensures taken { OnOk result (AreTaken program (map string_bytes words.now)) }
-    ensures memory { IfErr result (λ fault. AreTaken program (map string_bytes words.now) → fault ≡ UsageFault.Memory) }
+    ensures memory { IfErr result (λ fault. AreTaken program (map string_bytes words.now) →
+        fault ≡ UsageFault.Memory) }
 {
     let Ok(command) = command(alloc) else {
         return Err(UsageFault::Memory);

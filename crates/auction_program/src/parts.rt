@@ -3,13 +3,13 @@ ghost use Rattle.std.specs.Prelude.{◌⊎◌, IfErr, IfOk, ◌≡◌, [], IfSom
 ghost use Rattle.auction_rows.specs.Book.{Book};
 ghost use Rattle.auction_rows.specs.History.{book_after};
 ghost use Rattle.auction_run.specs.Phases.{lists};
-ghost use Rattle.auction_text.specs.Moved.{gone_by, all_moved};
+ghost use Rattle.auction_text.specs.Moved.{gone_by};
 ghost use Rattle.auction_text.specs.RowLines.{rows_text};
 ghost use Rattle.auction_text.specs.Writing.{WritesText};
-ghost use Rattle.auction_program.specs.Execution.{AnswersScripts, commits_text};
+ghost use Rattle.auction_program.specs.Execution.{AnswersScripts};
 ghost use Rattle.auction_program.specs.Options.{opening_asked};
 ghost use Rattle.auction_program.specs.PartRuns.{IsPastReading, RunsPart, ServesPart, StartsAt};
-ghost use Rattle.auction_program.specs.Serving.{ArePartTold, AreTold, IsNothingTold, opening_text, unlogged_rows};
+ghost use Rattle.auction_program.specs.Serving.{ArePartTold, AreTold, IsNothingTold, OfPart, opening_text, part_text, unlogged_rows};
 ghost use Rattle.auction_program.specs.declared.parts.RunStart.{RunStart};
 
 use crate::faults::Fault;
@@ -58,7 +58,8 @@ fn run_part<R: Threads + Wait + Sync>(
     ensures answers { IfOk result (λ outcome. (book : Book) → StartsAt options.now start book →
         AnswersScripts options.now book (lists scripts.items) outcome) }
     ensures left { IfOk result (λ outcome. (book : Book) → StartsAt options.now start book →
-        StartsAt options.now (RunStart.State outcome.state) (book_after (opening_asked options.now) book outcome.history.entries)) }
+        StartsAt options.now (RunStart.State outcome.state)
+        (book_after (opening_asked options.now) book outcome.history.entries)) }
 {
     let policy = options.policy();
     match start {
@@ -78,7 +79,8 @@ pub fn serve_part<R: Threads + Wait + Sync, L: Log, W: Write>(
     part: NextPart,
     options: &Options,
 ) -> Result<Served, Fault>
-    ensures serves { IfOk result (λ served. (book : Book) → StartsAt options.now part.served.start book →
+    ensures serves { IfOk result (λ served.
+        (book : Book) → StartsAt options.now part.served.start book →
         ServesPart options.now book (gone_by part.served.before) (lists part.scripts.items) served
         (AreTold L.accepted W.contents teller.old teller.new)) }
     ensures first { (book : Book) → StartsAt options.now part.served.start book →
@@ -122,7 +124,8 @@ fn logged_text<L: Log>(
     rows: &[Row],
     history: &History,
 ) -> Result<Vec<u8>, Fault>
-    ensures text { IfOk result (λ text. IfSome (L.accepted log.now) (λ _. text.items ≡ rows_text rows.now history.now.entries)) }
+    ensures text { IfOk result (λ text. IfSome (L.accepted log.now) (λ _.
+        text.items ≡ rows_text rows.now history.now.entries)) }
     ensures fault { IfErr result IsPastReading }
 {
     if !log.keeps() {
@@ -150,7 +153,8 @@ fn write_part<W: Write>(
     before: &Before,
     history: &History,
 ) -> Result<(), WriteFault>
-    ensures { WritesText W.contents writer.old writer.new (commits_text options.now [] (all_moved (gone_by before.now) history.now.entries)) result }
+    ensures { WritesText W.contents writer.old writer.new
+        (part_text options.now (gone_by before.now) history.now.entries) result }
 {
     if options.rows {
         write_rows(alloc, writer, &[], history)
@@ -168,7 +172,8 @@ fn part_text(
     before: &Before,
     history: &History,
 ) -> Result<Vec<u8>, Fault>
-    ensures text { IfOk result (λ text. text.items ≡ commits_text options.now [] (all_moved (gone_by before.now) history.now.entries)) }
+    ensures text { IfOk result (λ text.
+        text.items ≡ part_text options.now (gone_by before.now) history.now.entries) }
     ensures fault { IfErr result IsPastReading }
 {
     let mut text = Vec::new(alloc);
@@ -209,10 +214,10 @@ pub fn tell_part<L: Log, W: Write>(
     before: &Before,
     history: &History,
 ) -> Result<(), Fault>
-    ensures told { OnOk result (AreTold L.accepted W.contents teller.old teller.new
-        (rows_text [] history.now.entries) (commits_text options.now [] (all_moved (gone_by before.now) history.now.entries))) }
-    ensures part { ArePartTold L.accepted W.contents teller.old teller.new
-        (rows_text [] history.now.entries) (commits_text options.now [] (all_moved (gone_by before.now) history.now.entries))
+    ensures told { OnOk result (OfPart options.now (gone_by before.now) history.now.entries
+        (AreTold L.accepted W.contents teller.old teller.new)) }
+    ensures part { OfPart options.now (gone_by before.now) history.now.entries
+        (ArePartTold L.accepted W.contents teller.old teller.new)
         ⊎ IsNothingTold L.accepted W.contents teller.old teller.new }
     ensures fault { IfErr result IsPastReading }
 {

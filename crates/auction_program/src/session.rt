@@ -98,14 +98,18 @@ fn serve_rest<R: Threads + Wait + Sync, I: Read + Drop, L: Log, W: Write>(
     options: &Options,
 ) -> Result<(), Fault>
     ensures all { OnOk result ((logged : List Row) (all : Readable) (start : Told L W) →
-        IsSession I.remaining options.now logged all session.served session.end (AreTold L.accepted W.contents start teller.old) →
+        IsSession I.remaining options.now logged all session.served session.end
+        (AreTold L.accepted W.contents start teller.old) →
         ServesAll options.now logged all None (AreTold L.accepted W.contents start teller.new)) }
     ensures fault { (fault : ReadFault) → result ≡ Err (Fault.Read fault) → IsInputFault fault →
         (logged : List Row) (all : Readable) (start : Told L W) →
-        IsSession I.remaining options.now logged all session.served session.end (AreTold L.accepted W.contents start teller.old) →
-        ServesAll options.now logged all (Some fault) (AreTold L.accepted W.contents start teller.new) }
+        IsSession I.remaining options.now logged all session.served session.end
+        (AreTold L.accepted W.contents start teller.old) →
+        ServesAll options.now logged all (Some fault)
+        (AreTold L.accepted W.contents start teller.new) }
     ensures logged { (logged : List Row) (all : Readable) (start : Told L W) →
-        IsSession I.remaining options.now logged all session.served session.end (AreTold L.accepted W.contents start teller.old) →
+        IsSession I.remaining options.now logged all session.served session.end
+        (AreTold L.accepted W.contents start teller.old) →
         ServesFirst options.now logged all (ArePartTold L.accepted W.contents start teller.new) }
 {
     let Session {
@@ -129,8 +133,10 @@ fn serve_rest<R: Threads + Wait + Sync, I: Read + Drop, L: Log, W: Write>(
 /// The histories of parts, one after the other, are one history: it replays from the book that the
 /// first part is run from, and is what is written if the options ask for the history.
 pub fn parts_are_one_history()
-    ensures replays { (options : Asked) (gone : Gone) (book : Book) (parts : List PartRun) → ArePartRuns options book parts →
+    ensures replays { (options : Asked) (gone : Gone) (book : Book) (parts : List PartRun) →
+        ArePartRuns options book parts →
         ReplaysFrom (opening_asked options) book (served_history options gone parts) }
-    ensures text { (options : Asked) (gone : Gone) (parts : List PartRun) → options.rows ≡ false → options.history ≡ true →
+    ensures text { (options : Asked) (gone : Gone) (parts : List PartRun) →
+        options.rows ≡ false → options.history ≡ true →
         part_texts options gone parts ≡ history_text (served_history options gone parts) }
 {}

@@ -5,9 +5,8 @@ ghost use Rattle.auction_rows.specs.declared.rows.Row.{Row as Stored};
 ghost use Rattle.auction_rows.specs.Book.{Book};
 ghost use Rattle.auction_rows.specs.Replies.{reply};
 ghost use Rattle.auction_rows.specs.Requests.{is_view};
-ghost use Rattle.auction_run.specs.Phases.{hot_sets};
 ghost use Rattle.auction_text.specs.Writing.{WritesText};
-ghost use Rattle.auction_program.specs.Execution.{added_text, commits_text, AreWritten, ArePartWritten, HasLastViews, IsOneWritten};
+ghost use Rattle.auction_program.specs.Execution.{commits_text, AreWritten, ArePartWritten, HasLastViews, IsOneWritten, OfTexts};
 ghost use Rattle.auction_program.specs.Report.{category_views, user_views, view_of, views, IsEnd};
 
 use crate::execution::Performed;
@@ -23,8 +22,8 @@ use std::io::Write;
 use std::thread::Threads;
 use worker_journals::History;
 
-/// Writes what the options ask for of a run from these rows, and then its report, where they ask
-/// for it. Without lines a report is refused as memory was for them. After `Write` a prefix of both
+/// Writes what the options ask for of a run from these rows, and then its report, if they ask for
+/// it. Without lines a report is refused as memory was for them. After `Write` a prefix of both
 /// was written; after `Memory` nothing, or all but the report.
 #[tactic(auto, using(crate::proofs::WrittenLemmas::part_of_first, crate::proofs::WrittenLemmas::part_of_added))]
 pub fn write_texts<R: Threads + Sync, W: Write>(
@@ -36,15 +35,14 @@ pub fn write_texts<R: Threads + Sync, W: Write>(
     performed: &Performed,
 ) -> Result<(), WriteFault>
     requires { HasLastViews options.now rows.now performed.now.history.entries performed.now.lines }
-    ensures whole { OnOk result (AreWritten (W.contents writer.old) (W.contents writer.new)
-        (commits_text options.now rows.now performed.now.history.entries)
-        (added_text options.now rows.now performed.now.history.entries (hot_sets performed.now.hot.items))) }
-    ensures part { IfErr result (λ fault. fault ≡ WriteFault.Write → ArePartWritten (W.contents writer.old) (W.contents writer.new)
-        (commits_text options.now rows.now performed.now.history.entries)
-        (added_text options.now rows.now performed.now.history.entries (hot_sets performed.now.hot.items))) }
-    ensures memory { IfErr result (λ fault. fault ≡ WriteFault.Memory → IsOneWritten options.now (W.contents writer.old) (W.contents writer.new)
-        (commits_text options.now rows.now performed.now.history.entries)
-        (added_text options.now rows.now performed.now.history.entries (hot_sets performed.now.hot.items))) }
+    ensures whole { OnOk result (OfTexts options.now rows.now performed.now
+        (AreWritten (W.contents writer.old) (W.contents writer.new))) }
+    ensures part { IfErr result (λ fault. fault ≡ WriteFault.Write →
+        OfTexts options.now rows.now performed.now
+        (ArePartWritten (W.contents writer.old) (W.contents writer.new))) }
+    ensures memory { IfErr result (λ fault. fault ≡ WriteFault.Memory →
+        OfTexts options.now rows.now performed.now
+        (IsOneWritten options.now (W.contents writer.old) (W.contents writer.new))) }
 {
     write_commits(rt, alloc, writer, options, rows, &performed.history)?;
     if !options.report {
@@ -65,7 +63,8 @@ fn write_commits<R: Threads + Sync, W: Write>(
     rows: &[Row],
     history: &History,
 ) -> Result<(), WriteFault>
-    ensures { WritesText W.contents writer.old writer.new (commits_text options.now rows.now history.now.entries) result }
+    ensures { WritesText W.contents writer.old writer.new
+        (commits_text options.now rows.now history.now.entries) result }
 {
     if options.rows {
         write_rows(alloc, writer, rows, history)
@@ -97,8 +96,8 @@ impl Viewed {
 }
 
 /// The replies to the views of all categories and users at the end of a run: those of the window
-/// where it shows all phases, else those of the state. Both are the book's, so that no caller sees
-/// which it got.
+/// if it shows all phases, else those of the state. Both are the book's: no caller sees which it
+/// got.
 pub fn report_lines<J: WindowName>(
     alloc: Global,
     window: &mut Window<J>,

@@ -23,7 +23,8 @@ use Rattle.history_check.specs.Scripts.{request_at, is_of}
 use Rattle.history_check.specs.Texts.{history_lines, lines_of}
 
 -- Nothing is wrong with the entries of a history, but that requests may be lacking.
-pub record GoWell (opening : Opening) (start : Book) (scripts : List (List Request)) (order : Order) (history : List Entry) : Type 0 where
+pub record GoWell (opening : Opening) (start : Book) (scripts : List (List Request))
+    (order : Order) (history : List Entry) : Type 0 where
   -- each has the request of its script
   pub requests : AllByRecursion (λ e. request_at scripts e.worker e.index ≡ Some e.request) history
   -- and a place that can be written
@@ -35,14 +36,17 @@ pub record GoWell (opening : Opening) (start : Book) (scripts : List (List Reque
   -- each reply is the one that is due
   pub replays : ReplaysFrom opening start history
 
--- The text is that of a history that replays from a book and has each request of each script once, in the order that is asked for.
-pub record IsAccepted (opening : Opening) (start : Book) (scripts : List (List Request)) (order : Order) (text : List ℕ) : Type 0 where
+-- The text is that of a history that replays from a book and has each request of each script once,
+-- in the order that is asked for.
+pub record IsAccepted (opening : Opening) (start : Book) (scripts : List (List Request))
+    (order : Order) (text : List ℕ) : Type 0 where
   -- the entries whose lines these are
   pub history : List Entry
   pub lines_are : history_lines history ≡ lines_of text
   pub go_well : GoWell opening start scripts order history
   -- each index of each script occurs exactly once, and no other
-  pub once : (worker index : ℕ) → count_by (is_of worker index) history ≡ (if nat_lt index (length (script_of scripts worker)) then 1 else 0)
+  pub once : (worker index : ℕ) → count_by (is_of worker index) history
+      ≡ (if nat_lt index (length (script_of scripts worker)) then 1 else 0)
 
 -- a line is of a place and a text of which this holds
 abbrev pub OfLine : List ℕ → (CommitId → List ℕ → Type 0) → Type 0
@@ -51,21 +55,29 @@ OfLine line Holds =
 
 -- the scripts have the request of a place, and this holds of it
 abbrev pub OfRequest : List (List Request) → CommitId → (Request → Type 0) → Type 0
-OfRequest scripts commit_id Holds = (request : Request) × (request_at scripts commit_id.worker commit_id.index ≡ Some request) × Holds request
+OfRequest scripts commit_id Holds = (request : Request)
+    × (request_at scripts commit_id.worker commit_id.index ≡ Some request) × Holds request
 
 -- why a line is wrong after the entries before it
-abbrev pub IsWrong : Opening → Book → List (List Request) → Order → List Entry → List ℕ → Wrong → Type 0
-IsWrong opening start scripts order before line Unreadable = (commit_id : CommitId) (text : List ℕ) → ¬ IsLineOf line commit_id text
-IsWrong opening start scripts order before line NoRequest = OfLine line (λ commit_id text. request_at scripts commit_id.worker commit_id.index ≡ None)
-IsWrong opening start scripts order before line Again = OfLine line (λ commit_id text. count_by (is_of commit_id.worker commit_id.index) before ≡ 1)
-IsWrong opening start scripts order before line Late = OfLine line (λ commit_id text. OfRequest scripts commit_id (λ request.
-    (reply : Reply) → ¬ AllByRecursion (λ d. MayPrecede order d (entry_with_id commit_id request reply)) before))
-IsWrong opening start scripts order before line (Due due) = OfLine line (λ commit_id text. OfRequest scripts commit_id (λ request.
-    (due ≡ reply opening (book_after opening start before) commit_id.worker request) × ¬ (text ≡ reply_text due)))
+abbrev pub IsWrong : Opening → Book → List (List Request) → Order → List Entry → List ℕ → Wrong →
+    Type 0
+IsWrong opening start scripts order before line Unreadable =
+    (commit_id : CommitId) (text : List ℕ) → ¬ IsLineOf line commit_id text
+IsWrong opening start scripts order before line NoRequest = OfLine line (λ commit_id text.
+    request_at scripts commit_id.worker commit_id.index ≡ None)
+IsWrong opening start scripts order before line Again = OfLine line (λ commit_id text.
+    count_by (is_of commit_id.worker commit_id.index) before ≡ 1)
+IsWrong opening start scripts order before line Late = OfLine line (λ commit_id text.
+    OfRequest scripts commit_id (λ request. (reply : Reply) →
+    ¬ AllByRecursion (λ d. MayPrecede order d (entry_with_id commit_id request reply)) before))
+IsWrong opening start scripts order before line (Due due) = OfLine line (λ commit_id text.
+    OfRequest scripts commit_id (λ request.
+    (due ≡ reply opening (book_after opening start before) commit_id.worker request)
+    × ¬ (text ≡ reply_text due)))
 
 -- The line with this number, from 1, is the first that is wrong.
-pub record IsFirstWrong (opening : Opening) (start : Book) (scripts : List (List Request)) (order : Order) (text : List ℕ)
-    (number : ℕ) (why : Wrong) : Type 0 where
+pub record IsFirstWrong (opening : Opening) (start : Book) (scripts : List (List Request))
+    (order : Order) (text : List ℕ) (number : ℕ) (why : Wrong) : Type 0 where
   -- the entries whose lines stand before it
   pub before : List Entry
   -- the line
@@ -81,8 +93,8 @@ pub record IsFirstWrong (opening : Opening) (start : Book) (scripts : List (List
   pub wrong : IsWrong opening start scripts order before line why
 
 -- No line is wrong, and none is of this request.
-pub record IsLacking (opening : Opening) (start : Book) (scripts : List (List Request)) (order : Order) (text : List ℕ)
-    (worker index : ℕ) : Type 0 where
+pub record IsLacking (opening : Opening) (start : Book) (scripts : List (List Request))
+    (order : Order) (text : List ℕ) (worker index : ℕ) : Type 0 where
   -- the entries whose lines these are
   pub history : List Entry
   pub lines_are : history_lines history ≡ lines_of text
@@ -94,6 +106,9 @@ pub record IsLacking (opening : Opening) (start : Book) (scripts : List (List Re
 
 -- what is found of a text
 abbrev pub IsVerdict : Opening → Book → List (List Request) → Order → List ℕ → Verdict → Type 0
-IsVerdict opening start scripts order text Replays = IsAccepted opening start scripts order text
-IsVerdict opening start scripts order text (WrongAt number why) = IsFirstWrong opening start scripts order text number why
-IsVerdict opening start scripts order text (Lacks worker index) = IsLacking opening start scripts order text worker index
+IsVerdict opening start scripts order text Replays =
+    IsAccepted opening start scripts order text
+IsVerdict opening start scripts order text (WrongAt number why) =
+    IsFirstWrong opening start scripts order text number why
+IsVerdict opening start scripts order text (Lacks worker index) =
+    IsLacking opening start scripts order text worker index

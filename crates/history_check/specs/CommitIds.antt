@@ -11,7 +11,8 @@ is_space byte = byte == 32
 -- the text of a commit's id, a space and what follows
 abbrev pub with_commit_id : CommitId → List ℕ → List ℕ
 with_commit_id commit_id rest =
-    decimal commit_id.phase ++ 32 ∷ (decimal commit_id.number ++ 32 ∷ (decimal commit_id.worker ++ 32 ∷ (decimal commit_id.index ++ 32 ∷ rest)))
+    decimal commit_id.phase ++ 32 ∷ (decimal commit_id.number
+    ++ 32 ∷ (decimal commit_id.worker ++ 32 ∷ (decimal commit_id.index ++ 32 ∷ rest)))
 
 -- the line of a commit's id and a text, with its line feed
 abbrev pub line_at : CommitId → List ℕ → List ℕ

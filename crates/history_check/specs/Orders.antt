@@ -13,7 +13,8 @@ is_bound Any request = false
 is_bound StoresFirst request = is_splittable request
 is_bound Strict request = true
 
--- an entry may stand before another: not where that is bound, and an earlier request of the same script
+-- an entry may stand before another: not if that is bound, and an earlier request of the same
+-- script
 abbrev pub MayPrecede : Order → Entry → Entry → Type 0
 MayPrecede order d e = d.worker ≡ e.worker → is_bound order e.request ≡ true → d.index < e.index
 
@@ -21,7 +22,7 @@ MayPrecede order d e = d.worker ≡ e.worker → is_bound order e.request ≡ tr
 abbrev pub turn : ℕ → Entry → ℕ
 turn worker e = if e.worker == worker then suc e.index else 0
 
--- one past the greatest index of a worker's entries, and 0 where it has none
+-- one past the greatest index of a worker's entries, and 0 if it has none
 abbrev pub turn_after : ℕ → List Entry → ℕ
 turn_after worker history = greatest_by (turn worker) history
 

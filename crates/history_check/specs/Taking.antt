@@ -16,10 +16,10 @@ use Rattle.history_check.specs.Orders.{turn_after}
 use Rattle.history_check.specs.Checking.{GoWell}
 use Rattle.history_check.specs.Texts.{HasRead}
 
--- Nothing is wrong with the entries, the auction holds the book after them, each request that stands in one has a mark, and
--- each worker its turn.
-pub record HasTaken (opening : Opening) (start : Book) (scripts : List (List Request)) (order : Order) (history : List Entry)
-    (replay : Replay) : Type 0 where
+-- Nothing is wrong with the entries, the auction holds the book after them, each request that
+-- stands in one has a mark, and each worker its turn.
+pub record HasTaken (opening : Opening) (start : Book) (scripts : List (List Request))
+    (order : Order) (history : List Entry) (replay : Replay) : Type 0 where
   pub go_well : GoWell opening start scripts order history
   pub opening_is : serial_opening replay.auction ≡ opening
   pub order_is : replay.order ≡ order
@@ -27,9 +27,10 @@ pub record HasTaken (opening : Opening) (start : Book) (scripts : List (List Req
   pub few : length (book_after opening start history) ≤ replay.rows
   pub count : replay.rows ≡ length start + length history
   pub places : HasPlaces replay.marks.rows.items scripts
-  pub marks : (worker index : ℕ) → worker < MOST_WORKERS →
-      count_by (is_of worker index) history ≡ (if is_marked replay.marks.rows.items worker index then 1 else 0)
-  pub turns : (worker : ℕ) → worker < MOST_WORKERS → get_or replay.turns.next worker 0 ≡ turn_after worker history
+  pub marks : (worker index : ℕ) → worker < MOST_WORKERS → count_by (is_of worker index) history
+      ≡ (if is_marked replay.marks.rows.items worker index then 1 else 0)
+  pub turns : (worker : ℕ) → worker < MOST_WORKERS →
+      get_or replay.turns.next worker 0 ≡ turn_after worker history
 
 -- a replay has performed some entries, from some book on
 pub record CanTake (scripts : List (List Request)) (replay : Replay) : Type 0 where
@@ -39,25 +40,37 @@ pub record CanTake (scripts : List (List Request)) (replay : Replay) : Type 0 wh
   pub history : List Entry
   pub taken : HasTaken opening start scripts order history replay
 
+-- it is so with each opening, book, order and history whose entries a replay may have performed
+abbrev pub ForEachTaken : List (List Request) → Replay →
+    (Opening → Book → Order → List Entry → Type 0) → Type 0
+ForEachTaken scripts replay IsSo =
+    (opening : Opening) (start : Book) (order : Order) (history : List Entry) →
+    HasTaken opening start scripts order history replay → IsSo opening start order history
+
 -- each request of each script has a mark
 abbrev pub AreMarked : List (List Request) → List (List Bool) → Type 0
-AreMarked scripts rows = (worker index : ℕ) → index < length (script_of scripts worker) → is_marked rows worker index ≡ true
+AreMarked scripts rows = (worker index : ℕ) → index < length (script_of scripts worker) →
+    is_marked rows worker index ≡ true
 
 -- the request with this index of this worker's script has no mark
-pub record IsUnmarked (scripts : List (List Request)) (rows : List (List Bool)) (worker index : ℕ) : Type 0 where
+pub record IsUnmarked (scripts : List (List Request)) (rows : List (List Bool))
+    (worker index : ℕ) : Type 0 where
   pub has_request : index < length (script_of scripts worker)
   pub worker_below : worker < MOST_WORKERS
   pub no_mark : is_marked rows worker index ≡ false
 
--- A replay has performed the entries whose lines were read of a text, so many, where the text is known.
-pub record IsReading (opening : Opening) (start : Book) (scripts : List (List Request)) (order : Order) (first now : Option (List ℕ))
-    (replay : Replay) (number : ℕ) : Type 0 where
+-- A replay has performed the entries whose lines were read of a text, so many, if the text is
+-- known.
+pub record IsReading (opening : Opening) (start : Book) (scripts : List (List Request))
+    (order : Order) (first now : Option (List ℕ)) (replay : Replay) (number : ℕ) : Type 0 where
   pub history : List Entry
   pub taken : HasTaken opening start scripts order history replay
   pub has_read : HasRead first now history
   pub number_is : number ≡ length history
 
 -- it is so with each reading of a text that this replay may be at, after so many lines
-abbrev pub ForEachReading : List (List Request) → Option (List ℕ) → Replay → ℕ → (Opening → Book → Order → Option (List ℕ) → Type 0) → Type 0
-ForEachReading scripts now replay number IsSo = (opening : Opening) (start : Book) (order : Order) (first : Option (List ℕ)) →
+abbrev pub ForEachReading : List (List Request) → Option (List ℕ) → Replay → ℕ →
+    (Opening → Book → Order → Option (List ℕ) → Type 0) → Type 0
+ForEachReading scripts now replay number IsSo =
+    (opening : Opening) (start : Book) (order : Order) (first : Option (List ℕ)) →
     IsReading opening start scripts order first now replay number → IsSo opening start order first

@@ -14,22 +14,25 @@ with_byte byte (line ∷ lines) = (byte ∷ line) ∷ lines
 -- the lines of a text: each ends with a line feed, but for the last, which may have none
 abbrev pub lines_of : List ℕ → List (List ℕ)
 lines_of [] = []
-lines_of (byte ∷ rest) = if byte == 10 then (byte ∷ []) ∷ lines_of rest else with_byte byte (lines_of rest)
+lines_of (byte ∷ rest) =
+    if byte == 10 then (byte ∷ []) ∷ lines_of rest else with_byte byte (lines_of rest)
 
 -- the lines of a history
 abbrev pub history_lines : List Entry → List (List ℕ)
 history_lines history = map history_line history
 
--- a line is the next one of what is left to read, where this is known; or there is none
+-- a line is the next one of what is left to read, if this is known; or there is none
 abbrev pub ReadsLine : Option (List ℕ) → Option (List ℕ) → Bool → List ℕ → Type 0
 ReadsLine None new found line = ⊤
-ReadsLine (Some text) new true line = (rest : List ℕ) × (new ≡ Some rest) × (lines_of text ≡ line ∷ lines_of rest)
+ReadsLine (Some text) new true line = (rest : List ℕ) × (new ≡ Some rest)
+    × (lines_of text ≡ line ∷ lines_of rest)
 ReadsLine (Some text) new false line = lines_of text ≡ []
 
--- the lines of a history were read of a text, where that is known
+-- the lines of a history were read of a text, if that is known
 abbrev pub HasRead : Option (List ℕ) → Option (List ℕ) → List Entry → Type 0
 HasRead None new history = ⊤
-HasRead (Some text) new history = (rest : List ℕ) × (new ≡ Some rest) × (lines_of text ≡ history_lines history ++ lines_of rest)
+HasRead (Some text) new history = (rest : List ℕ) × (new ≡ Some rest)
+    × (lines_of text ≡ history_lines history ++ lines_of rest)
 
 -- the name that a reply shows is a name
 abbrev pub ShowsName : Reply → Type 0

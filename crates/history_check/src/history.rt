@@ -33,7 +33,8 @@ fn fault_of(error: &Error) -> CheckFault
 
 // Reads the next line with its line feed, if there is one.
 fn read_next<R: BufRead>(reader: &mut R, line: &mut Vec<u8>) -> Result<bool, CheckFault>
-    ensures line { IfOk result (λ found. ReadsLine (R.remaining reader.old) (R.remaining reader.new) found line.new.items) }
+    ensures line { IfOk result (λ found.
+        ReadsLine (R.remaining reader.old) (R.remaining reader.new) found line.new.items) }
     ensures fault { IsErrOf result TooLong → ⊥ }
 {
     line.clear();
@@ -44,8 +45,8 @@ fn read_next<R: BufRead>(reader: &mut R, line: &mut Vec<u8>) -> Result<bool, Che
     }
 }
 
-// Reads the next line and performs it. What is found is known where there is no next line, and
-// where it is wrong.
+// Reads the next line and performs it. What is found is known if there is no next line, or if it
+// is wrong.
 fn find_next<R: BufRead>(
     replay: &mut Replay,
     scripts: &[Vec<Request>],
@@ -56,12 +57,18 @@ fn find_next<R: BufRead>(
     requires workers { length scripts.now ≤ MOST_WORKERS }
     requires number { number ≤ MOST_ROWS }
     requires taken { CanTake (lists scripts.now) replay.old }
-    ensures goes_on { IfOk result (λ found. IfNone found (ForEachReading (lists scripts.now) (R.remaining reader.old) replay.old number
-        (λ opening start order first. IsReading opening start (lists scripts.now) order first (R.remaining reader.new) replay.new (number + 1)))) }
-    ensures verdict { IfOk result (λ found. IfSome found (λ verdict. ForEachReading (lists scripts.now) (R.remaining reader.old) replay.old number
-        (λ opening start order first. IfSome first (λ text. IsVerdict opening start (lists scripts.now) order text verdict)))) }
-    ensures too_long { IsErrOf result TooLong → ForEachReading (lists scripts.now) (R.remaining reader.old) replay.old number
-        (λ opening start order first. IfSome first (λ text. MOST_ROWS < length start + length (lines_of text))) }
+    ensures goes_on { IfOk result (λ found. IfNone found (
+        ForEachReading (lists scripts.now) (R.remaining reader.old) replay.old number
+        (λ opening start order first. IsReading opening start (lists scripts.now) order first
+        (R.remaining reader.new) replay.new (number + 1)))) }
+    ensures verdict { IfOk result (λ found. IfSome found (λ verdict.
+        ForEachReading (lists scripts.now) (R.remaining reader.old) replay.old number
+        (λ opening start order first. IfSome first (λ text.
+        IsVerdict opening start (lists scripts.now) order text verdict)))) }
+    ensures too_long { IsErrOf result TooLong →
+        ForEachReading (lists scripts.now) (R.remaining reader.old) replay.old number
+        (λ opening start order first. IfSome first (λ text.
+        MOST_ROWS < length start + length (lines_of text))) }
 {
     if !read_next(reader, line)? {
         if let Some((worker, index)) = replay.lacks(scripts) {
@@ -76,8 +83,8 @@ fn find_next<R: BufRead>(
 }
 
 /// Replays a text, line by line, on an auction of one thread from the book that it is opened with,
-/// and compares each reply with that of the line. `scripts` are those of at most 16 workers. Where
-/// a line is wrong, `line` holds it. It takes time in proportion to the text, the rows, the
+/// and compares each reply with that of the line. `scripts` are those of at most 16 workers. If a
+/// line is wrong, `line` holds it. It takes time in proportion to the text, the rows, the
 /// requests, the users and the categories, and memory for the rows, the scripts and a line.
 pub fn check_history<R: BufRead>(
     alloc: Global,
@@ -89,9 +96,11 @@ pub fn check_history<R: BufRead>(
 ) -> Result<Verdict, CheckFault>
     requires workers { length scripts.now ≤ MOST_WORKERS }
     ensures verdict { IfOk result (λ verdict. IfSome (R.remaining reader.old) (λ text.
-        IsVerdict (opening_of book.now) (rows_of_book book.now) (lists scripts.now) order text verdict)) }
+        IsVerdict (opening_of book.now) (rows_of_book book.now) (lists scripts.now) order text
+        verdict)) }
     ensures accepted { IfOk result (λ verdict. IfSome (R.remaining reader.old) (λ text.
-        IsAccepted (opening_of book.now) (rows_of_book book.now) (lists scripts.now) order text → verdict ≡ Replays)) }
+        IsAccepted (opening_of book.now) (rows_of_book book.now) (lists scripts.now) order text →
+        verdict ≡ Replays)) }
     ensures too_long { IsErrOf result TooLong → IfSome (R.remaining reader.old) (λ text.
         MOST_ROWS < length (rows_of_book book.now) + length (lines_of text)) }
 {
@@ -106,12 +115,16 @@ pub fn check_history<R: BufRead>(
 
 /// The line of an entry in a history is that of the text of its reply after its id.
 pub fn lines_are_placed()
-    ensures { (entry : Entry) → history_line entry ≡ line_at (commit_id_of entry) (reply_text entry.reply) }
+    ensures { (entry : Entry) →
+        history_line entry ≡ line_at (commit_id_of entry) (reply_text entry.reply) }
 {}
 
-/// A text whose lines are those of a history is the history's text; and where each name that a
+/// A text whose lines are those of a history is the history's text; and if each name that a
 /// history shows is a name, as every `Name` is, the lines of its text are those of the history.
 pub fn texts_are_lines()
-    ensures text { (history : List Entry) (text : List ℕ) → history_lines history ≡ lines_of text → history_text history ≡ text }
-    ensures lines { (history : List Entry) → AllByRecursion (λ entry. ShowsName entry.reply) history → lines_of (history_text history) ≡ history_lines history }
+    ensures text { (history : List Entry) (text : List ℕ) → history_lines history ≡ lines_of text →
+        history_text history ≡ text }
+    ensures lines { (history : List Entry) →
+        AllByRecursion (λ entry. ShowsName entry.reply) history →
+        lines_of (history_text history) ≡ history_lines history }
 {}

@@ -55,7 +55,8 @@ fn read_short_number(bytes: &[u8]) -> Option<(u32, &[u8])>
 fn read_commit_id(text: &[u8]) -> Option<(CommitId, &[u8])>
     ensures read { IfSome result (λ found. text.now ≡ with_commit_id found.0 found.1.now) }
     ensures fits { IfSome result (λ found. Fits found.0) }
-    ensures all { (commit_id : CommitIdValue) (rest : List ℕ) → Fits commit_id → text.now ≡ with_commit_id commit_id rest →
+    ensures all { (commit_id : CommitIdValue) (rest : List ℕ) → Fits commit_id →
+        text.now ≡ with_commit_id commit_id rest →
         IsSomeAnd result (λ found. (found.0 ≡ commit_id) × (found.1.now ≡ rest)) }
 {
     let (phase, text) = read_number(text)?;
@@ -74,7 +75,8 @@ fn read_commit_id(text: &[u8]) -> Option<(CommitId, &[u8])>
 // A line without the line feed at its end.
 fn without_line_feed(line: &[u8]) -> Option<&[u8]>
     ensures read { IfSome result (λ text. line.now ≡ text.now ++ 10 ∷ []) }
-    ensures all { (text : List ℕ) → line.now ≡ text ++ 10 ∷ [] → IsSomeAnd result (λ found. found.now ≡ text) }
+    ensures all { (text : List ℕ) → line.now ≡ text ++ 10 ∷ [] →
+        IsSomeAnd result (λ found. found.now ≡ text) }
 {
     match line {
         [text @ .., b'\n'] => Some(text),
@@ -82,11 +84,12 @@ fn without_line_feed(line: &[u8]) -> Option<&[u8]>
     }
 }
 
-/// The id of the commit that a line begins with, and the text of the reply after it, if there is a line feed
-/// at its end.
+/// The id of the commit that a line begins with, and the text of the reply after it, if there is a
+/// line feed at its end.
 pub fn read_line(line: &[u8]) -> Option<(CommitId, &[u8])>
     ensures read { IfSome result (λ found. IsLineOf line.now found.0 found.1.now) }
-    ensures none { IfNone result ((commit_id : CommitIdValue) (text : List ℕ) → ¬ IsLineOf line.now commit_id text) }
+    ensures none { IfNone result ((commit_id : CommitIdValue) (text : List ℕ) →
+        ¬ IsLineOf line.now commit_id text) }
 {
     let (commit_id, rest) = read_commit_id(line)?;
     let text = without_line_feed(rest)?;

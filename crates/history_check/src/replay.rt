@@ -2,8 +2,6 @@
 //! its script, and an auction of one thread on which a history is replayed.
 ghost use Rattle.std.specs.Prelude.{◌≡◌, ◌<◌, ◌≤◌, ℕ, true, false, length, IfOk, IfNone, IfSome, ◌==◌, ◌&&◌, if◌then◌else◌, Some, ◌^◌, suc, max, nat_lt, get_or, ◌↔◌, ◌++◌, ◌∷◌, [], List, IsTrue, IsErrOf};
 ghost use Rattle.run_laws.specs.Serving.{script_of};
-ghost use Rattle.auction_rows.specs.Book.{Book as Rows};
-ghost use Rattle.auction_rows.specs.declared.values.Opening.{Opening};
 ghost use Rattle.auction_rows.specs.declared.rows.Entry.{Entry};
 ghost use Rattle.item_shards.specs.OpeningBooks.{opening_of, rows_of_book};
 ghost use Rattle.auction_text.specs.Replies.{reply_text, history_line};
@@ -11,7 +9,6 @@ ghost use Rattle.history_check.specs.Scripts.{lists, request_at};
 ghost use Rattle.history_check.specs.Marks.{is_marked, HasPlaces, AreWide};
 ghost use Rattle.history_check.specs.Orders.{is_bound, is_late};
 ghost use Rattle.history_check.specs.declared.lines.CheckFault.TheVariants.{TooLong};
-ghost use Rattle.history_check.specs.declared.lines.Order.{Order as Asked};
 ghost use Rattle.history_check.specs.CommitIds.{Fits, IsLineOf, commit_id_of};
 ghost use Rattle.history_check.specs.Checking.{IsWrong};
 
@@ -53,7 +50,8 @@ impl Marks {
     /// A place for each request of each script, with no mark.
     pub fn new(alloc: Global, scripts: &[Vec<Request>]) -> Result<Marks, AllocError>
         ensures places { IfOk result (λ marks. HasPlaces marks.rows.items (lists scripts.now)) }
-        ensures none { IfOk result (λ marks. (worker index : ℕ) → worker < MOST_WORKERS → is_marked marks.rows.items worker index ≡ false) }
+        ensures none { IfOk result (λ marks. (worker index : ℕ) → worker < MOST_WORKERS →
+            is_marked marks.rows.items worker index ≡ false) }
     {
         let places = longest(scripts);
         Ok(Marks {
@@ -75,8 +73,10 @@ impl Marks {
     pub fn lacks(&self, worker: usize, count: usize) -> Option<usize>
         requires worker { worker < MOST_WORKERS }
         requires places { count ≤ length self.now.rows.items }
-        ensures none { IfNone result ((index : ℕ) → index < count → is_marked self.now.rows.items worker index ≡ true) }
-        ensures some { IfSome result (λ index. (index < count) × (is_marked self.now.rows.items worker index ≡ false)) }
+        ensures none { IfNone result ((index : ℕ) → index < count →
+            is_marked self.now.rows.items worker index ≡ true) }
+        ensures some { IfSome result (λ index. (index < count)
+            × (is_marked self.now.rows.items worker index ≡ false)) }
     {
         for index in 0..count {
             if !self.has(worker, index) {
@@ -107,7 +107,7 @@ pub struct Turns {
 }
 
 impl Turns {
-    /// The turns where there are no entries.
+    /// The turns if there are no entries.
     pub fn new() -> Turns
         ensures { (worker : ℕ) → get_or result.next worker 0 ≡ 0 }
     {
@@ -128,7 +128,8 @@ impl Turns {
     pub fn pass(&mut self, worker: usize, index: u32)
         requires { worker < MOST_WORKERS }
         ensures { (other : ℕ) → other < MOST_WORKERS → get_or self.new.next other 0
-            ≡ (if worker == other then max (get_or self.old.next other 0) (suc index) else get_or self.old.next other 0) }
+            ≡ (if worker == other then max (get_or self.old.next other 0) (suc index)
+            else get_or self.old.next other 0) }
     {
         let next = u64::from(index) + 1;
         self.next[worker] = self.next[worker].max(next);
@@ -169,7 +170,7 @@ fn is_text_of(written: &mut Vec<u8>, reply: &Reply, text: &[u8]) -> Result<bool,
 }
 
 impl Replay {
-    ghost use Rattle.history_check.specs.Taking.{HasTaken, CanTake, AreMarked, IsUnmarked};
+    ghost use Rattle.history_check.specs.Taking.{HasTaken, CanTake, ForEachTaken, AreMarked, IsUnmarked};
 
     /// The auction of an opening book, before the first line.
     pub fn new(
@@ -178,7 +179,8 @@ impl Replay {
         scripts: &[Vec<Request>],
         order: Order,
     ) -> Result<Replay, AllocError>
-        ensures { IfOk result (HasTaken (opening_of book.now) (rows_of_book book.now) (lists scripts.now) order []) }
+        ensures { IfOk result (HasTaken (opening_of book.now) (rows_of_book book.now)
+            (lists scripts.now) order []) }
     {
         Ok(Replay {
             auction: SerialAuction::resume(alloc, book)?,
@@ -199,13 +201,13 @@ impl Replay {
     ) -> Result<Option<Wrong>, CheckFault>
         requires workers { length scripts.now ≤ MOST_WORKERS }
         requires taken { CanTake (lists scripts.now) self.old }
-        ensures right { IfOk result (λ found. IfNone found ((opening : Opening) (start : Rows) (order : Asked) (history : List Entry) →
-            HasTaken opening start (lists scripts.now) order history self.old →
+        ensures right { IfOk result (λ found. IfNone found (
+            ForEachTaken (lists scripts.now) self.old (λ opening start order history.
             (entry : Entry) × (history_line entry ≡ line.now)
-            × HasTaken opening start (lists scripts.now) order (history ++ entry ∷ []) self.new)) }
-        ensures wrong { IfOk result (λ found. IfSome found (λ why. (opening : Opening) (start : Rows) (order : Asked) (history : List Entry) →
-            HasTaken opening start (lists scripts.now) order history self.old →
-            IsWrong opening start (lists scripts.now) order history line.now why)) }
+            × HasTaken opening start (lists scripts.now) order (history ++ entry ∷ []) self.new))) }
+        ensures wrong { IfOk result (λ found. IfSome found (λ why.
+            ForEachTaken (lists scripts.now) self.old (λ opening start order history.
+            IsWrong opening start (lists scripts.now) order history line.now why))) }
         ensures too_long { IsErrOf result TooLong → MOST_ROWS ≤ self.old.rows }
     {
         match read_line(line) {
@@ -214,11 +216,12 @@ impl Replay {
         }
     }
 
-    // Whether a line of a later request of the script stands before the request of a commit, and may
-    // not.
+    // Whether a line of a later request of the script stands before the request of a commit, and
+    // may not.
     fn is_late(&self, commit_id: CommitId, request: Request) -> bool
         requires { commit_id.worker < MOST_WORKERS }
-        ensures { result ≡ is_late self.now.order request commit_id.index (get_or self.now.turns.next commit_id.worker 0) }
+        ensures { result ≡ is_late self.now.order request commit_id.index
+            (get_or self.now.turns.next commit_id.worker 0) }
     {
         is_bound(self.order, request)
             && self
@@ -226,7 +229,7 @@ impl Replay {
                 .is_late(commit_id.worker as usize, commit_id.index)
     }
 
-    // Performs the request of a commit, where a line tells of it in its turn, and compares the reply
+    // Performs the request of a commit, if a line tells of it in its turn, and compares the reply
     // with a text.
     fn perform_at(
         &mut self,
@@ -237,13 +240,14 @@ impl Replay {
         requires workers { length scripts.now ≤ MOST_WORKERS }
         requires taken { CanTake (lists scripts.now) self.old }
         requires fits { Fits commit_id }
-        ensures right { IfOk result (λ found. IfNone found ((opening : Opening) (start : Rows) (order : Asked) (history : List Entry) →
-            HasTaken opening start (lists scripts.now) order history self.old →
+        ensures right { IfOk result (λ found. IfNone found (
+            ForEachTaken (lists scripts.now) self.old (λ opening start order history.
             (entry : Entry) × (commit_id_of entry ≡ commit_id) × (text.now ≡ reply_text entry.reply)
-            × HasTaken opening start (lists scripts.now) order (history ++ entry ∷ []) self.new)) }
-        ensures wrong { IfOk result (λ found. IfSome found (λ why. (opening : Opening) (start : Rows) (order : Asked) (history : List Entry) (line : List ℕ) →
-            HasTaken opening start (lists scripts.now) order history self.old → IsLineOf line commit_id text.now →
-            IsWrong opening start (lists scripts.now) order history line why)) }
+            × HasTaken opening start (lists scripts.now) order (history ++ entry ∷ []) self.new))) }
+        ensures wrong { IfOk result (λ found. IfSome found (λ why.
+            (line : List ℕ) → IsLineOf line commit_id text.now →
+            ForEachTaken (lists scripts.now) self.old (λ opening start order history.
+            IsWrong opening start (lists scripts.now) order history line why))) }
         ensures too_long { IsErrOf result TooLong → MOST_ROWS ≤ self.old.rows }
     {
         let Some(request) = request_of(scripts, commit_id.worker, commit_id.index) else {
@@ -277,7 +281,8 @@ impl Replay {
         requires workers { length scripts.now ≤ MOST_WORKERS }
         requires taken { CanTake (lists scripts.now) self.now }
         ensures none { IfNone result (AreMarked (lists scripts.now) self.now.marks.rows.items) }
-        ensures some { IfSome result (λ commit_id. IsUnmarked (lists scripts.now) self.now.marks.rows.items commit_id.0 commit_id.1) }
+        ensures some { IfSome result (λ commit_id.
+            IsUnmarked (lists scripts.now) self.now.marks.rows.items commit_id.0 commit_id.1) }
     {
         for worker in 0..scripts.len() {
             if let Some(index) = self.marks.lacks(worker, scripts[worker].len()) {

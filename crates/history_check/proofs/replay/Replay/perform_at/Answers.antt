@@ -37,7 +37,7 @@ pub pass-requires : goal.pass-requires
 pass-requires c = worker_below c.args.scripts.now c.args.commit_id.worker c.args.commit_id.index c.in-Some.request c.requires.workers (sym c.in-Some.ensures)
 
 pub returns-then-is_late-clause-wrong : goal.returns-then-is_late-clause-wrong
-returns-then-is_late-clause-wrong c = λ opening start order history line taken is.
+returns-then-is_late-clause-wrong c = λ line is opening start order history taken.
     let commit_id = c.args.commit_id in
     let request = c.in-Some.request in
     let below : commit_id.worker < 16 = worker_below c.args.scripts.now commit_id.worker commit_id.index request c.requires.workers (sym c.in-Some.ensures) in
@@ -54,7 +54,7 @@ returns-then-is_late-clause-wrong c = λ opening start order history line taken 
     )
 
 pub returns-then-not-branch-clause-wrong : goal.returns-then-not-branch-clause-wrong
-returns-then-not-branch-clause-wrong c = λ opening start order history line taken is.
+returns-then-not-branch-clause-wrong c = λ line is opening start order history taken.
     let commit_id = c.args.commit_id in
     let request = c.in-Some.request in
     let book = book_after opening start history in (
