@@ -36,7 +36,7 @@ use Rattle.run_laws.proofs.ScriptLemmas.{past_end}
 use Rattle.run_laws.proofs.StepLemmas.{run_begins}
 use Rattle.auction_run.specs.declared.checks.RunFault.{RunFault}
 use Rattle.auction_run.specs.declared.checks.RunFault.TheVariants.{Memory}
-use Rattle.auction_run.specs.declared.runs.Running.{Running}
+use Rattle.auction_run.specs.declared.phase.Running.{Running}
 use Rattle.auction_run.specs.Beginning.{AreShort}
 use Rattle.auction_run.specs.Boards.{CanShow, HasShownAfter, IsUpToDate, phase_rows}
 use Rattle.auction_run.specs.Outcomes.{HasShownFirstAfter}

@@ -24,7 +24,7 @@ use Rattle.auction_rows.specs.declared.limits.Policy.{Policy}
 use Rattle.run_laws.specs.Serving.{script_of}
 use Rattle.run_laws.proofs.ScriptLemmas.{past_end}
 use Rattle.auction_run.specs.declared.runs.Outcome.{Outcome}
-use Rattle.auction_run.specs.declared.runs.Running.{Running}
+use Rattle.auction_run.specs.declared.phase.Running.{Running}
 use Rattle.auction_run.specs.Beginning.{AreShort, HaveWorkers}
 use Rattle.auction_run.specs.GoingOn.{BeginsWith, CannotBegin, IsReadyFor}
 use Rattle.auction_run.specs.Outcomes.{IsOutcome}

@@ -11,4 +11,5 @@ pub mod StableLemmas
 pub mod RunLemmas
 pub mod BoardLemmas
 pub mod GoingOnLemmas
+pub mod AnswerLemmas
 pub mod PartLemmas

@@ -1,7 +1,7 @@
 -- From the floor, the permits and the receipts of a phase to what a run knows of it.
 use Rattle.std.specs.declared.alloc.Global.{Global}
 use Rattle.std.proofs.Common.{Vec, ◌≡◌, ℕ, zero, suc, ◌+◌, ◌-◌, ◌%◌, ◌<◌, ◌≤◌, ◌⊎◌, inl, inr, min, Bool, true, false, not, cond, List, [], ◌∷◌, ◌++◌, map, length, take, drop, refl, sym, ap, subst, ◌∙◌, arith}
-use Rattle.std.specs.Prelude.{Option, Result, Ok, Err, IsErrAnd, slice_index}
+use Rattle.std.specs.Prelude.{Option, slice_index}
 use Rattle.std.specs.List.{AllByRecursion, AllZip}
 use Rattle.std.proofs.Math.ListN.{get_or-map}
 use Rattle.std.proofs.Math.Seq.{drop-nil, take-nil}
@@ -31,7 +31,6 @@ use Rattle.phase_permits.specs.Workers.{WorkerState}
 use Rattle.phase_permits.specs.Performing.{HaveOpening}
 use Rattle.closing_laws.specs.Phases.{no_receipt, receipt_at, journal_of, counters_of}
 use Rattle.closing_laws.specs.Standing.{StandFor, counters_at}
-use Rattle.worker_journals.specs.Histories.{HistoryView}
 use Rattle.worker_journals.specs.Journals.{entry_worker}
 use Rattle.phase_floor.specs.declared.floor.BeginFault.{BeginFault}
 use Rattle.phase_floor.specs.declared.floor.BeginFault.TheVariants.{UnknownHot, TooLong, Memory}
@@ -39,11 +38,9 @@ use Rattle.phase_floor.specs.Begins.{IsTooLong, empty_stash}
 use Rattle.phase_floor.specs.Closings.{AreReceiptsOf, Leaves, stash_of}
 use Rattle.phase_floor.specs.Floors.{FloorState, IsNewPermit, stash_at}
 use Rattle.phase_floor.specs.States.{JoinedState, states_of, StandsFor}
-use Rattle.auction_run.specs.declared.checks.RunFault.{RunFault}
-use Rattle.auction_run.specs.declared.phase.Closed.{Closed}
-use Rattle.auction_run.specs.Closed.{HasClosedPhase, HasPerformedPhase}
+use Rattle.auction_run.specs.Closed.{HasClosedPhase}
 use Rattle.auction_run.specs.Phases.{lists, told, IsMet, MayPerform, waiting_in, quota_of}
-use Rattle.auction_run.specs.Serving.{HasBegunPhase}
+use Rattle.auction_run.specs.Serving.{CanPerform, HasBegunPhase, HasEnded}
 use Rattle.phase_workers.specs.declared.round.ServingFault.{ServingFault}
 use Rattle.phase_workers.specs.declared.round.ServingFault.TheVariants as serving
 use Rattle.phase_workers.specs.Tasks.{Task, task, tasks, to_do, calls_for, CanBeDone, HasDoneTask, IsFaultBy}
@@ -102,11 +99,6 @@ given_quotas policy scripts phase first given quotas split is at same are w less
     ∙ ap (λ b. min (cond b policy.split_quota policy.joined_quota) (length (script_of (lists scripts) w) - first_index policy phase)) (sym is)
 
 -- ---- the answer of a phase
-
-pub failed : {policy : Policy} {scripts : List (List Request)} {state : JoinedState} {stashes : List StashState} {hot : List Object} {before after : HistoryView} (result : Result Closed RunFault) (fault : RunFault) →
-    IsErrAnd result (λ e. e ≡ fault) → IsMet scripts fault → HasPerformedPhase policy scripts state stashes hot before after result
-failed (Ok closed) fault is met = absurd is
-failed {scripts = scripts} (Err e) fault is met = record { history = tt; last = tt; closed = tt; fault = subst (IsMet scripts) (sym is) met }
 
 -- what the workers of a phase met is told
 pub fault_met : (scripts : List (List Request)) (HasMet : PermitFault → Type 0) (fault : ServingFault) → IsFaultBy (length scripts) HasMet fault → IsMet scripts (told fault)
@@ -167,11 +159,27 @@ of_workers phase n (p ∷ ps) each =
           subst (λ m. IsPermitOf phase m (receipt_at ps w)) next (each (suc w) (omega (arith, less)))),
     )
 
--- Permits of a phase are ready to be served: each worker can perform what it is given of its script, from this index on.
-pub record AreReady (initial : List ShardState) (boxes : List BoxId) (phase first : ℕ) (scripts : List (List Request))
-    (permits : List WorkerState) : Type 0 where
-  pub can : AllByRecursion (CanBeDone initial boxes) (tasks permits scripts first)
-  pub of : ArePermitsOf phase 0 permits
+-- a split phase has begun with the stashes that a run has: nothing waits in them
+pub begun_split : {policy : Policy} {scripts : List (List Request)} {state : JoinedState} {stashes : List StashState} {hot : List Object} {floor : FloorState} {permits : List WorkerState} →
+    MayPerform policy scripts state stashes hot → is_split state.phase ≡ true → HasBegunPhase policy scripts state [] hot floor permits → HasBegunPhase policy scripts state stashes hot floor permits
+begun_split may split begun = record {
+  opening_is = begun.opening_is;
+  phase_is = begun.phase_is;
+  counters_are = begun.counters_are;
+  hot_are = begun.hot_are;
+  quotas = begun.quotas;
+  quotas_are = begun.quotas_are;
+  handed = begun.handed;
+  handed_are = λ w. begun.handed_are w ∙ sym (may.split split w);
+  new = begun.new;
+}
+
+-- the workers can do their tasks with the boxes that the floor shows
+pub can_with : {takes : Bool} {initial : List ShardState} {floor : FloorState} {permits : List WorkerState} {scripts : List (List Request)} {phase first : ℕ} →
+    CanPerform takes initial floor permits scripts phase first → {boxes : List BoxId} → boxes ≡ floor.boxes → HaveOpening initial floor.opening →
+    AllByRecursion (CanBeDone initial boxes) (tasks permits scripts first)
+can_with {initial = initial} {permits = permits} {scripts = scripts} {first = first} ready same have =
+    subst (λ boxes. AllByRecursion (CanBeDone initial boxes) (tasks permits scripts first)) (sym same) (ready.can have)
 
 module _ {policy : Policy} {scripts : List (List Request)} {state : JoinedState} {stashes : List StashState} {hot : List Object} {first : ℕ}
     (first_is : first ≡ first_index policy state.phase) (may : MayPerform policy scripts state stashes hot)
@@ -179,7 +187,7 @@ module _ {policy : Policy} {scripts : List (List Request)} {state : JoinedState}
   workers_are : length floor.counters ≡ length scripts
   workers_are = ap length begun.counters_are ∙ sym may.scripts_are
 
-  pub as_many : length permits ≡ length scripts
+  as_many : length permits ≡ length scripts
   as_many = begun.new.0 ∙ workers_are
 
   begins : (w : ℕ) → w < length scripts → IsNewPermit floor w (slice_index begun.quotas w) (stash_at begun.handed w) (receipt_at permits w)
@@ -200,32 +208,28 @@ module _ {policy : Policy} {scripts : List (List Request)} {state : JoinedState}
       ∙ ap (λ n. take (quota_of policy state.phase (script_of scripts w)) (drop n (numbered 0 (script_of scripts w)))) first_is
 
   -- each worker can do its task
-  can_all : (initial : List ShardState) (boxes : List BoxId) → boxes ≡ floor.boxes → HaveOpening initial floor.opening → AllByRecursion (CanBeDone initial boxes) (tasks permits scripts first)
-  can_all initial boxes same have = tasks_all (CanBeDone initial boxes) permits scripts first as_many (λ w below.
+  can_all : (initial : List ShardState) → HaveOpening initial floor.opening → AllByRecursion (CanBeDone initial floor.boxes) (tasks permits scripts first)
+  can_all initial have = tasks_all (CanBeDone initial floor.boxes) permits scripts first as_many (λ w below.
       let less : w < length scripts = omega (arith, below, as_many) in
       let left = left_is w less in
       let waits : length (stashed (receipt_at permits w)) ≡ length (waiting_in stashes w) = ap length (stash_is w less) in
       let tries : (receipt_at permits w).tries ≡ 0 = ap (λ (p : WorkerState). p.tries) (begins w less).new in
       let few = may.room w (omega (arith, less, may.scripts_are)) in
       let fits = within (cond (is_split state.phase) policy.split_quota policy.joined_quota) (length (script_of scripts w)) (first_index policy state.phase) first first_is in record {
-        boxes_are = (begins w less).key.boxes_are ∙ sym same;
+        boxes_are = (begins w less).key.boxes_are;
         opening_is = subst (HaveOpening initial) (sym (ap (λ (p : WorkerState). p.opening) (begins w less).new)) have;
         short = may.short w;
         given = subst (λ n. n ≤ length (script_of scripts w) - first) (sym left) fits;
         tries = omega (arith, left, waits, tries, few);
       })
 
-  -- the permits are ready to be served, in a round that has the phase's number
-  pub are_ready : {initial : List ShardState} {boxes : List BoxId} {phase : ℕ} → boxes ≡ floor.boxes → HaveOpening initial floor.opening → phase ≡ state.phase →
-      AreReady initial boxes phase first scripts permits
-  are_ready {initial} {boxes} {phase} same have now = record {
-    can = can_all initial boxes same have;
-    of = of_workers phase 0 permits (λ w below.
-        let less : w < length scripts = omega (arith, below, as_many) in record {
-          phase_is = ap (λ (p : WorkerState). p.journal.phase) (begins w less).new ∙ begun.phase_is ∙ sym now;
-          worker_is = (begins w less).key.worker_is ∙ (let e : w ≡ 0 + w = omega arith in e);
-        });
-  }
+  -- the permits are those of the workers of a phase that has this number
+  own_permits : {phase : ℕ} → phase ≡ state.phase → ArePermitsOf phase 0 permits
+  own_permits {phase} now = of_workers phase 0 permits (λ w below.
+      let less : w < length scripts = omega (arith, below, as_many) in record {
+        phase_is = ap (λ (p : WorkerState). p.journal.phase) (begins w less).new ∙ begun.phase_is ∙ sym now;
+        worker_is = (begins w less).key.worker_is ∙ (let e : w ≡ 0 + w = omega arith in e);
+      })
 
   module _ (receipts : List WorkerState) (count : length receipts ≡ length permits)
       (same : (w : ℕ) → w < length scripts → IsSamePermit (receipt_at permits w) (receipt_at receipts w)) where
@@ -342,13 +346,13 @@ module _ {policy : Policy} {scripts : List (List Request)} {state : JoinedState}
     same : (w : ℕ) → w < length scripts → IsSamePermit (receipt_at permits w) (receipt_at receipts w)
     same w less = (done w less).same
 
-    pub receipts_are : AreReceiptsOf floor receipts
-    receipts_are = are_receipts receipts count same
+    own_receipts : AreReceiptsOf floor receipts
+    own_receipts = are_receipts receipts count same
 
     -- all that a run knows of the phase, once it is closed
-    pub closed_phase : {initial : List ShardState} → states_of state ≡ initial → is_split state.phase ≡ not takes → (after : Closed) {entries : List Entry} →
-        Leaves initial floor receipts entries after.state after.stashes.items → HasClosedPhase policy scripts state stashes hot entries after
-    closed_phase {initial} named split after {entries} left =
+    closed_phase : {initial : List ShardState} → states_of state ≡ initial → is_split state.phase ≡ not takes → {entries : List Entry} {next : JoinedState} {kept : List StashState} →
+        Leaves initial floor receipts entries next kept → HasClosedPhase policy scripts state stashes hot entries next kept
+    closed_phase {initial} named split {entries} {next} {kept} left =
         let law = left.lawful.lawful in
         let shards : length initial ≡ policy.shards = sym (ap length named) ∙ length-map state.shards state_of ∙ may.shards_are in record {
           performed = subst (λ ss. IsPhasePerformed policy scripts state.phase hot (waiting_in stashes) (waiting_in ss) entries) (sym left.stashes_are)
@@ -360,12 +364,27 @@ module _ {policy : Policy} {scripts : List (List Request)} {state : JoinedState}
               let stood : StandFor initial floor.counters book [] =
               subst (λ cs. StandFor initial cs book []) (sym begun.counters_are) (subst (λ ss. StandFor ss state.counters book []) named here) in (
                 subst (λ o. ReplaysFrom o book entries) begun.opening_is (left.replays book stood),
-                subst (λ o. StandsFor after.state (book_after o book entries)) begun.opening_is (left.stands book stood),
+                subst (λ o. StandsFor next (book_after o book entries)) begun.opening_is (left.stands book stood),
               );
-          phase_is = let next : floor.phase + 1 ≡ suc floor.phase = omega arith in left.phase_is ∙ next ∙ ap suc begun.phase_is;
+          phase_is = let one_more : floor.phase + 1 ≡ suc floor.phase = omega arith in left.phase_is ∙ one_more ∙ ap suc begun.phase_is;
           opening_is = left.opening_is ∙ begun.opening_is;
-          shards_are = sym (length-map after.state.shards state_of) ∙ law.left ∙ sym (ap length named) ∙ length-map state.shards state_of;
+          shards_are = sym (length-map next.shards state_of) ∙ law.left ∙ sym (ap length named) ∙ length-map state.shards state_of;
           workers_are = ap length left.counters_are ∙ length-map receipts counters_of ∙ count ∙ begun.new.0 ∙ ap length begun.counters_are;
           stashes_are = ap length left.stashes_are ∙ length-map receipts stash_of ∙ count ∙ begun.new.0 ∙ ap length begun.counters_are;
-          commits = commits_are receipts count same entries law.parts (λ w. (counters_at after.state.counters w).commits) left.commits;
+          commits = commits_are receipts count same entries law.parts (λ w. (counters_at next.counters w).commits) left.commits;
         }
+
+  -- the workers can perform their parts, in a round that has the phase's number
+  pub can_perform : {initial : List ShardState} {phase : ℕ} → phase ≡ state.phase → (takes : Bool) → CanPerform takes initial floor permits scripts phase first
+  can_perform {initial} now takes = record {
+    permits_are = as_many;
+    counters_are = workers_are;
+    of = own_permits now;
+    can = can_all initial;
+    receipts_are = own_receipts takes;
+  }
+
+  -- all that a run knows of the phase, once it has ended
+  pub ended_phase : {initial : List ShardState} → states_of state ≡ initial → (takes : Bool) → is_split state.phase ≡ not takes → {entries : List Entry} {next : JoinedState} {kept : List StashState} →
+      HasEnded takes initial floor (tasks permits scripts first) entries next kept → HasClosedPhase policy scripts state stashes hot entries next kept
+  ended_phase named takes split ended = closed_phase takes ended.receipts ended.done named split ended.leaves

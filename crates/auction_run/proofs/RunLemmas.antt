@@ -1,6 +1,5 @@
 -- Where a run begins, one phase more, and its end.
 use Rattle.std.proofs.Common.{◌≡◌, ℕ, zero, suc, ◌+◌, ◌-◌, ◌<◌, ◌≤◌, ◌^◌, ◌⊎◌, not, min, true, false, cond, List, [], ◌∷◌, ◌++◌, length, drop, refl, subst, sym, ap, ◌∙◌, inl, inr, arith}
-use Rattle.std.specs.Prelude.{Ok}
 use Rattle.std.specs.List.{filter}
 use Rattle.std.proofs.lemmas.Bool.{cases_Bool, cases_lt, false≢true}
 use Rattle.std.proofs.Math.Seq.{drop-append_seam}
@@ -31,9 +30,9 @@ use Rattle.run_laws.proofs.ClosedLemmas.{none_chosen, none_numbered, phase_chose
 use Rattle.run_laws.proofs.EndLemmas.{run_serves, few_phases}
 use Rattle.run_laws.proofs.StepLemmas.{run_begins, phase_runs}
 use Rattle.run_laws.proofs.ScriptLemmas.{past_end}
-use Rattle.auction_run.specs.declared.runs.Running.{Running}
+use Rattle.auction_run.specs.declared.phase.Running.{Running}
 use Rattle.auction_run.specs.Beginning.{HasQuotas, AreShort}
-use Rattle.auction_run.specs.Closed.{HasClosedPhase, HasPerformedPhase}
+use Rattle.auction_run.specs.Closed.{HasClosedPhase}
 use Rattle.auction_run.specs.Outcomes.{IsOutcome}
 use Rattle.auction_run.specs.Phases.{hot_sets, waiting_in, quota_of, MayPerform}
 use Rattle.auction_run.specs.Running.{IsRunning, CanGoOn}
@@ -82,18 +81,14 @@ module _ {policy : Policy} (some : 0 < policy.joined_quota + policy.split_quota)
     {opening : Opening} {rows : Book} (is_book : IsBook opening rows) {old : Running} (new : Running) {hot_now : List Object}
     (run : IsRunning opening rows policy scripts p old)
     (worker : ℕ) (left : HasLeft policy scripts p (waiting_in old.stashes.items) worker)
-    (performed : HasPerformedPhase policy scripts old.state old.stashes.items hot_now old.history new.history (Ok (record { state = new.state; stashes = new.stashes })))
+    (grown : new.history.entries ≡ old.history.entries ++ added old.history.entries new.history.entries)
+    (all_merged : merged new.history.last ≡ added old.history.entries new.history.entries)
+    (closed : HasClosedPhase policy scripts old.state old.stashes.items hot_now (added old.history.entries new.history.entries) new.state new.stashes.items)
     (hot : hot_sets new.hot.items ≡ hot_sets old.hot.items ++ hot_now ∷ [])
     (not_chosen : is_split old.state.phase ≡ false → hot_now ≡ [])
     (chosen : is_split old.state.phase ≡ true → hot_now ≡ choose (merged old.history.last) policy.threshold policy.hot_max) where
   abbrev entries : List Entry
   entries = added old.history.entries new.history.entries
-
-  abbrev closed : HasClosedPhase policy scripts old.state old.stashes.items hot_now entries (record { state = new.state; stashes = new.stashes })
-  closed = performed.closed
-
-  abbrev grown : new.history.entries ≡ old.history.entries ++ entries
-  grown = performed.history
 
   here : IsPhasePerformed policy scripts p hot_now (waiting_in old.stashes.items) (waiting_in new.stashes.items) entries
   here = subst (λ n. IsPhasePerformed policy scripts n hot_now (waiting_in old.stashes.items) (waiting_in new.stashes.items) entries) run.phase_is closed.performed
@@ -137,7 +132,7 @@ module _ {policy : Policy} (some : 0 < policy.joined_quota + policy.split_quota)
     counted = counted_next;
     from = length old.history.entries;
     last_within = subst (λ es. length old.history.entries ≤ length es) (sym grown) (omega (arith, length-append old.history.entries entries));
-    last_entries = ap (drop (length old.history.entries)) grown ∙ drop-append_seam old.history.entries entries ∙ sym performed.last;
+    last_entries = ap (drop (length old.history.entries)) grown ∙ drop-append_seam old.history.entries entries ∙ sym all_merged;
     last = ap (drop (length old.history.entries)) grown ∙ drop-append_seam old.history.entries entries
         ∙ sym (segment_now p old.history.entries entries run.run.phases_before here.phases) ∙ ap (segment_of p) (sym grown)
         ∙ (let e : p ≡ suc p - 1 = omega arith in ap (λ n. segment_of n new.history.entries) e);

@@ -1,22 +1,24 @@
 -- What a run that goes on from a state begins with, what it answers, and why it stops.
-use Rattle.std.specs.Prelude.{ℕ, ◌+◌, ◌<◌, ◌≤◌, ◌≡◌, List, All, Result, Err, length}
+use Rattle.std.specs.Prelude.{ℕ, ◌+◌, ◌<◌, ◌≤◌, ◌≡◌, List, All, Result, Err, length, IfOk, IfErr, OnOk}
 use Rattle.auction_rows.specs.declared.limits.TheConstants.{MOST_OF_A_WORKER, MOST_WORKERS}
 use Rattle.auction_rows.specs.declared.requests.Request.{Request}
 use Rattle.auction_rows.specs.declared.rows.Row.{Row}
 use Rattle.auction_rows.specs.declared.values.Opening.{Opening}
 use Rattle.auction_rows.specs.Book.{Book, worker_of}
-use Rattle.auction_rows.specs.History.{IsBook}
+use Rattle.auction_rows.specs.History.{IsBook, book_after}
 use Rattle.auction_window.specs.Published.{book_of}
 use Rattle.item_shards.specs.OpeningRows.{rows_by}
 use Rattle.closing_laws.specs.Standing.{counters_at, stores}
-use Rattle.phase_floor.specs.States.{JoinedState, StandsFor}
+use Rattle.phase_floor.specs.States.{JoinedState, StandsFor, IsBookOf}
 use Rattle.auction_rows.specs.declared.limits.Policy.{Policy}
 use Rattle.run_laws.specs.Serving.{script_of}
 use Rattle.auction_run.specs.Beginning.{AreShort, HasQuotas, IsFirstToFail}
+use Rattle.auction_run.specs.Outcomes.{IsOutcome}
 use Rattle.auction_run.specs.Phases.{IsMet}
 use Rattle.auction_run.specs.declared.checks.RunFault.{RunFault}
 use Rattle.auction_run.specs.declared.checks.Stopped.{Stopped}
 use Rattle.auction_run.specs.declared.checks.Stopped.TheVariants.{Refused, Failed}
+use Rattle.auction_run.specs.declared.runs.Outcome.{Outcome}
 
 -- there is a script for each worker of the state
 abbrev pub HasScripts : JoinedState → List (List Request) → Type 0
@@ -56,6 +58,20 @@ IsStopped state policy scripts (Failed fault) =
 abbrev pub fault_of : Stopped → RunFault
 fault_of (Refused back fault) = fault
 fault_of (Failed fault) = fault
+
+-- What a run of these scripts answers that goes on from a state.
+pub record AnswersNextRun (state : JoinedState) (policy : Policy) (scripts : List (List Request))
+    (result : Result Outcome Stopped) : Type 0 where
+  -- it goes on only if it can
+  pub ready : OnOk result (IsReadyFor state policy scripts)
+  -- an outcome is that of a run from each book of the state
+  pub outcome : IfOk result (λ outcome. (book : Book) → IsBookOf state book →
+      IsOutcome state.opening book policy scripts outcome)
+  -- the book after its history is one of the state left
+  pub left : IfOk result (λ outcome. (book : Book) → IsBookOf state book →
+      IsBookOf outcome.state (book_after state.opening book outcome.history.entries))
+  -- or it says why it stopped
+  pub stopped : IfErr result (IsStopped state policy scripts)
 
 -- A run of scripts begins with a state, from a book: it is one of their workers' rows, which were
 -- all their commits, and short together with the scripts; the state stands for it, before a phase

@@ -1,5 +1,5 @@
 -- What a run answers, and what its board has then.
-use Rattle.std.specs.Prelude.{ℕ, ◌≡◌, ◌⊎◌, List, [], length}
+use Rattle.std.specs.Prelude.{ℕ, ◌≡◌, ◌<◌, ◌⊎◌, List, [], Result, length, IfOk, IsErrOf}
 use Rattle.auction_rows.specs.declared.requests.Object.{Object}
 use Rattle.auction_rows.specs.declared.values.Opening.{Opening}
 use Rattle.auction_rows.specs.declared.requests.Request.{Request}
@@ -7,15 +7,16 @@ use Rattle.auction_rows.specs.declared.rows.Row.{Row}
 use Rattle.auction_rows.specs.declared.rows.Entry.{Entry}
 use Rattle.auction_rows.specs.Book.{Book}
 use Rattle.auction_rows.specs.History.{ReplaysFrom, book_after}
-use Rattle.phase_floor.specs.States.{StandsFor}
+use Rattle.phase_floor.specs.States.{StandsFor, IsBookOf}
 use Rattle.auction_rows.specs.declared.limits.Policy.{Policy}
 use Rattle.run_laws.specs.Run.{AreChosen, HasRun}
 use Rattle.run_laws.specs.Serving.{AreNumbered, Serves}
 use Rattle.auction_window.specs.Published.{book_of}
+use Rattle.auction_run.specs.Beginning.{IsRefusedInOrder}
 use Rattle.auction_run.specs.Boards.{HasShown, HasShownAfter}
 use Rattle.auction_run.specs.Phases.{hot_sets}
 use Rattle.auction_run.specs.declared.checks.RunFault.{RunFault}
-use Rattle.auction_run.specs.declared.checks.RunFault.TheVariants.{Memory}
+use Rattle.auction_run.specs.declared.checks.RunFault.TheVariants.{Memory, Spawn}
 use Rattle.auction_run.specs.declared.runs.Outcome.{Outcome}
 
 -- The outcome of a run of these scripts, from an opening book on.
@@ -39,6 +40,19 @@ pub record IsOutcome (opening : Opening) (rows : Book) (policy : Policy)
   pub shards : length outcome.state.shards ≡ policy.shards
   -- and counters for each script
   pub counters : length outcome.state.counters ≡ length scripts
+
+-- What a run of these scripts answers, from an opening book on.
+pub record AnswersRun (opening : Opening) (rows : Book) (policy : Policy)
+    (scripts : List (List Request)) (result : Result Outcome RunFault) : Type 0 where
+  -- an outcome is that of such a run
+  pub outcome : IfOk result (IsOutcome opening rows policy scripts)
+  -- the book after its history is one of the state left
+  pub left : IfOk result (λ outcome.
+      IsBookOf outcome.state (book_after opening rows outcome.history.entries))
+  -- it is refused for the first of four reasons, exactly where one of them is there
+  pub refused : IsRefusedInOrder result policy rows scripts
+  -- Spawn comes only if there is a thread to start
+  pub spawn : IsErrOf result Spawn → 1 < length scripts
 
 -- A board has all phases of a run, of an auction that was opened with these rows.
 abbrev pub HasShownAll : {B : Type 0} → (B → Opening → Book → List (List Row) → Type 0) →

@@ -33,8 +33,8 @@ abbrev pub if_enough : ℕ → Option ℕ → Option ℕ
 if_enough threshold None = None
 if_enough threshold (Some n) = if nat_le threshold n then Some n else None
 
--- A table has each object that is in a list often enough, once, with its heat: how often it is there.
--- What else the table has is not hot enough.
+-- A table has each object that is in a list often enough, once, with its heat: how often it is
+-- there. What else the table has is not hot enough.
 pub record HasHeats (objects : List Object) (threshold : ℕ) (table : List (Object × ℕ))
     : Type 0 where
   pub once : IsDistinct same_object (keys_of table)

@@ -14,7 +14,7 @@ use Rattle.run_laws.specs.Run.{HasRun, AreChosen, first_index}
 use Rattle.run_laws.specs.Serving.{script_of, segment_of, AreNumbered}
 use Rattle.auction_run.specs.Beginning.{AreShort}
 use Rattle.auction_run.specs.Phases.{hot_sets, waiting_in}
-use Rattle.auction_run.specs.declared.runs.Running.{Running}
+use Rattle.auction_run.specs.declared.phase.Running.{Running}
 
 -- What a run from an opening book knows before a phase.
 pub record IsRunning (opening : Opening) (rows : Book) (policy : Policy)

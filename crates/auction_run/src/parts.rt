@@ -1,6 +1,6 @@
 //! Runs that go on from what another left, and the parts of a history, which one run after the
 //! other performs, as a law.
-ghost use Rattle.std.specs.Prelude.{List, length, IfOk, OnOk, IfErr, ◌≡◌, ◌++◌, ◌∷◌, []};
+ghost use Rattle.std.specs.Prelude.{List, length, IfOk, IfErr, ◌≡◌, ◌++◌, ◌∷◌, []};
 ghost use Rattle.auction_rows.specs.declared.rows.Row.{Row as Stored};
 ghost use Rattle.auction_rows.specs.Book.{Book};
 ghost use Rattle.auction_rows.specs.History.{book_after, ReplaysFrom};
@@ -9,13 +9,14 @@ ghost use Rattle.auction_rows.specs.declared.rows.Entry.{Entry};
 ghost use Rattle.phase_floor.specs.States.{IsBookOf, JoinedState};
 ghost use Rattle.auction_window.specs.Published.{book_of};
 ghost use Rattle.auction_run.specs.Boards.{HasShownAfter, IsUpToDate};
-ghost use Rattle.auction_run.specs.GoingOn.{IsReadyFor, IsStopped, fault_of};
-ghost use Rattle.auction_run.specs.Outcomes.{HasShownFirstAfter, IsOutcome};
+ghost use Rattle.auction_run.specs.GoingOn.{AnswersNextRun, fault_of};
+ghost use Rattle.auction_run.specs.Outcomes.{HasShownFirstAfter};
 ghost use Rattle.auction_run.specs.Phases.{lists};
 ghost use Rattle.auction_run.specs.Parts.{ArePartsFrom, HaveLeft, book_after_parts, history_of};
 
 use crate::board::{Board, NoBoard};
 use crate::checks::{Stopped, check_on};
+use crate::phase::Workload;
 use crate::runs::{Outcome, run_from};
 use auction_rows::{Policy, Request};
 use phase_floor::Joined;
@@ -37,12 +38,7 @@ pub fn run_on<R: Threads + Wait + Sync, G: Gate + Sync>(
     policy: Policy,
     gate: &G,
 ) -> Result<Outcome, Stopped>
-    ensures ready { OnOk result (IsReadyFor state policy (lists scripts.items)) }
-    ensures outcome { IfOk result (λ outcome. (book : Book) → IsBookOf state book →
-        IsOutcome state.opening book policy (lists scripts.items) outcome) }
-    ensures left { IfOk result (λ outcome. (book : Book) → IsBookOf state book →
-        IsBookOf outcome.state (book_after state.opening book outcome.history.entries)) }
-    ensures stopped { IfErr result (IsStopped state policy (lists scripts.items)) }
+    ensures { AnswersNextRun state policy (lists scripts.items) result }
 {
     run_on_shown(rt, alloc, state, scripts, policy, gate, &mut NoBoard)
 }
@@ -61,12 +57,7 @@ pub fn run_on_shown<R: Threads + Wait + Sync, G: Gate + Sync, B: Board>(
     board: &mut B,
 ) -> Result<Outcome, Stopped>
     requires { B.can_be_watched → IsUpToDate B.has board.old state }
-    ensures ready { OnOk result (IsReadyFor state policy (lists scripts.items)) }
-    ensures outcome { IfOk result (λ outcome. (book : Book) → IsBookOf state book →
-        IsOutcome state.opening book policy (lists scripts.items) outcome) }
-    ensures left { IfOk result (λ outcome. (book : Book) → IsBookOf state book →
-        IsBookOf outcome.state (book_after state.opening book outcome.history.entries)) }
-    ensures stopped { IfErr result (IsStopped state policy (lists scripts.items)) }
+    ensures answer { AnswersNextRun state policy (lists scripts.items) result }
     ensures board { IfOk result (λ outcome. (rows : Book) (before : List (List Stored)) →
         B.has board.old state.opening rows before → IsBookOf state (book_of rows before) →
         HasShownAfter B.has state.opening rows before (length outcome.hot.items)
@@ -79,11 +70,16 @@ pub fn run_on_shown<R: Threads + Wait + Sync, G: Gate + Sync, B: Board>(
         HasShownFirstAfter B.has B.has_refused state.opening rows before policy
         (lists scripts.items) board.new (fault_of stopped)) }
 {
-    if let Err(fault) = check_on(&state, &scripts, policy) {
+    let work = Workload {
+        scripts: scripts.as_slice(),
+        policy,
+        gate,
+    };
+    if let Err(fault) = check_on(&state, work.scripts, policy) {
         return Err(Stopped::Refused(state, fault));
     }
     let state = state.for_next_run();
-    let outcome = run_from(rt, alloc, state, &scripts, policy, gate, board)?;
+    let outcome = run_from(rt, alloc, state, work, board)?;
     Ok(outcome)
 }
 

@@ -1,21 +1,24 @@
 //! One phase of a run, joined or split: how the run goes on with its scripts in it, and what it
 //! gives each worker.
-ghost use Rattle.std.specs.Prelude.{◌≡◌, ◌-◌, ◌<◌, ◌^◌, ℕ, length, min, slice_index, IfOk, [], false, IfErr, true};
+ghost use Rattle.std.specs.Prelude.{◌≡◌, ◌++◌, ◌-◌, ◌<◌, ◌^◌, ℕ, List, length, min, slice_index, IfOk, OnOk, [], false, IfErr, true};
 ghost use Rattle.run_laws.specs.Run.{first_index};
 ghost use Rattle.run_laws.specs.Serving.{script_of};
 ghost use Rattle.run_laws.specs.Phases.{is_split};
+ghost use Rattle.worker_journals.specs.Merged.{added, merged};
+ghost use Rattle.phase_permits.specs.Stashes.{StashState};
 ghost use Rattle.phase_floor.specs.declared.floor.BeginFault.TheVariants.{Memory};
 ghost use Rattle.phase_floor.specs.States.{states_of};
-ghost use Rattle.auction_run.specs.Phases.{lists, IsPlanOf, MayPerform, waiting_in};
+ghost use Rattle.phase_workers.specs.Tasks.{tasks};
+ghost use Rattle.auction_run.specs.Phases.{lists, IsMet, IsPlanOf, MayPerform};
 ghost use Rattle.auction_run.specs.declared.checks.RunFault.{RunFault};
 ghost use Rattle.auction_run.specs.Closed.{HasPerformedPhase};
-ghost use Rattle.auction_run.specs.Serving.{HasBegunPhase};
+ghost use Rattle.auction_run.specs.Serving.{CanPerform, HasBegunPhase, HasEnded};
 
 use crate::checks::RunFault;
 use auction_rows::{Object, Policy, Request};
 use indexmap::IndexSet;
-use phase_floor::{BeginFault, Joined, JoinedFloor, SplitFloor};
-use phase_permits::{JoinedPermit, SplitPermit, Stash};
+use phase_floor::{BeginFault, Floor, Joined, JoinedFloor, SplitFloor};
+use phase_permits::{JoinedPermit, Kind, Permit, SplitPermit, Stash};
 use phase_workers::{Gate, Round, serve_all};
 use shard_boxes::PhaseName;
 use std::alloc::{AllocError, Global};
@@ -23,6 +26,23 @@ use std::marker::Brand;
 use std::sync::Wait;
 use std::thread::Threads;
 use worker_journals::History;
+
+/// What a run performs: the scripts of its workers, by a policy, with a gate.
+#[derive(Drop)]
+pub(crate) struct Workload<'a, G> {
+    pub(crate) scripts: &'a [Vec<Request>],
+    pub(crate) policy: Policy,
+    pub(crate) gate: &'a G,
+}
+
+/// A run between two phases.
+#[derive(Drop)]
+pub(crate) struct Running {
+    pub(crate) state: Joined,
+    pub(crate) history: History,
+    pub(crate) hot: Vec<IndexSet<Object>>,
+    pub(crate) stashes: Vec<Stash>,
+}
 
 /// A phase of a run: how the scripts are divided, and the round that goes on with each.
 #[derive(Drop)]
@@ -36,24 +56,22 @@ impl<'a, G> PhasePlan<'a, G> {
     ghost use Rattle.auction_run.specs.Phases.{IsPlanOf};
 
     /// The plan of a phase.
-    pub(crate) fn new(
-        scripts: &'a [Vec<Request>],
-        policy: Policy,
-        gate: &'a G,
-        phase: u64,
-    ) -> PhasePlan<'a, G>
+    pub(crate) fn new(work: &Workload<'a, G>, phase: u64) -> PhasePlan<'a, G>
         requires { phase < 2 ^ 31 }
-        ensures scripts { result.round.scripts.now ≡ scripts.now }
-        ensures policy { result.policy ≡ policy }
+        ensures scripts { result.round.scripts.now ≡ work.entry.now.scripts.now }
+        ensures policy { result.policy ≡ work.entry.now.policy }
         ensures plan { IsPlanOf result phase }
     {
         let round = Round {
-            scripts,
-            first: first_index(policy, phase),
+            scripts: work.scripts,
+            first: first_index(work.policy, phase),
             phase,
-            gate,
+            gate: work.gate,
         };
-        PhasePlan { policy, round }
+        PhasePlan {
+            policy: work.policy,
+            round,
+        }
     }
 }
 
@@ -92,33 +110,26 @@ pub(crate) fn worker_quotas(
     Ok(quotas)
 }
 
-/// What a closed phase leaves for the next one.
-#[derive(Drop)]
-pub(crate) struct Closed {
-    pub(crate) state: Joined,
-    pub(crate) stashes: Vec<Stash>,
-}
-
-/// One phase, from its begin to its close: its entries go to the end of the history.
+/// One phase, from its begin to its close: its entries go to the end of the history. Its hot set
+/// is not yet among those of the run.
 pub(crate) fn perform_phase<R: Threads + Wait + Sync, G: Gate + Sync>(
     rt: &R,
     alloc: Global,
-    history: &mut History,
-    state: Joined,
+    running: Running,
     hot: &IndexSet<Object>,
-    stashes: Vec<Stash>,
     plan: PhasePlan<'_, G>,
-) -> Result<Closed, RunFault>
-    requires plan { IsPlanOf plan state.phase }
-    requires may { MayPerform plan.policy (lists plan.round.scripts.now) state stashes.items
-        hot.now.keys }
-    ensures { HasPerformedPhase plan.entry.policy (lists plan.entry.round.scripts.now) state
-        stashes.items hot.now.keys history.old history.new result }
+) -> Result<Running, RunFault>
+    requires plan { IsPlanOf plan running.state.phase }
+    requires may { MayPerform plan.policy (lists plan.round.scripts.now) running.state
+        running.stashes.items hot.now.keys }
+    ensures performed { IfOk result (HasPerformedPhase plan.entry.policy
+        (lists plan.entry.round.scripts.now) hot.now.keys running) }
+    ensures fault { IfErr result (IsMet (lists plan.entry.round.scripts.now)) }
 {
-    if state.phase() % 2 == 0 {
-        return perform_joined_phase::<Brand, R, G>(rt, alloc, history, state, stashes, plan);
+    if running.state.phase() % 2 == 0 {
+        return perform_joined_phase::<Brand, R, G>(rt, alloc, running, plan);
     }
-    perform_split_phase::<Brand, R, G>(rt, alloc, history, state, hot, stashes, plan)
+    perform_split_phase::<Brand, R, G>(rt, alloc, running, hot, plan)
 }
 
 /// What a run answers where a phase does not begin.
@@ -136,27 +147,37 @@ pub(crate) fn begin_fault(fault: BeginFault) -> RunFault
 pub(crate) fn perform_joined_phase<N, R, G>(
     rt: &R,
     alloc: Global,
-    history: &mut History,
-    state: Joined,
-    stashes: Vec<Stash>,
+    running: Running,
     plan: PhasePlan<'_, G>,
-) -> Result<Closed, RunFault>
+) -> Result<Running, RunFault>
 where
     N: PhaseName + Send + Sync,
     R: Threads + Wait + Sync,
     G: Gate + Sync,
-    requires shards { states_of state ≡ N.initial }
-    requires workers { length state.counters ≡ N.workers }
-    requires joined { is_split state.phase ≡ false }
-    requires plan { IsPlanOf plan state.phase }
-    requires may { MayPerform plan.policy (lists plan.round.scripts.now) state stashes.items [] }
-    ensures { HasPerformedPhase plan.entry.policy (lists plan.entry.round.scripts.now) state
-        stashes.items [] history.old history.new result }
+    requires shards { states_of running.state ≡ N.initial }
+    requires workers { length running.state.counters ≡ N.workers }
+    requires joined { is_split running.state.phase ≡ false }
+    requires plan { IsPlanOf plan running.state.phase }
+    requires may { MayPerform plan.policy (lists plan.round.scripts.now) running.state
+        running.stashes.items [] }
+    ensures performed { IfOk result (HasPerformedPhase plan.entry.policy
+        (lists plan.entry.round.scripts.now) [] running) }
+    ensures fault { IfErr result (IsMet (lists plan.entry.round.scripts.now)) }
 {
-    let (floor, permits) = begin_joined_phase::<N, R, G>(rt, alloc, state, stashes, &plan)?;
-    let receipts = serve_all(rt, alloc, floor.boxes(), permits, plan.round)?;
-    let (state, stashes) = floor.close(rt, alloc, history, receipts)?;
-    Ok(Closed { state, stashes })
+    let Running {
+        state,
+        mut history,
+        hot,
+        stashes,
+    } = running;
+    let begun = begin_joined_phase::<N, R, G>(rt, alloc, state, stashes, &plan)?;
+    let (state, stashes) = perform_begun(rt, alloc, &mut history, begun, plan.round)?;
+    Ok(Running {
+        state,
+        history,
+        hot,
+        stashes,
+    })
 }
 
 // Begins a joined phase: each worker is given its quota, and what waits in its stash.
@@ -193,43 +214,51 @@ where
     }
 }
 
-/// A split phase, under a name of its shards and workers.
+/// A split phase, under a name of its shards and workers. Nothing waits in the stashes before it.
 pub(crate) fn perform_split_phase<N, R, G>(
     rt: &R,
     alloc: Global,
-    history: &mut History,
-    state: Joined,
+    running: Running,
     hot: &IndexSet<Object>,
-    stashes: Vec<Stash>,
     plan: PhasePlan<'_, G>,
-) -> Result<Closed, RunFault>
+) -> Result<Running, RunFault>
 where
     N: PhaseName + Send + Sync,
     R: Threads + Wait + Sync,
     G: Gate + Sync,
-    requires shards { states_of state ≡ N.initial }
-    requires workers { length state.counters ≡ N.workers }
-    requires split { is_split state.phase ≡ true }
-    requires plan { IsPlanOf plan state.phase }
-    requires may { MayPerform plan.policy (lists plan.round.scripts.now) state stashes.items
-        hot.now.keys }
-    ensures { HasPerformedPhase plan.entry.policy (lists plan.entry.round.scripts.now) state
-        stashes.items hot.now.keys history.old history.new result }
+    requires shards { states_of running.state ≡ N.initial }
+    requires workers { length running.state.counters ≡ N.workers }
+    requires split { is_split running.state.phase ≡ true }
+    requires plan { IsPlanOf plan running.state.phase }
+    requires may { MayPerform plan.policy (lists plan.round.scripts.now) running.state
+        running.stashes.items hot.now.keys }
+    ensures performed { IfOk result (HasPerformedPhase plan.entry.policy
+        (lists plan.entry.round.scripts.now) hot.now.keys running) }
+    ensures fault { IfErr result (IsMet (lists plan.entry.round.scripts.now)) }
 {
-    let (floor, permits) = begin_split_phase::<N, R, G>(rt, alloc, state, hot, stashes, &plan)?;
-    let receipts = serve_all(rt, alloc, floor.boxes(), permits, plan.round)?;
-    let (state, stashes) = floor.close(rt, alloc, history, receipts)?;
-    Ok(Closed { state, stashes })
+    let Running {
+        state,
+        mut history,
+        hot: hot_before,
+        stashes,
+    } = running;
+    drop(stashes);
+    let begun = begin_split_phase::<N, R, G>(rt, alloc, state, hot, &plan)?;
+    let (state, stashes) = perform_begun(rt, alloc, &mut history, begun, plan.round)?;
+    Ok(Running {
+        state,
+        history,
+        hot: hot_before,
+        stashes,
+    })
 }
 
-// Begins a split phase: each worker is given its quota, and an empty stash in place of its own, in
-// which nothing waits.
+// Begins a split phase: each worker is given its quota and an empty stash. Before it nothing waits.
 fn begin_split_phase<N, R, G>(
     rt: &R,
     alloc: Global,
     state: Joined,
     hot: &IndexSet<Object>,
-    stashes: Vec<Stash>,
     plan: &PhasePlan<'_, G>,
 ) -> Result<(SplitFloor<N>, Vec<SplitPermit<N>>), RunFault>
 where
@@ -239,14 +268,13 @@ where
     requires workers { length state.counters ≡ N.workers }
     requires split { is_split state.phase ≡ true }
     requires first { plan.now.round.first ≡ first_index plan.now.policy state.phase }
-    requires may { MayPerform plan.now.policy (lists plan.now.round.scripts.now) state
-        stashes.items hot.now.keys }
+    requires may { (stashes : List StashState) × MayPerform plan.now.policy
+        (lists plan.now.round.scripts.now) state stashes hot.now.keys }
     ensures begun { IfOk result (λ begun.
         HasBegunPhase plan.entry.now.policy (lists plan.entry.now.round.scripts.now) state
-        stashes.items hot.now.keys begun.0 begun.1.items) }
+        [] hot.now.keys begun.0 begun.1.items) }
     ensures fault { IfErr result (λ fault. fault ≡ RunFault.Memory) }
 {
-    drop_empty(stashes);
     let quotas = worker_quotas(
         alloc,
         plan.round.scripts,
@@ -259,9 +287,32 @@ where
     }
 }
 
-// Drops stashes in which nothing waits.
-fn drop_empty(stashes: Vec<Stash>)
-    requires { (worker : ℕ) → waiting_in stashes.items worker ≡ [] }
+// What a phase of either kind does once it has begun: its workers do their tasks, and it closes.
+fn perform_begun<N, K, R, G>(
+    rt: &R,
+    alloc: Global,
+    history: &mut History,
+    begun: (Floor<N, K>, Vec<Permit<N, K>>),
+    round: Round<'_, G>,
+) -> Result<(Joined, Vec<Stash>), RunFault>
+where
+    N: PhaseName + Send + Sync,
+    K: Kind + Send,
+    R: Threads + Wait + Sync,
+    G: Gate + Sync,
+    requires ready { CanPerform K.IS_JOINED N.initial begun.0 begun.1.items
+        (lists round.scripts.now) round.phase round.first }
+    ensures history { OnOk result (history.new.entries
+        ≡ history.old.entries ++ added history.old.entries history.new.entries) }
+    ensures last { OnOk result
+        (merged history.new.last ≡ added history.old.entries history.new.entries) }
+    ensures ended { IfOk result (λ ended. HasEnded K.IS_JOINED N.initial begun.0
+        (tasks begun.1.items (lists round.entry.scripts.now) round.entry.first)
+        (added history.old.entries history.new.entries) ended.0 ended.1.items) }
+    ensures fault { IfErr result (IsMet (lists round.entry.scripts.now)) }
 {
-    drop(stashes);
+    let (floor, permits) = begun;
+    let receipts = serve_all(rt, alloc, floor.boxes(), permits, round)?;
+    let ended = floor.close(rt, alloc, history, receipts)?;
+    Ok(ended)
 }

@@ -1,5 +1,5 @@
 //! A run: its phases, one after the other.
-ghost use Rattle.std.specs.Prelude.{◌≡◌, ◌⊎◌, ◌↔◌, ℕ, suc, ◌<◌, ◌≤◌, ◌+◌, ◌^◌, ◌++◌, ◌∷◌, true, false, List, [], length, IfOk, OnOk, IfErr, OnErr, IsErrOf, IsTrue};
+ghost use Rattle.std.specs.Prelude.{◌≡◌, ◌⊎◌, ◌↔◌, ℕ, suc, ◌<◌, ◌≤◌, ◌+◌, ◌^◌, ◌++◌, ◌∷◌, true, false, List, [], length, IfOk, OnOk, IfErr, OnErr, IsTrue};
 ghost use Rattle.run_laws.specs.Phases.{is_split};
 ghost use Rattle.run_laws.specs.Run.{HasLeft};
 ghost use Rattle.run_laws.specs.Serving.{script_of};
@@ -7,24 +7,22 @@ ghost use Rattle.auction_rows.specs.Choosing.{choose};
 ghost use Rattle.auction_rows.specs.declared.values.Opening.{Opening as Numbers};
 ghost use Rattle.auction_rows.specs.declared.rows.Row.{Row as Stored};
 ghost use Rattle.auction_rows.specs.Book.{Book};
-ghost use Rattle.auction_rows.specs.History.{IsBook, book_after, rows_of as stored_rows};
+ghost use Rattle.auction_rows.specs.History.{IsBook, rows_of as stored_rows};
 ghost use Rattle.auction_rows.specs.declared.limits.Policy.{Policy as Rule};
 ghost use Rattle.item_shards.specs.OpeningBooks.{opening_of, rows_of_book};
 ghost use Rattle.worker_journals.specs.Merged.{merged};
-ghost use Rattle.phase_floor.specs.States.{IsBookOf};
 ghost use Rattle.auction_window.specs.Published.{book_of};
-ghost use Rattle.auction_run.specs.declared.checks.RunFault.TheVariants.{Spawn};
 ghost use Rattle.auction_run.specs.Boards.{CanShow, HasShownAfter, IsUpToDate};
-ghost use Rattle.auction_run.specs.Beginning.{HaveWorkers, HasShards, HasQuotas, AreShort, IsRefusedInOrder};
+ghost use Rattle.auction_run.specs.Beginning.{HasShards, HasQuotas};
 ghost use Rattle.auction_run.specs.GoingOn.{BeginsWith, CannotBegin, CanShowRun};
-ghost use Rattle.auction_run.specs.Outcomes.{HasShownAll, HasShownFirst, HasShownFirstAfter, IsOutcome};
+ghost use Rattle.auction_run.specs.Outcomes.{AnswersRun, HasShownAll, HasShownFirst, HasShownFirstAfter, IsOutcome};
 ghost use Rattle.auction_run.specs.Phases.{lists, waiting_in, IsPlanOf, IsMet};
 ghost use Rattle.auction_run.specs.Running.{IsRunning, CanGoOn};
 
 use crate::board::{Board, NoBoard};
 use crate::checks::{RunFault, check};
 use crate::choice::choose_hot_after;
-use crate::phase::{Closed, PhasePlan, perform_phase};
+use crate::phase::{PhasePlan, Running, Workload, perform_phase};
 use auction_rows::{MOST_OF_A_WORKER, Object, Policy, Request};
 use auction_window::last_rows;
 use indexmap::IndexSet;
@@ -56,8 +54,8 @@ pub struct Outcome {
 ///
 /// Its history holds every request of every script exactly once, each worker's commits in commit
 /// order and none before an earlier splittable store of its script (`serves` of `IsOutcome`). It
-/// replays on an auction of one thread (`replays`): every highest bid, bidder, count, rating and top
-/// list shown is the one computed afresh from the rows committed before it.
+/// replays on an auction of one thread (`replays`): every highest bid, bidder, count, rating and
+/// top list shown is the one computed afresh from the rows committed before it.
 ///
 /// The first four faults are found first, in their order, exactly for their causes. `Spawn` comes
 /// only if there is a thread to start; a fault gives no part of a history. No clause says when
@@ -72,12 +70,8 @@ pub fn run<R: Threads + Wait + Sync, G: Gate + Sync>(
     policy: Policy,
     gate: &G,
 ) -> Result<Outcome, RunFault>
-    ensures outcome { IfOk result
-        (IsOutcome (opening_of book.now) (rows_of_book book.now) policy (lists scripts.items)) }
-    ensures left { IfOk result (λ outcome. IsBookOf outcome.state
-        (book_after (opening_of book.now) (rows_of_book book.now) outcome.history.entries)) }
-    ensures refused { IsRefusedInOrder result policy (rows_of_book book.now) (lists scripts.items) }
-    ensures spawn { IsErrOf result Spawn → 1 < length (lists scripts.items) }
+    ensures { AnswersRun (opening_of book.now) (rows_of_book book.now) policy (lists scripts.items)
+        result }
 {
     run_shown(rt, alloc, book, scripts, policy, gate, &mut NoBoard)
 }
@@ -96,59 +90,22 @@ pub fn run_shown<R: Threads + Wait + Sync, G: Gate + Sync, B: Board>(
     board: &mut B,
 ) -> Result<Outcome, RunFault>
     requires { B.has board.old (opening_of book.now) (rows_of_book book.now) [] }
-    ensures outcome { IfOk result
-        (IsOutcome (opening_of book.now) (rows_of_book book.now) policy (lists scripts.items)) }
-    ensures left { IfOk result (λ outcome. IsBookOf outcome.state
-        (book_after (opening_of book.now) (rows_of_book book.now) outcome.history.entries)) }
-    ensures refused { IsRefusedInOrder result policy (rows_of_book book.now) (lists scripts.items) }
-    ensures spawn { IsErrOf result Spawn → 1 < length (lists scripts.items) }
+    ensures answer { AnswersRun (opening_of book.now) (rows_of_book book.now) policy
+        (lists scripts.items) result }
     ensures board { IfOk result
         (HasShownAll B.has (opening_of book.now) (rows_of_book book.now) board.new) }
     ensures up_to_date { IfOk result (λ outcome. IsUpToDate B.has board.new outcome.state) }
     ensures board_after_fault { IfErr result (HasShownFirst B.has B.has_refused
         (opening_of book.now) (rows_of_book book.now) policy (lists scripts.items) board.new) }
 {
-    check(book, &scripts, policy)?;
-    run_checked(rt, alloc, book, &scripts, policy, gate, board)
-}
-
-/// A run between two phases.
-#[derive(Drop)]
-struct Running {
-    state: Joined,
-    history: History,
-    hot: Vec<IndexSet<Object>>,
-    stashes: Vec<Stash>,
-}
-
-// A run of what was checked.
-fn run_checked<R: Threads + Wait + Sync, G: Gate + Sync, B: Board>(
-    rt: &R,
-    alloc: Global,
-    book: &OpeningBook,
-    scripts: &[Vec<Request>],
-    policy: Policy,
-    gate: &G,
-    board: &mut B,
-) -> Result<Outcome, RunFault>
-    requires board { B.has board.old (opening_of book.now) (rows_of_book book.now) [] }
-    requires workers { HaveWorkers (rows_of_book book.now) (lists scripts.now) }
-    requires shards { HasShards policy }
-    requires quotas { HasQuotas policy }
-    requires short { AreShort (rows_of_book book.now) (lists scripts.now) }
-    ensures board { IfOk result
-        (HasShownAll B.has (opening_of book.now) (rows_of_book book.now) board.new) }
-    ensures outcome { IfOk result
-        (IsOutcome (opening_of book.now) (rows_of_book book.now) policy (lists scripts.now)) }
-    ensures left { IfOk result (λ outcome. IsBookOf outcome.state
-        (book_after (opening_of book.now) (rows_of_book book.now) outcome.history.entries)) }
-    ensures up_to_date { IfOk result (λ outcome. IsUpToDate B.has board.new outcome.state) }
-    ensures board_after_fault { IfErr result (HasShownFirst B.has B.has_refused
-        (opening_of book.now) (rows_of_book book.now) policy (lists scripts.now) board.new) }
-    ensures fault { IfErr result (IsMet (lists scripts.now)) }
-{
-    let state = Joined::resume(alloc, book, scripts.len() as u32, policy.shards)?;
-    run_from(rt, alloc, state, scripts, policy, gate, board)
+    let work = Workload {
+        scripts: scripts.as_slice(),
+        policy,
+        gate,
+    };
+    check(book, work.scripts, policy)?;
+    let state = Joined::resume(alloc, book, work.scripts.len() as u32, policy.shards)?;
+    run_from(rt, alloc, state, work, board)
 }
 
 /// A run from a state with which it begins.
@@ -156,35 +113,33 @@ pub(crate) fn run_from<R: Threads + Wait + Sync, G: Gate + Sync, B: Board>(
     rt: &R,
     alloc: Global,
     state: Joined,
-    scripts: &[Vec<Request>],
-    policy: Policy,
-    gate: &G,
+    work: Workload<'_, G>,
     board: &mut B,
 ) -> Result<Outcome, RunFault>
-    requires begins { ¬ CannotBegin state policy (lists scripts.now) }
+    requires begins { ¬ CannotBegin state work.policy (lists work.scripts.now) }
     requires board { B.can_be_watched →
-        CanShowRun B.has board.old state policy (lists scripts.now) }
-    requires shards { HasShards policy }
-    requires quotas { HasQuotas policy }
-    ensures outcome { IfOk result (λ outcome.
-        (book : Book) → BeginsWith state book policy (lists scripts.now) →
-        IsOutcome state.opening book policy (lists scripts.now) outcome) }
+        CanShowRun B.has board.old state work.policy (lists work.scripts.now) }
+    requires shards { HasShards work.policy }
+    requires quotas { HasQuotas work.policy }
+    ensures outcome { IfOk result (λ outcome. (book : Book) →
+        BeginsWith state book work.entry.policy (lists work.entry.scripts.now) →
+        IsOutcome state.opening book work.entry.policy (lists work.entry.scripts.now) outcome) }
     ensures board { IfOk result (λ outcome. (rows : Book) (before : List (List Stored)) →
-        BeginsWith state (book_of rows before) policy (lists scripts.now) →
+        BeginsWith state (book_of rows before) work.entry.policy (lists work.entry.scripts.now) →
         B.has board.old state.opening rows before →
         HasShownAfter B.has state.opening rows before (length outcome.hot.items)
         outcome.history.entries board.new) }
     ensures board_after_fault { IfErr result (λ fault. (rows : Book) (before : List (List Stored)) →
-        BeginsWith state (book_of rows before) policy (lists scripts.now) →
+        BeginsWith state (book_of rows before) work.entry.policy (lists work.entry.scripts.now) →
         B.has board.old state.opening rows before →
-        HasShownFirstAfter B.has B.has_refused state.opening rows before policy
-        (lists scripts.now) board.new fault) }
-    ensures fault { IfErr result (IsMet (lists scripts.now)) }
+        HasShownFirstAfter B.has B.has_refused state.opening rows before work.entry.policy
+        (lists work.entry.scripts.now) board.new fault) }
+    ensures fault { IfErr result (IsMet (lists work.entry.scripts.now)) }
 {
-    let mut running = begin(alloc, state, scripts)?;
+    let mut running = begin(alloc, state, work.scripts)?;
     for _phase in 0..MOST_PHASES {
-        let plan = PhasePlan::new(scripts, policy, gate, running.state.phase());
-        if !is_left(scripts, &running.stashes, plan.round.first) {
+        let plan = PhasePlan::new(&work, running.state.phase());
+        if !is_left(work.scripts, &running.stashes, plan.round.first) {
             let Running {
                 state,
                 history,
@@ -254,7 +209,7 @@ fn has_left(script: &[Request], stash: &Stash, first: u64) -> bool
     script.len() as u64 > first || !stash.is_empty()
 }
 
-// One phase more.
+// One phase more, and its hot set.
 fn next_phase<R: Threads + Wait + Sync, G: Gate + Sync>(
     rt: &R,
     alloc: Global,
@@ -278,21 +233,9 @@ fn next_phase<R: Threads + Wait + Sync, G: Gate + Sync>(
     ensures fault { IfErr result (IsMet (lists plan.entry.round.scripts.now)) }
 {
     let hot_now = next_hot(alloc, &running, plan.policy)?;
-    let Running {
-        state,
-        mut history,
-        mut hot,
-        stashes,
-    } = running;
-    let closed = perform_phase(rt, alloc, &mut history, state, &hot_now, stashes, plan)?;
-    let Closed { state, stashes } = closed;
-    hot.push(hot_now)?;
-    Ok(Running {
-        state,
-        history,
-        hot,
-        stashes,
-    })
+    let mut next = perform_phase(rt, alloc, running, &hot_now, plan)?;
+    next.hot.push(hot_now)?;
+    Ok(next)
 }
 
 // Gives a board the rows of the last phase.

@@ -30,13 +30,13 @@ returns-clause-performs g c =
     let shown = answers.board in
     let all : List (List Row) = phase_rows (length outcome.hot.items) history in
     let book : Book = book_after (opening_asked options) rows history in
-    let replays = subst (λ o. ReplaysFrom o rows history) c.requires.options answers.outcome.replays in
+    let replays = subst (λ o. ReplaysFrom o rows history) c.requires.options answers.answer.outcome.replays in
     let end : IsEnd W.opening W.rows all all outcome.state book = record {
       known = prefix_refl all;
-      counted = rows_length (length outcome.hot.items) history ∙ sym answers.outcome.phases;
+      counted = rows_length (length outcome.hot.items) history ∙ sym answers.answer.outcome.phases;
       book_is = ap (λ (rs : Book). book_of rs all) (sym c.requires.rows) ∙ shown.book_is ∙ sym (book_after-replays (opening_asked options) rows history replays);
-      opening_is = answers.outcome.opening_is ∙ c.requires.opening;
-      stands = subst (λ o. StandsFor outcome.state (book_after o rows history)) c.requires.options answers.outcome.stands;
+      opening_is = answers.answer.outcome.opening_is ∙ c.requires.opening;
+      stands = subst (λ o. StandsFor outcome.state (book_after o rows history)) c.requires.options answers.answer.outcome.stands;
     } in
     let told = subst (λ o. MatchOption o (all ≡ []) (λ last. last ≡ all)) (sym c.take-told.ensures.value) shown.has_them.told_last in
     record {
@@ -53,8 +53,8 @@ returns-in_err-outcome-clause-cause g c =
     let rows = opened.rows_of_book c.args.book.now in
     let scripts = lists c.args.scripts.items in
     let fault = c.in_err-outcome.field-0.0 in
-    let refused = c.run_shown.ensures.refused in
+    let refused = c.run_shown.ensures.answer.refused in
     error_is c.from_residual.result (Run fault) (λ f. IsNotPerformed options f rows scripts) c.from_residual.ensures
     (subst (λ p. IsNotRun p fault rows scripts) c.policy.ensures
     (not_run c.policy.result rows scripts c.run_shown.result fault c.in_err-outcome.was refused.workers refused.shards refused.quota refused.too_long
-    c.run_shown.ensures.spawn))
+    c.run_shown.ensures.answer.spawn))

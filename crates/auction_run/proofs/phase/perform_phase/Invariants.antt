@@ -4,7 +4,7 @@ use Rattle.auction_run.proofs.phase.perform_phase.Given as goal
 
 -- the phase is of the state's shards and workers
 abbrev pub ghosts-perform_joined_phase : goal.ghosts-perform_joined_phase
-ghosts-perform_joined_phase g a = record { initial = states_of a.state; workers = length a.state.counters }
+ghosts-perform_joined_phase g a = record { initial = states_of a.running.state; workers = length a.running.state.counters }
 
 abbrev pub ghosts-perform_split_phase : goal.ghosts-perform_split_phase
-ghosts-perform_split_phase g a = record { initial = states_of a.state; workers = length a.state.counters }
+ghosts-perform_split_phase g a = record { initial = states_of a.running.state; workers = length a.running.state.counters }

@@ -1,47 +1,26 @@
-use Rattle.std.proofs.Common.{false, ◌∙◌, sym, subst}
-use Rattle.auction_run.specs.declared.checks.RunFault.TheVariants.{Memory}
-use Rattle.auction_run.specs.Phases.{IsMet, lists, told}
-use Rattle.auction_run.proofs.PhaseLemmas.{failed, fault_met, as_many, are_ready, receipts_are, closed_phase}
-use Rattle.run_laws.proofs.ScriptLemmas.{lists_length}
+use Rattle.std.proofs.Common.{false, refl, sym, subst}
+use Rattle.phase_workers.proofs.WorkLemmas.{err_as}
+use Rattle.auction_run.specs.Phases.{IsMet, lists}
+use Rattle.auction_run.proofs.PhaseLemmas.{ended_phase, can_perform, begun_split}
 use Rattle.auction_run.proofs.phase.perform_split_phase.Goals as goal
 
 pub begin_split_phase-requires : goal.begin_split_phase-requires
-begin_split_phase-requires g c = record { shards = c.requires.shards; workers = c.requires.workers; split = c.requires.split; first = c.requires.plan.1; may = c.requires.may }
+begin_split_phase-requires g c = record { shards = c.requires.shards; workers = c.requires.workers; split = c.requires.split; first = c.requires.plan.1; may = (c.args.running.stashes.items, c.requires.may) }
 
-pub returns-in_err-floor : goal.returns-in_err-floor
-returns-in_err-floor g c =
-    failed c.from_residual.result c.in_err-floor.field-0.0 c.from_residual.ensures.1 (subst (IsMet (lists c.args.plan.round.scripts.now)) (sym c.in_err-floor.ensures.fault) tt)
+pub returns-in_err-begun-clause-fault : goal.returns-in_err-begun-clause-fault
+returns-in_err-begun-clause-fault g c =
+    let scripts = lists c.args.plan.round.scripts.now in
+    err_as c.from_residual.result c.in_err-begun.field-0.0 (IsMet scripts) c.from_residual.ensures.1 (subst (IsMet scripts) (sym c.in_err-begun.ensures.fault) tt)
 
-pub serve_all-requires-clause-workers : goal.serve_all-requires-clause-workers
-serve_all-requires-clause-workers g c κs within =
-    c.in_ok-floor.permits.ok.0 ∙ as_many c.requires.plan.1 c.requires.may c.in_ok-floor.ensures.begun ∙ lists_length c.args.plan.round.scripts.now
+pub perform_begun-requires-clause-ready : goal.perform_begun-requires-clause-ready
+perform_begun-requires-clause-ready g c κs within = can_perform c.requires.plan.1 c.requires.may (begun_split c.requires.may c.requires.split c.in_ok-begun.ensures.begun) c.requires.plan.0 false
 
-pub serve_all-requires-clause-can : goal.serve_all-requires-clause-can
-serve_all-requires-clause-can g c κs within =
-    (are_ready c.requires.plan.1 c.requires.may c.in_ok-floor.ensures.begun c.boxes.ensures.boxes c.boxes.ensures.opening c.requires.plan.0).can
-
-pub serve_all-requires-clause-of : goal.serve_all-requires-clause-of
-serve_all-requires-clause-of g c κs within =
-    (are_ready c.requires.plan.1 c.requires.may c.in_ok-floor.ensures.begun c.boxes.ensures.boxes c.boxes.ensures.opening c.requires.plan.0).of
-
-pub close-requires : goal.close-requires
-close-requires g c = receipts_are c.requires.plan.1 c.requires.may c.in_ok-floor.ensures.begun false c.in_ok-receipts.receipts.items c.in_ok-receipts.ensures.done
-
-pub returns-in_err-receipts : goal.returns-in_err-receipts
-returns-in_err-receipts g c =
-    let fault = c.in_err-receipts.field-0.0 in
-    failed c.from_residual-in_err-receipts.result (told fault) c.from_residual-in_err-receipts.ensures.1 (fault_met (lists c.args.plan.round.scripts.now) _ fault c.in_err-receipts.ensures.fault)
-
-pub returns-in_err-state : goal.returns-in_err-state
-returns-in_err-state g c = failed c.from_residual-in_err-state.result Memory c.from_residual-in_err-state.ensures.1 tt
-
-pub returns : goal.returns
-returns g c =
-    let closed = c.in_ok-state.ensures in
+pub returns-clause-performed : goal.returns-clause-performed
+returns-clause-performed g c =
+    let phase = c.in_ok-state.ensures in
     record {
-      history = c.close.ensures.history;
-      last = closed.last;
-      closed = closed_phase c.requires.plan.1 c.requires.may c.in_ok-floor.ensures.begun false c.in_ok-receipts.receipts.items c.in_ok-receipts.ensures.done c.requires.shards c.requires.split
-          (record { state = c.in_ok-state.state; stashes = c.in_ok-state.stashes }) closed.leaves;
-      fault = tt;
+      history = phase.history;
+      last = phase.last;
+      closed = ended_phase c.requires.plan.1 c.requires.may (begun_split c.requires.may c.requires.split c.in_ok-begun.ensures.begun) c.requires.shards false c.requires.split phase.ended;
+      sets_are = refl;
     }

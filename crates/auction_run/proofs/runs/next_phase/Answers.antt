@@ -17,11 +17,14 @@ perform_phase-requires-clause-may g c κs within =
 
 pub returns-clause-running : goal.returns-clause-running
 returns-clause-running g c = λ opening rows is_book run.
-    stepped c.requires.quotas is_book _ run c.requires.left.0 c.requires.left.1 c.in_ok-closed.ensures
-    (ap hot_sets c.in_ok-push.ensures.items ∙ map-append (λ set. set.keys) c.args.running.hot.items (c.in_ok-hot_now.hot_now ∷ []))
+    let phase = c.in_ok-next.ensures.performed in
+    let hot_now = c.in_ok-hot_now.hot_now in
+    stepped c.requires.quotas is_book _ run c.requires.left.0 c.requires.left.1 phase.history phase.last phase.closed
+    (ap hot_sets (c.in_ok-push.ensures.items ∙ ap (λ sets. sets ++ hot_now ∷ []) phase.sets_are) ∙ map-append (λ set. set.keys) c.args.running.hot.items (hot_now ∷ []))
     c.in_ok-hot_now.ensures.joined
     c.in_ok-hot_now.ensures.split
 
 pub returns-clause-grown : goal.returns-clause-grown
 returns-clause-grown g c =
-    c.in_ok-closed.ensures.history ∙ ap (λ (es : List Entry). c.args.running.history.entries ++ es) (sym c.in_ok-closed.ensures.last)
+    let phase = c.in_ok-next.ensures.performed in
+    phase.history ∙ ap (λ (es : List Entry). c.args.running.history.entries ++ es) (sym phase.last)
