@@ -1,12 +1,13 @@
 //! The texts of replies, and their lines.
 ghost use Rattle.std.specs.Prelude.{◌≡◌, ◌+◌, ◌≤◌, ◌++◌, OnOk, codes, decimal, length};
 ghost use Rattle.std.specs.List.{flat_map};
+ghost use Rattle.auction_rows.specs.ItemViews.{item_reply};
 ghost use Rattle.auction_rows.specs.StoreReplies.{reply_of};
 ghost use Rattle.auction_text.specs.Replies.{bid_text, facts_text, history_line, item_text, labelled, place_text, refusal_text, reply_line, reply_text, score_text, state_text};
 
 use crate::block::{Block, MOST_OF_A_LINE, MOST_OF_A_REPLY};
 use crate::text::push_text;
-use auction_rows::{BidShown, ItemShown, Refusal, Reply, StoreReply, Ten};
+use auction_rows::{BidShown, ItemShown, ItemView, Refusal, Reply, StoreReply, Ten};
 use std::alloc::AllocError;
 use worker_journals::EntryRef;
 
@@ -144,6 +145,18 @@ fn put_store_reply<const N: usize>(block: &mut Block<N>, reply: StoreReply)
     }
 }
 
+// Adds the text of the view of an item.
+fn put_item_seen<const N: usize>(block: &mut Block<N>, seen: &ItemView)
+    requires { MOST_OF_A_REPLY + length block.old ≤ N }
+    ensures text { block.new ≡ block.old ++ reply_text (item_reply seen.now) }
+    ensures length { length block.new ≤ MOST_OF_A_REPLY + length block.old }
+{
+    put_facts(block, seen.seller, seen.category, seen.start, seen.closes);
+    put_state(block, seen.highest, seen.bidder, seen.bids, seen.left);
+    block.push(b" name=");
+    block.push(seen.name.bytes());
+}
+
 // Adds the text of a reply.
 fn put_reply<const N: usize>(block: &mut Block<N>, reply: &Reply)
     requires { MOST_OF_A_REPLY + length block.old ≤ N }
@@ -198,14 +211,17 @@ pub fn push_reply(text: &mut Vec<u8>, reply: &Reply) -> Result<(), AllocError>
     push_text(text, block.bytes())
 }
 
-// Adds the text of an entry's reply to a view, which is made whole.
+// Adds the text of an entry's reply to a view, which is made whole if it shows no item.
 #[inline(never)]
 fn put_view<const N: usize>(block: &mut Block<N>, entry: &EntryRef<'_>)
     requires { MOST_OF_A_REPLY + length block.old ≤ N }
     ensures text { block.new ≡ block.old ++ reply_text entry.now.reply }
     ensures length { length block.new ≤ MOST_OF_A_REPLY + length block.old }
 {
-    put_reply(block, &entry.reply());
+    match entry.item_seen() {
+        Some(seen) => put_item_seen(block, seen),
+        None => put_reply(block, &entry.reply()),
+    }
 }
 
 // Adds the text of an entry's reply.

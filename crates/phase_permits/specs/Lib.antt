@@ -10,3 +10,4 @@ pub mod Performing
 pub mod Homes
 pub mod Deeds
 pub mod Begun
+pub mod Viewing

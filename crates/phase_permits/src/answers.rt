@@ -1,12 +1,14 @@
 //! What a store is answered, by what it sees of the item that it needs, and what a view shows.
 ghost use Rattle.std.specs.Prelude.{◌≡◌, ℕ, None, Some, false, ◌∷◌, [], true, Option};
-ghost use Rattle.std.specs.List.{AllByRecursion};
 ghost use Rattle.auction_rows.specs.declared.requests.Object.{Object as ObjectValue};
 ghost use Rattle.auction_rows.specs.declared.requests.ItemId.{ItemId as ItemIdValue};
 ghost use Rattle.auction_rows.specs.Refusals.{number_refusal};
 ghost use Rattle.auction_rows.specs.Requests.{is_view, item_of};
 ghost use Rattle.auction_rows.specs.StoreReplies.{reply_of};
 ghost use Rattle.auction_rows.specs.declared.requests.Facts.{Facts as FactsValue};
+ghost use Rattle.auction_rows.specs.declared.requests.Request.TheVariants.{ViewItem};
+ghost use Rattle.auction_rows.specs.ItemViews.{item_told};
+ghost use Rattle.auction_rows.specs.declared.requests.Object.TheVariants.{Item};
 ghost use Rattle.item_shards.specs.declared.shard.acts.Act.TheVariants.{Look};
 ghost use Rattle.item_shards.specs.declared.shard.acts.Shown.TheVariants as shown;
 ghost use Rattle.item_shards.specs.Looking.{IsTrueOf};
@@ -17,13 +19,14 @@ ghost use Rattle.phase_permits.specs.Begun.{CanView, FirstHas, IsOnOne, viewed};
 ghost use Rattle.phase_permits.specs.Deeds.{IsReplyBy, stock_on};
 ghost use Rattle.phase_permits.specs.Homes.{IsHomeOf};
 ghost use Rattle.phase_permits.specs.Slicing.{stocks_of, stock_of};
-ghost use Rattle.phase_permits.specs.Takens.{held_in, shard_at};
+ghost use Rattle.phase_permits.specs.Takens.{shard_at};
 ghost use Rattle.phase_permits.specs.Txns.{IsReplyTo};
+ghost use Rattle.phase_permits.specs.Viewing.{IsShownBy};
 
 use crate::homes::{Home, Homes, Taken, stock_in};
 use crate::worker::Worker;
 use auction_rows::{
-    BidId, BuyId, CommentId, Facts, ItemId, Object, Reply, Request, StoreReply, item_of,
+    BidId, BuyId, CommentId, Facts, ItemId, ItemView, Object, Reply, Request, StoreReply, item_of,
 };
 use item_shards::{Shard, refusal_with};
 use shard_boxes::PhaseName;
@@ -101,16 +104,22 @@ impl<N: PhaseName> Worker<N> {
 pub(crate) fn view_on<N: PhaseName>(taken: &Taken<N>, request: &Request) -> (Object, Reply)
     requires view { is_view request.now ≡ true }
     requires one { IsOnOne request.now taken.now }
-    ensures viewed { viewed request.now ≡ Some result.0 }
-    ensures looks { (seen : Option (FactsValue × ℕ)) →
-        looks_of seen result.1 request.now ≡ Look (shown.Reply result.0 result.1) ∷ [] }
-    ensures answers { (counters : CountersValue) → (worker : ℕ) →
-        IsReplyTo counters worker request.now result.1 }
-    ensures shown { AllByRecursion
-        (λ h. IsTrueOf (contents h.shard) (shown.Reply result.0 result.1)) (held_in taken.now) }
+    ensures { IsShownBy taken.now request.now result.0 result.1 }
 {
     match taken {
         Taken::One(one) => view(one.shard(), request),
+        Taken::Nothing | Taken::Two(_, _) => unreachable!(),
+    }
+}
+
+/// What the one shard that the view of an item takes shows of it: None if it is not stored.
+#[inline(always)]
+pub(crate) fn item_on<N: PhaseName>(taken: &Taken<N>, item: ItemId) -> Option<ItemView>
+    requires { IsOnOne (ViewItem item) taken.now }
+    ensures { IsShownBy taken.now (ViewItem item) (Item item) (item_told result) }
+{
+    match taken {
+        Taken::One(one) => one.shard().item_seen(item),
         Taken::Nothing | Taken::Two(_, _) => unreachable!(),
     }
 }

@@ -10,11 +10,12 @@ ghost use Rattle.phase_permits.specs.Deeds.{written_of};
 ghost use Rattle.phase_permits.specs.Putting.{CanDo, written_acts, line_of, IsHeldFor, IsPutWith};
 
 use crate::homes::{Home, Homes};
-use auction_rows::{BidEntry, Facts, ItemEntry, Request, StoreReply};
+use auction_rows::{BidEntry, Facts, ItemEntry, Object, Request, StoreReply};
 use ghost_log::Ghost;
 use item_shards::{Act, Shown};
 use shard_boxes::{Acts, Boxes, Held, Key, Line, PhaseName};
 use std::sync::Wait;
+use worker_journals::Answer;
 
 /// A request of the quota, with its index in the script.
 #[derive(Clone, Copy)]
@@ -30,6 +31,14 @@ pub(crate) struct Store<'a> {
     pub(crate) homes: &'a Homes,
     pub(crate) seen: &'a Option<(Facts, u32)>,
     pub(crate) reply: StoreReply,
+}
+
+/// A view of the quota whose reply is known, with the object that it shows.
+#[derive(Drop)]
+pub(crate) struct View<'a> {
+    pub(crate) call: Call<'a>,
+    pub(crate) object: Object,
+    pub(crate) answer: Answer<'a>,
 }
 
 /// Two acts, each where its object has its home.

@@ -8,11 +8,11 @@ ghost use Rattle.item_shards.specs.CommitNumbers.{last_number};
 ghost use Rattle.shard_boxes.specs.Keys.{KeyState};
 ghost use Rattle.phase_permits.specs.declared.transaction.PermitFault.TheVariants.{NumberFull};
 
-use crate::answers::view_on;
-use crate::deeds::{Call, Deeds, Store, Written};
+use crate::answers::{item_on, view_on};
+use crate::deeds::{Call, Deeds, Store, View, Written};
 use crate::homes::{Begun, Homes, clock_of, clocks_of, make_room, put_all, put_back, take_all};
 use crate::worker::Worker;
-use auction_rows::{Facts, Refusal, Reply, Request, StoreReply, is_view, number_refusal};
+use auction_rows::{Facts, Object, Refusal, Reply, Request, StoreReply, is_view, number_refusal};
 use ghost_log::Ghost;
 use item_shards::{Act, Shown, next_number};
 use shard_boxes::{Boxes, PhaseName};
@@ -75,6 +75,7 @@ impl<N: PhaseName> Worker<N> {
     ghost use Rattle.phase_permits.specs.Slicing.{hot_objects};
     ghost use Rattle.phase_permits.specs.Takens.{footprint_of, is_one_of, shard_at, IsReady};
     ghost use Rattle.phase_permits.specs.Txns.{is_put_off};
+    ghost use Rattle.phase_permits.specs.Viewing.{IsShownBy};
 
     /// Performs a request of the quota that is not put off. After a fault nothing has changed but
     /// what the key has seen of the shards of its footprint.
@@ -236,7 +237,7 @@ impl<N: PhaseName> Worker<N> {
     }
 
     // Performs a view over its one shard, which shows what is viewed: apart, as no other request
-    // has room for a whole reply.
+    // has room for a whole reply. That of an item makes none.
     #[inline(never)]
     fn show<R: Wait>(&mut self, rt: &R, boxes: &Boxes<N>, begun: Begun<N>, call: Call<'_>)
         requires view { is_view call.request.now ≡ true }
@@ -250,21 +251,56 @@ impl<N: PhaseName> Worker<N> {
             HasCommittedSome N.initial (record self.old { key = key }) self.new
             call.entry.request.now call.entry.index }
     {
+        if let Request::ViewItem { item } = *call.request {
+            let seen = item_on(&begun.taken, item);
+            let view = View {
+                call,
+                object: Object::Item(item),
+                answer: Answer::of_item(&seen),
+            };
+            self.put_view(rt, boxes, begun, &view);
+            return;
+        }
+        let (object, reply) = view_on(&begun.taken, call.request);
+        let view = View {
+            call,
+            object,
+            answer: Answer::of(&reply),
+        };
+        self.put_view(rt, boxes, begun, &view);
+    }
+
+    // Puts the shard of a view back with its line, and commits it.
+    #[inline(always)]
+    fn put_view<R: Wait>(&mut self, rt: &R, boxes: &Boxes<N>, begun: Begun<N>, view: &View<'_>)
+        requires view { is_view view.now.call.request.now ≡ true }
+        requires opened { HaveOpening N.initial self.old.opening }
+        requires begun { (homes : HomesValue) × (key : KeyState) × HasBegun
+            (step_of N.initial N.workers boxes.now key homes)
+            self.old view.now.call.request.now begun }
+        requires shown { IsShownBy begun.taken
+            view.now.call.request.now view.now.object view.now.answer }
+        requires left { 0 < self.old.left }
+        ensures { (homes : HomesValue) → (key : KeyState) → HasBegun
+            (step_of N.initial N.workers boxes.now key homes)
+            self.old view.now.call.request.now begun →
+            HasCommittedSome N.initial (record self.old { key = key }) self.new
+            view.now.call.request.now view.now.call.index }
+    {
         let Begun { taken, number } = begun;
         let found = ReadSet {
             stock: Ghost::of(&None),
             clocks: clocks_of(&taken),
         };
-        let (object, reply) = view_on(&taken, call.request);
-        let look = Act::Look(Shown::Reply(object, Ghost::of(&reply)));
+        let shown = Shown::Reply(view.object, Ghost::of(&view.answer.to_reply()));
         let written = Written {
             number,
-            index: call.index,
-            first: look,
+            index: view.call.index,
+            first: Act::Look(shown),
             second: Act::Look(Shown::Nothing),
         };
         put_all(rt, boxes, &mut self.key, taken, written);
-        self.add_entry(number, call, &Answer::of(&reply), &found);
+        self.add_entry(number, view.call, &view.answer, &found);
     }
 
     // Does a store's acts on the shards that were taken, puts these back, and commits it.

@@ -220,6 +220,7 @@ impl Counters {
     {
         match reply.form {
             ReplyForm::Store(reply) => self.count_store(reply),
+            ReplyForm::Item(_) => self.commits += 1,
             ReplyForm::Whole(reply) => self.count_whole(reply),
         }
     }

@@ -16,10 +16,11 @@ use Rattle.worker_journals.specs.declared.heads.ShortRequest.{ShortRequest}
 use Rattle.worker_journals.specs.declared.heads.ShortRequest.TheVariants as ask
 use Rattle.worker_journals.specs.declared.heads.ShortReply.{ShortReply}
 use Rattle.worker_journals.specs.declared.heads.ShortReply.TheVariants as told
-use Rattle.worker_journals.specs.declared.heads.ItemSeen.{ItemSeen as SeenItem}
+use Rattle.auction_rows.specs.declared.replies.ItemView.{ItemView}
 use Rattle.worker_journals.specs.declared.heads.UserSeen.{UserSeen as SeenUser}
 use Rattle.worker_journals.specs.Journals.{JournalView, ComesAfter, IsLawfulJournal, closed_journal, seen, with_commit}
-use Rattle.worker_journals.specs.Sides.{SideLists, request_from, reply_from, HasRequest, HasReply, SaysRequest, SaysReply, with_commit_of, item_reply, user_reply}
+use Rattle.auction_rows.specs.ItemViews.{item_reply}
+use Rattle.worker_journals.specs.Sides.{SideLists, request_from, reply_from, HasRequest, HasReply, SaysRequest, SaysReply, with_commit_of, user_reply}
 use Rattle.worker_journals.specs.Entries.{entry_from, HasHead, shown, IsKept}
 use Rattle.worker_journals.proofs.JournalLemmas.{lawful_after}
 
@@ -42,7 +43,7 @@ part_stays xs more place count h =
     ap (take count) (drop-append-le place xs more (omega arith))
     ∙ take-append-le count (drop place xs) more (omega (arith, length-drop place xs))
 
-module _ (items items' : List SeenItem) (users users' : List SeenUser) (bids bids' : List BidShown) (latest latest' : List ItemShown) where
+module _ (items items' : List ItemView) (users users' : List SeenUser) (bids bids' : List BidShown) (latest latest' : List ItemShown) where
   reply_stays : (short : ShortReply) → HasReply items users bids latest short →
       SaysReply (items ++ items') (users ++ users') (bids ++ bids') (latest ++ latest') short (reply_from items users bids latest short)
   reply_stays (told.ItemStored id) h = record { within = tt; is = refl }

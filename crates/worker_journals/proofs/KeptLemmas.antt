@@ -7,7 +7,7 @@ use Rattle.auction_rows.specs.declared.replies.BidShown.{BidShown}
 use Rattle.auction_rows.specs.declared.replies.ItemShown.{ItemShown}
 use Rattle.auction_rows.specs.declared.replies.Reply.{Reply}
 use Rattle.worker_journals.specs.declared.heads.ShortReply.{ShortReply}
-use Rattle.worker_journals.specs.declared.heads.ItemSeen.{ItemSeen as SeenItem}
+use Rattle.auction_rows.specs.declared.replies.ItemView.{ItemView}
 use Rattle.worker_journals.specs.declared.heads.UserSeen.{UserSeen as SeenUser}
 use Rattle.worker_journals.specs.Sides.{SaysReply}
 
@@ -63,6 +63,6 @@ part_left list start count place read within so_far few =
     omega (arith, ap length so_far, length-take place part, length-take (start + count - start) (drop start list))
 
 -- What says a reply says an equal one.
-pub said_of : (items : List SeenItem) (users : List SeenUser) (bids : List BidShown) (latest : List ItemShown) (short : ShortReply) (one other : Reply) → one ≡ other →
+pub said_of : (items : List ItemView) (users : List SeenUser) (bids : List BidShown) (latest : List ItemShown) (short : ShortReply) (one other : Reply) → one ≡ other →
     SaysReply items users bids latest short one → SaysReply items users bids latest short other
 said_of items users bids latest short one other same says = subst (λ (reply : Reply). SaysReply items users bids latest short reply) same says

@@ -12,9 +12,10 @@ use Rattle.auction_rows.specs.declared.replies.Reply.{Reply}
 use Rattle.auction_rows.specs.declared.replies.Reply.TheVariants.{ItemStored, BidStored, CommentStored, Bought, ItemSeen, BidsSeen, CategorySeen, UserSeen, Refused}
 use Rattle.worker_journals.specs.declared.heads.ShortRequest.TheVariants as ask
 use Rattle.worker_journals.specs.declared.heads.ShortReply.TheVariants as told
-use Rattle.worker_journals.specs.declared.heads.ItemSeen.{ItemSeen as SeenItem}
+use Rattle.auction_rows.specs.declared.replies.ItemView.{ItemView}
 use Rattle.worker_journals.specs.declared.heads.UserSeen.{UserSeen as SeenUser}
-use Rattle.worker_journals.specs.Sides.{SaysReply, SaysRequest, facts_at, shown_in, item_at, item_reply}
+use Rattle.auction_rows.specs.ItemViews.{item_reply}
+use Rattle.worker_journals.specs.Sides.{SaysReply, SaysRequest, facts_at, shown_in, item_at}
 
 pub says_facts : (all old : List Facts) (facts : Facts) (place time : ℕ) (request : Request) → all ≡ old ++ facts ∷ [] → place ≡ length old →
     StoreItem facts time ≡ request → SaysRequest all (ask.StoreItem place time) request
@@ -24,7 +25,7 @@ says_facts all old facts place time request kept at is = record {
 }
 
 -- where a reply shows an item, it is that item's
-pub only_item : (reply : Reply) (seen : SeenItem) → seen ∷ [] ≡ (shown_in reply).items → item_reply seen ≡ reply
+pub only_item : (reply : Reply) (seen : ItemView) → seen ∷ [] ≡ (shown_in reply).items → item_reply seen ≡ reply
 only_item (ItemStored id) seen e = absurd (cc)
 only_item (BidStored id) seen e = absurd (cc)
 only_item (CommentStored id) seen e = absurd (cc)
@@ -52,8 +53,8 @@ part_at_end list old shown place count kept at all =
     ∙ ap (take count) (front_rest list old shown kept)
     ∙ take_all count shown (omega (arith, all))
 
-module _ (items : List SeenItem) (users : List SeenUser) (bids : List BidShown) (latest : List ItemShown) (reply : Reply) (place : ℕ) where
-  pub says_item : (old : List SeenItem) (seen : SeenItem) → items ≡ old ++ seen ∷ [] → place ≡ length old → item_reply seen ≡ reply →
+module _ (items : List ItemView) (users : List SeenUser) (bids : List BidShown) (latest : List ItemShown) (reply : Reply) (place : ℕ) where
+  pub says_item : (old : List ItemView) (seen : ItemView) → items ≡ old ++ seen ∷ [] → place ≡ length old → item_reply seen ≡ reply →
       SaysReply items users bids latest (told.ItemSeen place) reply
   says_item old seen kept at is = record {
     within = omega (arith, at, ap length kept, length-append old (seen ∷ []));

@@ -1,6 +1,7 @@
 -- What is left of journals while their entries are told in one order.
 use Rattle.std.specs.Prelude.{◌≡◌, Bool, ℕ, ◌<◌, ◌≤◌, List, [], ◌∷◌, ◌++◌, Option, None, Some, map, take, drop, length, slice_get, slice_index_or, unwrap_or, IfSome, nat_lt, if◌then◌else◌}
 use Rattle.std.specs.List.{flat_map, AllByRecursion}
+use Rattle.auction_rows.specs.declared.replies.ItemView.{ItemView}
 use Rattle.auction_rows.specs.declared.replies.Refusal.TheVariants.{NoSuchItem}
 use Rattle.auction_rows.specs.declared.replies.Reply.{Reply}
 use Rattle.auction_rows.specs.declared.replies.Reply.TheVariants.{Refused}
@@ -10,6 +11,7 @@ use Rattle.auction_rows.specs.declared.requests.Request.TheVariants.{ViewUser}
 use Rattle.auction_rows.specs.declared.rows.Entry.{Entry}
 use Rattle.auction_rows.specs.StoreReplies.{is_refusal, store_reply}
 use Rattle.worker_journals.specs.Journals.{JournalView, entry_number, IsLawfulJournal}
+use Rattle.worker_journals.specs.Sides.{shown_in}
 use Rattle.worker_journals.specs.Merged.{entries_of, AreByWorker}
 
 -- the journals with their entries from these places on
@@ -93,6 +95,10 @@ entry_request entry = entry.request
 -- an entry's reply, if it shows nothing
 abbrev pub entry_store_reply : Entry → Option StoreReply
 entry_store_reply entry = store_reply entry.reply
+
+-- the item that an entry shows, if it does
+abbrev pub entry_items : Entry → List ItemView
+entry_items entry = (shown_in entry.reply).items
 
 -- whether an entry is refused
 abbrev pub is_refused : Entry → Bool

@@ -6,13 +6,14 @@ use Rattle.auction_rows.specs.declared.requests.Request.{Request}
 use Rattle.auction_rows.specs.declared.requests.Request.TheVariants.{StoreItem, StoreBid, StoreComment, BuyNow, ViewItem, ViewBids, ViewCategory, ViewUser}
 use Rattle.auction_rows.specs.declared.replies.BidShown.{BidShown}
 use Rattle.auction_rows.specs.declared.replies.ItemShown.{ItemShown}
+use Rattle.auction_rows.specs.declared.replies.ItemView.{ItemView}
 use Rattle.auction_rows.specs.declared.replies.Reply.{Reply}
 use Rattle.auction_rows.specs.declared.replies.Reply.TheVariants.{ItemStored, BidStored, CommentStored, Bought, ItemSeen, BidsSeen, CategorySeen, UserSeen, Refused}
+use Rattle.auction_rows.specs.ItemViews.{item_reply}
 use Rattle.worker_journals.specs.declared.heads.ShortRequest.{ShortRequest}
 use Rattle.worker_journals.specs.declared.heads.ShortRequest.TheVariants as ask
 use Rattle.worker_journals.specs.declared.heads.ShortReply.{ShortReply}
 use Rattle.worker_journals.specs.declared.heads.ShortReply.TheVariants as told
-use Rattle.worker_journals.specs.declared.heads.ItemSeen.{ItemSeen as SeenItem}
 use Rattle.worker_journals.specs.declared.heads.UserSeen.{UserSeen as SeenUser}
 
 -- the side lists of a journal: what its requests store and its views show
@@ -20,7 +21,7 @@ pub record SideLists : Type 0 where
   -- the facts that requests store
   pub facts : List Facts
   -- what views of items show
-  pub items : List SeenItem
+  pub items : List ItemView
   -- what views of users show
   pub users : List SeenUser
   -- what views of bids show, one view after the other
@@ -48,7 +49,7 @@ facts_in (ViewUser user) = []
 -- what a reply shows, of each kind
 pub record ShownLists : Type 0 where
   -- an item
-  pub items : List SeenItem
+  pub items : List ItemView
   -- a user
   pub users : List SeenUser
   -- bids on an item
@@ -107,7 +108,7 @@ abbrev pub facts_at : List Facts → ℕ → Facts
 facts_at facts place = slice_index_or facts place no_facts
 
 -- an item seen that no head says
-abbrev pub no_item : SeenItem
+abbrev pub no_item : ItemView
 no_item = record {
   seller = 0;
   category = 0;
@@ -121,18 +122,12 @@ no_item = record {
 }
 
 -- the item seen at a place, past the end the one that no head says
-abbrev pub item_at : List SeenItem → ℕ → SeenItem
+abbrev pub item_at : List ItemView → ℕ → ItemView
 item_at items place = slice_index_or items place no_item
 
 -- the user seen at a place, past the end one that no head says
 abbrev pub user_at : List SeenUser → ℕ → SeenUser
 user_at users place = slice_index_or users place (record { rating = pos 0; comments = 0 })
-
--- what the view of an item shows, as a reply
-abbrev pub item_reply : SeenItem → Reply
-item_reply seen =
-    ItemSeen seen.seller seen.category seen.name seen.start seen.closes
-    seen.highest seen.bidder seen.bids seen.left
 
 -- what the view of a user shows, as a reply
 abbrev pub user_reply : SeenUser → Reply
@@ -150,7 +145,7 @@ request_from all (ask.ViewCategory category) = ViewCategory category
 request_from all (ask.ViewUser user) = ViewUser user
 
 -- the reply of a head
-abbrev pub reply_from : List SeenItem → List SeenUser → List BidShown → List ItemShown →
+abbrev pub reply_from : List ItemView → List SeenUser → List BidShown → List ItemShown →
     ShortReply → Reply
 reply_from items users bids latest (told.ItemStored id) = ItemStored id
 reply_from items users bids latest (told.BidStored id) = BidStored id
@@ -176,7 +171,7 @@ HasRequest all (ask.ViewCategory category) = ⊤
 HasRequest all (ask.ViewUser user) = ⊤
 
 -- the place of a short reply lies within the lists
-abbrev pub HasReply : List SeenItem → List SeenUser → List BidShown → List ItemShown →
+abbrev pub HasReply : List ItemView → List SeenUser → List BidShown → List ItemShown →
     ShortReply → Type 0
 HasReply items users bids latest (told.ItemStored id) = ⊤
 HasReply items users bids latest (told.BidStored id) = ⊤
@@ -198,7 +193,7 @@ pub record SaysRequest (all : List Facts) (short : ShortRequest) (request : Requ
   pub is : request_from all short ≡ request
 
 -- a short reply says a reply, with what is kept of views
-pub record SaysReply (items : List SeenItem) (users : List SeenUser) (bids : List BidShown)
+pub record SaysReply (items : List ItemView) (users : List SeenUser) (bids : List BidShown)
     (latest : List ItemShown) (short : ShortReply) (reply : Reply) : Type 0 where
   -- the place lies within the lists
   pub within : HasReply items users bids latest short

@@ -1,11 +1,15 @@
 //! An entry of a journal, where it lies, and the reply of a commit, in few bytes.
-ghost use Rattle.std.specs.Prelude.{◌≡◌, ◌+◌, ◌<◌, ◌^◌, ◌∷◌, ◌++◌, [], Some, OnOk, length, slice_get};
+ghost use Rattle.std.specs.Prelude.{◌≡◌, ◌+◌, ◌<◌, ◌^◌, ◌∷◌, ◌++◌, [], Some, OnOk, length, option_map, option_to_list, slice_get};
 ghost use Rattle.auction_rows.specs.Choosing.{written_by};
 ghost use Rattle.auction_rows.specs.History.{row_of_entry};
 ghost use Rattle.auction_rows.specs.StoreReplies.{is_refusal, store_reply, reply_of};
+ghost use Rattle.auction_rows.specs.ItemViews.{item_told};
+ghost use Rattle.worker_journals.specs.Sides.{shown_in};
 
 use crate::journal::Journal;
-use auction_rows::{Entry, Object, Reply, Request, Row, StoreReply, row_of_store};
+use auction_rows::{
+    Entry, ItemView, Object, Refusal, Reply, Request, Row, StoreReply, row_of_store,
+};
 use std::alloc::AllocError;
 use std::marker::Model;
 
@@ -92,6 +96,15 @@ impl<'a> EntryRef<'a> {
         self.journal.store_reply(self.place)
     }
 
+    /// What the entry shows of an item, if it is a view of one that is stored.
+    #[inline(always)]
+    pub fn item_seen(&self) -> Option<&ItemView>
+        ensures { option_to_list (option_map (λ seen. seen.now) result)
+            ≡ (shown_in self.now.reply).items }
+    {
+        self.journal.item_seen(self.place)
+    }
+
     /// Whether the entry is refused.
     pub fn is_refused(&self) -> bool
         ensures { result ≡ is_refusal self.now.reply }
@@ -149,6 +162,8 @@ pub struct Answer<'a> {
 pub enum ReplyForm<'a> {
     /// The reply to a store, or a refusal.
     Store(StoreReply),
+    /// What the view of an item shows, where it lies.
+    Item(&'a ItemView),
     /// A reply where it lies.
     Whole(&'a Reply),
 }
@@ -173,6 +188,19 @@ impl<'a> Answer<'a> {
         }
     }
 
+    /// The reply to the view of an item, which shows this where it lies: None if it is not stored.
+    #[inline(always)]
+    pub fn of_item(seen: &'a Option<ItemView>) -> Answer<'a>
+        ensures { result ≡ item_told seen.now }
+    {
+        Answer {
+            form: match seen {
+                Some(seen) => ReplyForm::Item(seen),
+                None => ReplyForm::Store(StoreReply::Refused(Refusal::NoSuchItem)),
+            },
+        }
+    }
+
     /// The whole reply.
     #[inline(always)]
     pub fn to_reply(&self) -> Reply
@@ -180,6 +208,7 @@ impl<'a> Answer<'a> {
     {
         match self.form {
             ReplyForm::Store(reply) => whole(reply),
+            ReplyForm::Item(seen) => seen.to_reply(),
             ReplyForm::Whole(reply) => *reply,
         }
     }

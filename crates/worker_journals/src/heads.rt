@@ -2,12 +2,12 @@
 ghost use Rattle.std.specs.Prelude.{◌≡◌, List};
 ghost use Rattle.auction_rows.specs.declared.replies.BidShown.{BidShown};
 ghost use Rattle.auction_rows.specs.declared.replies.ItemShown.{ItemShown};
+ghost use Rattle.auction_rows.specs.declared.replies.ItemView.{ItemView};
 ghost use Rattle.auction_rows.specs.StoreReplies.{is_refusal, store_reply};
-ghost use Rattle.worker_journals.specs.declared.heads.ItemSeen.{ItemSeen as SeenItem};
 ghost use Rattle.worker_journals.specs.declared.heads.UserSeen.{UserSeen as SeenUser};
 ghost use Rattle.worker_journals.specs.Sides.{reply_from};
 
-use auction_rows::{BidId, BuyId, CommentId, ItemId, Name, Quantity, Refusal, Stars, StoreReply};
+use auction_rows::{BidId, BuyId, CommentId, ItemId, Quantity, Refusal, Stars, StoreReply};
 use std::marker::Model;
 
 // Seven words: less than a cache line.
@@ -105,7 +105,7 @@ impl ShortReply {
     /// A reply that shows nothing.
     #[inline(always)]
     pub(crate) fn of_store(reply: StoreReply) -> ShortReply
-        ensures { (items : List SeenItem) (users : List SeenUser) (bids : List BidShown)
+        ensures { (items : List ItemView) (users : List SeenUser) (bids : List BidShown)
             (latest : List ItemShown) →
             SaysReply items users bids latest result (reply_of reply) }
     {
@@ -120,7 +120,7 @@ impl ShortReply {
 
     /// The reply, if it shows nothing.
     pub(crate) fn as_store_reply(self) -> Option<StoreReply>
-        ensures { (items : List SeenItem) (users : List SeenUser) (bids : List BidShown)
+        ensures { (items : List ItemView) (users : List SeenUser) (bids : List BidShown)
             (latest : List ItemShown) →
             result ≡ store_reply (reply_from items users bids latest self) }
     {
@@ -136,26 +136,12 @@ impl ShortReply {
 
     /// Whether the reply is a refusal.
     pub(crate) fn is_refusal(self) -> bool
-        ensures { (items : List SeenItem) (users : List SeenUser) (bids : List BidShown)
+        ensures { (items : List ItemView) (users : List SeenUser) (bids : List BidShown)
             (latest : List ItemShown) →
             result ≡ is_refusal (reply_from items users bids latest self) }
     {
         matches!(self, ShortReply::Refused(_))
     }
-}
-
-/// What the view of an item shows.
-#[derive(Clone, Copy)]
-pub(crate) struct ItemSeen {
-    pub(crate) seller: u32,
-    pub(crate) category: u32,
-    pub(crate) name: Name,
-    pub(crate) left: u32,
-    pub(crate) start: u64,
-    pub(crate) closes: u64,
-    pub(crate) bids: u64,
-    pub(crate) highest: Option<u64>,
-    pub(crate) bidder: Option<u32>,
 }
 
 /// What the view of a user shows.

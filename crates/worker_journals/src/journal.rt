@@ -1,14 +1,14 @@
 //! What one worker commits in one phase.
-ghost use Rattle.std.specs.Prelude.{◌≡◌, ◌<◌, ◌+◌, ◌^◌, ◌==◌, Some, length, map, slice_get, IfOk};
+ghost use Rattle.std.specs.Prelude.{◌≡◌, ◌<◌, ◌+◌, ◌^◌, ◌==◌, Some, length, map, option_map, option_to_list, slice_get, IfOk};
 ghost use Rattle.std.specs.Iterator.{YieldsFirst, item_count};
 ghost use Rattle.auction_rows.specs.Choosing.{written_by};
 ghost use Rattle.worker_journals.specs.Journals.{IsLawfulJournal, ComesAfter, closed_journal, empty_journal, entry_index, entry_number, with_commit};
-ghost use Rattle.worker_journals.specs.Places.{entry_reply, entry_request, entry_store_reply, is_refused};
+ghost use Rattle.worker_journals.specs.Places.{entry_items, entry_reply, entry_request, entry_store_reply, is_refused};
 
 use crate::entries::{Answer, EntryRef};
 use crate::heads::Head;
 use crate::sides::Sides;
-use auction_rows::{Entry, Object, Reply, Request, StoreReply};
+use auction_rows::{Entry, ItemView, Object, Reply, Request, StoreReply};
 use std::alloc::{AllocError, Global};
 use std::marker::Model;
 
@@ -188,6 +188,16 @@ impl Journal {
         ensures { slice_get (map entry_store_reply self.now.entries) place ≡ Some result }
     {
         self.heads[place].reply.as_store_reply()
+    }
+
+    /// What the entry at a place from 0 shows of an item, if it is a view of one.
+    #[inline(always)]
+    pub(crate) fn item_seen(&self, place: usize) -> Option<&ItemView>
+        requires { place < length self.now.entries }
+        ensures { slice_get (map entry_items self.now.entries) place
+            ≡ Some (option_to_list (option_map (λ seen. seen.now) result)) }
+    {
+        self.sides.item_seen(self.heads[place].reply)
     }
 
     /// Whether the entry at a place from 0 is refused.

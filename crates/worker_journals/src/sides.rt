@@ -1,10 +1,10 @@
 //! What a journal keeps beside its heads.
-ghost use Rattle.std.specs.Prelude.{◌≡◌, ◌+◌, ◌<◌, ◌≤◌, ◌++◌, ◌∷◌, [], length, take, drop, option_to_list, vec_len, vec_capacity, IfOk};
-ghost use Rattle.worker_journals.specs.Sides.{HasListRoom, SaysReply, SaysRequest, facts_in, shown_in, item_reply};
+ghost use Rattle.std.specs.Prelude.{◌≡◌, ◌+◌, ◌<◌, ◌≤◌, ◌++◌, ◌∷◌, [], length, take, drop, option_map, option_to_list, vec_len, vec_capacity, IfOk};
+ghost use Rattle.worker_journals.specs.Sides.{HasListRoom, SaysReply, SaysRequest, facts_in, shown_in};
 
 use crate::entries::{Answer, ReplyForm};
-use crate::heads::{ItemSeen, ShortReply, ShortRequest, SideIndex, UserSeen};
-use auction_rows::{BidShown, Facts, ItemShown, MOST_SHOWN, Object, Reply, Request, Ten};
+use crate::heads::{ShortReply, ShortRequest, SideIndex, UserSeen};
+use auction_rows::{BidShown, Facts, ItemShown, ItemView, MOST_SHOWN, Object, Reply, Request, Ten};
 use std::alloc::{AllocError, Global};
 use std::marker::Model;
 
@@ -12,7 +12,7 @@ use std::marker::Model;
 #[derive(Drop)]
 pub(crate) struct Sides {
     facts: Vec<Facts>,
-    items: Vec<ItemSeen>,
+    items: Vec<ItemView>,
     users: Vec<UserSeen>,
     bids: Vec<BidShown>,
     latest: Vec<ItemShown>,
@@ -98,6 +98,10 @@ impl Sides {
         self.left -= 1;
         match reply.form {
             ReplyForm::Store(store) => (short_request, ShortReply::of_store(store)),
+            ReplyForm::Item(seen) => {
+                let place = keep_one(&mut self.items, *seen);
+                (short_request, ShortReply::ItemSeen(place))
+            }
             ReplyForm::Whole(whole) => {
                 let short_reply = keep_reply(
                     &mut self.items,
@@ -156,7 +160,7 @@ impl Sides {
             ShortReply::BidStored(id) => Reply::BidStored(id),
             ShortReply::CommentStored(id) => Reply::CommentStored(id),
             ShortReply::Bought(id) => Reply::Bought(id),
-            ShortReply::ItemSeen(place) => item_reply(&self.items[place.get()]),
+            ShortReply::ItemSeen(place) => self.items[place.get()].to_reply(),
             ShortReply::BidsSeen(count, place) => Reply::BidsSeen(part_of(
                 &self.bids, place, count,
             )),
@@ -171,6 +175,19 @@ impl Sides {
                 }
             }
             ShortReply::Refused(reason) => Reply::Refused(reason),
+        }
+    }
+
+    /// What a head of this journal shows of an item, if it is of a view of one.
+    #[inline(always)]
+    pub(crate) fn item_seen(&self, short: ShortReply) -> Option<&ItemView>
+        requires { HasReplyWith self.now short }
+        ensures { option_to_list (option_map (λ seen. seen.now) result)
+            ≡ (shown_in (reply_with self.now short)).items }
+    {
+        match short {
+            ShortReply::ItemSeen(place) => Some(&self.items[place.get()]),
+            _ => None,
         }
     }
 
@@ -281,7 +298,7 @@ fn keep_request(all: &mut Vec<Facts>, request: &Request) -> ShortRequest
 }
 
 // What the view of an item shows: None of another reply.
-fn item_seen(reply: &Reply) -> Option<ItemSeen>
+fn item_seen(reply: &Reply) -> Option<ItemView>
     ensures { option_to_list result ≡ (shown_in reply.now).items }
 {
     if let Reply::ItemSeen {
@@ -296,7 +313,7 @@ fn item_seen(reply: &Reply) -> Option<ItemSeen>
         left,
     } = *reply
     {
-        return Some(ItemSeen {
+        return Some(ItemView {
             seller,
             category,
             name,
@@ -313,7 +330,7 @@ fn item_seen(reply: &Reply) -> Option<ItemSeen>
 
 // A reply, with what it shows at the end of what views of its kind show.
 fn keep_reply(
-    items: &mut Vec<ItemSeen>,
+    items: &mut Vec<ItemView>,
     users: &mut Vec<UserSeen>,
     bids: &mut Vec<BidShown>,
     latest: &mut Vec<ItemShown>,
@@ -351,22 +368,5 @@ fn keep_reply(
             ShortReply::UserSeen(keep_one(users, UserSeen { rating, comments }))
         }
         Reply::Refused(reason) => ShortReply::Refused(reason),
-    }
-}
-
-// What the view of an item shows, as a reply.
-fn item_reply(seen: &ItemSeen) -> Reply
-    ensures { result ≡ item_reply seen.now }
-{
-    Reply::ItemSeen {
-        seller: seen.seller,
-        category: seen.category,
-        name: seen.name,
-        start: seen.start,
-        closes: seen.closes,
-        highest: seen.highest,
-        bidder: seen.bidder,
-        bids: seen.bids,
-        left: seen.left,
     }
 }

@@ -6,7 +6,8 @@ ghost use Rattle.auction_rows.specs.Replies.{bid_shown, item_shown};
 use crate::shard::Shard;
 use crate::shard::slices::{CategorySlice, UserSlice};
 use auction_rows::{
-    BidEntry, BidShown, ItemEntry, ItemId, ItemShown, MOST_SHOWN, Refusal, Reply, Stars, Ten,
+    BidEntry, BidShown, ItemEntry, ItemId, ItemShown, ItemView, MOST_SHOWN, Refusal, Reply, Stars,
+    Ten,
 };
 use split_records::Splittable;
 
@@ -14,6 +15,7 @@ impl Shard {
     ghost use Rattle.std.specs.Prelude.{ℕ};
     ghost use Rattle.auction_rows.specs.declared.requests.Object.TheVariants.{Item, User, Category};
     ghost use Rattle.auction_rows.specs.declared.requests.Request.TheVariants.{ViewItem, ViewBids, ViewCategory, ViewUser};
+    ghost use Rattle.auction_rows.specs.ItemViews.{item_told};
     ghost use Rattle.auction_rows.specs.Replies.{reply};
     ghost use Rattle.item_shards.specs.Views.{item_view, bids_view, category_reply, user_reply};
     ghost use Rattle.item_shards.specs.ShardContents.{contents, opening, LiesIn, ForEachBook};
@@ -25,23 +27,31 @@ impl Shard {
         ensures book { ForEachBook self.now (Item item) (λ book.
             (worker : ℕ) → result ≡ reply (opening self.now) book worker (ViewItem item)) }
     {
-        let Some(record) = self.record(item) else {
-            return Reply::Refused(Refusal::NoSuchItem);
-        };
-        let Some(facts) = record.facts else {
-            return Reply::Refused(Refusal::NoSuchItem);
-        };
-        Reply::ItemSeen {
+        match self.item_seen(item) {
+            Some(seen) => seen.to_reply(),
+            None => Reply::Refused(Refusal::NoSuchItem),
+        }
+    }
+
+    /// What `view_item` shows of the item: None if it is not stored.
+    #[inline(always)]
+    pub fn item_seen(&self, item: ItemId) -> Option<ItemView>
+        requires here { LiesIn self.now (Item item) }
+        ensures { item_told result ≡ item_view (contents self.now (Item item)) }
+    {
+        let record = self.record(item)?;
+        let facts = record.facts.as_ref()?;
+        Some(ItemView {
             seller: facts.seller,
             category: facts.category,
             name: facts.name,
+            left: facts.quantity.value().saturating_sub(record.bought),
             start: facts.start,
             closes: facts.closes,
+            bids: record.bids.bids.value(),
             highest: record.bids.highest.value(),
             bidder: record.bids.bidder.value().map(|bid| bid.bidder),
-            bids: record.bids.bids.value(),
-            left: facts.quantity.value().saturating_sub(record.bought),
-        }
+        })
     }
 
     /// The ten greatest bids on the item, the greatest first; NoSuchItem if it is not stored.
