@@ -13,12 +13,12 @@ use Rattle.auction_text.specs.Readable.{Readable, after, faulty, no_more, reques
 use Rattle.auction_text.specs.RowLines.{rows_text}
 use Rattle.auction_text.specs.Scripts.{asked_in, row_in, rows}
 use Rattle.auction_text.specs.Writing.{IsPartWritten}
-use Rattle.auction_text.specs.declared.record.ReadFault.{ReadFault}
-use Rattle.auction_text.specs.declared.parts.InputLeft.{InputLeft}
-use Rattle.auction_text.specs.declared.parts.Part.{Part}
-use Rattle.auction_text.specs.declared.parts.PartEnd.{PartEnd}
-use Rattle.auction_text.specs.declared.parts.PartEnd.TheVariants.{More, All, Fault}
-use Rattle.auction_text.specs.declared.record.Record.{Record}
+use Rattle.auction_text.specs.declared.reading.ReadFault.{ReadFault}
+use Rattle.auction_text.specs.declared.reading.parts.InputLeft.{InputLeft}
+use Rattle.auction_text.specs.declared.reading.parts.Part.{Part}
+use Rattle.auction_text.specs.declared.reading.parts.PartEnd.{PartEnd}
+use Rattle.auction_text.specs.declared.reading.parts.PartEnd.TheVariants.{More, All, Fault}
+use Rattle.auction_text.specs.declared.reading.record.Record.{Record}
 use Rattle.item_shards.specs.OpeningRows.{AreRows, IsTooLong, opening_rows}
 use Rattle.item_shards.specs.declared.openings.Opened.{Opened}
 use Rattle.part_log.specs.declared.log.Teller.{Teller}

@@ -6,12 +6,12 @@ use Rattle.auction_text.specs.Moved.{gone_by}
 use Rattle.auction_text.specs.Parts.{CanRead, GoesOn, IsPart, KeepsWorkers, workers_of}
 use Rattle.auction_text.specs.Readable.{Readable, after, requests_in}
 use Rattle.auction_text.specs.Scripts.{Asked, asked_in}
-use Rattle.auction_text.specs.declared.record.ReadFault.{ReadFault}
-use Rattle.auction_text.specs.declared.parts.InputLeft.{InputLeft}
-use Rattle.auction_text.specs.declared.parts.Part.{Part}
-use Rattle.auction_text.specs.declared.parts.PartEnd.{PartEnd}
-use Rattle.auction_text.specs.declared.parts.PartEnd.TheVariants.{More, All, Fault}
-use Rattle.auction_text.specs.declared.record.Record.{Record}
+use Rattle.auction_text.specs.declared.reading.ReadFault.{ReadFault}
+use Rattle.auction_text.specs.declared.reading.parts.InputLeft.{InputLeft}
+use Rattle.auction_text.specs.declared.reading.parts.Part.{Part}
+use Rattle.auction_text.specs.declared.reading.parts.PartEnd.{PartEnd}
+use Rattle.auction_text.specs.declared.reading.parts.PartEnd.TheVariants.{More, All, Fault}
+use Rattle.auction_text.specs.declared.reading.record.Record.{Record}
 use Rattle.item_shards.specs.declared.openings.Opened.{Opened}
 use Rattle.part_log.specs.declared.log.Teller.{Teller}
 use Rattle.run_laws.specs.Serving.{lists}

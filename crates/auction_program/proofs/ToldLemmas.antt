@@ -13,7 +13,7 @@ use Rattle.auction_text.specs.RowLines.{row_line, rows_text}
 use Rattle.auction_text.specs.Replies.{history_text, lines, replies_text}
 use Rattle.auction_text.specs.Writing.{IsPartWritten}
 use Rattle.auction_run.specs.declared.checks.RunFault.{RunFault}
-use Rattle.auction_text.specs.declared.output.WriteFault.{WriteFault}
+use Rattle.auction_text.specs.declared.writing.WriteFault.{WriteFault}
 use Rattle.item_shards.specs.declared.openings.ResumeFault.{ResumeFault}
 use Rattle.part_log.specs.Telling.{IsLoggedFirst}
 use Rattle.part_log.specs.declared.log.LogFault.{LogFault}

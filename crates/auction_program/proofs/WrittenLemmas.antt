@@ -10,7 +10,7 @@ use Rattle.auction_rows.specs.declared.rows.Entry.{Entry}
 use Rattle.auction_rows.specs.Book.{Book}
 use Rattle.auction_text.specs.Report.{report_text}
 use Rattle.auction_text.specs.Writing.{IsPartWritten}
-use Rattle.auction_text.specs.declared.rows.ReportLines.{ReportLines}
+use Rattle.auction_text.specs.declared.writing.report.ReportLines.{ReportLines}
 use Rattle.auction_program.specs.Report.{report_of, AreViews}
 
 module _ (old mid new : Option (List ℕ)) (text added : List ℕ) where

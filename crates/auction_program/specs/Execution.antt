@@ -12,7 +12,7 @@ use Rattle.auction_text.specs.Replies.{replies_text, history_text}
 use Rattle.auction_text.specs.RowLines.{rows_text}
 use Rattle.auction_text.specs.Scripts.{input_of}
 use Rattle.auction_text.specs.Writing.{IsPartWritten}
-use Rattle.auction_text.specs.declared.rows.ReportLines.{ReportLines}
+use Rattle.auction_text.specs.declared.writing.report.ReportLines.{ReportLines}
 use Rattle.item_shards.specs.OpeningRows.{AreRows, IsFirstBad, IsTooLong, opening_rows}
 use Rattle.item_shards.specs.declared.openings.Opened.{Opened}
 use Rattle.item_shards.specs.declared.openings.ResumeFault.{ResumeFault}

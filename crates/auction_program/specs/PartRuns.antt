@@ -9,9 +9,9 @@ use Rattle.auction_text.specs.Moved.{Gone, gone_by}
 use Rattle.auction_text.specs.Parts.{GoesOn, KeepsWorkers}
 use Rattle.auction_text.specs.Readable.{Readable}
 use Rattle.auction_text.specs.Scripts.{rows}
-use Rattle.auction_text.specs.declared.record.ReadFault.{ReadFault}
-use Rattle.auction_text.specs.declared.parts.PartEnd.{PartEnd}
-use Rattle.auction_text.specs.declared.record.Record.{Record}
+use Rattle.auction_text.specs.declared.reading.ReadFault.{ReadFault}
+use Rattle.auction_text.specs.declared.reading.parts.PartEnd.{PartEnd}
+use Rattle.auction_text.specs.declared.reading.record.Record.{Record}
 use Rattle.item_shards.specs.OpeningBooks as opened
 use Rattle.item_shards.specs.OpeningRows.{AreRows, IsTooLong, opening_rows}
 use Rattle.item_shards.specs.declared.openings.Opened.{Opened}

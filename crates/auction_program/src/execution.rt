@@ -6,7 +6,7 @@ ghost use Rattle.auction_rows.specs.declared.rows.Row.{Row as Stored};
 ghost use Rattle.auction_rows.specs.Book.{Book};
 ghost use Rattle.item_shards.specs.OpeningBooks as opened;
 ghost use Rattle.auction_run.specs.Phases.{lists};
-ghost use Rattle.auction_text.specs.declared.output.WriteFault.{WriteFault};
+ghost use Rattle.auction_text.specs.declared.writing.WriteFault.{WriteFault};
 ghost use Rattle.auction_program.specs.Execution.{Answers, ArePartWritten, AreWritten, IsCausedBy, IsOneWritten, IsUnwritten, IsNotPerformed, Performs, IsAnsweredBy};
 ghost use Rattle.auction_program.specs.Options.{opening_asked};
 ghost use Rattle.auction_program.specs.Report.{AreViews, IsEnd};

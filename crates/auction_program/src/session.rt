@@ -6,7 +6,7 @@ ghost use Rattle.auction_rows.specs.History.{ReplaysFrom};
 ghost use Rattle.item_shards.specs.declared.openings.Opened.{Opened as Row};
 ghost use Rattle.auction_text.specs.Readable.{Readable, readable_of};
 ghost use Rattle.auction_text.specs.Reading.{IsInputFault};
-ghost use Rattle.auction_text.specs.declared.record.ReadFault.{ReadFault};
+ghost use Rattle.auction_text.specs.declared.reading.ReadFault.{ReadFault};
 ghost use Rattle.auction_text.specs.Moved.{Gone};
 ghost use Rattle.auction_text.specs.Replies.{history_text};
 ghost use Rattle.part_log.specs.declared.log.Teller.{Teller as Told};

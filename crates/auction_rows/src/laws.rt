@@ -1,5 +1,5 @@
 //! What the definitions of orders, requests and refusals say, what a history that replays leaves,
-//! and what holds of every book, as laws for the crates above. Each law is what a function with an
+//! and what holds of every book. Laws are for readers: each is what a function with an
 //! empty body ensures.
 ghost use Rattle.std.specs.Prelude.{◌≡◌, ◌↔◌, ◌&&◌, not, ℕ, Some, Contains, IsTrue, is_some, is_none, ◌+◌, ◌≤◌, ◌++◌, List, map, filter, nat_le};
 ghost use Rattle.std.specs.Option.{option_or};

@@ -41,9 +41,6 @@ none_left [] n len none = refl
 none_left (x ∷ xs) n len none = absurd (omega (arith, len, none))
 
 module _ {X : Type 0} (of : ℕ → List X) where
-  pub each_none : AreEach of []
-  each_none place list is = absurd (cc is)
-
   -- one list more
   pub each_more : (lists : List (Vec X)) (list : Vec X) (place : ℕ) → AreEach of lists → length lists ≡ place → list.items ≡ of place → AreEach of (lists ++ list ∷ [])
   each_more lists list place each len is i other found = elim (pushed_at lists list other i found) [

@@ -4,7 +4,7 @@ use Rattle.std.specs.Option.{option_map, option_or}
 use Rattle.std.proofs.lemmas.Bool.{eqb-true, false_from_ne_true}
 use Rattle.std.proofs.lemmas.List.{take_rest}
 use Rattle.auction_text.specs.Kinds.{kind_of, request, row, store_of, view_of}
-use Rattle.auction_text.specs.declared.fields.RequestKind.{RequestKind}
+use Rattle.auction_text.specs.declared.reading.fields.RequestKind.{RequestKind}
 
 request_named : (word : List ℕ) → (1 ≤ length word → get_or word 0 0 ≡ 43 → ⊥) → kind_of word ≡ option_map request (option_or (store_of word) (view_of word))
 request_named [] plain = refl

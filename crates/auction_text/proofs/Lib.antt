@@ -26,7 +26,6 @@ pub mod ReplyOrder
 pub mod RowsFirst
 pub mod SoFar
 pub mod SortLemmas
-pub mod StoredReplies
 pub mod TakingLemmas
 pub mod TurnLemmas
 pub mod WorkerReplies

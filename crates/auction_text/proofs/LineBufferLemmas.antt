@@ -1,7 +1,6 @@
 -- What a buffer of lines holds, and has left.
 use Rattle.std.proofs.Common.{arith, ◌≡◌, ◌≤◌, ◌<◌, ◌+◌, ◌-◌, ◌++◌, ◌∷◌, ◌∙◌, [], ℕ, zero, suc, List, min, Option, Some, None, Result, Ok, drop, length, take, refl, sym, ap, ap₂, append_assoc, take-append-drop}
 use lib.Seq.{drop-append-le}
-use Rattle.std.proofs.Math.Seq.{paste, take-paste}
 use Rattle.std.proofs.lemmas.Grind.{common_steps}
 use Rattle.std.proofs.lemmas.List.{drop-drop, drop-take}
 use Rattle.std.specs.Io.KnownBytes.{Consumes, IsAtEnd, Keeps, prepend_known}
@@ -15,16 +14,6 @@ held_after buffer at filled n fits =
     let both : n + (m - n) ≡ m = omega arith in
     let less : filled - (at + n) ≡ m - n = omega arith in
     ap₂ (λ (k : ℕ) (xs : List ℕ). take k xs) less (sym (drop-drop n at buffer)) ∙ sym (drop-take n (m - n) (drop at buffer)) ∙ ap (λ (k : ℕ). drop n (take k (drop at buffer))) both
-
--- after they were moved to the front
-pub held_moved : (buffer : List ℕ) (at filled : ℕ) → at ≤ filled → filled ≤ length buffer
-    → take (filled - at) (paste buffer 0 (drop at buffer) (filled - at)) ≡ take (filled - at) (drop at buffer)
-held_moved buffer at filled before fits =
-    let rest = drop at buffer in
-    let n = filled - at in
-    let nothing : 0 + n ≡ n = omega arith in
-    let long : n ≤ length rest = grind (arith, common_steps) in
-    ap (λ (m : ℕ). take m (paste buffer 0 rest n)) (sym nothing) ∙ take-paste buffer 0 rest n (omega arith) long
 
 -- the known bytes behind those that are held
 pub known_behind : (held bytes : List ℕ) (rem : Option (List ℕ)) → prepend_known held rem ≡ Some bytes → (left : List ℕ) × (rem ≡ Some left) × (bytes ≡ held ++ left)

@@ -5,12 +5,12 @@ use Rattle.std.specs.Option.{option_map}
 use Rattle.csv.specs.Reading.{default_config, reader_state, records, source_of, strip_bom}
 use Rattle.csv.specs.declared.parser.State.TheVariants as st
 use Rattle.csv.specs.declared.reader.Reader.{Reader}
-use Rattle.auction_text.specs.declared.record.ReadFault.{ReadFault}
-use Rattle.auction_text.specs.declared.line_buffer.LineBuffer.{LineBuffer}
-use Rattle.auction_text.specs.declared.parts.InputLeft.{InputLeft}
-use Rattle.auction_text.specs.declared.parts.PartEnd.TheVariants as end
-use Rattle.auction_text.specs.declared.record.Record.{Record}
-use Rattle.auction_text.specs.declared.part_records.Taken.{Taken}
+use Rattle.auction_text.specs.declared.reading.ReadFault.{ReadFault}
+use Rattle.auction_text.specs.declared.reading.line_buffer.LineBuffer.{LineBuffer}
+use Rattle.auction_text.specs.declared.reading.parts.InputLeft.{InputLeft}
+use Rattle.auction_text.specs.declared.reading.parts.PartEnd.TheVariants as end
+use Rattle.auction_text.specs.declared.reading.record.Record.{Record}
+use Rattle.auction_text.specs.declared.reading.part_records.Taken.{Taken}
 use Rattle.auction_text.specs.LineBuffers.{lines_left}
 use Rattle.auction_text.specs.Parts.{CanRead, HaveLines, HaveRecords, IsPart}
 use Rattle.auction_text.specs.Progress.{unmarked}

@@ -10,8 +10,8 @@ use Rattle.auction_rows.specs.declared.values.Stars.{Stars}
 use Rattle.auction_text.specs.Fields.{name, quantity, stars}
 use Rattle.auction_text.specs.Kinds.{has_count, kind_of}
 use Rattle.auction_text.specs.Records.{put_up, request_of}
-use Rattle.auction_text.specs.declared.fields.RequestKind.{RequestKind}
-use Rattle.auction_text.specs.declared.fields.RequestKind.TheVariants as kind
+use Rattle.auction_text.specs.declared.reading.fields.RequestKind.{RequestKind}
+use Rattle.auction_text.specs.declared.reading.fields.RequestKind.TheVariants as kind
 use Rattle.auction_text.specs.Lines.{HasRead, HasWordAt, IsEndOfItem, IsFieldTo, IsItemTo, IsLastField, IsLastItem, IsLastNumber, IsLine, IsNumberTo, IsPutUp, IsRequestAt, IsRestOf, is_plain}
 use Rattle.auction_text.specs.QuotedFields.{HasNextField}
 use Rattle.auction_text.proofs.LineLemmas.{first_and_comma, next_and_comma}

@@ -3,21 +3,16 @@ use Rattle.std.proofs.Common.{arith, ◌≡◌, ◌==◌, ◌&&◌, ◌<◌, ◌
 use Rattle.std.proofs.lemmas.List.{append-nil, length-map}
 use Rattle.csv.specs.Reading.{default_config, records, strip_bom}
 use Rattle.csv.specs.declared.reader.Reader.{Reader}
-use Rattle.auction_text.specs.declared.scripts.Progress.{Progress}
-use Rattle.auction_text.specs.declared.record.Record.{Record}
-use Rattle.auction_text.specs.declared.scripts.TheConstants.{MOST_RECORDS}
+use Rattle.auction_text.specs.declared.reading.plain_text.Progress.{Progress}
+use Rattle.auction_text.specs.declared.reading.record.Record.{Record}
+use Rattle.auction_text.specs.declared.reading.TheConstants.{MOST_RECORDS}
 use Rattle.auction_text.specs.Lines.{IsLine}
 use Rattle.auction_text.specs.Progress.{HasAdded, IsReadUpTo, ReadsOn, unmarked}
-use Rattle.auction_text.specs.Reading.{IsAtStart, nothing_asked}
+use Rattle.auction_text.specs.Reading.{IsAtStart}
 use Rattle.auction_text.specs.Scripts.{asked_by, records_of}
 use Rattle.auction_text.proofs.LineLemmas.{feed_no_bom, records_after_feed}
 use Rattle.auction_text.proofs.RecordsLeft.{left_all}
-use Rattle.auction_text.proofs.SoFar.{IsReading, so_far_more, so_far_none}
-
--- nothing is read at the start
-pub read_up_to_none : (workers : ℕ) (bytes : List ℕ) (progress : Progress) → progress.count ≡ 0 → progress.begun ≡ false → asked_by progress.input ≡ nothing_asked workers
-    → IsReadUpTo workers bytes progress bytes
-read_up_to_none workers bytes progress count begun asked = rw (count, begun, asked) (so_far_none workers (records_of bytes))
+use Rattle.auction_text.proofs.SoFar.{IsReading, so_far_more}
 
 -- where nothing is read, nothing changes
 pub reads_on_none : (progress : Progress) (text : List ℕ) → progress.count ≤ MOST_RECORDS → ReadsOn progress text progress text

@@ -4,8 +4,8 @@ use Rattle.std.proofs.KnownBytes.{Appends-nil, Appends-trans}
 use Rattle.std.proofs.Math.Seq.{take-append-add}
 use Rattle.std.proofs.lemmas.List.{take-append-le, take_min}
 use Rattle.std.specs.Io.KnownBytes.{Appends}
-use Rattle.auction_text.specs.declared.output.WriteFault.{WriteFault}
-use Rattle.auction_text.specs.declared.output.WriteFault.TheVariants.{Write}
+use Rattle.auction_text.specs.declared.writing.WriteFault.{WriteFault}
+use Rattle.auction_text.specs.declared.writing.WriteFault.TheVariants.{Write}
 use Rattle.auction_text.specs.Writing.{Adds, IsPartWritten, PutsText, WritesText}
 
 -- nothing is written

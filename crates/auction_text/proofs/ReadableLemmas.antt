@@ -1,9 +1,9 @@
 -- What can be read of records that are not too many.
 use Rattle.std.proofs.Common.{arith, ◌≡◌, ◌≤◌, ◌+◌, ◌∷◌, ◌∙◌, ◌||◌, not, ℕ, Bool, true, false, List, [], Option, Some, None, Result, Ok, Err, length, refl, ap, nat_lt}
 use Rattle.std.proofs.lemmas.Grind.{common_steps}
-use Rattle.auction_text.specs.declared.record.ReadFault.{ReadFault}
-use Rattle.auction_text.specs.declared.record.Record.{Record}
-use Rattle.auction_text.specs.declared.scripts.TheConstants.{MOST_RECORDS}
+use Rattle.auction_text.specs.declared.reading.ReadFault.{ReadFault}
+use Rattle.auction_text.specs.declared.reading.record.Record.{Record}
+use Rattle.auction_text.specs.declared.reading.TheConstants.{MOST_RECORDS}
 use Rattle.auction_text.specs.Readable.{Readable, all_said, first_of, readable}
 use Rattle.auction_text.specs.Records.{and_then, read_record}
 use Rattle.auction_text.specs.Scripts.{read_records, rows}

@@ -5,14 +5,14 @@ use Rattle.std.specs.List.{filter}
 use Rattle.std.specs.Option.{ok_or}
 use Rattle.std.specs.Result.{result_map_both}
 use Rattle.auction_rows.specs.declared.requests.Request.{Request}
-use Rattle.auction_text.specs.declared.scripts.TheConstants.{MOST_RECORDS}
-use Rattle.auction_text.specs.declared.record.Cause.{Cause}
-use Rattle.auction_text.specs.declared.record.Cause.TheVariants as cause
-use Rattle.auction_text.specs.declared.record.ReadFault.{ReadFault}
-use Rattle.auction_text.specs.declared.record.ReadFault.TheVariants as fault
-use Rattle.auction_text.specs.declared.fields.Kind.{Kind}
-use Rattle.auction_text.specs.declared.fields.RequestKind.{RequestKind}
-use Rattle.auction_text.specs.declared.record.Record.{Record}
+use Rattle.auction_text.specs.declared.reading.TheConstants.{MOST_RECORDS}
+use Rattle.auction_text.specs.declared.reading.Cause.{Cause}
+use Rattle.auction_text.specs.declared.reading.Cause.TheVariants as cause
+use Rattle.auction_text.specs.declared.reading.ReadFault.{ReadFault}
+use Rattle.auction_text.specs.declared.reading.ReadFault.TheVariants as fault
+use Rattle.auction_text.specs.declared.reading.fields.Kind.{Kind}
+use Rattle.auction_text.specs.declared.reading.fields.RequestKind.{RequestKind}
+use Rattle.auction_text.specs.declared.reading.record.Record.{Record}
 use Rattle.auction_text.specs.Fields.{number}
 use Rattle.auction_text.specs.Kinds.{has_count}
 use Rattle.auction_text.specs.Records.{and_then, checked, field, kind_in, read_record, request_of}

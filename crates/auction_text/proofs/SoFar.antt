@@ -2,42 +2,28 @@
 use Rattle.std.proofs.Common.{◌≡◌, ◌<◌, ◌≤◌, ◌+◌, ◌∷◌, ◌∙◌, ◌++◌, ◌||◌, not, ℕ, Bool, true, false, List, [], Option, Some, None, Result, Ok, Err, length, map, IfSome, refl, sym, ap, arith, ◌==◌, nat_lt, get_or, append_assoc, ◌≢◌, inl, inr, get_or-set_other, get_or-set_same}
 use Rattle.std.proofs.lemmas.Grind.{common_steps}
 use Rattle.std.proofs.lemmas.Bool.{cases_Bool, eqb-true, eq-eqb, false≢true}
-use Rattle.std.proofs.lemmas.List.{append-nil, ext_get_or, get_or-replicate, length-replicate, length-set}
+use Rattle.std.proofs.lemmas.List.{append-nil, ext_get_or, length-set}
 use Rattle.std.proofs.lemmas.List.Elements.{filter_map-append}
 use Rattle.std.proofs.lemmas.List.FromFn.{get_or-map-range_with_len, length-map-range_with_len}
 use Rattle.std.specs.List.{range_with_len}
-use Rattle.csv.specs.Reading.{ReadRecord, default_config, source_of, strip_bom}
+use Rattle.csv.specs.Reading.{ReadRecord, default_config, source_of}
 use Rattle.csv.specs.declared.parser.State.TheVariants as st
 use Rattle.csv.specs.declared.reader.Reader.{Reader}
-use Rattle.auction_rows.specs.declared.requests.Request.{Request}
-use Rattle.auction_text.specs.declared.scripts.TheConstants.{MOST_RECORDS}
-use Rattle.auction_text.specs.declared.record.ReadFault.{ReadFault}
-use Rattle.auction_text.specs.declared.record.ReadFault.TheVariants as fault
-use Rattle.auction_text.specs.declared.record.Record.{Record}
-use Rattle.auction_text.specs.Reading.{nothing_asked, with_record}
+use Rattle.auction_text.specs.declared.reading.TheConstants.{MOST_RECORDS}
+use Rattle.auction_text.specs.declared.reading.ReadFault.{ReadFault}
+use Rattle.auction_text.specs.declared.reading.ReadFault.TheVariants as fault
+use Rattle.auction_text.specs.declared.reading.record.Record.{Record}
+use Rattle.auction_text.specs.Reading.{with_record}
 use Rattle.auction_text.specs.Records.{and_then, read_record}
 use Rattle.auction_text.specs.Scripts.{Asked, asked_in, input_of, read_records, records_of, request_by, row_in, rows, script}
 use Rattle.auction_text.specs.Progress.{SoFar}
 use Rattle.auction_text.specs.RecordsLeft.{Left}
-use Rattle.auction_text.proofs.RecordsLeft.{left_all, read_end, read_more}
-
-none_before : (r : Result (List Record) ReadFault) → r ≡ and_then r (λ others. Ok ([] ++ others))
-none_before (Ok others) = refl
-none_before (Err f) = refl
+use Rattle.auction_text.proofs.RecordsLeft.{read_end, read_more}
 
 one_before : (r : Result (List Record) ReadFault) (said : List Record) (first : Record)
     → and_then (and_then r (λ others. Ok (first ∷ others))) (λ others. Ok (said ++ others)) ≡ and_then r (λ others. Ok ((said ++ (first ∷ [])) ++ others))
 one_before (Ok others) said first = ap Ok (sym (append_assoc said (first ∷ []) others))
 one_before (Err f) said first = refl
-
-pub so_far_none : (workers : ℕ) (all : List (List (List ℕ))) → SoFar workers all 0 false all (nothing_asked workers)
-so_far_none workers all = record {
-  said = [];
-  read = none_before (read_records workers 1 false all);
-  rows_are = refl;
-  workers_are = length-replicate {A = List Request} workers [];
-  script_of = λ w within. rw (get_or-replicate {A = List Request}) refl;
-}
 
 not_past : (m n : ℕ) → n ≤ m → nat_lt m n ≡ false
 not_past m n h = grind (arith, common_steps)
@@ -126,17 +112,6 @@ pub record IsReading {R : Type 0} (rem : R → Option (List ℕ)) (workers : ℕ
 pub known_all : {Q : List ℕ → Type 0} (o : Option (List ℕ)) → ((bytes : List ℕ) → o ≡ Some bytes → Q bytes) → IfSome o Q
 known_all None f = tt
 known_all (Some bytes) f = f bytes refl
-
--- a reader of the whole input
-pub reading_none : {R : Type 0} (rem : R → Option (List ℕ)) (workers : ℕ) (bytes : List ℕ) (reader : Reader R)
-    → source_of rem reader ≡ Some (strip_bom bytes) → reader.state ≡ st.StartRecord → IsReading rem workers bytes 0 false reader (nothing_asked workers)
-reading_none rem workers bytes reader source start = record {
-  source = strip_bom bytes;
-  known = source;
-  rest = records_of bytes;
-  left = rw start (left_all (strip_bom bytes));
-  so_far = so_far_none workers (records_of bytes);
-}
 
 -- a record without a fault
 pub reading_more : {R : Type 0} (rem : R → Option (List ℕ)) (workers : ℕ) (bytes : List ℕ) (count : ℕ) (begun : Bool) (a b : Reader R) (asked : Asked) (fields : List (List ℕ)) (said : Record)

@@ -9,10 +9,10 @@ use Rattle.std.specs.List.{range_with_len}
 use Rattle.csv.specs.Reading.{ReadRecord, default_config, records, strip_bom}
 use Rattle.csv.specs.declared.reader.Reader.{Reader}
 use Rattle.auction_rows.specs.declared.requests.Request.{Request}
-use Rattle.auction_text.specs.declared.record.ReadFault.{ReadFault}
-use Rattle.auction_text.specs.declared.line_buffer.LineBuffer.{LineBuffer}
-use Rattle.auction_text.specs.declared.record.Record.{Record}
-use Rattle.auction_text.specs.declared.part_records.Taken.{Taken}
+use Rattle.auction_text.specs.declared.reading.ReadFault.{ReadFault}
+use Rattle.auction_text.specs.declared.reading.line_buffer.LineBuffer.{LineBuffer}
+use Rattle.auction_text.specs.declared.reading.record.Record.{Record}
+use Rattle.auction_text.specs.declared.reading.part_records.Taken.{Taken}
 use Rattle.auction_text.specs.LineBuffers.{held, lines_left, underneath}
 use Rattle.auction_text.specs.Lines.{IsLine}
 use Rattle.auction_text.specs.Progress.{unmarked}

@@ -2,9 +2,9 @@
 use Rattle.std.specs.Prelude.{ℕ, ◌==◌, List, [], ◌∷◌, Bool, true, false, ◌||◌, codes, Option, Some, None, if◌then◌else◌}
 use Rattle.std.specs.Option.{option_map, option_or}
 use Rattle.std.specs.Str.{bytes_eq}
-use Rattle.auction_text.specs.declared.fields.Kind.{Kind}
-use Rattle.auction_text.specs.declared.fields.RequestKind.{RequestKind}
-use Rattle.auction_text.specs.declared.fields.RequestKind.TheVariants as kind
+use Rattle.auction_text.specs.declared.reading.fields.Kind.{Kind}
+use Rattle.auction_text.specs.declared.reading.fields.RequestKind.{RequestKind}
+use Rattle.auction_text.specs.declared.reading.fields.RequestKind.TheVariants as kind
 
 -- a request of a kind, and a row that such a request would add
 abbrev pub request : RequestKind → Kind
@@ -31,11 +31,15 @@ view_of word =
     else if bytes_eq word (codes "viewuser") then Some kind.ViewUser
     else None
 
--- the kind that a word names: a row's is a plus, which is 43, and the word of its store
+-- the byte in front of a row's word
+abbrev pub plus : ℕ
+plus = 43
+
+-- the kind that a word names: a row's is a plus and the word of its store
 abbrev pub kind_of : List ℕ → Option Kind
 kind_of [] = None
 kind_of (first ∷ rest) =
-    if first == 43 then option_map row (store_of rest)
+    if first == plus then option_map row (store_of rest)
     else option_map request (option_or (store_of (first ∷ rest)) (view_of (first ∷ rest)))
 
 -- whether a record of a request's kind may have so many fields

@@ -1,7 +1,7 @@
 -- What a buffer of lines has left.
 use Rattle.std.specs.Prelude.{ℕ, ◌-◌, List, Option, drop, take}
 use Rattle.std.specs.Io.KnownBytes.{prepend_known}
-use Rattle.auction_text.specs.declared.line_buffer.LineBuffer.{LineBuffer}
+use Rattle.auction_text.specs.declared.reading.line_buffer.LineBuffer.{LineBuffer}
 
 -- what was read and not taken yet
 abbrev pub held : {R : Type 0} → LineBuffer R → List ℕ

@@ -10,12 +10,15 @@ use Rattle.auction_rows.specs.declared.requests.Request.{Request}
 use Rattle.auction_text.specs.Fields.{item_id, number, quantity}
 use Rattle.auction_text.specs.Kinds.{has_count, kind_of}
 use Rattle.auction_text.specs.Records.{read_record, request_of}
-use Rattle.auction_text.specs.declared.fields.RequestKind.{RequestKind}
-use Rattle.auction_text.specs.declared.record.Record.{Record}
+use Rattle.auction_text.specs.declared.reading.fields.RequestKind.{RequestKind}
+use Rattle.auction_text.specs.declared.reading.record.Record.{Record}
 
--- the bytes of a comma, a line feed and a carriage return
+-- the bytes of a comma, a quote, a line feed and a carriage return
 abbrev pub comma : ℕ
 comma = 44
+
+abbrev pub quote : ℕ
+quote = 34
 
 abbrev pub line_feed : ℕ
 line_feed = 10
@@ -23,18 +26,14 @@ line_feed = 10
 abbrev pub carriage_return : ℕ
 carriage_return = 13
 
--- the byte in front of a row's word
-abbrev pub plus : ℕ
-plus = 43
-
 -- a byte that only joins the field at hand
 abbrev pub joins : ℕ → Bool
 joins byte = not (byte == comma) && (not (byte == carriage_return) && not (byte == line_feed))
 
--- whether a field begins with a quote, which is 34
+-- whether a field begins with a quote
 abbrev pub is_quoted : List ℕ → Bool
 is_quoted [] = false
-is_quoted (first ∷ rest) = first == 34
+is_quoted (first ∷ rest) = first == quote
 
 -- a plain field: no quote in front, and no comma or end of a line in it
 abbrev pub is_plain : List ℕ → Bool
@@ -59,7 +58,8 @@ pub record HasWordAt (text : List ℕ) (at : ℕ) (word : List ℕ) : Type 0 whe
   pub more : at + length word < length text
 
 -- From a place on, a text has this field, then the byte `stop`, and then what is from `next` on.
-pub record IsFieldTo (text : List ℕ) (from : ℕ) (stop : ℕ) (next : ℕ) (field : List ℕ) : Type 0 where
+pub record IsFieldTo (text : List ℕ) (from : ℕ) (stop : ℕ) (next : ℕ)
+    (field : List ℕ) : Type 0 where
   pub text_is : drop from text ≡ field ++ (stop ∷ drop next text)
   pub after : from < next
   pub within : next ≤ length text
@@ -74,7 +74,8 @@ pub record IsLastField (text : List ℕ) (from : ℕ) (next : ℕ) (field : List
   pub within : next ≤ length text
 
 -- A field of digits up to a stop writes a number of so many bits.
-pub record IsNumberTo (text : List ℕ) (from : ℕ) (stop : ℕ) (bits : ℕ) (value : ℕ) (next : ℕ) : Type 0 where
+pub record IsNumberTo (text : List ℕ) (from : ℕ) (stop : ℕ) (bits : ℕ) (value : ℕ)
+    (next : ℕ) : Type 0 where
   pub field : List ℕ
   pub there : IsFieldTo text from stop next field
   pub digits : list_all is_ascii_digit field ≡ true
@@ -103,14 +104,18 @@ pub record IsLastItem (text : List ℕ) (from : ℕ) (item : ItemId) (next : ℕ
 abbrev pub ReadsFirst : List ℕ → List (List ℕ) → List ℕ → Type 0
 ReadsFirst text fields left = records default_config text ≡ fields ∷ records default_config left
 
--- after these fields of a text's first record, and the comma behind each, `csv` reads on from what is left
+-- after these fields of a text's first record, and the comma behind each, `csv` reads on from what
+-- is left
 abbrev pub HasRead : List ℕ → List (List ℕ) → List ℕ → Type 0
-HasRead text fields left = next_record default_config st.StartRecord [] [] text ≡ next_record default_config st.StartField fields [] left
+HasRead text fields left = next_record default_config st.StartRecord [] [] text
+    ≡ next_record default_config st.StartField fields [] left
 
--- After any fields of a line, a text ends the line with these, and `next` is after it; whatever comes after the text.
+-- After any fields of a line, a text ends the line with these, and `next` is after it; whatever
+-- comes after the text.
 abbrev pub EndsWithFields : List ℕ → ℕ → List (List ℕ) → ℕ → Type 0
-EndsWithFields text from fields next =
-    (more line : List ℕ) (before : List (List ℕ)) → HasRead line before (drop from text ++ more) → ReadsFirst line (before ++ fields) (drop next text ++ more)
+EndsWithFields text from fields next = (more line : List ℕ) (before : List (List ℕ)) →
+    HasRead line before (drop from text ++ more) →
+    ReadsFirst line (before ++ fields) (drop next text ++ more)
 
 -- what the fields after an item's time say of how many are put up
 abbrev pub IsPutUp : List (List ℕ) → ℕ → Type 0
@@ -118,7 +123,8 @@ IsPutUp [] count = count ≡ 1
 IsPutUp (field ∷ []) count = quantity field ≡ Some count
 IsPutUp (field ∷ second ∷ rest) count = ⊥
 
--- From a place on, a text has the time of an item's line and how many are put up, to the end of the line.
+-- From a place on, a text has the time of an item's line and how many are put up, to the end of the
+-- line.
 pub record IsEndOfItem (text : List ℕ) (from : ℕ) (time count : ℕ) (next : ℕ) : Type 0 where
   pub first : List ℕ
   pub others : List (List ℕ)
@@ -128,8 +134,10 @@ pub record IsEndOfItem (text : List ℕ) (from : ℕ) (time count : ℕ) (next :
   pub after : from < next
   pub within : next ≤ length text
 
--- From a place on, a text has the fields of a request of this kind after its word, to the end of the line.
-pub record IsRestOf (kind : RequestKind) (text : List ℕ) (from : ℕ) (request : Request) (next : ℕ) : Type 0 where
+-- From a place on, a text has the fields of a request of this kind after its word, to the end of
+-- the line.
+pub record IsRestOf (kind : RequestKind) (text : List ℕ) (from : ℕ) (request : Request)
+    (next : ℕ) : Type 0 where
   pub fields : List (List ℕ)
   pub reads : EndsWithFields text from fields next
   pub count : (worker word : List ℕ) → has_count kind (length (worker ∷ word ∷ fields)) ≡ true
@@ -137,8 +145,10 @@ pub record IsRestOf (kind : RequestKind) (text : List ℕ) (from : ℕ) (request
   pub after : from < next
   pub within : next ≤ length text
 
--- From a place on, a text has the word and the fields of a request, or of a row, to the end of the line.
-pub record IsRequestAt (is_row : Bool) (text : List ℕ) (from : ℕ) (request : Request) (next : ℕ) : Type 0 where
+-- From a place on, a text has the word and the fields of a request, or of a row, to the end of the
+-- line.
+pub record IsRequestAt (is_row : Bool) (text : List ℕ) (from : ℕ) (request : Request)
+    (next : ℕ) : Type 0 where
   pub word : List ℕ
   pub kind : RequestKind
   pub plain : is_plain word ≡ true
@@ -146,11 +156,13 @@ pub record IsRequestAt (is_row : Bool) (text : List ℕ) (from : ℕ) (request :
   pub there : HasWordAt text from (word ++ (comma ∷ []))
   pub rest : IsRestOf kind text (from + length (word ++ (comma ∷ []))) request next
 
--- From a place on, whatever comes after the text, it has a line that says this, and `next` is after it.
+-- From a place on, whatever comes after the text, it has a line that says this, and `next` is after
+-- it.
 pub record IsLine (text : List ℕ) (at : ℕ) (said : Record) (next : ℕ) : Type 0 where
   pub fields : List (List ℕ)
   pub reads : (more : List ℕ) → ReadsFirst (drop at text ++ more) fields (drop next text ++ more)
   pub unmarked : (more : List ℕ) → strip_bom (drop at text ++ more) ≡ drop at text ++ more
-  pub says : (workers place : ℕ) (begun : Bool) → said.worker < workers → (said.is_row && begun) ≡ false → read_record workers place begun fields ≡ Ok said
+  pub says : (workers place : ℕ) (begun : Bool) → said.worker < workers →
+      (said.is_row && begun) ≡ false → read_record workers place begun fields ≡ Ok said
   pub after : at < next
   pub within : next ≤ length text

@@ -8,7 +8,8 @@ pub record Gone : Type 0 where
   pub phases : ℕ
   pub requests : ℕ → ℕ
 
--- What went before a part as it is counted: the requests of each worker from 0 on, and none of the others.
+-- What went before a part as it is counted: the requests of each worker from 0 on, and none of the
+-- others.
 pub record BeforeView : Type 0 where
   pub phases : ℕ
   pub requests : List ℕ
@@ -18,7 +19,10 @@ gone_by before = record { phases = before.phases; requests = slice_index before.
 
 -- an entry of a part, as it stands in the whole: its phase and its index go on counting
 abbrev pub moved : Gone → Entry → Entry
-moved gone entry = record entry { phase = gone.phases + entry.phase; index = gone.requests entry.worker + entry.index }
+moved gone entry = record entry {
+  phase = gone.phases + entry.phase;
+  index = gone.requests entry.worker + entry.index;
+}
 
 abbrev pub all_moved : Gone → List Entry → List Entry
 all_moved gone entries = map (moved gone) entries

@@ -1,7 +1,7 @@
 -- What can be read of records that may have a fault.
 use Rattle.std.specs.Prelude.{ℕ, ◌+◌, ◌++◌, ◌||◌, not, Bool, false, List, [], ◌∷◌, Option, Some, None, Result, Ok, Err, count_by}
-use Rattle.auction_text.specs.declared.record.ReadFault.{ReadFault}
-use Rattle.auction_text.specs.declared.record.Record.{Record}
+use Rattle.auction_text.specs.declared.reading.ReadFault.{ReadFault}
+use Rattle.auction_text.specs.declared.reading.record.Record.{Record}
 use Rattle.auction_text.specs.Records.{read_record}
 use Rattle.auction_text.specs.Scripts.{records_of}
 
@@ -26,11 +26,13 @@ abbrev pub first_of : Result Record ReadFault → (Record → Readable) → Read
 first_of (Ok first) others = after (first ∷ []) (others first)
 first_of (Err fault) others = faulty fault
 
--- what can be read of records, which are counted from `place`; `begun` tells whether a request stands before them
+-- what can be read of records, which are counted from `place`; `begun` tells whether a request
+-- stands before them
 unfoldable pub readable : ℕ → ℕ → Bool → List (List (List ℕ)) → Readable
 readable workers place begun [] = no_more
 readable workers place begun (fields ∷ rest) =
-    first_of (read_record workers place begun fields) (λ first. readable workers (place + 1) (begun || not first.is_row) rest)
+    first_of (read_record workers place begun fields) (λ first.
+    readable workers (place + 1) (begun || not first.is_row) rest)
 
 -- what can be read of an input of so many workers
 abbrev pub readable_of : ℕ → List ℕ → Readable

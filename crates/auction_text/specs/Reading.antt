@@ -5,16 +5,18 @@ use Rattle.csv.specs.declared.parser.State.TheVariants as st
 use Rattle.csv.specs.declared.reader.Reader.{Reader}
 use Rattle.csv.specs.declared.reader.Trim.TheVariants as trim
 use Rattle.auction_text.specs.Scripts.{Asked, as_row}
-use Rattle.auction_text.specs.declared.record.Record.{Record}
-use Rattle.auction_text.specs.declared.record.ReadFault.{ReadFault}
-use Rattle.auction_text.specs.declared.record.ReadFault.TheVariants as fault
+use Rattle.auction_text.specs.declared.reading.record.Record.{Record}
+use Rattle.auction_text.specs.declared.reading.ReadFault.{ReadFault}
+use Rattle.auction_text.specs.declared.reading.ReadFault.TheVariants as fault
 
 -- a reader of records with no header row, of any number of fields, that trims nothing
 abbrev pub IsPlain : {R : Type 0} → Reader R → Type 0
-IsPlain r = (reader_config r ≡ default_config) × (reader_trim r ≡ trim.None) × Ready r × (is_flexible r ≡ true)
+IsPlain r = (reader_config r ≡ default_config) × (reader_trim r ≡ trim.None) × Ready r
+    × (is_flexible r ≡ true)
 
 -- A reader has yet to read the first record of these bytes.
-pub record IsAtStart {R : Type 0} (rem : R → Option (List ℕ)) (bytes : List ℕ) (reader : Reader R) : Type 0 where
+pub record IsAtStart {R : Type 0} (rem : R → Option (List ℕ)) (bytes : List ℕ)
+    (reader : Reader R) : Type 0 where
   pub source : source_of rem reader ≡ Some (strip_bom bytes)
   pub begins : reader_state reader ≡ st.StartRecord
 
@@ -22,11 +24,15 @@ pub record IsAtStart {R : Type 0} (rem : R → Option (List ℕ)) (bytes : List 
 abbrev pub nothing_asked : ℕ → Asked
 nothing_asked workers = record { rows = []; scripts = replicate workers [] }
 
--- what is asked with one more record: a row at the end of the rows, a request at the end of its worker's script
+-- what is asked with one more record: a row at the end of the rows, a request at the end of its
+-- worker's script
 abbrev pub with_record : Record → Asked → Asked
 with_record said asked =
     if said.is_row then record asked { rows = asked.rows ++ (as_row said ∷ []) }
-    else record asked { scripts = slice_set asked.scripts said.worker (slice_index_or asked.scripts said.worker [] ++ (said.request ∷ [])) }
+    else record asked {
+      scripts = slice_set asked.scripts said.worker
+          (slice_index_or asked.scripts said.worker [] ++ (said.request ∷ []));
+    }
 
 -- a fault of the input itself, and not of the reader or of memory
 abbrev pub IsInputFault : ReadFault → Type 0

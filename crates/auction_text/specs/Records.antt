@@ -9,14 +9,14 @@ use Rattle.auction_rows.specs.declared.requests.Request.{Request}
 use Rattle.auction_rows.specs.declared.requests.Request.TheVariants as request
 use Rattle.auction_text.specs.Fields.{number, item_id, name, quantity, stars}
 use Rattle.auction_text.specs.Kinds.{kind_of, has_count}
-use Rattle.auction_text.specs.declared.record.Cause.{Cause}
-use Rattle.auction_text.specs.declared.record.Cause.TheVariants as cause
-use Rattle.auction_text.specs.declared.record.ReadFault.{ReadFault}
-use Rattle.auction_text.specs.declared.record.ReadFault.TheVariants as fault
-use Rattle.auction_text.specs.declared.fields.Kind.{Kind}
-use Rattle.auction_text.specs.declared.fields.RequestKind.{RequestKind}
-use Rattle.auction_text.specs.declared.fields.RequestKind.TheVariants as kind
-use Rattle.auction_text.specs.declared.record.Record.{Record}
+use Rattle.auction_text.specs.declared.reading.Cause.{Cause}
+use Rattle.auction_text.specs.declared.reading.Cause.TheVariants as cause
+use Rattle.auction_text.specs.declared.reading.ReadFault.{ReadFault}
+use Rattle.auction_text.specs.declared.reading.ReadFault.TheVariants as fault
+use Rattle.auction_text.specs.declared.reading.fields.Kind.{Kind}
+use Rattle.auction_text.specs.declared.reading.fields.RequestKind.{RequestKind}
+use Rattle.auction_text.specs.declared.reading.fields.RequestKind.TheVariants as kind
+use Rattle.auction_text.specs.declared.reading.record.Record.{Record}
 
 -- the field at a place, empty past the last
 abbrev pub field : List (List ℕ) → ℕ → List ℕ
@@ -57,7 +57,14 @@ request_of kind.Item fields =
     and_then (number_at 64 fields 6) (λ closes.
     and_then (number_at 64 fields 7) (λ time.
     and_then (put_up fields) (λ quantity.
-    Ok (request.StoreItem (record { seller = seller; category = category; name = name; start = start; closes = closes; quantity = quantity }) time))))))))
+    Ok (request.StoreItem (record {
+      seller = seller;
+      category = category;
+      name = name;
+      start = start;
+      closes = closes;
+      quantity = quantity;
+    }) time))))))))
 request_of kind.Bid fields =
     and_then (number_at 32 fields 2) (λ bidder.
     and_then (item_at fields 3) (λ item.
@@ -91,15 +98,19 @@ request_of kind.ViewUser fields =
 
 -- the kind of a record, or why it has none
 abbrev pub kind_in : List (List ℕ) → Result Kind Cause
-kind_in fields = if nat_lt (length fields) 2 then Err cause.Fields else ok_or (kind_of (field fields 1)) cause.Kind
+kind_in fields =
+    if nat_lt (length fields) 2 then Err cause.Fields
+    else ok_or (kind_of (field fields 1)) cause.Kind
 
--- what a record of worker w says, or what is wrong with it; `begun` tells whether a request stands before it
+-- what a record of worker w says, or what is wrong with it; `begun` tells whether a request stands
+-- before it
 abbrev pub checked : Bool → ℕ → List (List ℕ) → Result Record Cause
 checked begun w fields =
     and_then (kind_in fields) (λ kind.
     if kind.is_row && begun then Err cause.Late
     else if has_count kind.request (length fields)
-    then and_then (request_of kind.request fields) (λ request. Ok (record { is_row = kind.is_row; worker = w; request = request }))
+    then and_then (request_of kind.request fields) (λ request.
+    Ok (record { is_row = kind.is_row; worker = w; request = request }))
     else Err cause.Fields)
 
 -- what the record with this number says, or its first fault
@@ -107,5 +118,6 @@ abbrev pub read_record : ℕ → ℕ → Bool → List (List ℕ) → Result Rec
 read_record workers place begun fields =
     and_then (ok_or (number 32 (field fields 0)) (fault.Line place cause.Number)) (λ worker.
     if nat_lt worker workers
-    then result_map_both (λ said. said) (λ cause. fault.Line place cause) (checked begun worker fields)
+    then result_map_both (λ said. said) (λ cause. fault.Line place cause)
+    (checked begun worker fields)
     else Err (fault.Worker place))

@@ -15,7 +15,7 @@ use Rattle.auction_text.specs.Order.{in_order}
 abbrev pub id_text : ℕ → ℕ → List ℕ
 id_text worker serial = decimal worker ++ codes "." ++ decimal serial
 
--- a number, or `-` where there is none
+-- a number, or `-` if there is none
 abbrev pub optional_text : Option ℕ → List ℕ
 optional_text None = codes "-"
 optional_text (Some n) = decimal n
@@ -45,7 +45,8 @@ facts_text seller category start closes =
     labelled (codes "viewitem seller=") seller ++ labelled (codes " category=") category
     ++ labelled (codes " start=") start ++ labelled (codes " closes=") closes
 
--- the highest bid on an item, its bidder, how many bids there are, and how many of the item are left
+-- the highest bid on an item, its bidder, how many bids there are, and how many of the item are
+-- left
 abbrev pub state_text : Option ℕ → Option ℕ → ℕ → ℕ → List ℕ
 state_text highest bidder bids left =
     labelled_optional (codes " highest=") highest ++ labelled_optional (codes " bidder=") bidder
@@ -54,15 +55,17 @@ state_text highest bidder bids left =
 -- a bid and an item as lists of them show them
 abbrev pub bid_text : BidShown → List ℕ
 bid_text bid =
-    labelled (codes " ") bid.amount ++ labelled (codes ":") bid.time ++ labelled (codes ":") bid.bidder
-    ++ labelled_id (codes ":") bid.id.worker bid.id.serial
+    labelled (codes " ") bid.amount ++ labelled (codes ":") bid.time
+    ++ labelled (codes ":") bid.bidder ++ labelled_id (codes ":") bid.id.worker bid.id.serial
 
 abbrev pub item_text : ItemShown → List ℕ
-item_text item = labelled (codes " ") item.time ++ labelled_id (codes ":") item.id.worker item.id.serial
+item_text item =
+    labelled (codes " ") item.time ++ labelled_id (codes ":") item.id.worker item.id.serial
 
 -- a user's rating, and the number of comments
 abbrev pub score_text : ℤ → ℕ → List ℕ
-score_text rating comments = codes " rating=" ++ signed_decimal rating ++ labelled (codes " comments=") comments
+score_text rating comments =
+    codes " rating=" ++ signed_decimal rating ++ labelled (codes " comments=") comments
 
 abbrev pub reply_text : Reply → List ℕ
 reply_text (reply.ItemStored id) = labelled_id (codes "item ") id.worker id.serial
@@ -70,7 +73,8 @@ reply_text (reply.BidStored id) = labelled_id (codes "bid ") id.worker id.serial
 reply_text (reply.CommentStored id) = labelled_id (codes "comment ") id.worker id.serial
 reply_text (reply.Bought id) = labelled_id (codes "buynow ") id.worker id.serial
 reply_text (reply.ItemSeen seller category name start closes highest bidder bids left) =
-    facts_text seller category start closes ++ state_text highest bidder bids left ++ codes " name=" ++ name
+    facts_text seller category start closes ++ state_text highest bidder bids left
+    ++ codes " name=" ++ name
 reply_text (reply.BidsSeen bids) = codes "bids" ++ flat_map bid_text bids
 reply_text (reply.CategorySeen items) = codes "latest" ++ flat_map item_text items
 reply_text (reply.UserSeen rating comments) = codes "user" ++ score_text rating comments
@@ -78,7 +82,9 @@ reply_text (reply.Refused why) = refusal_text why
 
 -- the line of an entry among the replies
 abbrev pub reply_line : Entry → List ℕ
-reply_line entry = decimal entry.worker ++ labelled (codes ",") entry.index ++ codes "," ++ reply_text entry.reply ++ codes "\n"
+reply_line entry =
+    decimal entry.worker ++ labelled (codes ",") entry.index
+    ++ codes "," ++ reply_text entry.reply ++ codes "\n"
 
 -- where an entry stands in a history: its phase and number, its worker and the index of its request
 abbrev pub place_text : Entry → List ℕ

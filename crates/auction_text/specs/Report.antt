@@ -43,15 +43,18 @@ hot_line phase (first ∷ others) =
 
 -- a category, and the reply to its view
 abbrev pub category_line : ℕ → Reply → List ℕ
-category_line category seen = labelled (codes "category ") category ++ codes " " ++ reply_text seen ++ codes "\n"
+category_line category seen =
+    labelled (codes "category ") category ++ codes " " ++ reply_text seen ++ codes "\n"
 
 -- a user with comments: one without has no line, nor has one that is not seen
 abbrev pub user_line : ℕ → Reply → List ℕ
 user_line user (reply.UserSeen rating comments) =
-    if comments == 0 then [] else labelled (codes "user ") user ++ score_text rating comments ++ codes "\n"
+    if comments == 0 then []
+    else labelled (codes "user ") user ++ score_text rating comments ++ codes "\n"
 user_line user _ = []
 
--- the counts, the hot set of each phase, and the replies to the views of the categories and of the users
+-- the counts, the hot set of each phase, and the replies to the views of the categories and of the
+-- users
 unfoldable pub report_text : List Entry → List (List Object) → List Reply → List Reply → List ℕ
 report_text history hot categories users =
     counts_text (length hot) history

@@ -11,11 +11,8 @@ use Rattle.auction_rows.specs.declared.rows.ItemRow.{ItemRow}
 use Rattle.auction_rows.specs.declared.rows.Row.{Row}
 use Rattle.auction_rows.specs.declared.rows.Row.TheVariants.{Item, Bid, Comment, Buy}
 use Rattle.auction_rows.specs.History.{rows_of}
+use Rattle.auction_text.specs.Lines.{quote}
 use Rattle.auction_text.specs.Replies.{labelled, labelled_id, lines}
-
--- the byte of a double quote
-abbrev pub quote : ℕ
-quote = 0x22
 
 -- a byte between quotes: a quote is doubled
 abbrev pub byte_in_quotes : ℕ → List ℕ

@@ -4,11 +4,11 @@ use Rattle.std.specs.List.{filter, filter_map, range_with_len}
 use Rattle.csv.specs.Reading.{default_config, records, strip_bom}
 use Rattle.auction_rows.specs.declared.requests.Request.{Request}
 use Rattle.item_shards.specs.declared.openings.Opened.{Opened}
-use Rattle.auction_text.specs.declared.scripts.TheConstants.{MOST_RECORDS}
-use Rattle.auction_text.specs.declared.scripts.Input.{Input}
-use Rattle.auction_text.specs.declared.record.ReadFault.{ReadFault}
-use Rattle.auction_text.specs.declared.record.ReadFault.TheVariants as fault
-use Rattle.auction_text.specs.declared.record.Record.{Record}
+use Rattle.auction_text.specs.declared.reading.TheConstants.{MOST_RECORDS}
+use Rattle.auction_text.specs.declared.reading.input.Input.{Input}
+use Rattle.auction_text.specs.declared.reading.ReadFault.{ReadFault}
+use Rattle.auction_text.specs.declared.reading.ReadFault.TheVariants as fault
+use Rattle.auction_text.specs.declared.reading.record.Record.{Record}
 use Rattle.auction_text.specs.Records.{and_then, read_record}
 
 -- the rows to open with, and a script for each worker
@@ -18,14 +18,17 @@ pub record Asked : Type 0 where
 
 -- what an input asks for
 abbrev pub asked_by : Input → Asked
-asked_by input = record { rows = input.rows.items; scripts = map (λ script. script.items) input.scripts.items }
+asked_by input = record {
+  rows = input.rows.items;
+  scripts = map (λ script. script.items) input.scripts.items;
+}
 
 -- the records of a text, as `csv` reads them
 abbrev pub records_of : List ℕ → List (List (List ℕ))
 records_of bytes = records default_config (strip_bom bytes)
 
--- what the records say, in order, or their first fault; they are counted from `place`, and `begun` tells whether a request stands
--- before them
+-- what the records say, in order, or their first fault; they are counted from `place`, and `begun`
+-- tells whether a request stands before them
 unfoldable pub read_records : ℕ → ℕ → Bool → List (List (List ℕ)) → Result (List Record) ReadFault
 read_records workers place begun [] = Ok []
 read_records workers place begun (fields ∷ rest) =
@@ -56,11 +59,15 @@ script w all = filter_map (request_by w) all
 
 -- what records ask for
 abbrev pub asked_in : ℕ → List Record → Asked
-asked_in workers all = record { rows = rows all; scripts = map (λ w. script w all) (range_with_len 0 workers) }
+asked_in workers all = record {
+  rows = rows all;
+  scripts = map (λ w. script w all) (range_with_len 0 workers);
+}
 
 -- what a text asks of so many workers, or its first fault
 abbrev pub input_of : ℕ → List ℕ → Result Asked ReadFault
-input_of workers bytes = and_then (read_records workers 1 false (records_of bytes)) (λ all. Ok (asked_in workers all))
+input_of workers bytes =
+    and_then (read_records workers 1 false (records_of bytes)) (λ all. Ok (asked_in workers all))
 
 -- the rows stand before all requests
 abbrev pub RowsComeFirst : List Record → Type 0

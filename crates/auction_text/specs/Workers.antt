@@ -18,4 +18,5 @@ replies_of entries worker = lines reply_line (in_order (part entry_worker worker
 
 -- each list is that of its place
 abbrev pub AreEach : {X : Type 0} → (ℕ → List X) → List (Vec X) → Type 0
-AreEach of lists = (place : ℕ) (list : Vec _) → slice_get lists place ≡ Some list → list.items ≡ of place
+AreEach of lists =
+    (place : ℕ) (list : Vec _) → slice_get lists place ≡ Some list → list.items ≡ of place

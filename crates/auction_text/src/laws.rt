@@ -9,8 +9,8 @@ ghost use Rattle.auction_text.specs.Moved.{Gone, all_moved};
 ghost use Rattle.auction_text.specs.Order.{in_order, precedence};
 ghost use Rattle.auction_text.specs.Replies.{lines, replies_text, reply_line};
 ghost use Rattle.auction_text.specs.RowLines.{row_line, rows_text};
-ghost use Rattle.auction_text.specs.declared.record.Record.{Record};
-ghost use Rattle.auction_text.specs.declared.scripts.TheConstants.{MOST_RECORDS};
+ghost use Rattle.auction_text.specs.declared.reading.record.Record.{Record};
+ghost use Rattle.auction_text.specs.declared.reading.TheConstants.{MOST_RECORDS};
 ghost use Rattle.auction_text.specs.Readable.{all_said, readable_of};
 ghost use Rattle.auction_text.specs.Scripts.{RowsComeFirst, read_records, records_of};
 
@@ -20,7 +20,8 @@ pub fn replies_in_order()
     ensures same { (entries : List Commit) → IsPermutation entries (in_order entries) }
     ensures sorted { (entries : List Commit) → IsSorted precedence (in_order entries) }
     ensures stable { (entries : List Commit) → IsStable precedence entries (in_order entries) }
-    ensures already { (entries : List Commit) → IsSorted precedence entries → replies_text entries ≡ lines reply_line entries }
+    ensures already { (entries : List Commit) → IsSorted precedence entries →
+        replies_text entries ≡ lines reply_line entries }
 {}
 
 /// The rows written of a book, and of a history that replays from it, are the lines of the book
@@ -34,7 +35,8 @@ pub fn rows_of_histories()
 /// The entries of a part stand in the same order if they are moved to where they stand in the
 /// whole.
 pub fn moved_in_order()
-    ensures { (gone : Gone) (entries : List Commit) → in_order (all_moved gone entries) ≡ all_moved gone (in_order entries) }
+    ensures { (gone : Gone) (entries : List Commit) →
+        in_order (all_moved gone entries) ≡ all_moved gone (in_order entries) }
 {}
 
 /// In an input without a fault the rows stand before all requests.
@@ -47,5 +49,6 @@ pub fn rows_come_first()
 /// first fault.
 pub fn all_is_readable()
     ensures { (workers : ℕ) (text : List ℕ) → length (records_of text) ≤ MOST_RECORDS →
-        read_records workers 1 false (records_of text) ≡ all_said (readable_of workers text).said (readable_of workers text).fault }
+        read_records workers 1 false (records_of text)
+        ≡ all_said (readable_of workers text).said (readable_of workers text).fault }
 {}

@@ -4,7 +4,7 @@ use Rattle.std.proofs.lemmas.Bool.{eqb-true}
 use Rattle.std.proofs.KnownBytes.{Appends-nil}
 use Rattle.std.specs.Io.KnownBytes.{Appends}
 use Rattle.auction_text.specs.Writing.{IsPartWritten}
-use Rattle.auction_text.specs.declared.output.WriteFault.{WriteFault}
+use Rattle.auction_text.specs.declared.writing.WriteFault.{WriteFault}
 
 -- no rows add nothing
 pub none_added : (log : Option (List ℕ)) (rows : List ℕ) → true ≡ (length rows == 0) → Appends log log rows

@@ -1,11 +1,10 @@
 //! Where rows are put by before a part is told, and what a crash left of a log.
 ghost use Rattle.std.specs.Prelude.{◌≡◌, ℕ, false, List, Option, None, IsErr, OnOk, IfErr};
 ghost use Rattle.std.specs.Io.KnownBytes.{Appends, Keeps};
-ghost use Rattle.auction_text.specs.Writing.{IsPartWritten};
 ghost use Rattle.part_log.specs.Telling.{IsLoggedFirst, IsUnlogged};
 ghost use Rattle.part_log.specs.WholeLines.{AreWholeLines};
 
-use auction_text::WriteFault;
+use auction_text::{WriteFault, write_last};
 use std::io::Write;
 use thiserror::Error;
 
@@ -63,25 +62,6 @@ pub enum TellFault {
     Write(WriteFault),
 }
 
-// Writes a text by calls of `write` on the rest that is left, and flushes.
-fn write_text<W: Write>(writer: &mut W, text: &[u8]) -> Result<(), WriteFault>
-    ensures whole { OnOk result (Appends (W.contents writer.old) (W.contents writer.new) text.now) }
-    ensures part { IfErr result (λ fault. (fault ≡ WriteFault.Write) ×
-        IsPartWritten (W.contents writer.old) (W.contents writer.new) text.now) }
-{
-    let mut written = 0;
-    while written < text.len() {
-        match writer.write(&text[written..]) {
-            Ok(0) | Err(_) => return Err(WriteFault::Write),
-            Ok(count) => written += count,
-        }
-    }
-    match writer.flush() {
-        Ok(()) => Ok(()),
-        Err(_) => Err(WriteFault::Write),
-    }
-}
-
 /// Puts the rows of a part by, if it has any, and then writes its text: not one byte before the log
 /// has accepted the rows.
 pub fn tell_part<L: Log, W: Write>(
@@ -101,7 +81,7 @@ pub fn tell_part<L: Log, W: Write>(
             return Err(TellFault::Log(fault));
         }
     }
-    write_text(writer, text).map_err(TellFault::Write)
+    write_last(writer, text).map_err(TellFault::Write)
 }
 
 /// A log, and a writer that is told what the log has accepted.
@@ -116,11 +96,14 @@ pub struct Teller<L, W> {
 impl<L: Log, W: Write> Teller<L, W> {
     /// Puts the rows of a part by, and then writes its text, as `tell_part` does.
     pub fn tell(&mut self, rows: &[u8], text: &[u8]) -> Result<(), TellFault>
-        ensures logged { OnOk result (Appends (L.accepted self.old.log) (L.accepted self.new.log) rows.now) }
-        ensures told { OnOk result (Appends (W.contents self.old.writer) (W.contents self.new.writer) text.now) }
+        ensures logged { OnOk result
+            (Appends (L.accepted self.old.log) (L.accepted self.new.log) rows.now) }
+        ensures told { OnOk result
+            (Appends (W.contents self.old.writer) (W.contents self.new.writer) text.now) }
         ensures first { IsLoggedFirst (L.accepted self.old.log) (L.accepted self.new.log) rows.now
             (W.contents self.old.writer) (W.contents self.new.writer) text.now }
-        ensures unlogged { IfErr result (λ fault. IsUnlogged fault → self.new.writer ≡ self.old.writer) }
+        ensures unlogged { IfErr result (λ fault.
+            IsUnlogged fault → self.new.writer ≡ self.old.writer) }
     {
         tell_part(&mut self.log, &mut self.writer, rows, text)
     }

@@ -4,7 +4,7 @@ use Rattle.std.proofs.KnownBytes.{Appends-trans}
 use Rattle.std.proofs.lemmas.Result.{IfErr-weaker, on_ok_weaker}
 use Rattle.auction_rows.specs.History.{book_after}
 use Rattle.auction_text.specs.Writing.{IsPartWritten}
-use Rattle.auction_text.specs.declared.output.WriteFault.{WriteFault}
+use Rattle.auction_text.specs.declared.writing.WriteFault.{WriteFault}
 use Rattle.auction_program.specs.Execution.{added_text, commits_text, ArePartWritten, IsOneWritten}
 use Rattle.auction_program.specs.Options.{opening_asked}
 use Rattle.auction_program.specs.Report.{report_of}

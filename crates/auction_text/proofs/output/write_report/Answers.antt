@@ -1,7 +1,0 @@
-use Rattle.auction_text.proofs.MadeTexts.{written_as}
-use Rattle.auction_text.proofs.output.write_report.Goals as goal
-
-pub returns : goal.returns
-returns g c =
-    let wrote = c.write_made.ensures in
-    written_as g.W.Write.contents _ _ _ c.report_text.result c.write_made.result c.report_text.ensures wrote.whole wrote.part wrote.memory

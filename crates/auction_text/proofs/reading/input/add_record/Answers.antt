@@ -1,0 +1,24 @@
+use Rattle.std.proofs.Common.{rules, ◌≡◌, ◌<◌, [], ◌∷◌, ◌++◌, true, false, length, refl}
+use Rattle.std.proofs.lemmas.List.{map-set, get_or-map}
+use Rattle.std.specs.Result.{is_ok}
+use Rattle.item_shards.specs.declared.openings.Opened.{Opened}
+use Rattle.auction_text.proofs.reading.input.add_record.Goals as goal
+use Rattle.auction_text.proofs.reading.input.add_record.Goals.{then-said, else-said}
+
+pub returns-clause-adds : goal.returns-clause-adds
+returns-clause-adds c = elim c.if-said.branch [
+  | then-said w ↦
+      let row : c.args.said.now.is_row ≡ true = search rules in
+      let good : is_ok w.push.result ≡ true = search rules in
+      let opened : Opened = record { worker = c.args.said.now.worker; request = c.args.said.now.request } in
+      let items : w.push.new.self.items ≡ c.args.input.now.rows.items ++ opened ∷ [] = rw good at w.push.ensures.items in
+      rw (w.input-is, row, items) refl
+  | else-said w ↦
+      let request : c.args.said.now.is_row ≡ false = search rules in
+      let good : is_ok w.push-else-said.result ≡ true = search rules in
+      let items : w.push-else-said.new.self.items ≡ w.index_mut-script.result.now.items ++ c.args.said.now.request ∷ [] = rw good at w.push-else-said.ensures.items in
+      let fits : c.args.said.now.worker < length c.args.input.now.scripts.items = search rules in
+      let here = get_or-map (λ script. script.items) c.args.input.now.scripts.items c.args.said.now.worker w.index_mut-script.result.now [] fits in
+      let value = w.index_mut-script.ensures.value in
+      rw (w.input-is, request, map-set, items, here, ← value) refl
+]

@@ -1,0 +1,11 @@
+use Rattle.std.proofs.Common.{ap, subst}
+use Rattle.auction_text.specs.Moved.{gone_by}
+use Rattle.auction_text.specs.Replies.{replies_text}
+use Rattle.auction_text.specs.Writing.{WritesText}
+use Rattle.auction_text.proofs.MovedLemmas.{none_moved}
+use Rattle.auction_text.proofs.writing.output.write_replies.Goals as goal
+
+pub returns : goal.returns
+returns g c =
+    subst (λ text. WritesText g.W.Write.contents c.args.writer.now c.write_replies_on.new.writer text c.write_replies_on.result)
+    (ap replies_text (none_moved (gone_by c.none.result) c.args.history.now.entries c.none.ensures.phases c.none.ensures.requests)) c.write_replies_on.ensures

@@ -1,0 +1,151 @@
+//! What was read of an input and not taken yet.
+ghost use Rattle.std.specs.Prelude.{◌≡◌, ◌≤◌, ◌<◌, [], Some, ℕ, List, drop, length, take, vec_len, IfOk, IfErr, OnOk};
+ghost use Rattle.auction_text.specs.Reading.{IsInputFault};
+
+use crate::reading::ReadFault;
+use crate::reading::plain_text::{ROOM_TO_READ, read_more};
+use std::alloc::Global;
+use std::io;
+use std::io::Read;
+
+/// A reader, and what was read of it and not taken yet. As a reader it gives a line at a time, and
+/// so nothing of the next one.
+#[derive(Drop)]
+pub struct LineBuffer<R> {
+    reader: R,
+    buffer: Vec<u8>,
+    at: usize,
+    filled: usize,
+    ghost in_order: { at ≤ filled },
+    ghost within: { filled ≤ vec_len buffer },
+    ghost some_room: { 0 < vec_len buffer },
+}
+
+// How many bytes the first line of a text has with its end: all, if none ends.
+fn line_len(text: &[u8]) -> usize
+    ensures within { result ≤ length text.now }
+    ensures some { 0 < length text.now → 0 < result }
+{
+    match text.iter().position(|byte| *byte == b'\n') {
+        Some(place) => place + 1,
+        None => text.len(),
+    }
+}
+
+impl<R> LineBuffer<R> {
+    ghost use Rattle.auction_text.specs.LineBuffers.{held, underneath};
+
+    /// What was read and not taken yet.
+    pub fn held(&self) -> &[u8]
+        ensures { result.now ≡ held self.now }
+    {
+        &self.buffer[self.at..self.filled]
+    }
+
+    /// Takes the first so many bytes of what it holds.
+    pub fn take(&mut self, count: usize)
+        requires { count ≤ length (held self.old) }
+        ensures held { held self.new ≡ drop count (held self.old) }
+        ensures underneath { underneath self.new ≡ underneath self.old }
+    {
+        self.at += count;
+    }
+
+    // Moves what it holds to the front of the buffer.
+    fn move_up(&mut self)
+        ensures at { self.new.at ≡ 0 }
+        ensures held { held self.new ≡ held self.old }
+        ensures underneath { underneath self.new ≡ underneath self.old }
+    {
+        self.buffer.copy_within(self.at..self.filled, 0);
+        self.filled -= self.at;
+        self.at = 0;
+    }
+
+    /// Whether it holds a line that is not blank, to its end.
+    pub fn has_line(&self) -> bool {
+        let mut is_blank = true;
+        for byte in self.held() {
+            if *byte != b'\n' && *byte != b'\r' {
+                is_blank = false;
+            } else if !is_blank {
+                return true;
+            }
+        }
+        false
+    }
+}
+
+impl<R: Read + Drop> LineBuffer<R> {
+    ghost use Rattle.auction_text.specs.LineBuffers.{lines_left};
+
+    /// A buffer that holds nothing yet of what a reader gives.
+    pub fn new(alloc: Global, reader: R) -> Result<LineBuffer<R>, ReadFault>
+        ensures reads { IfOk result (λ lines. (bytes : List ℕ) → R.remaining reader ≡ Some bytes →
+            lines_left R.remaining lines ≡ Some bytes) }
+        ensures fails { IfErr result (λ fault. IsInputFault fault → ⊥) }
+    {
+        let Ok(buffer) = vec![in alloc; 0u8; ROOM_TO_READ] else {
+            return Err(ReadFault::Memory);
+        };
+        Ok(LineBuffer {
+            reader,
+            buffer,
+            at: 0,
+            filled: 0,
+        })
+    }
+}
+
+impl<R: Read> LineBuffer<R> {
+    ghost use Rattle.auction_text.specs.LineBuffers.{held, lines_left};
+
+    /// Reads more, and returns whether there was any, and room for it.
+    pub fn read_on(&mut self) -> Result<bool, ReadFault>
+        ensures reads { OnOk result ((bytes : List ℕ) →
+            lines_left R.remaining self.old ≡ Some bytes →
+            lines_left R.remaining self.new ≡ Some bytes) }
+        ensures fails { IfErr result (λ fault. IsInputFault fault → ⊥) }
+    {
+        self.move_up();
+        let now = read_more(&mut self.buffer, self.filled, &mut self.reader)?;
+        let is_more = now > self.filled;
+        self.filled = now;
+        Ok(is_more)
+    }
+}
+
+impl<R: Read> LineBuffer<R> {
+    ghost use Rattle.std.specs.Io.KnownBytes.{IsAtEnd, Keeps};
+    ghost use Rattle.auction_text.specs.LineBuffers.{held, lines_left, underneath};
+
+    // Reads more, if it holds nothing.
+    fn fill(&mut self) -> io::Result<()>
+        ensures keeps { Keeps (lines_left R.remaining self.old) (lines_left R.remaining self.new) }
+        ensures end { OnOk result (held self.new ≡ [] →
+            IsAtEnd (R.remaining (underneath self.new))) }
+    {
+        if self.at < self.filled {
+            return Ok(());
+        }
+        self.at = 0;
+        self.filled = 0;
+        self.filled = self.reader.read(&mut self.buffer)?;
+        Ok(())
+    }
+}
+
+impl<R: Read> Read for LineBuffer<R> {
+    ghost use Rattle.auction_text.specs.LineBuffers.{lines_left};
+
+    ghost remaining = { λ l. lines_left R.remaining l };
+
+    fn read(&mut self, buf: &mut [u8]) -> io::Result<usize> {
+        self.fill()?;
+        let line = line_len(self.held());
+        let mut rest = &self.held()[..line];
+        let given = rest.read(buf)?;
+        self.at += given;
+        Ok(given)
+    }
+}

@@ -1,0 +1,288 @@
+//! The texts of replies, and their lines.
+ghost use Rattle.std.specs.Prelude.{◌≡◌, ◌+◌, ◌≤◌, ◌++◌, OnOk, codes, length};
+ghost use Rattle.std.specs.List.{flat_map};
+ghost use Rattle.auction_rows.specs.ItemViews.{item_reply};
+ghost use Rattle.auction_rows.specs.StoreReplies.{reply_of};
+ghost use Rattle.auction_text.specs.Replies.{bid_text, facts_text, history_line, item_text, place_text, refusal_text, reply_line, reply_text, score_text, state_text};
+
+use crate::writing::block::Block;
+use crate::writing::text::push_text;
+use auction_rows::{BidShown, ItemShown, ItemView, Refusal, Reply, StoreReply, Ten};
+use std::alloc::AllocError;
+use worker_journals::EntryRef;
+
+// The bytes that each part of a reply or of its line takes at most, with 20 for each number.
+const MOST_OF_A_REFUSAL: usize = 24;
+
+const MOST_OF_A_STORE_REPLY: usize = 49;
+
+const MOST_OF_FACTS: usize = 121;
+
+const MOST_OF_A_STATE: usize = 109;
+
+const MOST_OF_A_BID: usize = 105;
+
+const MOST_OF_AN_ITEM: usize = 63;
+
+const MOST_OF_ITEMS: usize = 6 + 10 * MOST_OF_AN_ITEM;
+
+const MOST_OF_A_SCORE: usize = 58;
+
+const MOST_OF_A_PLACE: usize = 83;
+
+/// No reply takes more: the longest shows ten bids.
+pub const MOST_OF_A_REPLY: usize = 4 + 10 * MOST_OF_A_BID;
+
+/// No line of a reply, or of an entry in a history, takes more.
+pub const MOST_OF_A_LINE: usize = 1200;
+
+fn text_of_refusal(refusal: Refusal) -> &'static [u8]
+    ensures text { result.now ≡ refusal_text refusal }
+    ensures short { length result.now ≤ MOST_OF_A_REFUSAL }
+{
+    match refusal {
+        Refusal::NoSuchUser => b"refused 1 NoSuchUser",
+        Refusal::NoSuchCategory => b"refused 2 NoSuchCategory",
+        Refusal::NoSuchItem => b"refused 3 NoSuchItem",
+        Refusal::BelowStart => b"refused 4 BelowStart",
+        Refusal::Closed => b"refused 5 Closed",
+        Refusal::SoldOut => b"refused 6 SoldOut",
+        Refusal::NotEnough => b"refused 7 NotEnough",
+    }
+}
+
+fn put_facts<const N: usize>(
+    block: &mut Block<N>,
+    seller: u32,
+    category: u32,
+    start: u64,
+    closes: u64,
+)
+    requires { MOST_OF_FACTS + length block.old ≤ N }
+    ensures text { block.new ≡ block.old ++ facts_text seller category start closes }
+    ensures length { length block.new ≤ MOST_OF_FACTS + length block.old }
+{
+    block.push_labelled(b"viewitem seller=", u64::from(seller));
+    block.push_labelled(b" category=", u64::from(category));
+    block.push_labelled(b" start=", start);
+    block.push_labelled(b" closes=", closes);
+}
+
+fn put_state<const N: usize>(
+    block: &mut Block<N>,
+    highest: Option<u64>,
+    bidder: Option<u32>,
+    bids: u64,
+    left: u32,
+)
+    requires { MOST_OF_A_STATE + length block.old ≤ N }
+    ensures text { block.new ≡ block.old ++ state_text highest bidder bids left }
+    ensures length { length block.new ≤ MOST_OF_A_STATE + length block.old }
+{
+    block.push_optional(b" highest=", highest);
+    block.push_optional(b" bidder=", bidder.map(u64::from));
+    block.push_labelled(b" bids=", bids);
+    block.push_labelled(b" left=", u64::from(left));
+}
+
+fn put_bid<const N: usize>(block: &mut Block<N>, bid: BidShown)
+    requires { MOST_OF_A_BID + length block.old ≤ N }
+    ensures text { block.new ≡ block.old ++ bid_text bid }
+    ensures length { length block.new ≤ MOST_OF_A_BID + length block.old }
+{
+    block.push_labelled(b" ", bid.amount);
+    block.push_labelled(b":", bid.time);
+    block.push_labelled(b":", u64::from(bid.bidder));
+    block.push_id(b":", bid.id.worker, bid.id.serial);
+}
+
+fn put_bids<const N: usize>(block: &mut Block<N>, bids: &Ten<BidShown>)
+    requires { MOST_OF_A_REPLY + length block.old ≤ N }
+    ensures text { block.new ≡ block.old ++ (codes "bids" ++ flat_map bid_text bids.now) }
+    ensures length { length block.new ≤ MOST_OF_A_REPLY + length block.old }
+{
+    block.push(b"bids");
+    for place in 0..bids.len() {
+        put_bid(block, bids.get(place).unwrap());
+    }
+}
+
+fn put_item<const N: usize>(block: &mut Block<N>, item: ItemShown)
+    requires { MOST_OF_AN_ITEM + length block.old ≤ N }
+    ensures text { block.new ≡ block.old ++ item_text item }
+    ensures length { length block.new ≤ MOST_OF_AN_ITEM + length block.old }
+{
+    block.push_labelled(b" ", item.time);
+    block.push_id(b":", item.id.worker, item.id.serial);
+}
+
+fn put_items<const N: usize>(block: &mut Block<N>, items: &Ten<ItemShown>)
+    requires { MOST_OF_ITEMS + length block.old ≤ N }
+    ensures text { block.new ≡ block.old ++ (codes "latest" ++ flat_map item_text items.now) }
+    ensures length { length block.new ≤ MOST_OF_ITEMS + length block.old }
+{
+    block.push(b"latest");
+    for place in 0..items.len() {
+        put_item(block, items.get(place).unwrap());
+    }
+}
+
+fn put_score<const N: usize>(block: &mut Block<N>, rating: i64, comments: u64)
+    requires { MOST_OF_A_SCORE + length block.old ≤ N }
+    ensures text { block.new ≡ block.old ++ score_text rating comments }
+    ensures length { length block.new ≤ MOST_OF_A_SCORE + length block.old }
+{
+    block.push_signed(b" rating=", rating);
+    block.push_labelled(b" comments=", comments);
+}
+
+#[inline(always)]
+fn put_store_reply<const N: usize>(block: &mut Block<N>, reply: StoreReply)
+    requires { MOST_OF_A_STORE_REPLY + length block.old ≤ N }
+    ensures text { block.new ≡ block.old ++ reply_text (reply_of reply) }
+    ensures length { length block.new ≤ MOST_OF_A_STORE_REPLY + length block.old }
+{
+    match reply {
+        StoreReply::ItemStored(id) => block.push_id(b"item ", id.worker, id.serial),
+        StoreReply::BidStored(id) => block.push_bid_id(b"bid ", id),
+        StoreReply::CommentStored(id) => block.push_id(b"comment ", id.worker, id.serial),
+        StoreReply::Bought(id) => block.push_id(b"buynow ", id.worker, id.serial),
+        StoreReply::Refused(refusal) => block.push(text_of_refusal(refusal)),
+    }
+}
+
+// Adds the text of the view of an item.
+fn put_item_seen<const N: usize>(block: &mut Block<N>, seen: &ItemView)
+    requires { MOST_OF_A_REPLY + length block.old ≤ N }
+    ensures text { block.new ≡ block.old ++ reply_text (item_reply seen.now) }
+    ensures length { length block.new ≤ MOST_OF_A_REPLY + length block.old }
+{
+    put_facts(block, seen.seller, seen.category, seen.start, seen.closes);
+    put_state(block, seen.highest, seen.bidder, seen.bids, seen.left);
+    block.push(b" name=");
+    block.push(seen.name.bytes());
+}
+
+// Adds the text of a reply.
+fn put_reply<const N: usize>(block: &mut Block<N>, reply: &Reply)
+    requires { MOST_OF_A_REPLY + length block.old ≤ N }
+    ensures text { block.new ≡ block.old ++ reply_text reply.now }
+    ensures length { length block.new ≤ MOST_OF_A_REPLY + length block.old }
+{
+    match reply {
+        Reply::ItemStored(id) => put_store_reply(block, StoreReply::ItemStored(*id)),
+        Reply::BidStored(id) => put_store_reply(block, StoreReply::BidStored(*id)),
+        Reply::CommentStored(id) => put_store_reply(block, StoreReply::CommentStored(*id)),
+        Reply::Bought(id) => put_store_reply(block, StoreReply::Bought(*id)),
+        Reply::Refused(reason) => put_store_reply(block, StoreReply::Refused(*reason)),
+        Reply::ItemSeen {
+            seller,
+            category,
+            name,
+            start,
+            closes,
+            highest,
+            bidder,
+            bids,
+            left,
+        } => {
+            put_facts(block, *seller, *category, *start, *closes);
+            put_state(block, *highest, *bidder, *bids, *left);
+            block.push(b" name=");
+            block.push(name.bytes());
+        }
+        Reply::BidsSeen(bids) => put_bids(block, bids),
+        Reply::CategorySeen(items) => put_items(block, items),
+        Reply::UserSeen { rating, comments } => {
+            block.push(b"user");
+            put_score(block, *rating, *comments);
+        }
+    }
+}
+
+/// Makes a block the text of a reply, whatever it was.
+pub fn set_reply(block: &mut Block<MOST_OF_A_REPLY>, reply: &Reply)
+    ensures { block.new ≡ reply_text reply.now }
+{
+    block.clear();
+    put_reply(block, reply);
+}
+
+/// Adds the text of a reply.
+pub fn push_reply(text: &mut Vec<u8>, reply: &Reply) -> Result<(), AllocError>
+    ensures { OnOk result (text.new.items ≡ text.old.items ++ reply_text reply.now) }
+{
+    let mut block = Block::new();
+    set_reply(&mut block, reply);
+    push_text(text, block.bytes())
+}
+
+// Adds the text of an entry's reply to a view, which is made whole if it shows no item.
+#[inline(never)]
+fn put_view<const N: usize>(block: &mut Block<N>, entry: &EntryRef<'_>)
+    requires { MOST_OF_A_REPLY + length block.old ≤ N }
+    ensures text { block.new ≡ block.old ++ reply_text entry.now.reply }
+    ensures length { length block.new ≤ MOST_OF_A_REPLY + length block.old }
+{
+    match entry.item_seen() {
+        Some(seen) => put_item_seen(block, seen),
+        None => put_reply(block, &entry.reply()),
+    }
+}
+
+// Adds the text of an entry's reply.
+#[inline(always)]
+fn put_reply_of<const N: usize>(block: &mut Block<N>, entry: &EntryRef<'_>)
+    requires { MOST_OF_A_REPLY + length block.old ≤ N }
+    ensures text { block.new ≡ block.old ++ reply_text entry.now.reply }
+    ensures length { length block.new ≤ MOST_OF_A_REPLY + length block.old }
+{
+    match entry.store_reply() {
+        Some(reply) => put_store_reply(block, reply),
+        None => put_view(block, entry),
+    }
+}
+
+/// Adds the line of an entry among the replies, with this index.
+#[inline(always)]
+pub fn put_reply_line<const N: usize>(block: &mut Block<N>, entry: &EntryRef<'_>, index: u64)
+    requires { MOST_OF_A_LINE + length block.old ≤ N }
+    ensures { block.new ≡ block.old ++ reply_line (record entry.now { index = index }) }
+{
+    block.push_number(u64::from(entry.worker()));
+    block.push(b",");
+    block.push_index(index);
+    block.push(b",");
+    put_reply_of(block, entry);
+    block.push(b"\n");
+}
+
+// Adds the place of an entry in a history, with this phase and index.
+fn put_place<const N: usize>(block: &mut Block<N>, entry: &EntryRef<'_>, phase: u64, index: u64)
+    requires { MOST_OF_A_PLACE + length block.old ≤ N }
+    ensures text { block.new
+        ≡ block.old ++ place_text (record entry.now { phase = phase; index = index }) }
+    ensures length { length block.new ≤ MOST_OF_A_PLACE + length block.old }
+{
+    block.push_number(phase);
+    block.push_labelled(b" ", entry.number());
+    block.push_labelled(b" ", u64::from(entry.worker()));
+    block.push_labelled(b" ", index);
+}
+
+/// Adds the line of an entry in a history, with this phase and index.
+pub fn put_history_line<const N: usize>(
+    block: &mut Block<N>,
+    entry: &EntryRef<'_>,
+    phase: u64,
+    index: u64,
+)
+    requires { MOST_OF_A_LINE + length block.old ≤ N }
+    ensures { block.new
+        ≡ block.old ++ history_line (record entry.now { phase = phase; index = index }) }
+{
+    put_place(block, entry, phase, index);
+    block.push(b" ");
+    put_reply_of(block, entry);
+    block.push(b"\n");
+}
