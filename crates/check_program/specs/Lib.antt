@@ -1,3 +1,4 @@
 pub mod Faults
 pub mod Finding
+pub mod VerdictLines
 pub mod Words

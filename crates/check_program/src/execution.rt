@@ -1,17 +1,22 @@
 //! From the bytes of rows and scripts and those of a history to what is found of the history, as a
 //! line and as an exit status.
-ghost use Rattle.std.specs.Prelude.{◌≡◌, ◌≤◌, IfOk, IfSome};
+ghost use Rattle.std.specs.Prelude.{◌≡◌, ◌≤◌, ◌++◌, Err, IfOk, IfSome, OnOk};
+ghost use Rattle.std.specs.Io.KnownBytes.{Appends};
+ghost use Rattle.auction_text.specs.Writing.{IsPartWritten};
+ghost use Rattle.auction_text.specs.declared.writing.WriteFault.{WriteFault};
 ghost use Rattle.check_program.specs.Finding.{IsFound};
 ghost use Rattle.check_program.specs.Faults.{verdict_status};
+ghost use Rattle.check_program.specs.VerdictLines.{place_text, reason_text, Says, SaysOfSome, SaysWrong};
 
 use crate::faults::Fault;
 use crate::options::Options;
-use auction_rows::{MOST_WORKERS, Reply};
-use auction_text::{WriteFault, push_reply, read_scripts};
-use history_check::{Verdict, Wrong, check_history, read_line};
+use auction_rows::MOST_WORKERS;
+use auction_text::{
+    WriteFault, push_labelled, push_number, push_reply, push_text, read_scripts, write_last,
+};
+use history_check::{CommitId, Verdict, Wrong, check_history, read_line};
 use item_shards::OpeningBook;
-use std::alloc::Global;
-use std::io;
+use std::alloc::{AllocError, Global};
 use std::io::{BufRead, Read, Write};
 
 /// Opens an auction with the rows that the first reader gives, replays the history that the second
@@ -25,8 +30,10 @@ pub fn execute<I: Read + Drop, H: BufRead, W: Write>(
     options: &Options,
 ) -> Result<Verdict, Fault>
     requires { options.now.workers ≤ MOST_WORKERS }
-    ensures { IfOk result (λ verdict. IfSome (I.remaining reader) (λ input. IfSome (H.remaining history.old) (λ text.
-        IsFound options.now input text verdict))) }
+    ensures found { IfOk result (λ verdict. IfSome (I.remaining reader) (λ input.
+        IfSome (H.remaining history.old) (λ text. IsFound options.now input text verdict))) }
+    ensures says { IfOk result (λ verdict. SaysOfSome verdict
+        (Appends (W.contents writer.old) (W.contents writer.new))) }
 {
     let input = read_scripts(alloc, reader, options.workers)?;
     let book = OpeningBook::new(alloc, options.opening, input.rows)?;
@@ -43,7 +50,7 @@ pub fn execute<I: Read + Drop, H: BufRead, W: Write>(
     Ok(verdict)
 }
 
-/// The exit status of what was found: 0 where the history replays, 5 for another reply than the one
+/// The exit status of what was found: 0 if the history replays, 5 for another reply than the one
 /// due, 6 for a request that stands in no line, in two, or in no script, 7 for an order, 8 for a
 /// line that can't be read.
 pub fn verdict_status(verdict: &Verdict) -> u8
@@ -58,56 +65,89 @@ pub fn verdict_status(verdict: &Verdict) -> u8
     }
 }
 
-// Puts the text of a reply and the one that was due at the end of a text.
-fn push_due(text: &mut Vec<u8>, reply: &[u8], due: &Reply) -> io::Result<()> {
-    text.extend_from_slice(reply)?;
-    text.extend_from_slice(b" but ")?;
-    push_reply(text, due)?;
-    writeln!(text, " was due")
-}
-
-// Puts what is wrong with a line at the end of a text.
-fn push_wrong(text: &mut Vec<u8>, wrong: &Wrong, line: &[u8]) -> io::Result<()> {
-    let mut reply: &[u8] = b"";
-    if let Some((place, rest)) = read_line(line) {
-        write!(text, "{},{} ", place.worker, place.index)?;
-        reply = rest;
-    }
+// Adds what is wrong with a line of a history that has this reply.
+fn push_reason(text: &mut Vec<u8>, reply: &[u8], wrong: &Wrong) -> Result<(), AllocError>
+    ensures { OnOk result (text.new.items ≡ text.old.items ++ reason_text reply.now wrong.now) }
+{
     match wrong {
-        Wrong::Unreadable => writeln!(text, "not PHASE NUMBER WORKER INDEX TEXT and a line feed"),
-        Wrong::NoRequest => writeln!(text, "stands in no script"),
-        Wrong::Again => writeln!(text, "stands in an earlier line"),
-        Wrong::Late => writeln!(text, "stands after a later request of its script"),
-        Wrong::Due(due) => push_due(text, reply, due),
+        Wrong::Unreadable => push_text(
+            text,
+            b"not PHASE NUMBER WORKER INDEX TEXT and a line feed\n",
+        ),
+        Wrong::NoRequest => push_text(text, b"stands in no script\n"),
+        Wrong::Again => push_text(text, b"stands in an earlier line\n"),
+        Wrong::Late => push_text(text, b"stands after a later request of its script\n"),
+        Wrong::Due(due) => {
+            push_text(text, reply)?;
+            push_text(text, b" but ")?;
+            push_reply(text, due)?;
+            push_text(text, b" was due\n")
+        }
     }
 }
 
-// Puts what was found at the end of a text, as a line.
-fn push_verdict(text: &mut Vec<u8>, verdict: &Verdict, line: &[u8]) -> io::Result<()> {
+// Adds the worker and the index of a commit.
+fn push_place(text: &mut Vec<u8>, commit_id: CommitId) -> Result<(), AllocError>
+    ensures { OnOk result (text.new.items ≡ text.old.items ++ place_text commit_id) }
+{
+    push_number(text, u64::from(commit_id.worker))?;
+    push_labelled(text, b",", u64::from(commit_id.index))?;
+    push_text(text, b" ")
+}
+
+// Adds what is said of a line of a history that is wrong.
+fn push_wrong(text: &mut Vec<u8>, wrong: &Wrong, line: &[u8]) -> Result<(), AllocError>
+    ensures { OnOk result (SaysWrong line.now wrong.now
+        (λ said. text.new.items ≡ text.old.items ++ said)) }
+{
+    match read_line(line) {
+        Some((commit_id, reply)) => {
+            push_place(text, commit_id)?;
+            push_reason(text, reply, wrong)
+        }
+        None => push_reason(text, b"", wrong),
+    }
+}
+
+// Adds what was found, as a line.
+fn push_verdict(text: &mut Vec<u8>, verdict: &Verdict, line: &[u8]) -> Result<(), AllocError>
+    ensures { OnOk result (Says line.now verdict.now
+        (λ said. text.new.items ≡ text.old.items ++ said)) }
+{
     match verdict {
-        Verdict::Replays => writeln!(text, "the history replays"),
+        Verdict::Replays => push_text(text, b"the history replays\n"),
         Verdict::WrongAt(number, wrong) => {
-            write!(text, "line {number}: ")?;
+            push_labelled(text, b"line ", *number as u64)?;
+            push_text(text, b": ")?;
             push_wrong(text, wrong, line)
         }
-        Verdict::Lacks(worker, index) => writeln!(text, "{worker},{index} stands in no line"),
+        Verdict::Lacks(worker, index) => {
+            push_number(text, *worker as u64)?;
+            push_labelled(text, b",", *index as u64)?;
+            push_text(text, b" stands in no line\n")
+        }
     }
 }
 
-/// Writes the line of what was found. `line` is the line of the history that is wrong, where one
-/// is.
+/// Writes the line of what was found, and flushes. `line` is the line of the history that is
+/// wrong, if one is.
+///
+/// `Memory` comes before the first byte is written; after `Write` a prefix of the line was written.
 pub fn write_verdict<W: Write>(
     alloc: Global,
     writer: &mut W,
     verdict: &Verdict,
     line: &[u8],
-) -> Result<(), WriteFault> {
+) -> Result<(), WriteFault>
+    ensures whole { OnOk result (Says line.now verdict.now
+        (Appends (W.contents writer.old) (W.contents writer.new))) }
+    ensures part { result ≡ Err WriteFault.Write → Says line.now verdict.now
+        (IsPartWritten (W.contents writer.old) (W.contents writer.new)) }
+    ensures memory { result ≡ Err WriteFault.Memory → writer.new ≡ writer.old }
+{
     let mut text = Vec::new(alloc);
-    if push_verdict(&mut text, verdict, line).is_err() {
+    let Ok(()) = push_verdict(&mut text, verdict, line) else {
         return Err(WriteFault::Memory);
-    }
-    let written = writer.write_all(text.as_slice());
-    written
-        .and_then(|()| writer.flush())
-        .map_err(|_| WriteFault::Write)
+    };
+    write_last(writer, text.as_slice())
 }

@@ -5,7 +5,7 @@ ghost use Rattle.example_phases.specs.Auctions.{IsOfTwo};
 use crate::client::Client;
 use auction_rows::{Opening, Request};
 use phase_floor::Joined;
-use phase_permits::{PermitFault, Stash};
+use phase_permits::Stash;
 use std::alloc::{AllocError, Global};
 use worker_journals::History;
 
@@ -52,15 +52,4 @@ impl Auction {
             && self.second.has_asked_all()
             && self.stashes.iter().all(|stash| stash.is_empty())
     }
-}
-
-/// What a worker leaves at the end of a phase.
-#[derive(Drop)]
-pub struct Worked<T> {
-    /// The receipt of its permit.
-    pub receipt: T,
-    /// Its client.
-    pub client: Client,
-    /// The fault that stopped it, if any.
-    pub done: Result<(), PermitFault>,
 }

@@ -1,26 +1,25 @@
 //! A joined phase of two workers.
-ghost use Rattle.std.specs.Prelude.{◌≡◌, ◌+◌, ◌<◌, ◌^◌, length, vec_len, IfOk};
+ghost use Rattle.std.specs.Prelude.{◌≡◌, ◌+◌, ◌<◌, ◌^◌, length, IfOk};
 ghost use Rattle.phase_floor.specs.Closings.{IsReceipt};
 ghost use Rattle.phase_floor.specs.States.{states_of};
 ghost use Rattle.example_phases.specs.Auctions.{IsOfTwo};
 
-use crate::auction::{Auction, Worked};
+use crate::auction::Auction;
 use crate::client::Client;
-use crate::pairs::both;
+use crate::phase::{Work, perform_begun};
 use anyhow::bail;
 use auction_rows::MOST_TRIES;
-use phase_floor::{Joined, JoinedFloor};
-use phase_permits::{JoinedPermit, JoinedReceipt, PermitFault, Stash};
+use phase_floor::JoinedFloor;
+use phase_permits::{JoinedPermit, JoinedPhase, PermitFault};
 use shard_boxes::PhaseName;
 use std::alloc::Global;
 use std::sync::Wait;
-use std::thread;
 use std::thread::Threads;
 
 // How many requests each worker performs.
 const QUOTA: u32 = 2;
 
-/// Begins the phase, has each worker perform on its thread, and closes it.
+/// Begins the phase, with what each worker has deferred, and performs it.
 pub fn joined_phase<N, R>(rt: &R, alloc: Global, auction: Auction) -> anyhow::Result<Auction>
 where
     N: PhaseName + Send + Sync,
@@ -35,118 +34,34 @@ where
     let Auction {
         state,
         stashes,
-        mut history,
+        history,
         first,
         second,
     } = auction;
-    let (floor, one, other) = begin::<N, R>(rt, alloc, state, stashes)?;
-    let one = Part {
-        worker: 0,
-        permit: one,
-        client: first,
-    };
-    let other = Part {
-        worker: 1,
-        permit: other,
-        client: second,
-    };
-    let (one, other) = thread::join(rt, || one.work(rt, &floor), || other.work(rt, &floor));
-    let receipts = vec![in alloc; one.receipt, other.receipt]?;
-    let (state, stashes) = floor.close(rt, alloc, &mut history, receipts)?;
-    one.done?;
-    other.done?;
-    Ok(Auction {
-        state,
-        stashes,
-        history,
-        first: one.client,
-        second: other.client,
-    })
-}
-
-// Begins the phase: the floor and the permits.
-fn begin<N: PhaseName, R: Wait>(
-    rt: &R,
-    alloc: Global,
-    state: Joined,
-    stashes: Vec<Stash>,
-) -> anyhow::Result<(JoinedFloor<N>, JoinedPermit<N>, JoinedPermit<N>)>
-    requires shards { states_of state ≡ N.initial }
-    requires workers { length state.counters ≡ N.workers }
-    requires two { length state.counters ≡ 2 }
-    requires stashes { vec_len stashes ≡ 2 }
-    requires phase { state.phase + 1 < 2 ^ 64 }
-    ensures two { IfOk result (λ begun. length begun.0.counters ≡ 2) }
-    ensures phase { IfOk result (λ begun. begun.0.phase ≡ state.phase) }
-    ensures first { IfOk result (λ begun. IsReceipt begun.0 0 begun.1) }
-    ensures second { IfOk result (λ begun. IsReceipt begun.0 1 begun.2) }
-{
     match state.begin_joined::<N, R>(rt, alloc, &[QUOTA, QUOTA], stashes) {
-        Ok((floor, permits)) => {
-            let (first, second) = both(permits);
-            Ok((floor, first, second))
-        }
+        Ok(begun) => perform_begun(rt, alloc, begun, history, (first, second)),
         Err((_state, _stashes, fault)) => bail!("{fault}"),
     }
 }
 
-// What a worker has in the phase. Dropped, its permit is spent.
-struct Part<N: PhaseName> {
-    worker: u32,
-    permit: JoinedPermit<N>,
-    client: Client,
-}
-
-impl<N: PhaseName> Drop for Part<N> {
-    fn drop(self) {
-        let Self {
-            worker: _,
-            permit,
-            client: _,
-        } = self;
-        drop(permit.finish());
-    }
-}
-
-impl<N: PhaseName> Part<N> {
-    // Does what the worker has to do, and spends its permit.
-    fn work<R: Wait>(self, rt: &R, floor: &JoinedFloor<N>) -> Worked<JoinedReceipt<N>>
-        requires { IsReceipt floor.now self.worker self.permit }
-        ensures { IsReceipt floor.now self.worker result.receipt }
-    {
-        let Self {
-            worker,
-            mut permit,
-            mut client,
-        } = self;
-        let done = perform_all(rt, floor, worker, &mut permit, &mut client);
-        Worked {
-            receipt: permit.finish(),
-            client,
-            done,
+impl Work for JoinedPhase {
+    // What the worker has deferred comes first.
+    fn perform_all<N: PhaseName, R: Wait>(
+        rt: &R,
+        floor: &JoinedFloor<N>,
+        worker: u32,
+        permit: &mut JoinedPermit<N>,
+        client: &mut Client,
+    ) -> Result<(), PermitFault> {
+        for _turn in 0..permit.stashed().saturating_add(QUOTA as usize) {
+            if permit.stashed() > 0 {
+                perform_deferred(rt, floor, worker, permit, client)?;
+            } else {
+                perform_next(rt, floor, worker, permit, client)?;
+            }
         }
+        Ok(())
     }
-}
-
-// Performs what the worker has deferred, then requests of its client.
-fn perform_all<N: PhaseName, R: Wait>(
-    rt: &R,
-    floor: &JoinedFloor<N>,
-    worker: u32,
-    permit: &mut JoinedPermit<N>,
-    client: &mut Client,
-) -> Result<(), PermitFault>
-    requires { IsReceipt floor.now worker permit.old }
-    ensures { IsReceipt floor.now worker permit.new }
-{
-    for _turn in 0..permit.stashed().saturating_add(QUOTA as usize) {
-        if permit.stashed() > 0 {
-            perform_deferred(rt, floor, worker, permit, client)?;
-        } else {
-            perform_next(rt, floor, worker, permit, client)?;
-        }
-    }
-    Ok(())
 }
 
 // Performs what was deferred first.

@@ -6,6 +6,7 @@ mod client;
 mod driving;
 mod joined;
 mod pairs;
+mod phase;
 mod split;
 
 use crate::auction::Auction;

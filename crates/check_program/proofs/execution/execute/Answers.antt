@@ -6,8 +6,8 @@ use Rattle.history_check.specs.Scripts.{lists}
 use Rattle.check_program.proofs.FindingLemmas.{known}
 use Rattle.check_program.proofs.execution.execute.Goals as goal
 
-pub returns : goal.returns
-returns g c =
+pub returns-clause-found : goal.returns-clause-found
+returns-clause-found g c =
     let options = c.args.options.now in
     let rows = c.in_ok-input.input.rows.items in
     let reads : IfSome (g.I.Read.remaining c.args.reader) (λ bytes. input_of options.workers bytes ≡ Ok (record { rows = rows; scripts = lists c.deref.result.now })) =

@@ -1,10 +1,8 @@
-use Rattle.std.proofs.Common.{rules}
-use Rattle.phase_floor.specs.Closings.{IsReceipt}
-use Rattle.example_phases.proofs.TwoReceipts.{two_receipts}
+use Rattle.std.proofs.Common.{◌∷◌, [], map}
+use Rattle.phase_floor.specs.Begins.{empty_stash}
+use Rattle.phase_floor.proofs.Receipts.{begun_receipts}
 use Rattle.example_phases.proofs.split.split_phase.Goals as goal
 
-pub close-requires : goal.close-requires
-close-requires g c =
-    let own : IsReceipt c.in_ok-floor.floor 0 c.join-one.result.0.receipt = search rules in
-    let other : IsReceipt c.in_ok-floor.floor 1 c.join-one.result.1.receipt = search rules in
-    two_receipts c.in_ok-floor.ensures.two c.in_ok-receipts.ensures.items own other
+pub perform_begun-requires-clause-receipts : goal.perform_begun-requires-clause-receipts
+perform_begun-requires-clause-receipts g c κs within =
+    begun_receipts c.in-Ok.begun.0 (3 ∷ 3 ∷ []) (map empty_stash (3 ∷ 3 ∷ [])) c.in-Ok.begun.1.items c.in-Ok.ensures.begun.opens.permits

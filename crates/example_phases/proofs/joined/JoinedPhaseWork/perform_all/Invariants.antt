@@ -1,5 +1,5 @@
 use Rattle.phase_floor.specs.Closings.{IsReceipt}
-use Rattle.example_phases.proofs.split.perform_all.Given as goal
+use Rattle.example_phases.proofs.joined.JoinedPhaseWork.perform_all.Given as goal
 
 -- the permit is one that the floor's close takes
 abbrev pub invariant-loop-turn : goal.invariant-loop-turn
