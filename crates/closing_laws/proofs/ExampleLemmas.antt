@@ -35,14 +35,17 @@ module _ (facts : Facts) where
       worker = refl;
       idle = idle;
       work = record {
-        own = (refl, tt);
-        entries = refl;
-        lines = lines;
-        clocked = refl;
-        counts = refl;
-        numbered = (refl, tt);
-        answered = (record { answered = refl; not_put_off = refl }, tt);
-        sliced = refl;
+        txns = txn facts ∷ [];
+        explained = record {
+          own = (refl, tt);
+          entries = refl;
+          lines = lines;
+          clocked = refl;
+          counts = refl;
+          numbered = (refl, tt);
+          answered = (record { answered = refl; not_put_off = refl }, tt);
+          sliced = refl;
+        };
       };
     };
     worker_is = refl;

@@ -8,8 +8,7 @@ use Rattle.auction_rows.specs.declared.requests.Object.TheVariants.{Item, User, 
 use Rattle.auction_rows.specs.Footprint.{is_hot}
 use Rattle.auction_rows.specs.Requests.{number_of as object_number, same_object, shard_of}
 use Rattle.auction_rows.proofs.RequestLemmas.{same_object-true}
-use Rattle.item_shards.specs.declared.shard.acts.Act.{Act}
-use Rattle.item_shards.specs.declared.shard.acts.Act.TheVariants.{AddItem, ListItem, Bid, Comment, Buy, Look}
+use Rattle.item_shards.specs.Events.{Event, AddItem, ListItem, Bid, Comment, Buy, Look}
 use Rattle.item_shards.specs.Contents.{Contents, changed, target, after_act, after_acts, with_facts, item_listed, bid_on, comment_about, bought_of}
 use Rattle.item_shards.specs.Values.{Value}
 use Rattle.item_shards.specs.Writing.{acts_of, is_cold_in, is_done_on}
@@ -29,7 +28,7 @@ module _ (here : Object → Bool) (object : Object) (away : here object ≡ fals
     at true same = absurd (false≢true (sym away ∙ ap here (sym (same_object-true about object same)) ∙ is))
     at false same = refl
 
-  act_alone : (contents : Contents) (act : Act) → option_map_or here (target act) false ≡ true → after_act contents act object ≡ contents object
+  act_alone : (contents : Contents) (act : Event) → option_map_or here (target act) false ≡ true → after_act contents act object ≡ contents object
   act_alone contents (AddItem id facts) is = left_alone contents (Item id) (with_facts facts) is
   act_alone contents (ListItem category entry) is = left_alone contents (Category category) (item_listed entry) is
   act_alone contents (Bid id entry) is = left_alone contents (Item id) (bid_on entry) is
@@ -37,7 +36,7 @@ module _ (here : Object → Bool) (object : Object) (away : here object ≡ fals
   act_alone contents (Buy id quantity) is = left_alone contents (Item id) (bought_of quantity) is
   act_alone contents (Look shown) is = refl
 
-  acts_alone : (acts : List Act) (contents : Contents) → after_acts contents (filter (λ act. option_map_or here (target act) false) acts) object ≡ contents object
+  acts_alone : (acts : List Event) (contents : Contents) → after_acts contents (filter (λ act. option_map_or here (target act) false) acts) object ≡ contents object
   acts_alone [] contents = refl
   acts_alone (act ∷ acts) contents = at (option_map_or here (target act) false) refl (acts_alone acts) where
     at : (b : Bool) → option_map_or here (target act) false ≡ b → ((s : Contents) → after_acts s (filter (λ a. option_map_or here (target a) false) acts) object ≡ s object)

@@ -6,8 +6,7 @@ use Rattle.auction_rows.specs.declared.requests.Object.{Object}
 use Rattle.auction_rows.specs.Footprint.{is_hot}
 use Rattle.auction_rows.specs.Requests.{number_of as object_number, shard_of}
 use Rattle.item_shards.specs.Contents.{Contents}
-use Rattle.shard_boxes.specs.declared.line.Line.{Line}
-use Rattle.shard_boxes.specs.Lines.{IsShardHistory}
+use Rattle.shard_boxes.specs.Lines.{Line, IsShardHistory}
 use Rattle.shard_boxes.specs.States.{ShardState, state_at}
 use Rattle.phase_permits.specs.Txns.{hot_of}
 use Rattle.closing_laws.specs.Phases.{Phase, HasClosed, value_on}

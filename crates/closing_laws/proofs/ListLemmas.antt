@@ -11,14 +11,15 @@ use Rattle.auction_rows.specs.declared.requests.Object.{Object}
 use Rattle.auction_rows.specs.Footprint.{footprint, objects_taken, takes_shard}
 use Rattle.auction_rows.specs.Requests.{number_of as object_number, shard_of}
 use Rattle.worker_journals.specs.Journals.{entry_number, entry_worker}
-use Rattle.shard_boxes.specs.declared.line.Line.{Line}
 use Rattle.shard_boxes.specs.Closed.{IsClosedBox}
-use Rattle.shard_boxes.specs.Lines.{lines_of}
+use Rattle.shard_boxes.specs.Lines.{Line, lines_of}
 use Rattle.shard_boxes.specs.States.{state_at}
 use Rattle.phase_permits.specs.Txns.{Setting, Txn, hot_of, entry_of, txn_number, clock_found, greatest_clock, takes, line_on, lines_owed}
-use Rattle.closing_laws.specs.Phases.{Phase, HasClosed, key_of}
+use Rattle.phase_permits.specs.Workers.{work_of}
+use Rattle.phase_permits.specs.Works.{Explains}
+use Rattle.closing_laws.specs.Phases.{Phase, HasClosed, key_of, receipt_at}
 use Rattle.closing_laws.specs.Histories.{worker_line, HoldTheEntries, FollowWhatTheyShare}
-use Rattle.closing_laws.proofs.ReceiptLemmas.{txns_by, no_txns, own, numbered, entries_are, lines_are}
+use Rattle.closing_laws.proofs.ReceiptLemmas.{txns_by, explains, no_txns, own, numbered, entries_are, lines_are}
 
 -- A shard that a transaction takes is one of the shards.
 
@@ -133,7 +134,13 @@ module _ (p : Phase) (closed : HasClosed p) where
     at (inr past) = subst (IsLinkedFrom txn_number (clock_found s) 0) (sym (nowhere s past)) tt
 
   pub hold_the_entries : HoldTheEntries p closed
-  hold_the_entries = record { txns = all_txns; entries = lift.entries_are; parts = lift.parts; lists = λ s known. list_is s known }
+  hold_the_entries = record {
+    txns = all_txns;
+    entries = lift.entries_are;
+    parts = λ w known. subst (Explains z w (work_of (receipt_at p.receipts w))) (sym (lift.parts w)) (explains p closed w known);
+    others = λ w past. lift.parts w ∙ no_txns p closed w past;
+    lists = λ s known. list_is s known;
+  }
 
   pub follow_what_they_share : FollowWhatTheyShare z.opening z.shards (hot_of z) p.entries
   follow_what_they_share =

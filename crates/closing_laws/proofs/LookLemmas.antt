@@ -12,9 +12,8 @@ use Rattle.auction_rows.specs.Footprint.{is_hot, objects_of}
 use Rattle.auction_rows.specs.History.{row_of_entry}
 use Rattle.auction_rows.specs.Refusals.{number_refusal}
 use Rattle.auction_rows.specs.Requests.{shard_of}
-use Rattle.item_shards.specs.declared.shard.acts.Act.{Act}
-use Rattle.item_shards.specs.declared.shard.acts.Act.TheVariants.{Look}
-use Rattle.item_shards.specs.declared.shard.acts.Shown.{Shown}
+use Rattle.item_shards.specs.Events.{Event, Look}
+use Rattle.item_shards.specs.Shown.{Shown}
 use Rattle.item_shards.specs.Looking.{IsTrueOf, IsTrueAct}
 use Rattle.item_shards.specs.Contents.{Contents, target, after_act}
 use Rattle.item_shards.specs.Values.{value}
@@ -24,11 +23,11 @@ use Rattle.phase_permits.specs.Txns.{Setting, Txn, hot_of, takes}
 use Rattle.closing_laws.specs.Replying.{SawTrue, StoodFor}
 
 -- the first of two acts is looked at first
-padded_first : (contents : Contents) (act : Act) (acts : List Act) → SawInTurn IsTrueAct after_act contents (padded (act ∷ acts)) → IsTrueAct contents act
+padded_first : (contents : Contents) (act : Event) (acts : List Event) → SawInTurn IsTrueAct after_act contents (padded (act ∷ acts)) → IsTrueAct contents act
 padded_first contents act [] saw = saw.0
 padded_first contents act (other ∷ acts) saw = saw.0
 
-first_true : (p : Act → Bool) (contents : Contents) (act : Act) (acts : List Act) → p act ≡ true → SawInTurn IsTrueAct after_act contents (padded (filter p (act ∷ acts))) → IsTrueAct contents act
+first_true : (p : Event → Bool) (contents : Contents) (act : Event) (acts : List Event) → p act ≡ true → SawInTurn IsTrueAct after_act contents (padded (filter p (act ∷ acts))) → IsTrueAct contents act
 first_true p contents act acts is saw =
     padded_first contents act (filter p acts)
     (subst (λ b. SawInTurn IsTrueAct after_act contents (padded (cond b (act ∷ filter p acts) (filter p acts)))) is saw)
@@ -49,12 +48,12 @@ module _ (z : Setting) (txn : Txn) (accepted : number_refusal z.opening txn.0.re
       ∙ or_left (home object == home object) (any (cold_ones objects)) (eq-eqb (home object) (home object) refl)
 
   pub look_true : (taken : ℕ → Contents) → SawTrue z taken txn
-      → (object : Object) (objects : List Object) (shown : Shown) (acts : List Act) → objects_of txn.0.request txn.0.reply ≡ object ∷ objects
+      → (object : Object) (objects : List Object) (shown : Shown) (acts : List Event) → objects_of txn.0.request txn.0.reply ≡ object ∷ objects
       → looks_of txn.1.stock txn.0.reply txn.0.request ++ writes_if (row_of_entry txn.0) ≡ Look shown ∷ acts
       → target (Look shown) ≡ Some object → is_hot (hot_of z) object ≡ false → IsTrueOf (taken (home object)) shown
   look_true taken saw object objects shown acts needed acted about cold =
       let shard = home object in
-      let here : Act → Bool = is_done_on shard z.shards (hot_of z) in
+      let here : Event → Bool = is_done_on shard z.shards (hot_of z) in
       first_true here (taken shard) (Look shown) acts
       (ap (λ (o : Option Object). option_map_or (is_cold_in shard z.shards (hot_of z)) o false) about ∙ cold_here shard z.shards (hot_of z) object refl cold)
       (subst (λ all. SawInTurn IsTrueAct after_act (taken shard) (padded (filter here all))) acted

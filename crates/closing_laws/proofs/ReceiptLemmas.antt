@@ -13,9 +13,9 @@ use Rattle.phase_permits.specs.declared.worker.Counters.{Counters}
 use Rattle.phase_permits.specs.Txns.{Setting, Txn, entry_of, txn_number, greatest_clock, lines_owed, IsAnswered, after_txn}
 use Rattle.phase_permits.specs.Workers.{WorkerState, work_of}
 use Rattle.phase_permits.specs.Slicing.{slices_of}
-use Rattle.phase_permits.specs.Works.{IsWorkOf}
+use Rattle.phase_permits.specs.Works.{Explains, IsWorkOf}
 use Rattle.closing_laws.specs.Standing.{counters_at}
-use Rattle.closing_laws.specs.Phases.{Phase, HasClosed, IsReceiptOf, no_receipt, receipt_at, key_of, journal_of, counters_of, txns_of}
+use Rattle.closing_laws.specs.Phases.{Phase, HasClosed, IsReceiptOf, no_receipt, receipt_at, key_of, journal_of, counters_of}
 
 -- a receipt is explained, in the setting and of the worker of the phase
 explained_of : (z : Setting) (w : ℕ) (opened : Counters) (receipt : WorkerState) → IsReceiptOf z w opened receipt → IsWorkOf z w (work_of receipt)
@@ -42,17 +42,33 @@ module _ (p : Phase) (closed : HasClosed p) where
   abbrev pub receipt : ℕ → WorkerState
   receipt w = receipt_at p.receipts w
 
-  abbrev pub txns_by : ℕ → List Txn
-  txns_by w = txns_of (receipt w)
-
   work : (w : ℕ) → w < workers → IsWorkOf p.setting w (work_of (receipt w))
   work w known = explained_of p.setting w (counters_at p.counters w) (receipt w) (closed.receipts w known)
+
+  txns_if : (w : ℕ) → (w < workers) ⊎ (workers ≤ w) → List Txn
+  txns_if w (inl known) = (work w known).txns
+  txns_if w (inr past) = []
+
+  -- the transactions that explain a worker's receipt, and none where there is no such worker
+  pub txns_by : ℕ → List Txn
+  txns_by w = txns_if w (cases_lt w workers)
+
+  pub explains : (w : ℕ) → w < workers → Explains p.setting w (work_of (receipt w)) (txns_by w)
+  unfolding txns_by txns_if work
+  explains w known = at (cases_lt w workers) where
+    at : (either : (w < workers) ⊎ (workers ≤ w)) → Explains p.setting w (work_of (receipt w)) (txns_if w either)
+    at (inl there) = (work w there).explained
+    at (inr past) = absurd (omega (arith, known, past))
 
   none_past : (w : ℕ) → workers ≤ w → receipt w ≡ no_receipt
   none_past w past = get_or_past p.receipts w no_receipt past
 
   pub no_txns : (w : ℕ) → workers ≤ w → txns_by w ≡ []
-  no_txns w past = ap txns_of (none_past w past)
+  unfolding txns_by txns_if
+  no_txns w past = at (cases_lt w workers) where
+    at : (either : (w < workers) ⊎ (workers ≤ w)) → txns_if w either ≡ []
+    at (inl known) = absurd (omega (arith, known, past))
+    at (inr none) = refl
 
   -- what holds of each worker's transactions, since it holds where there are none
   each_worker : (P : ℕ → List Txn → Type 0) → ((w : ℕ) → P w []) → ((w : ℕ) → w < workers → P w (txns_by w)) → (w : ℕ) → P w (txns_by w)
@@ -62,17 +78,17 @@ module _ (p : Phase) (closed : HasClosed p) where
     at (inr past) = subst (P w) (sym (no_txns w past)) (none w)
 
   pub own : (w : ℕ) → AllByRecursion (λ txn. (entry_of txn).worker ≡ w) (txns_by w)
-  own = each_worker (λ w txns. AllByRecursion (λ txn. (entry_of txn).worker ≡ w) txns) (λ w. tt) (λ w known. (work w known).own)
+  own = each_worker (λ w txns. AllByRecursion (λ txn. (entry_of txn).worker ≡ w) txns) (λ w. tt) (λ w known. (explains w known).own)
 
   pub numbered : (w : ℕ) → IsNumberedFrom txn_number (greatest_clock p.setting) 0 (txns_by w)
   numbered = each_worker (λ w txns. IsNumberedFrom txn_number (greatest_clock p.setting) 0 txns) (λ w. tt)
-      (λ w known. subst (λ n. IsNumberedFrom txn_number (greatest_clock p.setting) n (txns_by w)) (ap (λ (b : Counters × ℕ). b.1) (closed.receipts w known).begun) (work w known).numbered)
+      (λ w known. subst (λ n. IsNumberedFrom txn_number (greatest_clock p.setting) n (txns_by w)) (ap (λ (b : Counters × ℕ). b.1) (closed.receipts w known).begun) (explains w known).numbered)
 
   pub answered : (w : ℕ) → w < workers → SawInTurn (IsAnswered p.setting) after_txn (counters_at p.counters w) (txns_by w)
-  answered w known = subst (λ (c : Counters). SawInTurn (IsAnswered p.setting) after_txn c (txns_by w)) (ap (λ (b : Counters × ℕ). b.0) (closed.receipts w known).begun) (work w known).answered
+  answered w known = subst (λ (c : Counters). SawInTurn (IsAnswered p.setting) after_txn c (txns_by w)) (ap (λ (b : Counters × ℕ). b.0) (closed.receipts w known).begun) (explains w known).answered
 
   pub counts : (w : ℕ) → w < workers → counters_of (receipt w) ≡ fold after_txn (counters_at p.counters w) (txns_by w)
-  counts w known = (work w known).counts ∙ ap (λ (b : Counters × ℕ). fold after_txn b.0 (txns_by w)) (closed.receipts w known).begun
+  counts w known = (explains w known).counts ∙ ap (λ (b : Counters × ℕ). fold after_txn b.0 (txns_by w)) (closed.receipts w known).begun
 
   journal_worker : (i : ℕ) → i < workers → (journal_of (receipt i)).worker ≡ 0 + i
   journal_worker i known = (closed.receipts i known).explained.worker ∙ (closed.receipts i known).worker_is ∙ omega arith
@@ -81,8 +97,8 @@ module _ (p : Phase) (closed : HasClosed p) where
   pub journal_entries : (w : ℕ) → (journal_of (receipt w)).entries ≡ map entry_of (txns_by w)
   journal_entries w = at (cases_lt w workers) where
     at : (w < workers) ⊎ (workers ≤ w) → (journal_of (receipt w)).entries ≡ map entry_of (txns_by w)
-    at (inl known) = (work w known).entries
-    at (inr past) = subst (λ (r : WorkerState). (journal_of r).entries ≡ map entry_of (txns_of r)) (sym (none_past w past)) refl
+    at (inl known) = (explains w known).entries
+    at (inr past) = ap (λ (r : WorkerState). (journal_of r).entries) (none_past w past) ∙ sym (ap (map entry_of) (no_txns w past))
 
   pub entries_are : (w : ℕ) → entries_of w (map journal_of p.receipts) ≡ map entry_of (txns_by w)
   entries_are w =
@@ -90,11 +106,11 @@ module _ (p : Phase) (closed : HasClosed p) where
 
   -- the lines of each worker's key are those that its transactions owe
   pub lines_are : (w : ℕ) → w < workers → (s : ℕ) → lines_at (key_at (map key_of p.receipts) w) s ≡ lines_owed p.setting s (txns_by w)
-  lines_are w known s = ap (λ key. lines_at key s) (get_or-map key_of p.receipts w no_receipt) ∙ (work w known).lines s
+  lines_are w known s = ap (λ key. lines_at key s) (get_or-map key_of p.receipts w no_receipt) ∙ (explains w known).lines s
 
   -- a worker's slices are those of the rows of its journal
   pub sliced : (w : ℕ) → w < workers → (receipt w).slices ≡ slices_of p.setting.stocks (rows_of (journal_of (receipt w)).entries)
-  sliced w known = (work w known).sliced
+  sliced w known = (explains w known).sliced
 
   pub counters_are : (w : ℕ) → counters_at (map counters_of p.receipts) w ≡ counters_of (receipt w)
   counters_are w = get_or-map counters_of p.receipts w no_receipt

@@ -16,8 +16,7 @@ use Rattle.item_shards.specs.Contents.{Contents}
 use Rattle.item_shards.specs.Standing.{ContentsStandsFor}
 use Rattle.item_shards.specs.Values.{value, stock}
 use Rattle.item_shards.proofs.AnswerLemmas.{stock_is}
-use Rattle.shard_boxes.specs.declared.line.Line.{Line}
-use Rattle.shard_boxes.specs.Lines.{acts_in, AreTrueOf, after_line}
+use Rattle.shard_boxes.specs.Lines.{Line, acts_in, AreTrueOf, after_line}
 use Rattle.shard_boxes.specs.States.{ShardState, state_at}
 use Rattle.phase_permits.specs.declared.worker.Counters.{Counters}
 use Rattle.phase_permits.specs.Txns.{Setting, Txn, hot_of, entry_of, takes, line_on, IsAnswered, after_txn}

@@ -1,5 +1,5 @@
 -- A commit's reply is the model's, whichever request it is of.
-use Rattle.std.proofs.Common.{◌≡◌, ℕ, ◌-◌, Bool, true, false, not, cond, List, [], ◌∷◌, ◌++◌, length, Option, Some, None, MatchOption, option_map, option_and_then, unwrap_or, refl, sym, ap, subst, ◌∙◌, arith, take, length-append}
+use Rattle.std.proofs.Common.{◌≡◌, ℕ, ◌-◌, Bool, true, false, cond, List, [], ◌∷◌, ◌++◌, length, Option, Some, None, MatchOption, option_map, option_and_then, unwrap_or, refl, sym, ap, subst, ◌∙◌, arith, take, length-append}
 use Rattle.std.specs.Option.{option_or}
 use Rattle.std.proofs.Math.Seq.{take-append_seam}
 use Rattle.auction_rows.specs.declared.requests.ItemId.{ItemId}
@@ -9,7 +9,7 @@ use Rattle.auction_rows.specs.declared.values.Opening.{Opening}
 use Rattle.auction_rows.specs.declared.values.Stars.{Stars}
 use Rattle.auction_rows.specs.declared.replies.Refusal.{Refusal}
 use Rattle.auction_rows.specs.declared.replies.Reply.{Reply}
-use Rattle.auction_rows.specs.declared.replies.Reply.TheVariants.{ItemStored, BidStored, CommentStored, Bought, BidsSeen, Refused}
+use Rattle.auction_rows.specs.declared.replies.Reply.TheVariants.{ItemStored, BidStored, CommentStored, Bought, Refused}
 use Rattle.auction_rows.specs.declared.requests.Facts.{Facts}
 use Rattle.auction_rows.specs.declared.requests.Request.{Request}
 use Rattle.auction_rows.specs.declared.requests.Request.TheVariants.{StoreItem, StoreBid, StoreComment, BuyNow, ViewItem, ViewBids, ViewCategory, ViewUser}
@@ -18,25 +18,23 @@ use Rattle.auction_rows.specs.Footprint.{is_hot, objects_of}
 use Rattle.auction_rows.specs.History.{IsRight, row_of_entry}
 use Rattle.auction_rows.specs.Refusals.{number_refusal, item_refusal, refusal}
 use Rattle.auction_rows.specs.Replies.{answer_unless, answer, reply}
-use Rattle.auction_rows.specs.Requests.{item_of}
+use Rattle.auction_rows.specs.Requests.{item_of, shard_of}
 use Rattle.auction_rows.proofs.RefusalLemmas.{refusal-split}
-use Rattle.item_shards.specs.declared.shard.acts.Act.{Act}
-use Rattle.item_shards.specs.declared.shard.acts.Act.TheVariants.{Look}
-use Rattle.item_shards.specs.declared.shard.acts.Shown.TheVariants as shown
-use Rattle.item_shards.specs.Looking.{view_like}
-use Rattle.item_shards.specs.Contents.{Contents}
+use Rattle.item_shards.specs.Events.{Event, Look}
+use Rattle.item_shards.specs.Shown.{Shown}
+use Rattle.item_shards.specs.Shown as shown
+use Rattle.item_shards.specs.Looking.{IsTrueOf}
+use Rattle.item_shards.specs.Contents.{Contents, target}
 use Rattle.item_shards.specs.Standing.{ContentsStandsFor}
 use Rattle.item_shards.specs.Values.{Value, value, stock, stock_in, stock_for}
 use Rattle.item_shards.specs.Views.{item_view, bids_view, category_view, user_view}
 use Rattle.item_shards.specs.Writing.{looks_of, writes_if}
 use Rattle.item_shards.proofs.AnswerLemmas.{item_reply, bids_reply, category_reply_is, user_reply_is, stock_is}
-use Rattle.shard_boxes.specs.declared.line.Line.{Line}
 use Rattle.shard_boxes.specs.Keys.{seen_at}
-use Rattle.shard_boxes.specs.Lines.{acts_in, after_lines, AreTrueOf}
+use Rattle.shard_boxes.specs.Lines.{Line, acts_in, after_lines, AreTrueOf}
 use Rattle.shard_boxes.specs.States.{ShardState, state_at}
 use Rattle.phase_permits.specs.declared.worker.Counters.{Counters}
-use Rattle.phase_permits.specs.declared.transaction.ReadSet.{ReadSet}
-use Rattle.phase_permits.specs.Txns.{Setting, Txn, hot_of, takes, line_on, stock_seen, refusal_by, SuitsItem, SuitsBids, IsAnswered}
+use Rattle.phase_permits.specs.Txns.{Setting, Txn, hot_of, takes, line_on, stock_seen, refusal_by, IsAnswered, ReadSet}
 use Rattle.phase_permits.specs.Slicing.{stock_of}
 use Rattle.phase_permits.specs.Performing.{HasCommitted}
 use Rattle.phase_permits.specs.Workers.{WorkerState, setting_of, txn_of}
@@ -86,33 +84,9 @@ facts_in : (facts : Option Facts) (n : ℕ) → option_map (λ (s : Facts × ℕ
 facts_in None n = refl
 facts_in (Some facts) n = refl
 
--- a reply that is a view of its object is the view that the request asks for
-item_like : (given : Reply) (item : ItemId) (v : Value) → SuitsItem given → given ≡ view_like given (Item item) v → given ≡ item_view v
-item_like (BidsSeen bids) item v suits is = absurd suits
-item_like given item v suits is = is
-
-not_stored : (reason : Refusal) (v : Value) → Refused reason ≡ item_view v → Refused reason ≡ bids_view v
-not_stored reason v is = at v.facts is where
-  at : (facts : Option Facts) → Refused reason ≡ item_view (record v { facts = facts }) → Refused reason ≡ bids_view (record v { facts = facts })
-  at None e = e
-  at (Some facts) e = absurd (cc)
-
-bids_like : (given : Reply) (item : ItemId) (v : Value) → SuitsBids given → given ≡ view_like given (Item item) v → given ≡ bids_view v
-bids_like (BidsSeen bids) item v suits is = is
-bids_like (Refused reason) item v suits is = not_stored reason v is
-bids_like given item v suits is = absurd suits
-
-category_like : (given : Reply) (category : ℕ) (v : Value) → view_like given (Category category) v ≡ category_view v
-category_like (BidsSeen bids) category v = refl
-category_like given category v = refl
-
-user_like : (given : Reply) (user : ℕ) (v : Value) → view_like given (User user) v ≡ user_view v
-user_like (BidsSeen bids) user v = refl
-user_like given user v = refl
-
 module _ (z : Setting) (taken : ℕ → Contents) (book : Book) (fixed : HasFixed z book) (counters : Counters) where
   -- what a bid and a purchase saw of their item is what the book has
-  stock_right : (txn : Txn) (item : ItemId) (objects : List Object) (acts : List Act) → number_refusal z.opening txn.0.request ≡ None
+  stock_right : (txn : Txn) (item : ItemId) (objects : List Object) (acts : List Event) → number_refusal z.opening txn.0.request ≡ None
       → objects_of txn.0.request txn.0.reply ≡ Item item ∷ objects
       → looks_of txn.1.stock txn.0.reply txn.0.request ++ writes_if (row_of_entry txn.0) ≡ Look (shown.Left item txn.1.stock) ∷ acts
       → SawTrue z taken txn → StoodFor z taken book txn → stock_seen z txn item ≡ stock_in book item
@@ -125,7 +99,7 @@ module _ (z : Setting) (taken : ℕ → Contents) (book : Book) (fixed : HasFixe
         ∙ stock_is book item
 
   -- what a comment saw of its item are the facts that the book has
-  facts_right : (txn : Txn) (item : ItemId) (objects : List Object) (acts : List Act) → number_refusal z.opening txn.0.request ≡ None
+  facts_right : (txn : Txn) (item : ItemId) (objects : List Object) (acts : List Event) → number_refusal z.opening txn.0.request ≡ None
       → objects_of txn.0.request txn.0.reply ≡ Item item ∷ objects
       → looks_of txn.1.stock txn.0.reply txn.0.request ++ writes_if (row_of_entry txn.0) ≡ Look (shown.Facts item (option_map (λ s. s.0) txn.1.stock)) ∷ acts
       → SawTrue z taken txn → StoodFor z taken book txn → option_map (λ s. s.0) (stock_seen z txn item) ≡ option_map (λ (s : Facts × ℕ). s.0) (stock_in book item)
@@ -138,13 +112,14 @@ module _ (z : Setting) (taken : ℕ → Contents) (book : Book) (fixed : HasFixe
         ∙ sym (facts_in (facts_of book item) (left book item))
 
   -- a view showed what the book has
-  view_right : (txn : Txn) (object : Object) (acts : List Act) → number_refusal z.opening txn.0.request ≡ None
+  view_right : (txn : Txn) (object : Object) (told : Shown) (view : Value → Reply) → number_refusal z.opening txn.0.request ≡ None
       → objects_of txn.0.request txn.0.reply ≡ object ∷ []
-      → looks_of txn.1.stock txn.0.reply txn.0.request ++ writes_if (row_of_entry txn.0) ≡ Look (shown.Reply object txn.0.reply) ∷ acts
-      → is_hot (hot_of z) object ≡ false → SawTrue z taken txn → StoodFor z taken book txn → txn.0.reply ≡ view_like txn.0.reply object (value book object)
-  view_right txn object acts accepted needed acted cold saw stood =
-      look_true z txn accepted taken saw object [] (shown.Reply object txn.0.reply) acts needed acted refl cold
-      ∙ ap (view_like txn.0.reply object) (value_there z txn accepted taken book stood object [] needed cold)
+      → looks_of txn.1.stock txn.0.reply txn.0.request ++ writes_if (row_of_entry txn.0) ≡ Look told ∷ [] → target (Look told) ≡ Some object
+      → ((contents : Contents) → IsTrueOf contents told → txn.0.reply ≡ view (contents object))
+      → is_hot (hot_of z) object ≡ false → SawTrue z taken txn → StoodFor z taken book txn → txn.0.reply ≡ view (value book object)
+  view_right txn object told view accepted needed acted about shows cold saw stood =
+      shows (taken (shard_of object z.shards)) (look_true z txn accepted taken saw object [] told [] needed acted about cold)
+      ∙ ap view (value_there z txn accepted taken book stood object [] needed cold)
 
   module _ (phase number worker index : ℕ) (found : ReadSet) (counts : CountsOf book worker counters) where
     abbrev txn_with : Request → Reply → Txn
@@ -202,28 +177,26 @@ module _ (z : Setting) (taken : ℕ → Contents) (book : Book) (fixed : HasFixe
 
     view_item_right : (item : ItemId) → IsRightFor (ViewItem item)
     view_item_right item given saw stood is =
-        item_like given item (value book (Item item)) is.answered
-        (view_right (txn_with (ViewItem item) given) (Item item) [] refl refl refl (no_other (is_hot (hot_of z) (Item item)) is.not_put_off) saw stood)
+        view_right (txn_with (ViewItem item) given) (Item item) (shown.Item item given) item_view refl refl refl refl (λ contents is. is) (no_other (is_hot (hot_of z) (Item item)) is.not_put_off) saw stood
         ∙ item_reply z.opening book worker item
 
     view_bids_right : (item : ItemId) → IsRightFor (ViewBids item)
     view_bids_right item given saw stood is =
-        bids_like given item (value book (Item item)) is.answered
-        (view_right (txn_with (ViewBids item) given) (Item item) [] refl refl refl (no_other (is_hot (hot_of z) (Item item)) is.not_put_off) saw stood)
+        view_right (txn_with (ViewBids item) given) (Item item) (shown.Bids item given) bids_view refl refl refl refl (λ contents is. is) (no_other (is_hot (hot_of z) (Item item)) is.not_put_off) saw stood
         ∙ bids_reply z.opening book worker item
 
     view_category_right : (category : ℕ) → IsRightFor (ViewCategory category)
     view_category_right category given saw stood is =
         viewed_by Unit (number_refusal z.opening (ViewCategory category)) given (category_view (value book (Category category))) is.answered
-        (λ accepted. view_right (txn_with (ViewCategory category) given) (Category category) [] accepted refl refl (no_other (is_hot (hot_of z) (Category category)) is.not_put_off) saw stood
-        ∙ category_like given category (value book (Category category)))
+        (λ accepted. view_right (txn_with (ViewCategory category) given) (Category category) (shown.Category category given) category_view accepted refl refl refl (λ contents is. is)
+        (no_other (is_hot (hot_of z) (Category category)) is.not_put_off) saw stood)
         ∙ category_reply_is z.opening book worker category
 
     view_user_right : (user : ℕ) → IsRightFor (ViewUser user)
     view_user_right user given saw stood is =
         viewed_by Unit (number_refusal z.opening (ViewUser user)) given (user_view (value book (User user))) is.answered
-        (λ accepted. view_right (txn_with (ViewUser user) given) (User user) [] accepted refl refl (no_other (is_hot (hot_of z) (User user)) is.not_put_off) saw stood
-        ∙ user_like given user (value book (User user)))
+        (λ accepted. view_right (txn_with (ViewUser user) given) (User user) (shown.User user given) user_view accepted refl refl refl (λ contents is. is)
+        (no_other (is_hot (hot_of z) (User user)) is.not_put_off) saw stood)
         ∙ user_reply_is z.opening book worker user
 
     right_by : (request : Request) → IsRightFor request

@@ -11,9 +11,8 @@ use Rattle.auction_rows.specs.Book.{Book}
 use Rattle.auction_rows.specs.History.{rows_of}
 use Rattle.auction_rows.specs.Stars.{five}
 use Rattle.item_shards.specs.Values.{stock, value}
-use Rattle.shard_boxes.specs.declared.line.Line.{Line}
 use Rattle.shard_boxes.specs.Keys.{KeyState}
-use Rattle.shard_boxes.specs.Lines.{after_line}
+use Rattle.shard_boxes.specs.Lines.{Line, after_line}
 use Rattle.shard_boxes.specs.States.{ShardState}
 use Rattle.phase_permits.specs.declared.worker.Counters.{Counters}
 use Rattle.phase_permits.specs.Txns.{Setting, Txn, line_on, after_txn}
@@ -98,7 +97,6 @@ module _ (facts : Facts) where
     left = 0;
     tries = 1;
     clock = 1;
-    txns = txn ∷ [];
   }
 
   -- the phase that has closed

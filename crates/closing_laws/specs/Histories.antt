@@ -1,5 +1,5 @@
 -- What a phase that has closed comes to.
-use Rattle.std.specs.Prelude.{◌≡◌, ℕ, ◌<◌, List, map, filter, length}
+use Rattle.std.specs.Prelude.{◌≡◌, ℕ, ◌<◌, ◌≤◌, List, [], map, filter, length}
 use Rattle.phase_laws.specs.Numbers.{shares, FollowsWhatItShares}
 use Rattle.phase_laws.specs.Order.{part}
 use Rattle.auction_rows.specs.declared.requests.Object.{Object}
@@ -9,9 +9,11 @@ use Rattle.auction_rows.specs.Book.{Book}
 use Rattle.auction_rows.specs.Footprint.{footprint, takes_shard}
 use Rattle.auction_rows.specs.History.{ReplaysFrom, book_after}
 use Rattle.worker_journals.specs.Journals.{entry_number, entry_worker}
-use Rattle.shard_boxes.specs.declared.line.Line.{Line}
+use Rattle.shard_boxes.specs.Lines.{Line}
 use Rattle.phase_permits.specs.Txns.{Setting, Txn, hot_of, entry_of, takes, line_on}
-use Rattle.closing_laws.specs.Phases.{Phase, HasClosed, counters_of, txns_of, receipt_at}
+use Rattle.phase_permits.specs.Workers.{work_of}
+use Rattle.phase_permits.specs.Works.{Explains}
+use Rattle.closing_laws.specs.Phases.{Phase, HasClosed, counters_of, receipt_at}
 use Rattle.closing_laws.specs.Standing.{StandFor}
 
 -- a transaction's line with its worker
@@ -31,9 +33,12 @@ pub record HoldTheEntries (p : Phase) (closed : HasClosed p) : Type 0 where
   -- the transactions of the entries
   pub txns : List Txn
   pub entries : map entry_of txns ≡ p.entries
-  -- each worker's transactions are those of its receipt
-  pub parts : (w : ℕ) →
-      part (λ txn. (entry_of txn).worker) w txns ≡ txns_of (receipt_at p.receipts w)
+  -- each worker's transactions explain its receipt
+  pub parts : (w : ℕ) → w < length p.receipts →
+      Explains p.setting w (work_of (receipt_at p.receipts w))
+      (part (λ txn. (entry_of txn).worker) w txns)
+  -- and there are no others
+  pub others : (w : ℕ) → length p.receipts ≤ w → part (λ txn. (entry_of txn).worker) w txns ≡ []
   -- each shard's list holds the lines of these transactions
   pub lists : (s : ℕ) (known : s < length p.initial) →
       list_at p closed s known ≡ lines_on p.setting s txns

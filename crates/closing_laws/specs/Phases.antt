@@ -14,7 +14,7 @@ use Rattle.shard_boxes.specs.Closed.{AreClosed}
 use Rattle.shard_boxes.specs.Keys.{KeyState, no_key}
 use Rattle.shard_boxes.specs.States.{ShardState, state_at}
 use Rattle.phase_permits.specs.declared.worker.Counters.{Counters}
-use Rattle.phase_permits.specs.Txns.{Setting, Txn, hot_of}
+use Rattle.phase_permits.specs.Txns.{Setting, hot_of}
 use Rattle.phase_permits.specs.Workers.{WorkerState, IsExplained, no_counters, new_worker, setting_of}
 use Rattle.phase_permits.specs.Slicing.{IsStocked}
 use Rattle.closing_laws.specs.Standing.{counters_at}
@@ -56,10 +56,6 @@ journal_of receipt = receipt.journal
 abbrev pub counters_of : WorkerState → Counters
 counters_of receipt = receipt.counters
 
--- the transactions behind a receipt
-abbrev pub txns_of : WorkerState → List Txn
-txns_of receipt = receipt.txns
-
 -- the value of an object on the shard in which it lies
 abbrev pub value_on : List ShardState → Object → Value
 value_on states object = (state_at states (shard_of object (length states))).contents object
@@ -88,7 +84,7 @@ pub record IsBegun (p : Phase) : Type 0 where
 -- a worker's receipt, in a phase that the worker began with these counters and with clock 0
 pub record IsReceiptOf (z : Setting) (worker : ℕ) (opened : Counters)
     (receipt : WorkerState) : Type 0 where
-  -- the receipt's transactions explain it
+  -- there are transactions that explain it
   pub explained : IsExplained z.shards receipt
   -- the receipt is the worker's
   pub worker_is : receipt.key.worker ≡ worker

@@ -12,7 +12,7 @@ ghost use Rattle.auction_rows.specs.History.{IsRight};
 ghost use Rattle.auction_rows.specs.Replies.{reply};
 ghost use Rattle.item_shards.specs.Contents.{Contents};
 ghost use Rattle.item_shards.specs.Writing.{writes_of};
-ghost use Rattle.shard_boxes.specs.declared.line.Line.{Line};
+ghost use Rattle.shard_boxes.specs.Lines.{Line};
 ghost use Rattle.shard_boxes.specs.Keys.{KeyState, taking, putting, lines_at, added};
 ghost use Rattle.shard_boxes.specs.States.{ShardState};
 ghost use Rattle.phase_permits.specs.declared.worker.Counters.{Counters};

@@ -28,7 +28,7 @@ use Rattle.auction_rows.specs.Refusals.{of_stored, number_refusal, refusal}
 use Rattle.auction_rows.specs.Replies.{answer, answer_unless, reply, row_of, row_if}
 use Rattle.auction_rows.specs.Requests.{shard_of}
 use Rattle.auction_rows.proofs.RefusalLemmas.{enough, in_range, not_by_number, is_stored}
-use Rattle.item_shards.specs.declared.shard.acts.Act.{Act}
+use Rattle.item_shards.specs.Events.{Event}
 use Rattle.item_shards.specs.Values.{Value, value, HasInStock}
 use Rattle.item_shards.specs.Contents.{Contents, after_act}
 use Rattle.item_shards.specs.Standing.{ContentsStandsFor}
@@ -58,7 +58,7 @@ rating_fits z stars n near few = fits_signed_from_abs w64 (z +ℤ stars.value) (
 
 module _ (opening : Opening) (number shards : ℕ) (rooms : ItemId → Bool) (contents : Contents) (book : Book) (hot : List Object)
     (stands : ContentsStandsFor number shards contents book hot) where
-  abbrev Can : Act → Type 0
+  abbrev Can : Event → Type 0
   Can act = is_done_on number shards hot act ≡ true → CanActOn opening number shards rooms contents act
 
   abbrev here : Object → Bool
@@ -148,7 +148,7 @@ module _ (opening : Opening) (number shards : ℕ) (rooms : ItemId → Bool) (co
         subst (λ answered. AllByRecursion Can (writes_if (row_of entry.worker entry.request answered))) (sym right)
         (writes_can few entry.worker entry.request (refusal opening book entry.request) refl (λ id e. room id (right ∙ e)))
 
-    pub each_can : (act : Act) → Contains (acts_of opening saw entry) act → is_done_on number shards hot act ≡ true → CanActOn opening number shards rooms contents act
+    pub each_can : (act : Event) → Contains (acts_of opening saw entry) act → is_done_on number shards hot act ≡ true → CanActOn opening number shards rooms contents act
     each_can act member = all-member Can (acts_of opening saw entry) act (at (is_some (number_refusal opening entry.request))) member where
       at : (b : Bool) → AllByRecursion Can (cond b [] (looks_of saw entry.reply entry.request ++ writes_if (row_of_entry entry)))
       at true = tt

@@ -3,8 +3,9 @@ use Rattle.std.proofs.Common.{◌≡◌, ℕ, Bool, List, [], ◌∷◌, length,
 use Rattle.auction_rows.specs.declared.requests.ItemId.{ItemId}
 use Rattle.auction_rows.specs.declared.values.Opening.{Opening}
 use Rattle.item_shards.specs.declared.shard.acts.Act.{Act}
+use Rattle.item_shards.specs.Events.{Event}
 use Rattle.item_shards.specs.declared.shard.Shard.{Shard}
-use Rattle.item_shards.specs.Acting.{CanActOn, CanAct}
+use Rattle.item_shards.specs.Acting.{CanActOn, CanActIn}
 use Rattle.item_shards.specs.Contents.{Contents, after_act}
 use Rattle.item_shards.specs.ShardContents.{shard_number, shard_count, contents, opening, rooms, IsSameShard}
 
@@ -16,8 +17,8 @@ two_of (x ∷ y ∷ []) a b is = refl
 two_of (x ∷ y ∷ z ∷ acts) a b is = absurd (omega arith)
 
 -- what can be done after the first act can be done on the shard that it leaves
-pub can_next : (old new : Shard) (first second : Act) → IsSameShard old new → rooms new ≡ rooms old → contents new ≡ after_act (contents old) first
-    → CanActOn (opening old) (shard_number old) (shard_count old) (rooms old) (after_act (contents old) first) second → CanAct new second
+pub can_next : (old new : Shard) (first second : Event) → IsSameShard old new → rooms new ≡ rooms old → contents new ≡ after_act (contents old) first
+    → CanActOn (opening old) (shard_number old) (shard_count old) (rooms old) (after_act (contents old) first) second → CanActIn new (rooms new) (contents new) second
 can_next old new first second same room shown can =
     subst (λ (start : Opening). CanActOn start (shard_number new) (shard_count new) (rooms new) (contents new) second) (sym same.opening)
     (subst (λ (number : ℕ). CanActOn (opening old) number (shard_count new) (rooms new) (contents new) second) (sym same.number)

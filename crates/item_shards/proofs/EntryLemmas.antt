@@ -25,9 +25,8 @@ use Rattle.auction_rows.specs.Replies.{reply, row_of, row_if}
 use Rattle.auction_rows.specs.Requests.{is_view, shard_of}
 use Rattle.auction_rows.proofs.RefusalLemmas.{refusal-split}
 use Rattle.auction_rows.proofs.RequestLemmas.{row_made}
-use Rattle.item_shards.specs.declared.shard.acts.Act.{Act}
-use Rattle.item_shards.specs.declared.shard.acts.Act.TheVariants.{Look}
-use Rattle.item_shards.specs.declared.shard.acts.Shown.{Shown}
+use Rattle.item_shards.specs.Events.{Event, Look}
+use Rattle.item_shards.specs.Shown.{Shown}
 use Rattle.item_shards.specs.Contents.{Contents, after_acts}
 use Rattle.item_shards.specs.Standing.{ContentsStandsFor}
 use Rattle.item_shards.specs.Writing.{looks_of, writes_of, writes_if, acts_of, is_cold_in, is_done_on, done_on, padded, acts_owed}
@@ -35,14 +34,14 @@ use Rattle.item_shards.proofs.StandingLemmas.{rows_stand}
 use Rattle.item_shards.proofs.Stored.{none_from}
 
 -- the looks at nothing leave the contents
-pub padded_leaves : (contents : Contents) (acts : List Act) → length acts ≤ 2 → after_acts contents (padded acts) ≡ after_acts contents acts
+pub padded_leaves : (contents : Contents) (acts : List Event) → length acts ≤ 2 → after_acts contents (padded acts) ≡ after_acts contents acts
 padded_leaves contents [] few = refl
 padded_leaves contents (act ∷ []) few = refl
 padded_leaves contents (act ∷ other ∷ []) few = refl
 padded_leaves contents (act ∷ other ∷ more ∷ acts) few = absurd (omega (arith, few))
 
 -- an entry has at most two acts
-with_row : (looks : List Act) (b : Bool) (one : Row) → length looks + length (writes_of one) ≤ 2 → length (looks ++ writes_if (row_if b one)) ≤ 2
+with_row : (looks : List Event) (b : Bool) (one : Row) → length looks + length (writes_of one) ≤ 2 → length (looks ++ writes_if (row_if b one)) ≤ 2
 with_row looks true one few = omega (arith, few, length-append looks (writes_of one))
 with_row looks false one few = omega (arith, few, length-append looks [])
 
@@ -53,7 +52,7 @@ few_in saw worker (StoreComment author about item stars) (CommentStored id) = wi
 few_in saw worker (BuyNow buyer item quantity time) (Bought id) = with_row (looks_of saw (Bought id) (BuyNow buyer item quantity time)) (id.worker == worker) _ (omega arith)
 few_in saw worker request answered = omega arith
 
-kept_few : (p : Act → Bool) (acts : List Act) (n : ℕ) → length acts ≤ n → length (filter p acts) ≤ n
+kept_few : (p : Event → Bool) (acts : List Event) (n : ℕ) → length acts ≤ n → length (filter p acts) ≤ n
 kept_few p acts n few = omega (arith, few, length-filter p acts, count_by-le-length p acts)
 
 pub few_done : (number shards : ℕ) (hot : List Object) (opening : Opening) (saw : Option (Facts × ℕ)) (entry : Entry) → length (done_on number shards hot (acts_of opening saw entry)) ≤ 2
@@ -79,11 +78,11 @@ no_row opening book worker request reason e =
 
 module _ (number shards : ℕ) (hot : List Object) where
   -- a look that is done or not leaves the contents
-  look_leaves : (contents : Contents) (b : Bool) (shown : Shown) (acts : List Act) → after_acts contents (cond b (Look shown ∷ []) [] ++ acts) ≡ after_acts contents acts
+  look_leaves : (contents : Contents) (b : Bool) (shown : Shown) (acts : List Event) → after_acts contents (cond b (Look shown ∷ []) [] ++ acts) ≡ after_acts contents acts
   look_leaves contents true shown acts = refl
   look_leaves contents false shown acts = refl
 
-  looks_leave : (contents : Contents) (saw : Option (Facts × ℕ)) (answered : Reply) (request : Request) (acts : List Act)
+  looks_leave : (contents : Contents) (saw : Option (Facts × ℕ)) (answered : Reply) (request : Request) (acts : List Event)
       → after_acts contents (done_on number shards hot (looks_of saw answered request) ++ acts) ≡ after_acts contents acts
   looks_leave contents saw answered (StoreItem facts time) acts = refl
   looks_leave contents saw answered (StoreBid bidder item amount time) acts = look_leaves contents (is_cold_in number shards hot (Item item)) _ acts
@@ -127,11 +126,11 @@ module _ (number shards : ℕ) (hot : List Object) where
     at true e = e
     at false e = ap (λ b. (shard_of o shards == number) || b) e
 
-  one_dropped : (b : Bool) (act : Act) → (b || false) ≡ false → cond b (act ∷ []) [] ≡ []
+  one_dropped : (b : Bool) (act : Event) → (b || false) ≡ false → cond b (act ∷ []) [] ≡ []
   one_dropped true act e = absurd (false≢true (sym e))
   one_dropped false act e = refl
 
-  both_dropped : (a b : Bool) (act other : Act) → (a || (b || false)) ≡ false → cond a (act ∷ cond b (other ∷ []) []) (cond b (other ∷ []) []) ≡ []
+  both_dropped : (a b : Bool) (act other : Event) → (a || (b || false)) ≡ false → cond a (act ∷ cond b (other ∷ []) []) (cond b (other ∷ []) []) ≡ []
   both_dropped true b act other e = absurd (false≢true (sym e))
   both_dropped false b act other e = one_dropped b other e
 

@@ -23,23 +23,10 @@ use Rattle.item_shards.specs.Views.{item_view, bids_view, category_view, user_vi
 use Rattle.item_shards.specs.Contents.{Contents, after_act}
 use Rattle.item_shards.specs.Standing.{ContentsStandsFor}
 use Rattle.item_shards.specs.Writing.{looks_of, writes_if, is_cold_in, is_done_on, acts_owed}
-use Rattle.item_shards.specs.Looking.{view_like, IsTrueAct}
+use Rattle.item_shards.specs.Looking.{IsTrueAct}
 use Rattle.item_shards.proofs.StandingLemmas.{stands_at}
 use Rattle.item_shards.proofs.TurnLemmas.{owed_in_turn}
 use Rattle.item_shards.proofs.AnswerLemmas.{item_reply, bids_reply, category_reply_is, user_reply_is, stock_is}
-
--- a reply that is a view of an object is the view that it is like
-like_item : (id : ItemId) (v : Value) → item_view v ≡ view_like (item_view v) (Item id) v
-like_item id v = at v.facts where
-  at : (stored : Option Facts) → item_view (record v { facts = stored }) ≡ view_like (item_view (record v { facts = stored })) (Item id) (record v { facts = stored })
-  at None = refl
-  at (Some facts) = refl
-
-like_bids : (id : ItemId) (v : Value) → bids_view v ≡ view_like (bids_view v) (Item id) v
-like_bids id v = at v.facts where
-  at : (stored : Option Facts) → bids_view (record v { facts = stored }) ≡ view_like (bids_view (record v { facts = stored })) (Item id) (record v { facts = stored })
-  at None = refl
-  at (Some facts) = refl
 
 -- where no number refuses it
 as_category : (opening : Opening) (category : ℕ) (v : Value) → number_refusal opening (ViewCategory category) ≡ None → category_reply opening category v ≡ category_view v
@@ -73,11 +60,8 @@ module _ (number shards : ℕ) (hot : List Object) (contents : Contents) where
     stock_true : (item : ItemId) → here (Item item) ≡ true → stock_in book item ≡ stock (contents (Item item))
     stock_true item e = sym (stock_is book item) ∙ ap stock (sym (at_object (Item item) e))
 
-    view_true : (object : Object) (answered : Reply) (view : Value → Reply) → answered ≡ view (value book object)
-        → ((v : Value) → view v ≡ view_like (view v) object v) → here object ≡ true → answered ≡ view_like answered object (contents object)
-    view_true object answered view is like e =
-        let now = is ∙ ap view (sym (at_object object e)) in
-        now ∙ like (contents object) ∙ ap (λ r. view_like r object (contents object)) (sym now)
+    view_true : (object : Object) (answered : Reply) (view : Value → Reply) → answered ≡ view (value book object) → here object ≡ true → answered ≡ view (contents object)
+    view_true object answered view is e = is ∙ ap view (sym (at_object object e))
 
     looks_hold : (worker : ℕ) (request : Request) (answered : Reply) → answered ≡ reply opening book worker request → number_refusal opening request ≡ None
         → AllByRecursion (λ act. is_done_on number shards hot act ≡ true → IsTrueAct contents act) (looks_of (stock_for book request) answered request)
@@ -86,15 +70,15 @@ module _ (number shards : ℕ) (hot : List Object) (contents : Contents) where
     looks_hold worker (StoreComment author about item stars) answered right e = (facts_true item, tt)
     looks_hold worker (BuyNow buyer item quantity time) answered right e = (stock_true item, tt)
     looks_hold worker (ViewItem item) answered right e =
-        (view_true (Item item) answered item_view (right ∙ sym (item_reply opening book worker item)) (like_item item), tt)
+        (view_true (Item item) answered item_view (right ∙ sym (item_reply opening book worker item)), tt)
     looks_hold worker (ViewBids item) answered right e =
-        (view_true (Item item) answered bids_view (right ∙ sym (bids_reply opening book worker item)) (like_bids item), tt)
+        (view_true (Item item) answered bids_view (right ∙ sym (bids_reply opening book worker item)), tt)
     looks_hold worker (ViewCategory category) answered right e =
         let is = right ∙ sym (category_reply_is opening book worker category) ∙ as_category opening category (value book (Category category)) e in
-        (view_true (Category category) answered category_view is (λ v. refl), tt)
+        (view_true (Category category) answered category_view is, tt)
     looks_hold worker (ViewUser user) answered right e =
         let is = right ∙ sym (user_reply_is opening book worker user) ∙ as_user opening user (value book (User user)) e in
-        (view_true (User user) answered user_view is (λ v. refl), tt)
+        (view_true (User user) answered user_view is, tt)
 
     pub entry_true : (entry : Entry) → IsRight opening book entry → SawInTurn IsTrueAct after_act contents (acts_owed opening number shards hot (stock_for book entry.request) entry)
     entry_true entry right =

@@ -26,7 +26,7 @@ use Rattle.auction_rows.proofs.HistoryLemmas.{own_row, stored_by as commit_is, r
 use Rattle.auction_rows.proofs.RefusalLemmas.{refusal-split}
 use Rattle.item_shards.specs.declared.openings.StoreCounts.{StoreCounts}
 use Rattle.item_shards.specs.Values.{stock_in}
-use Rattle.item_shards.specs.declared.shard.acts.Act.TheVariants.{AddItem, ListItem}
+use Rattle.item_shards.specs.Events.{AddItem, ListItem}
 use Rattle.item_shards.specs.declared.shard.Shard.{Shard}
 use Rattle.auction_rows.specs.declared.replies.Reply.{Reply}
 use Rattle.item_shards.specs.declared.serial.SerialAuction.{SerialAuction}

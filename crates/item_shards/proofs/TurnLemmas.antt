@@ -19,34 +19,33 @@ use Rattle.auction_rows.specs.declared.rows.Row.TheVariants as row
 use Rattle.auction_rows.specs.declared.rows.Entry.{Entry}
 use Rattle.auction_rows.specs.History.{row_of_entry}
 use Rattle.auction_rows.specs.Refusals.{number_refusal}
-use Rattle.item_shards.specs.declared.shard.acts.Act.{Act}
-use Rattle.item_shards.specs.declared.shard.acts.Act.TheVariants.{AddItem, ListItem, Look}
-use Rattle.item_shards.specs.declared.shard.acts.Shown.{Shown}
-use Rattle.item_shards.specs.declared.shard.acts.Shown.TheVariants as shown
+use Rattle.item_shards.specs.Events.{Event, AddItem, ListItem, Look}
+use Rattle.item_shards.specs.Shown.{Shown}
+use Rattle.item_shards.specs.Shown as shown
 use Rattle.item_shards.specs.Contents.{Contents, after_act}
 use Rattle.item_shards.specs.Writing.{looks_of, writes_if, is_cold_in, is_done_on, done_on, padded, acts_owed}
 
 -- a fact of acts that looks at nothing have, and that listing an item has after the item is added, if it had it before
-module _ (P : Contents → Act → Type 0) (nothing : (contents : Contents) → P contents (Look shown.Nothing))
+module _ (P : Contents → Event → Type 0) (nothing : (contents : Contents) → P contents (Look shown.Nothing))
     (listed : (contents : Contents) (id : ItemId) (facts : Facts) (category : ℕ) (entry : ItemEntry) → P contents (ListItem category entry) → P (after_act contents (AddItem id facts)) (ListItem category entry)) where
-  abbrev InTurn : Contents → List Act → Type 0
+  abbrev InTurn : Contents → List Event → Type 0
   InTurn = SawInTurn P after_act
 
-  padded_in_turn : (contents : Contents) (acts : List Act) → InTurn contents acts → InTurn contents (padded acts)
+  padded_in_turn : (contents : Contents) (acts : List Event) → InTurn contents acts → InTurn contents (padded acts)
   padded_in_turn contents [] h = (nothing contents, (nothing contents, tt))
   padded_in_turn contents (act ∷ []) h = (h.0, (nothing (after_act contents act), tt))
   padded_in_turn contents (act ∷ other ∷ acts) h = (h.0, (h.1.0, tt))
 
   module _ (number shards : ℕ) (hot : List Object) (contents : Contents) where
     -- it holds of an act if that is done on the shard
-    abbrev pub HoldsHere : Act → Type 0
+    abbrev pub HoldsHere : Event → Type 0
     HoldsHere act = is_done_on number shards hot act ≡ true → P contents act
 
-    after_look : (b : Bool) (shown : Shown) (acts : List Act) → (b ≡ true → P contents (Look shown)) → InTurn contents acts → InTurn contents (cond b (Look shown ∷ []) [] ++ acts)
+    after_look : (b : Bool) (shown : Shown) (acts : List Event) → (b ≡ true → P contents (Look shown)) → InTurn contents acts → InTurn contents (cond b (Look shown ∷ []) [] ++ acts)
     after_look true shown acts is rest = (is refl, rest)
     after_look false shown acts is rest = rest
 
-    one_write : (b : Bool) (act : Act) → (b ≡ true → P contents act) → InTurn contents (cond b (act ∷ []) [])
+    one_write : (b : Bool) (act : Event) → (b ≡ true → P contents act) → InTurn contents (cond b (act ∷ []) [])
     one_write true act is = (is refl, tt)
     one_write false act is = tt
 
@@ -57,7 +56,7 @@ module _ (P : Contents → Act → Type 0) (nothing : (contents : Contents) → 
     two_writes false true id facts category entry added is = (is refl, tt)
     two_writes false false id facts category entry added is = tt
 
-    looks_in_turn : (saw : Option (Facts × ℕ)) (answered : Reply) (request : Request) (acts : List Act) → AllByRecursion HoldsHere (looks_of saw answered request)
+    looks_in_turn : (saw : Option (Facts × ℕ)) (answered : Reply) (request : Request) (acts : List Event) → AllByRecursion HoldsHere (looks_of saw answered request)
         → InTurn contents acts → InTurn contents (done_on number shards hot (looks_of saw answered request) ++ acts)
     looks_in_turn saw answered (StoreItem facts time) acts h rest = rest
     looks_in_turn saw answered (StoreBid bidder item amount time) acts h rest = after_look (is_cold_in number shards hot (Item item)) _ acts h.0 rest

@@ -7,9 +7,8 @@ use Rattle.auction_rows.specs.declared.requests.Facts.{Facts}
 use Rattle.auction_rows.specs.declared.requests.Object.{Object}
 use Rattle.auction_rows.specs.declared.requests.Object.TheVariants.{Item, User, Category}
 use Rattle.auction_rows.specs.Requests.{same_object}
-use Rattle.item_shards.specs.declared.shard.acts.Act.{Act}
-use Rattle.item_shards.specs.declared.shard.acts.Act.TheVariants.{AddItem, ListItem, Bid, Comment, Buy, Look}
-use Rattle.item_shards.specs.declared.shard.acts.Shown.TheVariants.{Nothing, Facts as ShownFacts, Left, Reply}
+use Rattle.item_shards.specs.Events.{Event, AddItem, ListItem, Bid, Comment, Buy, Look}
+use Rattle.item_shards.specs.Shown as shown
 use Rattle.item_shards.specs.declared.shard.slices.ItemSlice.{ItemSlice}
 use Rattle.item_shards.specs.declared.shard.slices.UserSlice.{UserSlice}
 use Rattle.item_shards.specs.declared.shard.slices.CategorySlice.{CategorySlice}
@@ -25,16 +24,19 @@ changed object change contents other =
     if same_object object other then change (contents other) else contents other
 
 -- the object that an act is about, if there is one
-abbrev pub target : Act → Option Object
+abbrev pub target : Event → Option Object
 target (AddItem id facts) = Some (Item id)
 target (ListItem category entry) = Some (Category category)
 target (Bid id entry) = Some (Item id)
 target (Comment user stars) = Some (User user)
 target (Buy id quantity) = Some (Item id)
-target (Look Nothing) = None
-target (Look (ShownFacts id facts)) = Some (Item id)
-target (Look (Left id seen)) = Some (Item id)
-target (Look (Reply object reply)) = Some object
+target (Look shown.Nothing) = None
+target (Look (shown.Facts id facts)) = Some (Item id)
+target (Look (shown.Left id seen)) = Some (Item id)
+target (Look (shown.Item id view)) = Some (Item id)
+target (Look (shown.Bids id view)) = Some (Item id)
+target (Look (shown.Category category view)) = Some (Category category)
+target (Look (shown.User user view)) = Some (User user)
 
 -- an item's facts are those that it was first stored with
 abbrev pub with_facts : Facts → Value → Value
@@ -71,7 +73,7 @@ abbrev pub items_merged : CategorySlice → Value → Value
 items_merged slice value = record value { items = with_items value.items slice }
 
 -- the contents after an act: a look changes nothing
-abbrev pub after_act : Contents → Act → Contents
+abbrev pub after_act : Contents → Event → Contents
 after_act contents (AddItem id facts) = changed (Item id) (with_facts facts) contents
 after_act contents (ListItem category entry) =
     changed (Category category) (item_listed entry) contents
@@ -81,5 +83,5 @@ after_act contents (Buy id quantity) = changed (Item id) (bought_of quantity) co
 after_act contents (Look shown) = contents
 
 -- the contents after acts, in order
-abbrev pub after_acts : Contents → List Act → Contents
+abbrev pub after_acts : Contents → List Event → Contents
 after_acts contents acts = fold after_act contents acts

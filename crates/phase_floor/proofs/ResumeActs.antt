@@ -16,8 +16,8 @@ use Rattle.auction_rows.specs.Book.{Book, item_entry}
 use Rattle.auction_rows.specs.History.{GoOn, commit_of}
 use Rattle.auction_rows.specs.Requests.{number_of, shard_of}
 use Rattle.auction_rows.proofs.HistoryLemmas.{own_row}
-use Rattle.item_shards.specs.declared.shard.acts.Act.{Act}
-use Rattle.item_shards.specs.declared.shard.acts.Act.TheVariants.{AddItem, ListItem}
+use Rattle.item_shards.specs.declared.shard.acts.Act.TheVariants.{ListItem}
+use Rattle.item_shards.specs.Events.{Event, AddItem}
 use Rattle.item_shards.specs.declared.shard.Shard.{Shard}
 use Rattle.item_shards.specs.ShardContents.{IsSameShard, LiesIn, HasItemRoom, clock, contents, shard_number, shard_count, opening as opening_of}
 use Rattle.item_shards.specs.Acting.{CanActOn}
@@ -32,10 +32,10 @@ use Rattle.closing_laws.specs.Standing.{ShardsStandFor}
 use Rattle.phase_floor.specs.Resuming.{AreNumbered, AreReady, CanActIn, CanWriteOn, HasRoomIn, HaveDone, IsShardOf, with_acts}
 use Rattle.phase_floor.proofs.Placed.{seen, lies_there}
 
-abbrev pub acted : Act → ShardState → ShardState
+abbrev pub acted : Event → ShardState → ShardState
 acted act state = record state { contents = after_act state.contents act }
 
-module _ (states : List ShardState) (numbered : AreNumbered states) (place : ℕ) (below : place < length states) (object : Object) (act : Act)
+module _ (states : List ShardState) (numbered : AreNumbered states) (place : ℕ) (below : place < length states) (object : Object) (act : Event)
     (about : target act ≡ Some object) (lies : shard_of object (length states) ≡ place) where
   here : (k : ℕ) → is_done_on k (length states) [] act ≡ (place == k)
   here k = (λ i. option_map_or (is_cold_in k (length states) []) (about i) false) ∙ ap (λ p. p == k) lies
@@ -90,7 +90,7 @@ module _ (opening : Opening) (old new : List ShardState) (r : Row) (ready : AreR
       (row_can opening s (length old) (λ id. true) state.contents b [] (stand s low) None (commit_of r) goes.0 (subst IsWithinLimits (sym (after_own opening b r goes)) limits) (λ id is lies. refl)))
 
 -- one shard acts, of those that are numbered
-pub act_done : (shards : List Shard) → AreNumbered (map state_of shards) → (place : ℕ) → place < length shards → (object : Object) (act : Act) → target act ≡ Some object
+pub act_done : (shards : List Shard) → AreNumbered (map state_of shards) → (place : ℕ) → place < length shards → (object : Object) (act : Event) → target act ≡ Some object
     → shard_of object (length shards) ≡ place → (old new : Shard) → old ≡ get_or shards place old → IsSameShard old new → clock new ≡ clock old → contents new ≡ after_act (contents old) act
     → HaveDone (map state_of shards) (map state_of (set shards place new)) (act ∷ [])
 act_done shards numbered place low object act about lies old new is same clock_is contents_is =
@@ -121,7 +121,7 @@ shown_still shards place low old new is same clock_is contents_is =
     let made : state_of new ≡ state_of old = (λ i. record { number = same.number i; shards = same.shards i; opening = same.opening i; clock = clock_is i; contents = contents_is i }) in
     map-set state_of shards place new ∙ ap (λ state. set (map state_of shards) place state) (made ∙ seen shards place low old is) ∙ simp set-get_or
 
-pub numbered_next : (old new : List ShardState) (acts : List Act) → AreNumbered old → HaveDone old new acts → AreNumbered new
+pub numbered_next : (old new : List ShardState) (acts : List Event) → AreNumbered old → HaveDone old new acts → AreNumbered new
 numbered_next old new acts numbered done = λ s low.
     let known : s < length old = omega (arith, low, done.len) in (
       ap (λ (state : ShardState). state.number) (done.each s known) ∙ (numbered s known).0,

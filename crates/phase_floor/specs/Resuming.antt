@@ -1,5 +1,5 @@
 -- The state that an auction is resumed with.
-use Rattle.std.specs.Prelude.{◌≡◌, ℕ, ◌+◌, ◌<◌, true, List, [], length, slice_index_or}
+use Rattle.std.specs.Prelude.{◌≡◌, ℕ, ◌+◌, ◌<◌, true, List, [], map, length, slice_index_or}
 use Rattle.std.specs.List.{AllByRecursion}
 use Rattle.auction_rows.specs.declared.requests.ItemId.{ItemId}
 use Rattle.auction_rows.specs.declared.requests.Object.{Object}
@@ -11,13 +11,15 @@ use Rattle.auction_rows.specs.declared.rows.Row.TheVariants as row
 use Rattle.auction_rows.specs.Book.{Book, items_stored, bids_stored, comments_stored, buys_stored}
 use Rattle.auction_rows.specs.Requests.{shard_of}
 use Rattle.item_shards.specs.declared.shard.acts.Act.{Act}
+use Rattle.item_shards.specs.Events.{Event}
 use Rattle.item_shards.specs.declared.shard.Shard.{Shard}
 use Rattle.item_shards.specs.Acting.{CanActOn, CanAct}
+use Rattle.item_shards.specs.Looking.{event_at}
 use Rattle.item_shards.specs.OpeningRows.{rows_by}
 use Rattle.item_shards.specs.Contents.{after_acts}
 use Rattle.item_shards.specs.ShardContents.{HasItemRoom}
 use Rattle.item_shards.specs.Writing.{writes_of, is_done_on, done_on}
-use Rattle.shard_boxes.specs.States.{ShardState, state_at}
+use Rattle.shard_boxes.specs.States.{ShardState, state_at, state_of}
 use Rattle.phase_permits.specs.declared.worker.Counters.{Counters}
 use Rattle.phase_permits.specs.Performing.{HaveOpening}
 
@@ -48,18 +50,23 @@ IsShardOf shards object shard =
 abbrev pub CanActIn : List Shard → Object → Act → Type 0
 CanActIn shards object act = (shard : Shard) → IsShardOf shards object shard → CanAct shard act
 
+-- the act as it is done on the shard in which the object lies
+abbrev pub event_on : List Shard → Object → Act → Event
+event_on shards object act =
+    event_at (state_at (map state_of shards) (shard_of object (length shards))).contents act
+
 -- there is room for the item in the shard in which it lies
 abbrev pub HasRoomIn : List Shard → ItemId → Type 0
 HasRoomIn shards id = (shard : Shard) → IsShardOf shards (object.Item id) shard →
     HasItemRoom shard id
 
 -- a shard after those of the acts that are about its objects
-abbrev pub with_acts : ℕ → List Act → ShardState → ShardState
+abbrev pub with_acts : ℕ → List Event → ShardState → ShardState
 with_acts shards acts state =
     record state { contents = after_acts state.contents (done_on state.number shards [] acts) }
 
 -- each of the shards is what the acts on its objects make of it
-pub record HaveDone (old new : List ShardState) (acts : List Act) : Type 0 where
+pub record HaveDone (old new : List ShardState) (acts : List Event) : Type 0 where
   pub len : length new ≡ length old
   pub each : (s : ℕ) → s < length old →
       state_at new s ≡ with_acts (length old) acts (state_at old s)

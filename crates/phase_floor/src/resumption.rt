@@ -12,7 +12,7 @@ ghost use Rattle.shard_boxes.specs.States.{state_of};
 ghost use Rattle.phase_permits.specs.Workers.{no_counters};
 ghost use Rattle.phase_floor.specs.Making.{AreBlank};
 ghost use Rattle.phase_floor.specs.States.{StandsFor, IsBookOf};
-ghost use Rattle.phase_floor.specs.Resuming.{counters_in, with_row, HaveRoom, AreNumbered, AreReady, CanWriteOn, CanActIn, HasRoomIn, HaveDone};
+ghost use Rattle.phase_floor.specs.Resuming.{counters_in, with_row, HaveRoom, AreNumbered, AreReady, CanWriteOn, CanActIn, HasRoomIn, HaveDone, event_on};
 
 use crate::joined::Joined;
 use auction_rows::{
@@ -256,9 +256,10 @@ fn act(shards: &mut Vec<Shard>, count: u32, object: Object, act: Act)
     requires some { 0 < count }
     requires count { length shards.old.items ≡ count }
     requires numbered { AreNumbered (map state_of shards.old.items) }
-    requires about { target act ≡ Some object }
+    requires about { target (event_on shards.old.items object act) ≡ Some object }
     requires can { CanActIn shards.old.items object act }
-    ensures { HaveDone (map state_of shards.old.items) (map state_of shards.new.items) (act ∷ []) }
+    ensures { HaveDone (map state_of shards.old.items) (map state_of shards.new.items)
+        (event_on shards.old.items object act ∷ []) }
 {
     let place = shard_of(object, count) as usize;
     shards[place].act(&act);

@@ -27,14 +27,13 @@ use Rattle.phase_permits.specs.declared.transaction.PermitFault.TheVariants.{Mem
 use Rattle.phase_permits.specs.declared.homes.Home.{Home}
 use Rattle.phase_permits.specs.declared.homes.Home.TheVariants as home
 use Rattle.phase_permits.specs.declared.homes.Homes.{Homes}
-use Rattle.phase_permits.specs.declared.transaction.ReadSet.{ReadSet}
 use Rattle.phase_permits.specs.declared.slices.Hot.{Hot}
 use Rattle.phase_permits.specs.Deeds.{IsReplyBy}
 use Rattle.phase_permits.specs.Homes.{IsHomeOf, AreHomesOf, HasHomes, IsWrittenAt}
 use Rattle.phase_permits.specs.Performing.{HasStoredOrIsFull, HasStoredSome}
 use Rattle.phase_permits.specs.Slicing.{hot_objects, stocks_of, stock_of, slices_after_acts}
 use Rattle.phase_permits.specs.Takens.{shard_at}
-use Rattle.phase_permits.specs.Txns.{refusal_by, refusal_seen, reason_seen, stock_seen, is_put_off, IsReplyTo, IsAnswered, IsOwn}
+use Rattle.phase_permits.specs.Txns.{refusal_by, refusal_seen, reason_seen, stock_seen, is_put_off, IsReplyTo, IsAnswered, IsOwn, ReadSet}
 use Rattle.phase_permits.specs.Workers.{WorkerState, setting_of, txn_of, hot_txn, nothing, with_entry, after_commit}
 use Rattle.phase_permits.proofs.HomeLemmas.{same_objects_of}
 
@@ -129,17 +128,17 @@ either_reason : (b : Bool) (first by_item : Option Refusal) (reason : Refusal) �
 either_reason true first by_item reason is = is
 either_reason false first by_item reason is = ap (λ one. option_or one by_item) is
 
-pub refusal_stored : (w new : WorkerState) (number index : ℕ) (request : Request) (reason : Refusal) (found : ReadSet) → number_refusal w.opening request ≡ Some reason → is_put_off (hot_objects w.slices) request ≡ false
-    → number ≡ suc (max w.clock 0) → number ≤ last_number → found ≡ nothing → new ≡ with_entry w number index request (Refused reason) found → HasStoredOrIsFull w new request index (Ok tt)
-refusal_stored w new number index request reason found refused goes next within none is = (
+pub refusal_stored : (w new : WorkerState) (number index : ℕ) (request : Request) (reason : Refusal) → number_refusal w.opening request ≡ Some reason → is_put_off (hot_objects w.slices) request ≡ false
+    → number ≡ suc (max w.clock 0) → number ≤ last_number → new ≡ with_entry w number index request (Refused reason) → HasStoredOrIsFull w new request index (Ok tt)
+refusal_stored w new number index request reason refused goes next within is = (
   omega (arith, next, within),
   (
     Refused reason,
     record {
       worker =
           is
-          ∙ (λ i. with_entry w (next_of_own w.clock number next i) index request (Refused reason) (none i))
-          ∙ (λ i. record (with_entry w (suc w.clock) index request (Refused reason) nothing) { slices = slices_after_acts w.slices (writes_if (sym (no_row w.journal.worker request reason) i)) });
+          ∙ (λ i. with_entry w (next_of_own w.clock number next i) index request (Refused reason))
+          ∙ (λ i. record (with_entry w (suc w.clock) index request (Refused reason)) { slices = slices_after_acts w.slices (writes_if (sym (no_row w.journal.worker request reason) i)) });
       answered = λ shards.
           let z = setting_of w shards in
           let txn = hot_txn w request index (Refused reason) in
@@ -154,14 +153,14 @@ refusal_stored w new number index request reason found refused goes next within 
   ),
 )
 
-pub hot_stored : (w new : WorkerState) (number index : ℕ) (request : Request) (reply : Reply) (found : ReadSet) → ((shards : ℕ) → IsAnswered (setting_of w shards) w.counters (hot_txn w request index reply))
-    → number ≡ suc (max w.clock 0) → number ≤ last_number → found ≡ nothing → new ≡ after_commit w number index request reply found → HasStoredOrIsFull w new request index (Ok tt)
-hot_stored w new number index request reply found answered next within none is = (
+pub hot_stored : (w new : WorkerState) (number index : ℕ) (request : Request) (reply : Reply) → ((shards : ℕ) → IsAnswered (setting_of w shards) w.counters (hot_txn w request index reply))
+    → number ≡ suc (max w.clock 0) → number ≤ last_number → new ≡ after_commit w number index request reply → HasStoredOrIsFull w new request index (Ok tt)
+hot_stored w new number index request reply answered next within is = (
   omega (arith, next, within),
   (
     reply,
     record {
-      worker = is ∙ (λ i. after_commit w (next_of_own w.clock number next i) index request reply (none i));
+      worker = is ∙ (λ i. after_commit w (next_of_own w.clock number next i) index request reply);
       answered = answered;
     },
   ),

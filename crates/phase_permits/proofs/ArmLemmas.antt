@@ -11,8 +11,8 @@ use Rattle.auction_rows.specs.declared.replies.Reply.TheVariants.{BidStored, Bou
 use Rattle.auction_rows.specs.declared.requests.Facts.{Facts}
 use Rattle.auction_rows.specs.declared.requests.Request.{Request}
 use Rattle.auction_rows.specs.declared.requests.Request.TheVariants.{StoreBid, StoreComment, BuyNow}
-use Rattle.item_shards.specs.declared.shard.acts.Act.TheVariants.{Bid, Comment, Buy, Look}
-use Rattle.item_shards.specs.declared.shard.acts.Shown.TheVariants as shown
+use Rattle.item_shards.specs.Events.{Bid, Comment, Buy, Look}
+use Rattle.item_shards.specs.Shown as shown
 use Rattle.shard_boxes.specs.Helds.{HeldState}
 use Rattle.phase_permits.specs.Begun.{IsAnsweredOn, Step}
 use Rattle.phase_permits.specs.Deeds.{AreGoodOn}

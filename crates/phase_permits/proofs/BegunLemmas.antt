@@ -23,17 +23,16 @@ use Rattle.phase_permits.specs.declared.deeds.Deeds.{Deeds}
 use Rattle.phase_permits.specs.declared.transaction.PermitFault.TheVariants.{Memory}
 use Rattle.phase_permits.specs.declared.homes.Home.{Home}
 use Rattle.phase_permits.specs.declared.homes.Home.TheVariants as home
-use Rattle.phase_permits.specs.declared.transaction.ReadSet.{ReadSet}
 use Rattle.phase_permits.specs.declared.slices.Hot.{Hot}
 use Rattle.phase_permits.specs.declared.homes.Begun.{Begun}
 use Rattle.phase_permits.specs.Begun.{Step, HasBegun, HasFirst, HasRoomFor, IsAnsweredOn, IsSeen}
-use Rattle.phase_permits.specs.Deeds.{IsReplyBy, IsNextIf, AreDeedsOf, AreGoodOn, acts_for, clocks_of, written_of, footprint_on}
+use Rattle.phase_permits.specs.Deeds.{IsReplyBy, IsNextIf, AreDeedsOf, AreGoodOn, acts_for, event_with, found_on, written_of, footprint_on}
 use Rattle.phase_permits.specs.Homes.{IsHomeOf}
 use Rattle.phase_permits.specs.Performing.{HasCommitted, HasFailed, HaveOpening, StoresItem}
 use Rattle.phase_permits.specs.Slicing.{hot_objects, stocks_of, stock_of}
 use Rattle.phase_permits.specs.Putting.{written_acts, HasPutAll, IsAsTaken}
 use Rattle.phase_permits.specs.Takens.{shard_at, footprint_of, held_in, numbers_of, is_one_of, dealt, line_among, CanBeDoneOnAll, AreBack}
-use Rattle.phase_permits.specs.Txns.{IsReplyTo, IsAnswered, refusal_by}
+use Rattle.phase_permits.specs.Txns.{IsReplyTo, IsAnswered, refusal_by, ReadSet}
 use Rattle.phase_permits.specs.Workers.{WorkerState, IsLawfulWorker, setting_of, next_item, txn_of, after_commit}
 use Rattle.phase_permits.proofs.AnswerLemmas.{in_setting, item_home, store_answered}
 use Rattle.phase_permits.proofs.WrittenLemmas.{can_deal}
@@ -91,15 +90,16 @@ seen_by_home hots shards item (home.Shard shard) seen found at fixed same = sym 
 
 module _ {N : Type 0} (step : Step) (w : WorkerState) (request : Request) (b : Begun N) (begun : HasBegun step w request b) where
   -- what was done on its shards, and put back, is a commit
-  pub begun_commits : (new : WorkerState) (index : ℕ) (reply : Reply) (seen : Option (Facts × ℕ)) (deeds : Deeds) (found : ReadSet) → footprint_on deeds ≡ footprint_of step.homes
-      → AreDeedsOf w.slices (length step.initial) (acts_for w.journal.worker seen request reply) deeds → found ≡ record { stock = seen; clocks = clocks_of b.taken }
-      → IsAnswered (setting_of w (length step.initial)) w.counters (txn_of w b.number request index reply found)
+  pub begun_commits : (new : WorkerState) (index : ℕ) (reply : Reply) (seen : Option (Facts × ℕ)) (deeds : Deeds) → footprint_on deeds ≡ footprint_of step.homes
+      → AreDeedsOf w.slices (length step.initial) (acts_for w.journal.worker seen request reply) (event_with seen reply deeds.first) (event_with seen reply deeds.second) deeds.home deeds.other
+      → AllByRecursion (AreGoodOn (shard_at deeds.home) (shard_at deeds.other) (event_with seen reply deeds.first) (event_with seen reply deeds.second)) (held_in b.taken)
+      → IsAnswered (setting_of w (length step.initial)) w.counters (txn_of w b.number request index reply (found_on seen b.taken))
       → HasPutAll step.initial w.key new.key (is_one_of (numbers_of (held_in b.taken)))
       (line_among b.number index (held_in b.taken) (dealt b.taken (written_acts (written_of deeds b.number index))))
-      → new ≡ record (after_commit w b.number index request reply found) { key = new.key } → HasCommitted step.initial (record w { key = step.key }) new request index reply
-  begun_commits new index reply seen deeds found foot owed found_is answered put committed =
-      store_commits step.initial (record w { key = step.key }) new w.key request step.homes b.taken begun.taken begun.asked index b.number reply seen deeds found foot owed begun.allowed
-      (same_named w (length step.initial) b.number index request reply found begun.allowed answered) found_is put committed answered begun.numbered begun.within
+      → new ≡ record (after_commit w b.number index request reply) { key = new.key } → HasCommitted step.initial (record w { key = step.key }) new request index reply
+  begun_commits new index reply seen deeds foot owed good answered put committed =
+      store_commits step.initial (record w { key = step.key }) new w.key request step.homes b.taken begun.taken begun.asked index b.number reply seen deeds foot owed good begun.allowed
+      (same_named w (length step.initial) b.number index request reply (found_on seen b.taken) begun.allowed answered) put committed answered begun.numbered begun.within
 
   -- and where memory was refused, and they went back as they were, it failed
   pub begun_fails : (new : WorkerState) → AreBack w.key new.key → StoresItem request → new ≡ record w { key = new.key } → HasFailed step.initial (record w { key = step.key }) new request Memory
@@ -110,10 +110,10 @@ module _ {N : Type 0} (step : Step) (w : WorkerState) (request : Request) (b : B
 
   -- a store
   module _ (seen : Option (Facts × ℕ)) (store : is_view request ≡ false) (is_seen : IsSeen w request step.homes b.taken seen) where
-    pub seen_answered : (index : ℕ) (reply : Reply) (found : ReadSet) → IsReplyBy w seen request reply → found ≡ record { stock = seen; clocks = clocks_of b.taken } → IsAnswered (setting_of w (length step.initial)) w.counters (txn_of w b.number request index reply found)
-    seen_answered index reply found by found_is =
-        store_answered w (length step.initial) b.number index request reply found seen store begun.goes by
-        (λ item needs. seen_by_home w.slices (length step.initial) item step.homes.item seen found.stock (item_home w (length step.initial) request step.homes item begun.homes_are needs) (is_seen.fixed item needs) (ap (λ (f : ReadSet). f.stock) found_is))
+    pub seen_answered : (index : ℕ) (reply : Reply) → IsReplyBy w seen request reply → IsAnswered (setting_of w (length step.initial)) w.counters (txn_of w b.number request index reply (found_on seen b.taken))
+    seen_answered index reply by =
+        store_answered w (length step.initial) b.number index request reply (found_on seen b.taken) seen store begun.goes by
+        (λ item needs. seen_by_home w.slices (length step.initial) item step.homes.item seen seen (item_home w (length step.initial) request step.homes item begun.homes_are needs) (is_seen.fixed item needs) refl)
 
     -- what is so by what is known of it on each shard that it took
     on_each : {P : HeldState → Type 0} (reply : Reply) → IsReplyBy w seen request reply → HaveOpening step.initial w.opening → ((h : HeldState) → IsAnsweredOn step w request seen reply h → P h)
@@ -136,12 +136,14 @@ module _ {N : Type 0} (step : Step) (w : WorkerState) (request : Request) (b : B
       on_each reply by opened so held all.1 later.1 (λ item needs. (found item needs).1) (λ stores. (room stores).1),
     )
 
-    pub begun_can : (reply : Reply) (deeds : Deeds) → footprint_on deeds ≡ footprint_of step.homes → HasRoomFor w request b.taken → IsReplyBy w seen request reply → HaveOpening step.initial w.opening
-        → ((held : HeldState) → IsAnsweredOn step w request seen reply held → AreGoodOn (shard_at deeds.home) (shard_at deeds.other) deeds.first deeds.second held)
-        → CanBeDoneOnAll b.number (held_in b.taken) (dealt b.taken (written_acts (written_of deeds b.number 0)))
-    begun_can reply deeds foot room by opened good =
-        let later = clocks_below b.taken w.clock b.number begun.numbered in
-        can_deal b.number b.taken deeds.first deeds.second (shard_at deeds.home) (shard_at deeds.other) (begun.taken.numbers ∙ sym foot) later
-        (on_each reply by opened good (held_in b.taken) begun.taken.taken later
-        (λ item needs. found_there b.taken (shard_at step.homes.item) (shard_at step.homes.other) item seen begun.taken.numbers (λ t at. is_seen.found item t needs at))
-        (λ stores. room_there b.taken (shard_at step.homes.item) (shard_at step.homes.other) (next_item w) begun.taken.numbers (room stores)))
+    module _ (reply : Reply) (deeds : Deeds) (room : HasRoomFor w request b.taken) (by : IsReplyBy w seen request reply) (opened : HaveOpening step.initial w.opening)
+        (good : (held : HeldState) → IsAnsweredOn step w request seen reply held → AreGoodOn (shard_at deeds.home) (shard_at deeds.other) (event_with seen reply deeds.first) (event_with seen reply deeds.second) held) where
+      pub begun_good : AllByRecursion (AreGoodOn (shard_at deeds.home) (shard_at deeds.other) (event_with seen reply deeds.first) (event_with seen reply deeds.second)) (held_in b.taken)
+      begun_good =
+          on_each reply by opened good (held_in b.taken) begun.taken.taken (clocks_below b.taken w.clock b.number begun.numbered)
+          (λ item needs. found_there b.taken (shard_at step.homes.item) (shard_at step.homes.other) item seen begun.taken.numbers (λ t at. is_seen.found item t needs at))
+          (λ stores. room_there b.taken (shard_at step.homes.item) (shard_at step.homes.other) (next_item w) begun.taken.numbers (room stores))
+
+      pub begun_can : footprint_on deeds ≡ footprint_of step.homes → CanBeDoneOnAll b.number (held_in b.taken) (dealt b.taken (written_acts (written_of deeds b.number 0)))
+      begun_can foot =
+          can_deal seen reply deeds.first deeds.second b.number b.taken (shard_at deeds.home) (shard_at deeds.other) (begun.taken.numbers ∙ sym foot) (clocks_below b.taken w.clock b.number begun.numbered) begun_good

@@ -12,25 +12,23 @@ use Rattle.auction_rows.specs.Requests.{shard_of}
 use Rattle.item_shards.specs.declared.shard.acts.Act.{Act}
 use Rattle.item_shards.specs.CommitNumbers.{last_number}
 use Rattle.item_shards.specs.Writing.{padded, done_on, acts_owed}
-use Rattle.shard_boxes.specs.declared.line.Line.{Line}
 use Rattle.shard_boxes.specs.Helds.{HeldState}
 use Rattle.shard_boxes.specs.Keys.{KeyState}
-use Rattle.shard_boxes.specs.Lines.{first_two, after_lines}
+use Rattle.shard_boxes.specs.Lines.{Line, first_two, after_lines}
 use Rattle.shard_boxes.specs.States.{ShardState, state_at}
 use Rattle.phase_permits.specs.declared.deeds.Deeds.{Deeds}
 use Rattle.phase_permits.specs.declared.transaction.PermitFault.{PermitFault}
 use Rattle.phase_permits.specs.declared.transaction.PermitFault.TheVariants.{Memory, NumberFull}
 use Rattle.phase_permits.specs.declared.homes.Homes.{Homes}
-use Rattle.phase_permits.specs.declared.transaction.ReadSet.{ReadSet}
 use Rattle.phase_permits.specs.declared.homes.Taken.{Taken}
-use Rattle.phase_permits.specs.Deeds.{first_dealt, second_dealt, clocks_of, acts_for, AreDeedsOf, footprint_on}
+use Rattle.phase_permits.specs.Deeds.{first_dealt, second_dealt, clocks_of, found_on, acts_for, event_with, AreDeedsOf, AreGoodOn, footprint_on}
 use Rattle.phase_permits.specs.Performing.{HasCommitted, HasFailed, IsCause, StoresItem, asks, shards_asked, greatest_seen}
 use Rattle.phase_permits.specs.Putting.{clock_seen, HasPutAll, IsAsTaken}
 use Rattle.phase_permits.specs.Slicing.{hot_objects}
 use Rattle.phase_permits.specs.Takens.{shard_at, footprint_of, greatest_held, held_in, numbers_of, is_one_of, dealt, line_among, HasTakenAll, AreBack}
-use Rattle.phase_permits.specs.Txns.{Setting, Txn, hot_of, takes, line_on, greatest_clock, clock_found, clock_in, is_put_off, IsAnswered}
+use Rattle.phase_permits.specs.Txns.{Setting, Txn, hot_of, takes, line_on, greatest_clock, clock_found, clock_in, is_put_off, IsAnswered, ReadSet}
 use Rattle.phase_permits.specs.Workers.{WorkerState, setting_of, next_item, txn_of, after_commit}
-use Rattle.phase_permits.proofs.WrittenLemmas.{acts_among, dealt_on, line_is, greatest_same, greatest_taken}
+use Rattle.phase_permits.proofs.WrittenLemmas.{events_among, dealt_on, line_is, greatest_same, greatest_taken}
 use Rattle.phase_permits.proofs.HomeLemmas.{same_objects_of}
 use Rattle.phase_permits.proofs.KeyLemmas.{lines_on}
 use Rattle.phase_permits.proofs.PutAllLemmas.{taken_and_put, put_owed}
@@ -42,14 +40,17 @@ module _ {N : Type 0} {workers : ℕ} (initial : List ShardState) (old new : Wor
   is_held t = ap (λ ns. is_one_of ns t) (sym its.numbers)
 
   -- with its deeds
-  module _ (index number : ℕ) (reply : Reply) (seen : Option (Facts × ℕ)) (deeds : Deeds) (found : ReadSet)
+  module _ (index number : ℕ) (reply : Reply) (seen : Option (Facts × ℕ)) (deeds : Deeds)
       (foot : footprint_on deeds ≡ footprint_of homes)
-      (owed : AreDeedsOf old.slices (length initial) (acts_for old.journal.worker seen request reply) deeds)
+      (owed : AreDeedsOf old.slices (length initial) (acts_for old.journal.worker seen request reply) (event_with seen reply deeds.first) (event_with seen reply deeds.second) deeds.home deeds.other)
+      (good : AllByRecursion (AreGoodOn (shard_at deeds.home) (shard_at deeds.other) (event_with seen reply deeds.first) (event_with seen reply deeds.second)) (held_in took))
       (allowed : number_refusal old.opening request ≡ None)
-      (needs : objects_named request reply ≡ objects_named request (ItemStored (next_item old)))
-      (found_is : found ≡ record { stock = seen; clocks = clocks_of took }) where
+      (needs : objects_named request reply ≡ objects_named request (ItemStored (next_item old))) where
     abbrev z : Setting
     z = setting_of old (length initial)
+
+    abbrev found : ReadSet
+    found = found_on seen took
 
     abbrev txn : Txn
     txn = txn_of old number request index reply found
@@ -69,26 +70,25 @@ module _ {N : Type 0} {workers : ℕ} (initial : List ShardState) (old new : Wor
         (if is_some (number_refusal old.opening request) then [] else filter (λ object. not (is_hot (hot_of z) object)) objects))) needs
         ∙ asked t
 
-    acts_are : (t : ℕ) → is_one_of (footprint_of homes) t ≡ true → acts_among (held_in took) (dealt took (first ∷ second ∷ [])) t ≡ acts_owed old.opening t (length initial) (hot_of z) found.stock txn.0
+    acts_are : (t : ℕ) → is_one_of (footprint_of homes) t ≡ true → events_among (held_in took) (dealt took (first ∷ second ∷ [])) t ≡ acts_owed old.opening t (length initial) (hot_of z) seen txn.0
     acts_are t here =
-        dealt_on took deeds.first deeds.second deeds.home deeds.other (its.numbers ∙ sym foot) t (sym (is_held t) ∙ here)
+        dealt_on seen reply deeds.first deeds.second took deeds.home deeds.other (its.numbers ∙ sym foot) good t (sym (is_held t) ∙ here)
         ∙ sym (owed t)
-        ∙ (λ i. padded (done_on t (length initial) (sym (same_objects_of old.slices) i) (acts_for old.journal.worker (sym (ap (λ (f : ReadSet). f.stock) found_is) i) request reply)))
-        ∙ ap (λ refused. padded (done_on t (length initial) (hot_of z) (cond (is_some refused) [] (acts_for old.journal.worker found.stock request reply)))) (sym allowed)
+        ∙ (λ i. padded (done_on t (length initial) (sym (same_objects_of old.slices) i) (acts_for old.journal.worker seen request reply)))
+        ∙ ap (λ refused. padded (done_on t (length initial) (hot_of z) (cond (is_some refused) [] (acts_for old.journal.worker seen request reply)))) (sym allowed)
 
     owes : (t : ℕ) → is_one_of (footprint_of homes) t ≡ true → lines t ≡ line_on z t txn
     owes t here =
         line_is took number index first second t (sym (is_held t) ∙ here)
-        ∙ (λ i. record { number = number; before = clock_in (sym (ap (λ (f : ReadSet). f.clocks) found_is) i) t; index = index; acts = first_two (acts_are t here i) })
+        ∙ (λ i. record { number = number; before = clock_in (clocks_of took) t; index = index; acts = first_two (acts_are t here i) })
 
     greatest_is : greatest_clock z txn ≡ greatest_held (held_in took)
     greatest_is =
         greatest_same (λ s. clock_found s txn) _ (numbers_of (held_in took)) (λ t. takes_is t ∙ is_held t)
-        ∙ ap (λ clocks. greatest_by (λ s. clock_in clocks s) (numbers_of (held_in took))) (ap (λ (f : ReadSet). f.clocks) found_is)
         ∙ greatest_taken took (shard_at homes.item) (shard_at homes.other) its.numbers
 
     pub store_commits : HasPutAll initial key new.key (is_one_of (numbers_of (held_in took))) lines
-        → new ≡ record (after_commit old number index request reply found) { key = new.key }
+        → new ≡ record (after_commit old number index request reply) { key = new.key }
         → IsAnswered z old.counters txn → number ≡ suc (max old.clock (greatest_held (held_in took))) → number ≤ last_number → HasCommitted initial old new request index reply
     store_commits put committed answered numbered within = record {
       number = number;

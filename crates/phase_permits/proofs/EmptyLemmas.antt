@@ -50,7 +50,7 @@ module _ (initial : List ShardState) (old new : WorkerState) (request : Request)
           put = put_owed untaken (λ t took. absurd (false≢true took)) (subst (λ key. HasPutAll initial old.key key (is_one_of []) (λ t. no_line)) (sym key_is) (none_put initial old.key idle));
           answered = stored.answered (length initial);
         };
-        worker = stored.worker ∙ (λ i. record (after_commit old (suc old.clock) index request answer nothing) { key = sym key_is i });
+        worker = stored.worker ∙ (λ i. record (after_commit old (suc old.clock) index request answer) { key = sym key_is i });
       }
 
   full_fails : new ≡ old → last_number ≤ old.clock → is_put_off (hot_objects old.slices) request ≡ false → HasFailed initial old new request NumberFull

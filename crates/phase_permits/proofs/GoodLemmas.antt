@@ -17,8 +17,8 @@ use Rattle.auction_rows.specs.declared.requests.Request.TheVariants.{StoreBid, S
 use Rattle.auction_rows.specs.Refusals.{number_refusal}
 use Rattle.auction_rows.specs.Requests.{shard_of}
 use Rattle.auction_rows.proofs.RefusalLemmas.{in_range}
-use Rattle.item_shards.specs.declared.shard.acts.Act.TheVariants.{Bid, Comment, Buy, Look}
-use Rattle.item_shards.specs.declared.shard.acts.Shown.TheVariants as shown
+use Rattle.item_shards.specs.Events.{Bid, Comment, Buy, Look}
+use Rattle.item_shards.specs.Shown as shown
 use Rattle.item_shards.specs.CommitNumbers.{last_number}
 use Rattle.item_shards.specs.ShardContents.{LiesIn, clock, contents, opening as opening_of}
 use Rattle.item_shards.specs.Values.{Value, HasInStock, stock}

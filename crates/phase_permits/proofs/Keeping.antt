@@ -16,7 +16,7 @@ use Rattle.auction_rows.specs.History.{row_of_entry, rows_of}
 use Rattle.item_shards.specs.Writing.{writes_if}
 use Rattle.phase_permits.specs.Slicing.{slices_of, slices_after_acts}
 use Rattle.phase_permits.specs.Txns.{Setting, Txn, entry_of, txn_number, greatest_clock, takes, line_on, IsAnswered, after_txn}
-use Rattle.phase_permits.specs.Works.{Work, IsWorkOf, IsCommitOf, with_txn}
+use Rattle.phase_permits.specs.Works.{Work, Explains, IsWorkOf, IsCommitOf, with_txn}
 use Rattle.phase_permits.proofs.RowSlices.{row_more}
 
 -- the lines of the transactions that take a shard, with one transaction more
@@ -40,17 +40,21 @@ one_at_most (Some row) = refl
 rows_push : (entries : List Entry) (entry : Entry) → rows_of (entries ++ entry ∷ []) ≡ rows_of entries ++ option_to_list (row_of_entry entry)
 rows_push entries entry = filter_map-append row_of_entry entries (entry ∷ []) ∙ ap (λ rows. rows_of entries ++ rows) (one_at_most (row_of_entry entry))
 
-pub commit_keeps : (z : Setting) (worker : ℕ) (work : Work) (txn : Txn) → IsWorkOf z worker work → IsCommitOf z worker work txn → IsWorkOf z worker (with_txn z work txn)
-commit_keeps z worker work txn is commit = record {
-  own = all_push (λ d. (entry_of d).worker ≡ worker) work.txns txn is.own commit.own;
-  entries = ap (λ es. es ++ entry_of txn ∷ []) is.entries ∙ sym (map-append entry_of work.txns (txn ∷ []));
+-- the transactions behind it, and the one of the commit, explain what it comes to
+explains_more : (z : Setting) (worker : ℕ) (work : Work) (txns : List Txn) (txn : Txn) → Explains z worker work txns → IsCommitOf z worker work txn → Explains z worker (with_txn z work txn) (txns ++ txn ∷ [])
+explains_more z worker work txns txn is commit = record {
+  own = all_push (λ d. (entry_of d).worker ≡ worker) txns txn is.own commit.own;
+  entries = ap (λ es. es ++ entry_of txn ∷ []) is.entries ∙ sym (map-append entry_of txns (txn ∷ []));
   lines = λ shard. ap (λ lines. if takes z shard txn then lines ++ line_on z shard txn ∷ [] else lines) (is.lines shard)
-      ∙ sym (one_line (takes z shard) (line_on z shard) work.txns txn (takes z shard txn) refl);
-  clocked = sym (last-push txn_number work.start work.txns txn);
-  counts = ap (λ c. after_txn c txn) is.counts ∙ sym (fold-append after_txn work.opened work.txns (txn ∷ []));
-  numbered = numbered_push txn_number (greatest_clock z) work.start work.txns txn is.numbered (commit.numbered ∙ ap (λ n. suc (max n (greatest_clock z txn))) is.clocked);
-  answered = saw_push (IsAnswered z) after_txn work.opened work.txns txn is.answered (subst (λ c. IsAnswered z c txn) is.counts commit.answered);
+      ∙ sym (one_line (takes z shard) (line_on z shard) txns txn (takes z shard txn) refl);
+  clocked = sym (last-push txn_number work.start txns txn);
+  counts = ap (λ c. after_txn c txn) is.counts ∙ sym (fold-append after_txn work.opened txns (txn ∷ []));
+  numbered = numbered_push txn_number (greatest_clock z) work.start txns txn is.numbered (commit.numbered ∙ ap (λ n. suc (max n (greatest_clock z txn))) is.clocked);
+  answered = saw_push (IsAnswered z) after_txn work.opened txns txn is.answered (subst (λ c. IsAnswered z c txn) is.counts commit.answered);
   sliced = ap (λ hots. slices_after_acts hots (writes_if (row_of_entry (entry_of txn)))) is.sliced
       ∙ sym (row_if_any z.stocks (rows_of work.entries) (row_of_entry (entry_of txn)))
       ∙ sym (ap (slices_of z.stocks) (rows_push work.entries (entry_of txn)));
 }
+
+pub commit_keeps : (z : Setting) (worker : ℕ) (work : Work) (txn : Txn) → IsWorkOf z worker work → IsCommitOf z worker work txn → IsWorkOf z worker (with_txn z work txn)
+commit_keeps z worker work txn is commit = record { txns = is.txns ++ txn ∷ []; explained = explains_more z worker work is.txns txn is.explained commit }

@@ -3,10 +3,9 @@ use Rattle.std.proofs.Common.{◌≡◌, ◌≢◌, ℕ, ◌<◌, ◌==◌, true
 use Rattle.std.specs.List.{AllByRecursion}
 use Rattle.std.proofs.lemmas.Bool.{or_parts}
 use Rattle.std.proofs.lemmas.Bool.Decides.{eqb_tells}
-use Rattle.shard_boxes.specs.declared.line.Line.{Line}
 use Rattle.shard_boxes.specs.Keys.{KeyState, SeatState, seat_at, with_seat, put_seat, taking, putting, lines_at, holds_at, seen_at, added}
 use Rattle.shard_boxes.specs.Helds.{HeldState}
-use Rattle.shard_boxes.specs.Lines.{StartsWith, IsShardHistory}
+use Rattle.shard_boxes.specs.Lines.{Line, StartsWith, IsShardHistory}
 use Rattle.shard_boxes.specs.States.{ShardState, state_of}
 use Rattle.shard_boxes.proofs.SeatLemmas.{seat-same, seat-other, taking-same, taking-other, putting-same, putting-other, length-with_seat}
 use Rattle.phase_permits.specs.Workers.{IsIdle}

@@ -7,11 +7,10 @@ use Rattle.auction_rows.specs.declared.replies.Reply.{Reply}
 use Rattle.auction_rows.specs.declared.replies.Reply.TheVariants.{ItemStored, BidStored, CommentStored, Bought}
 use Rattle.auction_rows.specs.declared.requests.Request.{Request}
 use Rattle.auction_rows.specs.Footprint.{is_hot}
-use Rattle.item_shards.specs.declared.shard.acts.Act.{Act}
+use Rattle.item_shards.specs.Events.{Event}
 use Rattle.phase_laws.specs.Numbers.{last_by}
 use Rattle.worker_journals.specs.Journals.{JournalView, entry_number, commit_in, with_commit}
 use Rattle.phase_permits.specs.declared.worker.Counters.{Counters}
-use Rattle.phase_permits.specs.declared.transaction.ReadSet.{ReadSet}
 use Rattle.phase_permits.specs.declared.slices.Hot.{Hot}
 use Rattle.phase_permits.specs.Slicing.{hot_objects, slices_after_acts, HaveAtMost}
 use Rattle.phase_permits.specs.Stashes.{StashState}
@@ -45,7 +44,7 @@ still_counted c reply is =
     record { items = omega (arith, one, is.items); bids = omega (arith, one, is.bids); comments = omega (arith, one, is.comments); buys = omega (arith, one, is.buys) }
 
 -- acts leave the objects
-pub objects-acts : (hots : List (Object × Hot)) (acts : List Act) → hot_objects (slices_after_acts hots acts) ≡ hot_objects hots
+pub objects-acts : (hots : List (Object × Hot)) (acts : List Event) → hot_objects (slices_after_acts hots acts) ≡ hot_objects hots
 objects-acts hots acts = sym (same_objects_of (slices_after_acts hots acts)) ∙ ap hot_objects (stocks-acts hots acts) ∙ same_objects_of hots
 
 -- the stash has room for no more
@@ -55,10 +54,10 @@ room_as [] (hot ∷ slices) left less room fewer same is = absurd (cc)
 room_as (first ∷ hots) (hot ∷ slices) left less room fewer same is = omega (arith, fewer, is)
 
 -- a worker with the counters, the journal, the stash, the quota and the clock after a commit of a lawful one is lawful, where its slices are of few operations
-pub lawful_as : (w new : WorkerState) (number index : ℕ) (request : Request) (reply : Reply) (found : ReadSet) → IsLawfulWorker w → 0 < w.left → w.clock < number
+pub lawful_as : (w new : WorkerState) (number index : ℕ) (request : Request) (reply : Reply) → IsLawfulWorker w → 0 < w.left → w.clock < number
     → new.counters ≡ counters_after w.counters reply → new.journal ≡ with_commit w.journal number index request reply → new.stash ≡ w.stash → new.left ≡ w.left - 1 → new.clock ≡ number
     → hot_objects new.slices ≡ hot_objects w.slices → HaveAtMost (w.counters.commits + 1) new.slices → IsLawfulWorker new
-lawful_as w new number index request reply found is some after counts keeps stays less clocked same few =
+lawful_as w new number index request reply is some after counts keeps stays less clocked same few =
     let entry = commit_in w.journal number index request reply in
     let one = counts_one w.counters reply in
     let commits = ap (λ (c : Counters). c.commits) counts ∙ one.commits in

@@ -17,7 +17,6 @@ pub mod NumberLemmas
 pub mod PermitLemmas
 pub mod Places
 pub mod PutAllLemmas
-pub mod PutLemmas
 pub mod RoomLemmas
 pub mod RowSlices
 pub mod SlicedLemmas

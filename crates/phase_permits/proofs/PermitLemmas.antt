@@ -9,8 +9,7 @@ use Rattle.auction_rows.specs.declared.requests.Request.TheVariants.{StoreItem, 
 use Rattle.auction_rows.specs.History.{rows_of}
 use Rattle.auction_rows.specs.Replies.{row_of}
 use Rattle.auction_rows.specs.Requests.{same_object}
-use Rattle.item_shards.specs.declared.shard.acts.Act.{Act}
-use Rattle.item_shards.specs.declared.shard.acts.Act.TheVariants.{AddItem, ListItem, Bid, Comment, Buy, Look}
+use Rattle.item_shards.specs.Events.{Event, AddItem, ListItem, Bid, Comment, Buy, Look}
 use Rattle.item_shards.specs.declared.shard.slices.Slice.{Slice}
 use Rattle.item_shards.specs.Writing.{writes_if}
 use Rattle.shard_boxes.specs.States.{ShardState}
@@ -32,30 +31,33 @@ stocks-changed : (object : Object) (change : Slice → Slice) (hots : List (Obje
 stocks-changed object change [] = refl
 stocks-changed object change (hot ∷ hots) = λ i. (hot.0, fixed_if (same_object object hot.0) change hot.1 i) ∷ stocks-changed object change hots i
 
-stocks-act : (hots : List (Object × Hot)) (act : Act) → stocks_of (slices_after_act hots act) ≡ stocks_of hots
+stocks-act : (hots : List (Object × Hot)) (act : Event) → stocks_of (slices_after_act hots act) ≡ stocks_of hots
 stocks-act hots (ListItem category item) = stocks-changed (Category category) (slice_with_item item) hots
 stocks-act hots (Bid id bid) = stocks-changed (Item id) (slice_with_bid bid) hots
 stocks-act hots (Comment user stars) = stocks-changed (User user) (slice_with_comment stars) hots
 stocks-act hots act = refl
 
-pub stocks-acts : (hots : List (Object × Hot)) (acts : List Act) → stocks_of (slices_after_acts hots acts) ≡ stocks_of hots
+pub stocks-acts : (hots : List (Object × Hot)) (acts : List Event) → stocks_of (slices_after_acts hots acts) ≡ stocks_of hots
 stocks-acts hots [] = refl
 stocks-acts hots (act ∷ acts) = stocks-acts (slices_after_act hots act) acts ∙ stocks-act hots act
 
 -- a worker that starts has done nothing
-pub start_explained : (shards : ℕ) (w : WorkerState) → CanStart w → w.begun ≡ (w.counters, w.clock) → w.txns ≡ [] → IsExplained shards w
-start_explained shards w can begun none = record {
+pub start_explained : (shards : ℕ) (w : WorkerState) → CanStart w → w.begun ≡ (w.counters, w.clock) → IsExplained shards w
+start_explained shards w can begun = record {
   worker = can.worker;
   idle = λ t. (can.key t).0;
-  work = subst (λ (v : WorkerState). IsWorkOf (setting_of w shards) w.key.worker (work_of v)) (λ i. record w { begun = sym begun i; txns = sym none i }) (record {
-    own = tt;
-    entries = can.empty;
-    lines = λ t. (can.key t).1;
-    clocked = refl;
-    counts = refl;
-    numbered = tt;
-    answered = tt;
-    sliced = can.identities ∙ ap (λ entries. slices_of (stocks_of w.slices) (rows_of entries)) (sym can.empty);
+  work = subst (λ (v : WorkerState). IsWorkOf (setting_of w shards) w.key.worker (work_of v)) (λ i. record w { begun = sym begun i }) (record {
+    txns = [];
+    explained = record {
+      own = tt;
+      entries = can.empty;
+      lines = λ t. (can.key t).1;
+      clocked = refl;
+      counts = refl;
+      numbered = tt;
+      answered = tt;
+      sliced = can.identities ∙ ap (λ entries. slices_of (stocks_of w.slices) (rows_of entries)) (sym can.empty);
+    };
   });
 }
 
@@ -110,7 +112,7 @@ none_put_off (ViewBids item) = refl
 none_put_off (ViewCategory category) = refl
 none_put_off (ViewUser user) = refl
 
-no_slices : (acts : List Act) → slices_after_acts [] acts ≡ []
+no_slices : (acts : List Event) → slices_after_acts [] acts ≡ []
 no_slices [] = refl
 no_slices (AddItem id facts ∷ acts) = no_slices acts
 no_slices (ListItem category entry ∷ acts) = no_slices acts

@@ -2,10 +2,9 @@
 use Rattle.std.proofs.Common.{◌≡◌, ◌≢◌, ℕ, ◌<◌, ◌==◌, ◌||◌, Bool, true, false, if◌then◌else◌, List, [], ◌∷◌, ◌++◌, Option, Some, None, refl, sym, ap, subst, ◌∙◌, ◌⊎◌, inl, inr, append-nil}
 use Rattle.std.specs.List.{AllByRecursion}
 use Rattle.std.proofs.lemmas.Bool.{false≢true, true≢false}
-use Rattle.shard_boxes.specs.declared.line.Line.{Line}
 use Rattle.shard_boxes.specs.Helds.{HeldState, taken_at}
 use Rattle.shard_boxes.specs.Keys.{BoxId, KeyState, SeatState, seat_at, put_seat, putting, lines_at, seen_at, entries}
-use Rattle.shard_boxes.specs.Lines.{MayFollow, StartsWith}
+use Rattle.shard_boxes.specs.Lines.{Line, MayFollow, StartsWith}
 use Rattle.shard_boxes.specs.States.{ShardState}
 use Rattle.phase_permits.specs.Putting.{HasPut, IsPutWith, HasPutAll, KeepsSeen}
 use Rattle.phase_permits.specs.Takens.{is_one_of, no_line, numbers_of, HasTakenAll, AreHeldAll, AreBack}

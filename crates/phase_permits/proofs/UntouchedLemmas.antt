@@ -13,8 +13,7 @@ use Rattle.auction_rows.specs.Refusals.{number_refusal}
 use Rattle.auction_rows.specs.Requests.{shard_of}
 use Rattle.shard_boxes.specs.Keys.{KeyState, no_seat, seat_at}
 use Rattle.shard_boxes.specs.States.{ShardState}
-use Rattle.phase_permits.specs.declared.transaction.ReadSet.{ReadSet}
-use Rattle.phase_permits.specs.Txns.{hot_of, IsAnswered}
+use Rattle.phase_permits.specs.Txns.{hot_of, IsAnswered, ReadSet}
 use Rattle.phase_permits.specs.declared.transaction.PermitFault.{PermitFault}
 use Rattle.phase_permits.specs.Performing.{HasCommitted, HasFailed, HasPerformed, IsUntouched, shards_asked}
 use Rattle.phase_permits.specs.Workers.{WorkerState, setting_of, txn_of}

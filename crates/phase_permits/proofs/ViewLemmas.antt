@@ -1,5 +1,6 @@
 -- A view: its one shard, and what it does there.
 use Rattle.std.proofs.Common.{◌≡◌, ℕ, true, false, cond, List, [], ◌∷◌, length, Option, Some, None, MatchOption, refl, sym, ap, subst, ◌∙◌}
+use Rattle.std.specs.List.{AllByRecursion}
 use Rattle.std.proofs.lemmas.Bool.{true≢false, false≢true}
 use Rattle.std.proofs.lemmas.Option.{same_Some}
 use Rattle.auction_rows.specs.declared.requests.Object.{Object}
@@ -12,8 +13,15 @@ use Rattle.auction_rows.specs.Footprint.{is_hot}
 use Rattle.auction_rows.specs.Refusals.{number_refusal}
 use Rattle.auction_rows.specs.Requests.{is_view}
 use Rattle.item_shards.specs.declared.shard.acts.Act.TheVariants.{Look}
-use Rattle.item_shards.specs.declared.shard.acts.Shown.TheVariants as shown
+use Rattle.item_shards.specs.declared.shard.acts.Look.{Look as LookedAt}
+use Rattle.item_shards.specs.declared.shard.acts.Look.TheVariants as look
+use Rattle.item_shards.specs.Events as event
+use Rattle.item_shards.specs.Shown as shown
+use Rattle.item_shards.specs.Contents.{target}
+use Rattle.item_shards.specs.Looking.{IsTrueOf}
+use Rattle.item_shards.specs.ShardContents.{contents}
 use Rattle.item_shards.specs.Writing.{padded, done_on}
+use Rattle.shard_boxes.specs.Helds.{HeldState}
 use Rattle.shard_boxes.specs.Keys.{KeyState}
 use Rattle.shard_boxes.specs.States.{ShardState}
 use Rattle.phase_permits.specs.declared.worker.Counters.{Counters}
@@ -21,18 +29,18 @@ use Rattle.phase_permits.specs.declared.deeds.Deeds.{Deeds}
 use Rattle.phase_permits.specs.declared.homes.Home.{Home}
 use Rattle.phase_permits.specs.declared.homes.Home.TheVariants as home
 use Rattle.phase_permits.specs.declared.homes.Homes.{Homes}
-use Rattle.phase_permits.specs.declared.transaction.ReadSet.{ReadSet}
 use Rattle.phase_permits.specs.declared.slices.Hot.{Hot}
 use Rattle.phase_permits.specs.declared.homes.Begun.{Begun}
 use Rattle.phase_permits.specs.declared.homes.Taken.{Taken}
-use Rattle.phase_permits.specs.Begun.{Step, HasBegun, viewed}
-use Rattle.phase_permits.specs.Deeds.{AreDeedsOf, acts_for, clocks_of, first_dealt, second_dealt}
+use Rattle.phase_permits.specs.Begun.{Step, HasBegun, look_for, viewed}
+use Rattle.phase_permits.specs.Deeds.{AreDeedsOf, AreGoodOn, acts_for, found_on, event_with, first_dealt, second_dealt, shown_with}
 use Rattle.phase_permits.specs.Homes.{IsHomeOf, AreHomesOf}
 use Rattle.phase_permits.specs.Performing.{HasCommittedSome}
 use Rattle.phase_permits.specs.Slicing.{hot_objects}
 use Rattle.phase_permits.specs.Putting.{HasPutAll}
 use Rattle.phase_permits.specs.Takens.{shard_at, each_once, footprint_of, held_in, numbers_of, is_one_of, dealt, line_among}
-use Rattle.phase_permits.specs.Txns.{IsReplyTo, IsAnswered, is_put_off, reason_seen, refusal_seen}
+use Rattle.phase_permits.specs.Txns.{IsReplyTo, IsAnswered, is_put_off, reason_seen, refusal_seen, ReadSet}
+use Rattle.phase_permits.specs.Viewing.{IsShownBy}
 use Rattle.phase_permits.specs.Workers.{WorkerState, setting_of, txn_of, with_entry, after_commit}
 use Rattle.phase_permits.proofs.BegunLemmas.{begun_commits}
 use Rattle.phase_permits.proofs.DeedLemmas.{done_is, one_owed}
@@ -77,20 +85,34 @@ shows_one (ViewUser user) view = (User user, refl)
 shows_one request view = absurd (false≢true view)
 
 -- the acts of a view are its look
-view_acts : (worker : ℕ) (request : Request) (reply : Reply) (object : Object) → viewed request ≡ Some object → acts_for worker None request reply ≡ Look (shown.Reply object reply) ∷ []
-view_acts worker (ViewItem item) reply object is = ap (λ o. Look (shown.Reply o reply) ∷ []) (same_Some (Item item) object is)
-view_acts worker (ViewBids item) reply object is = ap (λ o. Look (shown.Reply o reply) ∷ []) (same_Some (Item item) object is)
-view_acts worker (ViewCategory category) reply object is = ap (λ o. Look (shown.Reply o reply) ∷ []) (same_Some (Category category) object is)
-view_acts worker (ViewUser user) reply object is = ap (λ o. Look (shown.Reply o reply) ∷ []) (same_Some (User user) object is)
-view_acts worker request reply object is = absurd (cc)
+view_acts : (worker : ℕ) (request : Request) (reply : Reply) → is_view request ≡ true → acts_for worker None request reply ≡ event_with None reply (Look (look_for request)) ∷ []
+view_acts worker (ViewItem item) reply view = refl
+view_acts worker (ViewBids item) reply view = refl
+view_acts worker (ViewCategory category) reply view = refl
+view_acts worker (ViewUser user) reply view = refl
+view_acts worker request reply view = absurd (false≢true view)
+
+view_about : (request : Request) (reply : Reply) (object : Object) → viewed request ≡ Some object → target (event_with None reply (Look (look_for request))) ≡ Some object
+view_about (ViewItem item) reply object is = is
+view_about (ViewBids item) reply object is = is
+view_about (ViewCategory category) reply object is = is
+view_about (ViewUser user) reply object is = is
+view_about request reply object is = absurd (cc)
+
+-- a look that shows what is there is good, and so is one at nothing
+look_good : (a b : Option ℕ) (reply : Reply) (looks_at : LookedAt) (held : List HeldState) → AllByRecursion (λ (h : HeldState). IsTrueOf (contents h.shard) (shown_with None reply looks_at)) held
+    → AllByRecursion (AreGoodOn a b (event_with None reply (Look looks_at)) (event.Look shown.Nothing)) held
+look_good a b reply looks_at [] all = tt
+look_good a b reply looks_at (h ∷ held) all =
+    (record { first = λ is. (tt, all.0); second = λ is. (tt, tt); after = λ is also. (tt, tt) }, look_good a b reply looks_at held all.1)
 
 -- and no slice has its operation
-pub view_entered : (w : WorkerState) (number index : ℕ) (request : Request) (reply : Reply) (found : ReadSet) → is_view request ≡ true → with_entry w number index request reply found ≡ after_commit w number index request reply found
-view_entered w number index (ViewItem item) reply found view = refl
-view_entered w number index (ViewBids item) reply found view = refl
-view_entered w number index (ViewCategory category) reply found view = refl
-view_entered w number index (ViewUser user) reply found view = refl
-view_entered w number index request reply found view = absurd (false≢true view)
+pub view_entered : (w : WorkerState) (number index : ℕ) (request : Request) (reply : Reply) → is_view request ≡ true → with_entry w number index request reply ≡ after_commit w number index request reply
+view_entered w number index (ViewItem item) reply view = refl
+view_entered w number index (ViewBids item) reply view = refl
+view_entered w number index (ViewCategory category) reply view = refl
+view_entered w number index (ViewUser user) reply view = refl
+view_entered w number index request reply view = absurd (false≢true view)
 
 module _ {N : Type 0} (step : Step) (w : WorkerState) (request : Request) (b : Begun N) (begun : HasBegun step w request b) (view : is_view request ≡ true) where
   abbrev initial : List ShardState
@@ -134,22 +156,21 @@ module _ {N : Type 0} (step : Step) (w : WorkerState) (request : Request) (b : B
         not_put_off = ap (λ objects. is_put_off objects request) (same_objects_of w.slices) ∙ begun.goes;
       }
 
-  view_owed : (reply : Reply) (o : Object) → viewed request ≡ Some o → AreDeedsOf w.slices (length initial) (acts_for w.journal.worker None request reply) (record { first = Look (shown.Reply o reply); second = Look shown.Nothing; home = h; other = home.Nowhere })
-  view_owed reply o shows t =
-      let look = Look (shown.Reply o reply) in
-      let same : object ≡ o = same_Some object o (sym (shows_one request view).1 ∙ shows) in
-      ap (λ acts. padded (done_on t (length initial) (hot_objects w.slices) acts)) (view_acts w.journal.worker request reply o shows)
-      ∙ one_owed w.slices (length initial) t look h (done_is w.slices (length initial) t o h (subst (λ x. IsHomeOf w.slices (length initial) x h) same its_home.1.at) look refl)
+  view_owed : (reply : Reply) → AreDeedsOf w.slices (length initial) (acts_for w.journal.worker None request reply) (event_with None reply (Look (look_for request))) (event.Look shown.Nothing) h home.Nowhere
+  view_owed reply t =
+      let owed = event_with None reply (Look (look_for request)) in
+      ap (λ acts. padded (done_on t (length initial) (hot_objects w.slices) acts)) (view_acts w.journal.worker request reply view)
+      ∙ one_owed w.slices (length initial) t owed h (done_is w.slices (length initial) t object h its_home.1.at owed (view_about request reply object (shows_one request view).1))
 
-  pub view_commits : (new : WorkerState) (index : ℕ) (reply : Reply) (o : Object) (found : ReadSet) → viewed request ≡ Some o → ((counters : Counters) (worker : ℕ) → IsReplyTo counters worker request reply)
-      → found ≡ record { stock = None; clocks = clocks_of took }
-      → HasPutAll initial w.key new.key (is_one_of (numbers_of (held_in took))) (line_among number index (held_in took) (dealt took (Look (shown.Reply o reply) ∷ Look shown.Nothing ∷ [])))
-      → new ≡ record (after_commit w number index request reply found) { key = new.key } → HasCommittedSome initial (record w { key = key }) new request index
-  view_commits new index reply o found shows answers found_is put committed =
-      let look = Look (shown.Reply o reply) in
-      let deeds : Deeds = record { first = look; second = Look shown.Nothing; home = h; other = home.Nowhere } in
-      let lines = λ (a : Option ℕ). line_among number index (held_in took) (dealt took (first_dealt look (Look shown.Nothing) a None ∷ second_dealt look (Look shown.Nothing) a None ∷ [])) in (
+  pub view_commits : (new : WorkerState) (index : ℕ) (reply : Reply) (looks_at : LookedAt) → IsShownBy took request looks_at reply
+      → HasPutAll initial w.key new.key (is_one_of (numbers_of (held_in took))) (line_among number index (held_in took) (dealt took (Look looks_at ∷ Look look.Nothing ∷ [])))
+      → new ≡ record (after_commit w number index request reply) { key = new.key } → HasCommittedSome initial (record w { key = key }) new request index
+  view_commits new index reply looks_at saw put committed =
+      let deeds : Deeds = record { first = Look looks_at; second = Look look.Nothing; home = h; other = home.Nowhere } in
+      let lines = λ (a : Option ℕ). line_among number index (held_in took) (dealt took (first_dealt (Look looks_at) (Look look.Nothing) a None ∷ second_dealt (Look looks_at) (Look look.Nothing) a None ∷ [])) in
+      let owed = λ (l : LookedAt). AreDeedsOf w.slices (length initial) (acts_for w.journal.worker None request reply) (event_with None reply (Look l)) (event.Look shown.Nothing) h home.Nowhere in (
         reply,
-        begun_commits step w request b begun new index reply None deeds found (ap (λ a. each_once a None) its_shard.1 ∙ sym (its_home.1.only n its_shard.1)) (view_owed reply o shows) found_is
-            (view_answered index reply found answers) (subst (λ a. HasPutAll initial w.key new.key (is_one_of (numbers_of (held_in took))) (lines a)) (sym its_shard.1) put) committed,
+        begun_commits step w request b begun new index reply None deeds (ap (λ a. each_once a None) its_shard.1 ∙ sym (its_home.1.only n its_shard.1)) (subst owed (sym saw.asked) (view_owed reply))
+            (look_good (shard_at h) None reply looks_at (held_in took) saw.holds) (view_answered index reply (found_on None took) saw.answers)
+            (subst (λ a. HasPutAll initial w.key new.key (is_one_of (numbers_of (held_in took))) (lines a)) (sym its_shard.1) put) committed,
       )

@@ -7,6 +7,8 @@ use Rattle.auction_rows.specs.declared.replies.Reply.{Reply}
 use Rattle.auction_rows.specs.declared.requests.Facts.{Facts}
 use Rattle.auction_rows.specs.declared.requests.Request.{Request}
 use Rattle.auction_rows.specs.declared.requests.Request.TheVariants.{ViewItem, ViewBids, ViewCategory, ViewUser}
+use Rattle.item_shards.specs.declared.shard.acts.Look.{Look}
+use Rattle.item_shards.specs.declared.shard.acts.Look.TheVariants as look
 use Rattle.auction_rows.specs.Refusals.{number_refusal}
 use Rattle.auction_rows.specs.Requests.{item_of}
 use Rattle.item_shards.specs.CommitNumbers.{last_number}
@@ -21,7 +23,7 @@ use Rattle.phase_permits.specs.declared.homes.Homes.{Homes}
 use Rattle.phase_permits.specs.declared.homes.Begun.{Begun}
 use Rattle.phase_permits.specs.declared.homes.Taken.{Taken}
 use Rattle.phase_permits.specs.declared.homes.Taken.TheVariants as taken
-use Rattle.phase_permits.specs.Deeds.{IsReplyBy, IsNextIf, AreDeedsOf, AreGoodOn, acts_for, footprint_on, stock_on}
+use Rattle.phase_permits.specs.Deeds.{IsReplyBy, IsNextIf, AreDeedsOf, AreGoodOn, acts_for, event_with, footprint_on, stock_on}
 use Rattle.phase_permits.specs.Homes.{AreHomesOf}
 use Rattle.phase_permits.specs.Putting.{IsAsTaken}
 use Rattle.phase_permits.specs.Performing.{HaveOpening, StoresItem, asks}
@@ -126,7 +128,9 @@ abbrev pub AreOwedBy : Request → Reply → Option (Facts × ℕ) → Homes →
 AreOwedBy request reply seen homes deeds =
     (w : WorkerState) (shards : ℕ) → AreHomesOf w shards request homes →
     IsOwn w.journal.worker reply → IsNextIf w reply →
-    AreDeedsOf w.slices shards (acts_for w.journal.worker seen request reply) deeds
+    let event = event_with seen reply in
+    AreDeedsOf w.slices shards (acts_for w.journal.worker seen request reply)
+    (event deeds.first) (event deeds.second) deeds.home deeds.other
 
 -- two acts can be done on each shard that was taken for a store with this reply
 abbrev pub AreGoodFor : Request → Reply → Option (Facts × ℕ) → Homes → Deeds → Type 0
@@ -134,7 +138,9 @@ AreGoodFor request reply seen homes deeds =
     (initial : List ShardState) (workers : ℕ) (boxes : List BoxId) (key : KeyState)
     (w : WorkerState) (held : HeldState) →
     IsAnsweredOn (step_of initial workers boxes key homes) w request seen reply held →
-    AreGoodOn (shard_at deeds.home) (shard_at deeds.other) deeds.first deeds.second held
+    let event = event_with seen reply in
+    AreGoodOn (shard_at deeds.home) (shard_at deeds.other) (event deeds.first) (event deeds.second)
+    held
 
 -- the homes of two acts are the footprint of a request whose objects have these homes
 abbrev pub HaveFootprint : Request → Homes → Deeds → Type 0
@@ -149,6 +155,14 @@ viewed (ViewBids item) = Some (Item item)
 viewed (ViewCategory category) = Some (Category category)
 viewed (ViewUser user) = Some (User user)
 viewed request = None
+
+-- what a view looks at
+abbrev pub look_for : Request → Look
+look_for (ViewItem item) = look.Item item
+look_for (ViewBids item) = look.Bids item
+look_for (ViewCategory category) = look.Category category
+look_for (ViewUser user) = look.User user
+look_for request = look.Nothing
 
 -- a shard can show what a view asks for, which lies there
 pub record CanView (shard : Shard) (request : Request) : Type 0 where

@@ -16,11 +16,10 @@ use Rattle.phase_permits.specs.declared.transaction.Done.{Done}
 use Rattle.phase_permits.specs.declared.transaction.Done.TheVariants.{Committed, Stashed}
 use Rattle.phase_permits.specs.declared.transaction.PermitFault.{PermitFault}
 use Rattle.phase_permits.specs.declared.transaction.PermitFault.TheVariants.{Memory, NumberFull}
-use Rattle.phase_permits.specs.declared.transaction.ReadSet.{ReadSet}
 use Rattle.phase_permits.specs.Putting.{HasPutAll, clock_seen, HasSameLines}
 use Rattle.phase_permits.specs.Slicing.{hot_objects}
-use Rattle.phase_permits.specs.Txns.{Setting, Txn, hot_of, txn_number, takes, line_on, greatest_clock, is_put_off, IsAnswered}
-use Rattle.phase_permits.specs.Workers.{WorkerState, setting_of, next_entry, next_item, txn_of, hot_txn, nothing, after_commit, after_putting_off, with_first_unstashed, IsIdle}
+use Rattle.phase_permits.specs.Txns.{Setting, Txn, hot_of, txn_number, takes, line_on, greatest_clock, is_put_off, IsAnswered, ReadSet}
+use Rattle.phase_permits.specs.Workers.{WorkerState, setting_of, next_entry, next_item, txn_of, hot_txn, after_commit, after_putting_off, with_first_unstashed, IsIdle}
 
 -- the shards of a phase are those of an auction with as many users and categories
 abbrev pub HaveOpening : List ShardState → Opening → Type 0
@@ -60,7 +59,7 @@ pub record HasCommitted (initial : List ShardState) (old new : WorkerState) (req
       (txn_of old number request index answer found) initial old new
   -- one of the quota is used, the journal gains the entry, and the slice of what it writes the
   -- operation
-  pub worker : new ≡ record (after_commit old number index request answer found) { key = new.key }
+  pub worker : new ≡ record (after_commit old number index request answer) { key = new.key }
 
 -- a request of the quota is committed with some reply
 abbrev pub HasCommittedSome : List ShardState → WorkerState → WorkerState → Request → ℕ → Type 0
@@ -72,7 +71,7 @@ HasCommittedSome initial old new request index =
 -- writes has its operation, and its reply is the answer by what is fixed and by the counters.
 pub record HasStored (old new : WorkerState) (request : Request) (index : ℕ)
     (answer : Reply) : Type 0 where
-  pub worker : new ≡ after_commit old (suc old.clock) index request answer nothing
+  pub worker : new ≡ after_commit old (suc old.clock) index request answer
   pub answered : (shards : ℕ) →
       IsAnswered (setting_of old shards) old.counters (hot_txn old request index answer)
 

@@ -3,14 +3,13 @@ use Rattle.std.specs.Prelude.{◌≡◌, ℕ, ◌<◌, ◌≤◌, if◌then◌el
 use Rattle.item_shards.specs.CommitNumbers.{last_number}
 use Rattle.item_shards.specs.declared.shard.acts.Act.{Act}
 use Rattle.item_shards.specs.declared.shard.acts.Act.TheVariants.{Look}
-use Rattle.item_shards.specs.declared.shard.acts.Shown.TheVariants as shown
-use Rattle.item_shards.specs.declared.shard.Shard.{Shard}
+use Rattle.item_shards.specs.declared.shard.acts.Look.TheVariants as look
 pub use Rattle.item_shards.specs.Acting.{CanDo}
 use Rattle.item_shards.specs.ShardContents.{clock}
-use Rattle.shard_boxes.specs.declared.line.Line.{Line}
 use Rattle.shard_boxes.specs.Helds.{HeldState, taken_at}
 use Rattle.shard_boxes.specs.Keys.{KeyState, seat_at, seen_at, lines_at, holds_at, putting}
-use Rattle.shard_boxes.specs.Lines.{first_two, after_lines, IsShardHistory, MayFollow, StartsWith}
+use Rattle.shard_boxes.specs.Lines.{Line, after_lines, IsShardHistory, MayFollow, StartsWith}
+pub use Rattle.shard_boxes.specs.Lines.{line_of}
 use Rattle.shard_boxes.specs.States.{ShardState, state_at, state_of}
 use Rattle.phase_permits.specs.declared.deeds.Written.{Written}
 use Rattle.phase_permits.specs.Workers.{IsIdle}
@@ -29,12 +28,7 @@ written_acts written = written.first ∷ written.second ∷ []
 
 -- one act, and a look at nothing
 abbrev pub alone_in : Act → List Act
-alone_in act = act ∷ Look shown.Nothing ∷ []
-
--- the line of these acts on a shard as it was taken
-abbrev pub line_of : ℕ → ℕ → List Act → Shard → Line
-line_of number index acts taken =
-    record { number = number; before = clock taken; index = index; acts = first_two acts }
+alone_in act = act ∷ Look look.Nothing ∷ []
 
 -- A shard was taken as this list left it, which goes on from what the key had seen of it, and put
 -- back with the line, which may follow it.

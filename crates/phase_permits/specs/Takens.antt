@@ -3,11 +3,10 @@ use Rattle.std.specs.Prelude.{◌≡◌, ℕ, ◌<◌, ◌==◌, if◌then◌els
 use Rattle.std.specs.List.{AllByRecursion, list_any}
 use Rattle.phase_laws.specs.Numbers.{greatest_by}
 use Rattle.item_shards.specs.declared.shard.acts.Act.{Act}
-use Rattle.item_shards.specs.ShardContents.{clock, contents}
-use Rattle.shard_boxes.specs.declared.line.Line.{Line}
+use Rattle.item_shards.specs.ShardContents.{clock}
 use Rattle.shard_boxes.specs.Helds.{HeldState}
 use Rattle.shard_boxes.specs.Keys.{BoxId, KeyState, seat_at, seen_at, holds_at}
-use Rattle.shard_boxes.specs.Lines.{first_two, AreTrueOf}
+use Rattle.shard_boxes.specs.Lines.{Line, first_two}
 use Rattle.shard_boxes.specs.States.{ShardState}
 use Rattle.phase_permits.specs.declared.homes.Home.{Home}
 use Rattle.phase_permits.specs.declared.homes.Home.TheVariants as home
@@ -115,11 +114,10 @@ dealt taken.Nothing acts = []
 dealt (taken.One one) acts = acts ∷ []
 dealt (taken.Two item other) acts = map alone_in acts
 
--- these acts can be done on a shard at a number, and look at what is there
+-- these acts can be done on a shard at a number
 pub record CanBeDoneOn (number : ℕ) (held : HeldState) (acts : List Act) : Type 0 where
   pub later : clock held.shard < number
   pub can : CanDo held.shard acts
-  pub looks : AreTrueOf (contents held.shard) acts
 
 -- these acts can be done on each of some shards
 abbrev pub CanBeDoneOnAll : ℕ → List HeldState → List (List Act) → Type 0

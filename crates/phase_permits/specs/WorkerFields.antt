@@ -15,7 +15,6 @@ state_in w = record {
   left = w.left;
   tries = w.tries;
   clock = w.clock;
-  txns = w.txns.items;
 }
 
 -- the worker with these fields is lawful

@@ -15,11 +15,10 @@ use Rattle.item_shards.specs.Writing.{writes_if}
 use Rattle.shard_boxes.specs.Keys.{KeyState, lines_at, holds_at}
 use Rattle.worker_journals.specs.Journals.{JournalView, entry_number, commit_in, with_commit}
 use Rattle.phase_permits.specs.declared.worker.Counters.{Counters}
-use Rattle.phase_permits.specs.declared.transaction.ReadSet.{ReadSet}
 use Rattle.phase_permits.specs.declared.slices.Hot.{Hot}
 use Rattle.phase_permits.specs.Slicing.{hot_objects, slices_of, stocks_of, slices_after_acts, HaveAtMost}
 use Rattle.phase_permits.specs.Stashes.{StashState, without_first}
-use Rattle.phase_permits.specs.Txns.{Setting, Txn, counters_after}
+use Rattle.phase_permits.specs.Txns.{Setting, Txn, counters_after, ReadSet}
 use Rattle.phase_permits.specs.Works.{Work, IsWorkOf}
 
 -- a worker in a phase: its right to take shards, and what no other worker touches
@@ -44,8 +43,6 @@ pub record WorkerState : Type 0 where
   pub tries : ℕ
   -- the number of its last commit, or the clock with which it began
   pub clock : ℕ
-  -- the transactions behind its journal
-  pub txns : List Txn
 
 -- the phase with so many shards
 abbrev pub setting_of : WorkerState → ℕ → Setting
@@ -117,19 +114,18 @@ pub record IsLawfulWorker (w : WorkerState) : Type 0 where
   pub stored : AreStored w.journal.worker w.counters w.slices
 
 -- the worker after a commit of the quota, but for its slices: its key is as the puts left it
-abbrev pub with_entry : WorkerState → ℕ → ℕ → Request → Reply → ReadSet → WorkerState
-with_entry w number index request reply found = record w {
+abbrev pub with_entry : WorkerState → ℕ → ℕ → Request → Reply → WorkerState
+with_entry w number index request reply = record w {
   counters = counters_after w.counters reply;
   journal = with_commit w.journal number index request reply;
   left = w.left - 1;
   clock = number;
-  txns = w.txns ++ (next_entry w number index request reply, found) ∷ [];
 }
 
 -- the worker after a commit of the quota: its key is as the puts left it
-abbrev pub after_commit : WorkerState → ℕ → ℕ → Request → Reply → ReadSet → WorkerState
-after_commit w number index request reply found =
-    record (with_entry w number index request reply found) {
+abbrev pub after_commit : WorkerState → ℕ → ℕ → Request → Reply → WorkerState
+after_commit w number index request reply =
+    record (with_entry w number index request reply) {
       slices = slices_after_acts w.slices (writes_if (row_of w.journal.worker request reply));
     }
 
@@ -170,7 +166,6 @@ work_of w = record {
   clock = w.clock;
   counters = w.counters;
   slices = w.slices;
-  txns = w.txns;
 }
 
 -- A worker between two requests, in a phase with so many shards: its journal is its key's worker's,
@@ -198,7 +193,6 @@ new_worker key opening counters journal stash slices quota clock = record {
   left = quota;
   tries = 0;
   clock = clock;
-  txns = [];
 }
 
 -- the key holds no shard, and no line was put by it

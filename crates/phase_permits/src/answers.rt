@@ -8,15 +8,12 @@ ghost use Rattle.auction_rows.specs.StoreReplies.{reply_of};
 ghost use Rattle.auction_rows.specs.declared.requests.Facts.{Facts as FactsValue};
 ghost use Rattle.auction_rows.specs.declared.requests.Request.TheVariants.{ViewItem};
 ghost use Rattle.auction_rows.specs.ItemViews.{item_told};
-ghost use Rattle.auction_rows.specs.declared.requests.Object.TheVariants.{Item};
-ghost use Rattle.item_shards.specs.declared.shard.acts.Act.TheVariants.{Look};
-ghost use Rattle.item_shards.specs.declared.shard.acts.Shown.TheVariants as shown;
+ghost use Rattle.item_shards.specs.declared.shard.acts.Look.TheVariants as look;
 ghost use Rattle.item_shards.specs.Looking.{IsTrueOf};
 ghost use Rattle.item_shards.specs.ShardContents.{contents};
-ghost use Rattle.item_shards.specs.Writing.{looks_of};
 ghost use Rattle.phase_permits.specs.declared.worker.Counters.{Counters as CountersValue};
-ghost use Rattle.phase_permits.specs.Begun.{CanView, FirstHas, IsOnOne, viewed};
-ghost use Rattle.phase_permits.specs.Deeds.{IsReplyBy, stock_on};
+ghost use Rattle.phase_permits.specs.Begun.{CanView, FirstHas, IsOnOne, look_for};
+ghost use Rattle.phase_permits.specs.Deeds.{IsReplyBy, shown_with, stock_on};
 ghost use Rattle.phase_permits.specs.Homes.{IsHomeOf};
 ghost use Rattle.phase_permits.specs.Slicing.{stocks_of, stock_of};
 ghost use Rattle.phase_permits.specs.Takens.{shard_at};
@@ -26,9 +23,9 @@ ghost use Rattle.phase_permits.specs.Viewing.{IsShownBy};
 use crate::homes::{Home, Homes, Taken, stock_in};
 use crate::worker::Worker;
 use auction_rows::{
-    BidId, BuyId, CommentId, Facts, ItemId, ItemView, Object, Reply, Request, StoreReply, item_of,
+    BidId, BuyId, CommentId, Facts, ItemId, ItemView, Reply, Request, StoreReply, item_of,
 };
-use item_shards::{Shard, refusal_with};
+use item_shards::{Look, Shard, refusal_with};
 use shard_boxes::PhaseName;
 
 impl<N: PhaseName> Worker<N> {
@@ -62,10 +59,9 @@ impl<N: PhaseName> Worker<N> {
             IsHomeOf self.now.slices shards object home → shard_at home ≡ None →
             result ≡ stock_of (stocks_of self.now.slices) object }
     {
-        if let Home::Slice(place) = home {
-            self.slices.stock_at(place)
-        } else {
-            None
+        match home {
+            Home::Slice(place) => self.slices.stock_at(place),
+            Home::Nowhere | Home::Shard(_) => None,
         }
     }
 
@@ -100,8 +96,8 @@ impl<N: PhaseName> Worker<N> {
     }
 }
 
-/// What the one shard that a view takes shows, and of which object.
-pub(crate) fn view_on<N: PhaseName>(taken: &Taken<N>, request: &Request) -> (Object, Reply)
+/// What a view looks at on the one shard that it takes, and the reply.
+pub(crate) fn view_on<N: PhaseName>(taken: &Taken<N>, request: &Request) -> (Look, Reply)
     requires view { is_view request.now ≡ true }
     requires one { IsOnOne request.now taken.now }
     ensures { IsShownBy taken.now request.now result.0 result.1 }
@@ -116,7 +112,7 @@ pub(crate) fn view_on<N: PhaseName>(taken: &Taken<N>, request: &Request) -> (Obj
 #[inline(always)]
 pub(crate) fn item_on<N: PhaseName>(taken: &Taken<N>, item: ItemId) -> Option<ItemView>
     requires { IsOnOne (ViewItem item) taken.now }
-    ensures { IsShownBy taken.now (ViewItem item) (Item item) (item_told result) }
+    ensures { IsShownBy taken.now (ViewItem item) (look.Item item) (item_told result) }
 {
     match taken {
         Taken::One(one) => one.shard().item_seen(item),
@@ -124,24 +120,22 @@ pub(crate) fn item_on<N: PhaseName>(taken: &Taken<N>, item: ItemId) -> Option<It
     }
 }
 
-// What a shard shows of an object that lies there.
-fn view(shard: &Shard, request: &Request) -> (Object, Reply)
+// What a view looks at on a shard in which its object lies, and the reply.
+fn view(shard: &Shard, request: &Request) -> (Look, Reply)
     requires view { is_view request.now ≡ true }
     requires can { CanView shard.now request.now }
-    ensures viewed { viewed request.now ≡ Some result.0 }
-    ensures looks { (seen : Option (FactsValue × ℕ)) →
-        looks_of seen result.1 request.now ≡ Look (shown.Reply result.0 result.1) ∷ [] }
+    ensures looks { result.0 ≡ look_for request.now }
     ensures answers { (counters : CountersValue) → (worker : ℕ) →
         IsReplyTo counters worker request.now result.1 }
-    ensures shown { IsTrueOf (contents shard.now) (shown.Reply result.0 result.1) }
+    ensures shown { IsTrueOf (contents shard.now) (shown_with None result.1 result.0) }
 {
     match *request {
-        Request::ViewItem { item } => (Object::Item(item), shard.view_item(item)),
-        Request::ViewBids { item } => (Object::Item(item), shard.view_bids(item)),
+        Request::ViewItem { item } => (Look::Item(item), shard.view_item(item)),
+        Request::ViewBids { item } => (Look::Bids(item), shard.view_bids(item)),
         Request::ViewCategory { category } => {
-            (Object::Category(category), shard.view_category(category))
+            (Look::Category(category), shard.view_category(category))
         }
-        Request::ViewUser { user } => (Object::User(user), shard.view_user(user)),
+        Request::ViewUser { user } => (Look::User(user), shard.view_user(user)),
         _ => unreachable!(),
     }
 }

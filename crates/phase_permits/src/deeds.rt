@@ -1,19 +1,17 @@
 //! A store whose reply is known, what it does on the shards that it takes, and shards that go back
 //! with a line.
-ghost use Rattle.std.specs.Prelude.{◌≡◌, false, option_map};
+ghost use Rattle.std.specs.Prelude.{◌≡◌, ℕ, false, Option};
+ghost use Rattle.auction_rows.specs.declared.requests.Facts.{Facts as FactsValue};
 ghost use Rattle.auction_rows.specs.Requests.{is_view};
 ghost use Rattle.auction_rows.specs.StoreReplies.{reply_of};
-ghost use Rattle.item_shards.specs.ShardContents.{contents};
-ghost use Rattle.shard_boxes.specs.Lines.{AreTrueOf};
 ghost use Rattle.phase_permits.specs.Begun.{AreGoodFor, AreOwedBy, HaveFootprint};
 ghost use Rattle.phase_permits.specs.Deeds.{written_of};
 ghost use Rattle.phase_permits.specs.Putting.{CanDo, written_acts, line_of, IsHeldFor, IsPutWith};
 
 use crate::homes::{Home, Homes};
-use auction_rows::{BidEntry, Facts, ItemEntry, Object, Request, StoreReply};
-use ghost_log::Ghost;
-use item_shards::{Act, Shown};
-use shard_boxes::{Acts, Boxes, Held, Key, Line, PhaseName};
+use auction_rows::{BidEntry, Facts, ItemEntry, Request, StoreReply};
+use item_shards::{Act, Look};
+use shard_boxes::{Boxes, Held, Key, PhaseName};
 use std::sync::Wait;
 use worker_journals::Answer;
 
@@ -33,11 +31,11 @@ pub(crate) struct Store<'a> {
     pub(crate) reply: StoreReply,
 }
 
-/// A view of the quota whose reply is known, with the object that it shows.
+/// A view of the quota whose reply is known, with what it looks at.
 #[derive(Drop)]
 pub(crate) struct View<'a> {
     pub(crate) call: Call<'a>,
-    pub(crate) object: Object,
+    pub(crate) look: Look,
     pub(crate) answer: Answer<'a>,
 }
 
@@ -51,17 +49,14 @@ pub(crate) struct Deeds {
 }
 
 impl Deeds {
-    /// Those of a store with this reply, which saw this of its item.
+    /// Those of a store with this reply, whatever it saw of its item.
     #[inline]
-    pub(crate) fn of(
-        request: &Request,
-        reply: StoreReply,
-        seen: &Option<(Facts, u32)>,
-        homes: &Homes,
-    ) -> Deeds
+    pub(crate) fn of(request: &Request, reply: StoreReply, homes: &Homes) -> Deeds
         requires store { is_view request.now ≡ false }
-        ensures owed { AreOwedBy request.now (reply_of reply) seen.now homes.now result }
-        ensures good { AreGoodFor request.now (reply_of reply) seen.now homes.now result }
+        ensures owed { (seen : Option (FactsValue × ℕ)) →
+            AreOwedBy request.now (reply_of reply) seen homes.now result }
+        ensures good { (seen : Option (FactsValue × ℕ)) →
+            AreGoodFor request.now (reply_of reply) seen homes.now result }
         ensures footprint { HaveFootprint request.now homes.now result }
     {
         let home = homes.item;
@@ -80,8 +75,8 @@ impl Deeds {
                     }
                 } else {
                     Deeds {
-                        first: Act::Look(Shown::Nothing),
-                        second: Act::Look(Shown::Nothing),
+                        first: Act::Look(Look::Nothing),
+                        second: Act::Look(Look::Nothing),
                         home,
                         other,
                     }
@@ -93,7 +88,7 @@ impl Deeds {
                 amount,
                 time,
             } => {
-                let first = Act::Look(Shown::Left(item, Ghost::of(seen)));
+                let first = Act::Look(Look::Left(item));
                 let second = if let StoreReply::BidStored(id) = reply {
                     Act::Bid(
                         item,
@@ -105,7 +100,7 @@ impl Deeds {
                         },
                     )
                 } else {
-                    Act::Look(Shown::Nothing)
+                    Act::Look(Look::Nothing)
                 };
                 Deeds {
                     first,
@@ -120,11 +115,11 @@ impl Deeds {
                 stars,
                 ..
             } => {
-                let first = Act::Look(Shown::Facts(item, Ghost::of(&facts_in(seen))));
+                let first = Act::Look(Look::Facts(item));
                 let second = if let StoreReply::CommentStored(_) = reply {
                     Act::Comment(about, stars)
                 } else {
-                    Act::Look(Shown::Nothing)
+                    Act::Look(Look::Nothing)
                 };
                 Deeds {
                     first,
@@ -134,11 +129,11 @@ impl Deeds {
                 }
             }
             Request::BuyNow { item, quantity, .. } => {
-                let first = Act::Look(Shown::Left(item, Ghost::of(seen)));
+                let first = Act::Look(Look::Left(item));
                 let second = if let StoreReply::Bought(_) = reply {
                     Act::Buy(item, quantity)
                 } else {
-                    Act::Look(Shown::Nothing)
+                    Act::Look(Look::Nothing)
                 };
                 Deeds {
                     first,
@@ -163,11 +158,11 @@ impl Deeds {
             other,
         } = self;
         if other.shard().is_none() {
-            second = Act::Look(Shown::Nothing);
+            second = Act::Look(Look::Nothing);
         }
         if home.shard().is_none() {
             first = second;
-            second = Act::Look(Shown::Nothing);
+            second = Act::Look(Look::Nothing);
         }
         Written {
             number,
@@ -175,17 +170,6 @@ impl Deeds {
             first,
             second,
         }
-    }
-}
-
-// The facts that were seen.
-#[inline(always)]
-fn facts_in(seen: &Option<(Facts, u32)>) -> Option<Facts>
-    ensures { result ≡ option_map (λ s. s.0) seen.now }
-{
-    match seen {
-        Some((facts, _)) => Some(*facts),
-        None => None,
     }
 }
 
@@ -210,17 +194,10 @@ pub(crate) fn put_with_line<N: PhaseName, R: Wait>(
     requires of { key.old.boxes ≡ boxes.now }
     requires held { IsHeldFor N.initial key.old held written.number }
     requires can { CanDo held.shard (written_acts written) }
-    requires looks { AreTrueOf (contents held.shard) (written_acts written) }
     ensures { IsPutWith N.initial key.old key.new held
         (line_of written.number written.index (written_acts written) held.shard) }
 {
     let acts = [written.first, written.second];
-    let before = held.shard_mut().apply_acts(written.number, &acts);
-    let line = Line {
-        number: written.number,
-        before,
-        index: written.index,
-        acts: Acts::of(&acts),
-    };
+    let line = held.act(written.number, written.index, &acts);
     boxes.put(rt, key, held, Some(line));
 }

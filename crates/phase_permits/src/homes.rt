@@ -9,13 +9,13 @@ ghost use Rattle.phase_permits.specs.Homes.{IsHomeOf, AreHomesOf};
 ghost use Rattle.phase_permits.specs.Takens.{each_once, shard_at, footprint_of, is_one_of, greatest_held, held_in, numbers_of, dealt, line_among, HasTakenAll, AreHeldAll, AreBack, CanBeDoneOnAll, IsReady};
 ghost use Rattle.phase_permits.specs.Slicing.{hot_objects};
 ghost use Rattle.phase_permits.specs.Begun.{states_in, FirstHas, FirstHasRoom};
-ghost use Rattle.phase_permits.specs.Deeds.{clocks_of, stock_on};
+ghost use Rattle.phase_permits.specs.Deeds.{stock_on};
 ghost use Rattle.phase_permits.specs.Putting.{HasPutAll, written_acts};
 
 use crate::deeds::{Written, put_with_line};
 use crate::worker::Worker;
 use auction_rows::{Facts, ItemId, Object, Request, shard_of};
-use item_shards::{Act, Shown};
+use item_shards::{Act, Look};
 use shard_boxes::{Boxes, Held, Key, PhaseName};
 use std::alloc::AllocError;
 use std::sync::Wait;
@@ -183,23 +183,8 @@ pub(crate) fn clock_of<N: PhaseName>(taken: &Taken<N>) -> u64
 {
     match taken {
         Taken::Nothing => 0,
-        Taken::One(one) => one.shard().clock(),
-        Taken::Two(item, other) => item.shard().clock().max(other.shard().clock()),
-    }
-}
-
-/// The number and the clock of each shard.
-#[inline(always)]
-pub(crate) fn clocks_of<N: PhaseName>(taken: &Taken<N>) -> [Option<(u32, u64)>; 2]
-    ensures { result ≡ clocks_of taken.now }
-{
-    match taken {
-        Taken::Nothing => [None, None],
-        Taken::One(one) => [Some((one.number(), one.shard().clock())), None],
-        Taken::Two(item, other) => [
-            Some((item.number(), item.shard().clock())),
-            Some((other.number(), other.shard().clock())),
-        ],
+        Taken::One(one) => one.clock(),
+        Taken::Two(item, other) => item.clock().max(other.clock()),
     }
 }
 
@@ -211,8 +196,8 @@ pub(crate) fn stock_in<N: PhaseName>(taken: &Taken<N>, item: ItemId) -> Option<(
 {
     match taken {
         Taken::Nothing => None,
-        Taken::One(one) => one.shard().stock(item),
-        Taken::Two(one, _) => one.shard().stock(item),
+        Taken::One(one) => one.stock(item),
+        Taken::Two(one, _) => one.stock(item),
     }
 }
 
@@ -268,24 +253,18 @@ pub(crate) fn put_all<N: PhaseName, R: Wait>(
         Taken::Nothing => {}
         Taken::One(one) => put_with_line(rt, boxes, key, one, written),
         Taken::Two(item, other) => {
-            let Written {
-                number,
-                index,
-                first,
-                second,
-            } = written;
             let on_item = Written {
-                number,
-                index,
-                first,
-                second: Act::Look(Shown::Nothing),
+                number: written.number,
+                index: written.index,
+                first: written.first,
+                second: Act::Look(Look::Nothing),
             };
             put_with_line(rt, boxes, key, item, on_item);
             let on_other = Written {
-                number,
-                index,
-                first: second,
-                second: Act::Look(Shown::Nothing),
+                number: written.number,
+                index: written.index,
+                first: written.second,
+                second: Act::Look(Look::Nothing),
             };
             put_with_line(rt, boxes, key, other, on_other);
         }

@@ -89,7 +89,7 @@ impl<N: PhaseName> Permit<N, JoinedPhase> {
             (HasFailed N.initial (with_try self.old) self.new request.now) }
     {
         self.commit(rt, boxes, request, index)?;
-        Ok(self.last_reply())
+        Ok(self.worker.last_reply())
     }
 
     /// Performs the first stashed request, which uses none of the quota: None exactly where there
@@ -110,7 +110,7 @@ impl<N: PhaseName> Permit<N, JoinedPhase> {
         ensures failed { IfErr result (HasFailedFirst N.initial (with_try self.old) self.new) }
     {
         if self.commit_stashed(rt, boxes)? {
-            Ok(Some(self.last_reply()))
+            Ok(Some(self.worker.last_reply()))
         } else {
             Ok(None)
         }
@@ -222,7 +222,7 @@ impl<N: PhaseName> Permit<N, SplitPhase> {
         ensures key { self.new.key ≡ self.old.key }
     {
         self.worker.perform_hot(request, index)?;
-        Some(self.last_reply())
+        Some(self.worker.last_reply())
     }
 
     /// Performs a request of the quota. It is put off where it can't be split and touches a hot
@@ -249,7 +249,7 @@ impl<N: PhaseName> Permit<N, SplitPhase> {
         ensures untouched { IsUntouched (length N.initial) self.old self.new request.now }
     {
         if self.commit(rt, boxes, request, index)? {
-            Ok(Done::Committed(self.last_reply()))
+            Ok(Done::Committed(self.worker.last_reply()))
         } else {
             Ok(Done::Stashed)
         }

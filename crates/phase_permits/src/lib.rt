@@ -16,5 +16,5 @@ pub use kinds::{JoinedPhase, Kind, SplitPhase};
 pub use permit::{JoinedPermit, JoinedReceipt, Permit, Receipt, SplitPermit, SplitReceipt};
 pub use slices::{Hot, Slices};
 pub use stash::Stash;
-pub use transaction::{Done, PermitFault, ReadSet};
+pub use transaction::{Done, PermitFault};
 pub use worker::{Counters, WorkerStart};

@@ -1,13 +1,13 @@
 //! A worker's right to perform in a phase, and what it leaves.
 ghost use Rattle.std.specs.Prelude.{◌≡◌, ◌≤◌, ◌<◌, ◌↔◌, [], length, true, false, slice_get, Ok, Some, IfOk, IfErr};
-ghost use Rattle.phase_permits.specs.Workers.{IsEmptyIf, CanStart, IsExplained, last_reply, new_worker, with_try};
+ghost use Rattle.phase_permits.specs.Workers.{IsEmptyIf, CanStart, IsExplained, new_worker, with_try};
 
 use crate::kinds::{JoinedPhase, Kind, SplitPhase};
 use crate::slices::Slices;
 use crate::stash::Stash;
 use crate::transaction::PermitFault;
 use crate::worker::{Counters, Worker, WorkerStart};
-use auction_rows::{MOST_OF_A_WORKER, MOST_TRIES, Object, Reply, Request};
+use auction_rows::{MOST_OF_A_WORKER, MOST_TRIES, Object, Request};
 use ghost_log::GhostList;
 use shard_boxes::{Boxes, Key, PhaseName};
 use std::marker::{Model, PhantomData};
@@ -96,7 +96,6 @@ impl<N: PhaseName, K: Kind> Permit<N, K> {
             tries: 0,
             clock,
             begun: GhostList::new().and(&counters, &clock),
-            txns: GhostList::new(),
         };
         Permit {
             worker,
@@ -159,14 +158,6 @@ impl<N: PhaseName, K: Kind> Permit<N, K> {
                 Err(fault)
             }
         }
-    }
-
-    // The reply of the last commit.
-    pub(crate) fn last_reply(&self) -> Reply
-        requires { 0 < length self.now.journal.entries }
-        ensures { last_reply self.now.journal.entries ≡ Some result }
-    {
-        self.worker.last_reply()
     }
 
     /// How many requests of the quota are not performed.

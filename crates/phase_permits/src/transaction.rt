@@ -10,11 +10,10 @@ ghost use Rattle.phase_permits.specs.declared.transaction.PermitFault.TheVariant
 
 use crate::answers::{item_on, view_on};
 use crate::deeds::{Call, Deeds, Store, View, Written};
-use crate::homes::{Begun, Homes, clock_of, clocks_of, make_room, put_all, put_back, take_all};
+use crate::homes::{Begun, Homes, clock_of, make_room, put_all, put_back, take_all};
 use crate::worker::Worker;
-use auction_rows::{Facts, Object, Refusal, Reply, Request, StoreReply, is_view, number_refusal};
-use ghost_log::Ghost;
-use item_shards::{Act, Shown, next_number};
+use auction_rows::{Refusal, Reply, Request, StoreReply, is_view, number_refusal};
+use item_shards::{Act, Look, next_number};
 use shard_boxes::{Boxes, PhaseName};
 use std::alloc::AllocError;
 use std::sync::Wait;
@@ -40,30 +39,6 @@ pub enum Done {
     Committed(Reply),
     /// It waits for the next joined phase.
     Stashed,
-}
-
-/// What a transaction finds, which proofs alone read: of the item that it needs, if its shard is
-/// taken, the facts and how many are left, where it is stored; and of each shard that is taken the
-/// number and the clock.
-#[derive(Drop)]
-pub struct ReadSet {
-    pub stock: Ghost<Option<(Facts, u32)>>,
-    pub clocks: [Option<(u32, u64)>; 2],
-}
-
-impl ReadSet {
-    ghost use Rattle.phase_permits.specs.Workers.{nothing};
-
-    /// What is found where no shard is taken.
-    #[inline(always)]
-    pub(crate) fn nothing() -> ReadSet
-        ensures { result ≡ nothing }
-    {
-        ReadSet {
-            stock: Ghost::of(&None),
-            clocks: [None, None],
-        }
-    }
 }
 
 impl<N: PhaseName> Worker<N> {
@@ -158,7 +133,7 @@ impl<N: PhaseName> Worker<N> {
         let answer = Answer {
             form: ReplyForm::Store(StoreReply::Refused(reason)),
         };
-        self.add_entry(number, call, &answer, &ReadSet::nothing());
+        self.add_entry(number, call, &answer);
         Ok(())
     }
 
@@ -184,7 +159,7 @@ impl<N: PhaseName> Worker<N> {
             seen: &seen,
             reply,
         };
-        self.add_store(number, &store, &ReadSet::nothing());
+        self.add_store(number, &store);
         Ok(())
     }
 
@@ -255,16 +230,16 @@ impl<N: PhaseName> Worker<N> {
             let seen = item_on(&begun.taken, item);
             let view = View {
                 call,
-                object: Object::Item(item),
+                look: Look::Item(item),
                 answer: Answer::of_item(&seen),
             };
             self.put_view(rt, boxes, begun, &view);
             return;
         }
-        let (object, reply) = view_on(&begun.taken, call.request);
+        let (look, reply) = view_on(&begun.taken, call.request);
         let view = View {
             call,
-            object,
+            look,
             answer: Answer::of(&reply),
         };
         self.put_view(rt, boxes, begun, &view);
@@ -279,7 +254,7 @@ impl<N: PhaseName> Worker<N> {
             (step_of N.initial N.workers boxes.now key homes)
             self.old view.now.call.request.now begun }
         requires shown { IsShownBy begun.taken
-            view.now.call.request.now view.now.object view.now.answer }
+            view.now.call.request.now view.now.look view.now.answer }
         requires left { 0 < self.old.left }
         ensures { (homes : HomesValue) → (key : KeyState) → HasBegun
             (step_of N.initial N.workers boxes.now key homes)
@@ -288,19 +263,14 @@ impl<N: PhaseName> Worker<N> {
             view.now.call.request.now view.now.call.index }
     {
         let Begun { taken, number } = begun;
-        let found = ReadSet {
-            stock: Ghost::of(&None),
-            clocks: clocks_of(&taken),
-        };
-        let shown = Shown::Reply(view.object, Ghost::of(&view.answer.to_reply()));
         let written = Written {
             number,
             index: view.call.index,
-            first: Act::Look(shown),
-            second: Act::Look(Shown::Nothing),
+            first: Act::Look(view.look),
+            second: Act::Look(Look::Nothing),
         };
         put_all(rt, boxes, &mut self.key, taken, written);
-        self.add_entry(number, view.call, &view.answer, &found);
+        self.add_entry(number, view.call, &view.answer);
     }
 
     // Does a store's acts on the shards that were taken, puts these back, and commits it.
@@ -324,14 +294,10 @@ impl<N: PhaseName> Worker<N> {
             store.now.call.request.now store.now.call.index (reply_of store.now.reply) }
     {
         let Begun { taken, number } = begun;
-        let found = ReadSet {
-            stock: Ghost::of(store.seen),
-            clocks: clocks_of(&taken),
-        };
-        let deeds = Deeds::of(store.call.request, store.reply, store.seen, store.homes);
+        let deeds = Deeds::of(store.call.request, store.reply, store.homes);
         let written = deeds.written(number, store.call.index);
         put_all(rt, boxes, &mut self.key, taken, written);
-        self.add_store(number, store, &found);
+        self.add_store(number, store);
     }
 }
 

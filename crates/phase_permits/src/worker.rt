@@ -12,9 +12,8 @@ ghost use Rattle.phase_permits.specs.Workers.{WorkerState, AreCounted, next_item
 use crate::deeds::{Call, Store};
 use crate::slices::Slices;
 use crate::stash::Stash;
-use crate::transaction::ReadSet;
 use auction_rows::{
-    Entry, ItemId, MOST_OF_A_WORKER, MOST_TRIES, Object, Opening, Reply, Request, StoreReply,
+    ItemId, MOST_OF_A_WORKER, MOST_TRIES, Object, Opening, Reply, Request, StoreReply,
 };
 use ghost_log::GhostList;
 use shard_boxes::{Key, PhaseName};
@@ -33,9 +32,8 @@ pub(crate) struct Worker<N: PhaseName> {
     pub(crate) left: u32,
     pub(crate) tries: u32,
     pub(crate) clock: u64,
-    // What it began with, and its transactions: for proofs alone.
+    // What it began with: for proofs alone.
     pub(crate) begun: GhostList<Counters, u64>,
-    pub(crate) txns: GhostList<Entry, ReadSet>,
 }
 
 /// What a worker starts a phase with.
@@ -141,50 +139,34 @@ impl<N: PhaseName> Worker<N> {
 
     /// Commits a request of the quota, but for its slices. It takes no memory.
     #[inline(always)]
-    pub(crate) fn add_entry(
-        &mut self,
-        number: u64,
-        call: Call<'_>,
-        reply: &Answer<'_>,
-        found: &ReadSet,
-    )
+    pub(crate) fn add_entry(&mut self, number: u64, call: Call<'_>, reply: &Answer<'_>)
         requires left { 0 < self.old.left }
         requires after { self.old.clock < number }
-        ensures entry { self.new
-            ≡ with_entry self.old number call.entry.index call.entry.request.now reply.now found.now }
+        ensures entry { self.new ≡ with_entry self.old number call.entry.index
+            call.entry.request.now reply.now }
         ensures few { HaveAtMost self.old.counters.commits self.new.slices }
     {
         let Call { request, index } = call;
         self.left -= 1;
         self.counters.count(reply);
-        // For proofs alone, as the transactions are.
-        let entry = Entry {
-            phase: self.journal.phase(),
-            number,
-            worker: self.journal.worker(),
-            index,
-            request: *request,
-            reply: reply.to_reply(),
-        };
-        self.txns = self.txns.and(&entry, found);
         self.journal.push_answer(number, index, request, reply);
         self.clock = number;
     }
 
     /// Commits a store of the quota, and applies it to the slice of what it writes.
     #[inline(always)]
-    pub(crate) fn add_store(&mut self, number: u64, store: &Store<'_>, found: &ReadSet)
+    pub(crate) fn add_store(&mut self, number: u64, store: &Store<'_>)
         requires left { 0 < self.old.left }
         requires after { self.old.clock < number }
         requires home { IsWrittenAt self.old.slices store.now.call.request.now store.now.homes.now }
         requires own { IsOwn self.old.journal.worker (reply_of store.now.reply) }
         ensures { self.new ≡ after_commit self.old number store.now.call.index
-            store.now.call.request.now (reply_of store.now.reply) found.now }
+            store.now.call.request.now (reply_of store.now.reply) }
     {
         let answer = Answer {
             form: ReplyForm::Store(store.reply),
         };
-        self.add_entry(number, store.call, &answer, found);
+        self.add_entry(number, store.call, &answer);
         let request = store.call.request;
         self.slices.store(request, store.reply, store.homes);
     }
@@ -221,18 +203,10 @@ impl Counters {
         match reply.form {
             ReplyForm::Store(reply) => self.count_store(reply),
             ReplyForm::Item(_) => self.commits += 1,
-            ReplyForm::Whole(reply) => self.count_whole(reply),
-        }
-    }
-
-    fn count_whole(&mut self, reply: &Reply)
-        requires counted { AreCounted self.old }
-        requires limit { self.old.commits < MOST_OF_A_WORKER }
-        ensures { self.new ≡ counters_after self.old reply.now }
-    {
-        match StoreReply::of(reply) {
-            Some(reply) => self.count_store(reply),
-            None => self.commits += 1,
+            ReplyForm::Whole(reply) => match StoreReply::of(reply) {
+                Some(reply) => self.count_store(reply),
+                None => self.commits += 1,
+            },
         }
     }
 

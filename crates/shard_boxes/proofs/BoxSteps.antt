@@ -8,10 +8,9 @@ use Rattle.crossbeam_queue.specs.Fifo.{Pushes, Pops, Learns}
 use Rattle.crossbeam_queue.proofs.Lists.{at_set, set_here}
 use Rattle.item_shards.specs.declared.shard.Shard.{Shard}
 use Rattle.item_shards.specs.ShardContents.{shard_number}
-use Rattle.shard_boxes.specs.declared.line.Line.{Line}
 use Rattle.shard_boxes.specs.declared.shard_box.Knowledge.{Knowledge}
 use Rattle.shard_boxes.specs.States.{ShardState, state_of, state_at, IsInitial}
-use Rattle.shard_boxes.specs.Lines.{after_lines, lines_of}
+use Rattle.shard_boxes.specs.Lines.{Line, after_lines, lines_of}
 use Rattle.shard_boxes.specs.Keys.{added, entries}
 use Rattle.shard_boxes.specs.Helds.{MayPut}
 use Rattle.shard_boxes.specs.Rule.{IsLawfulList, Speaks, HasParts, BoxState, FitsBox, IsIn, IsOut, BoxRule, maker, opened, TakenBy, with_first, put, head_of, tail_of}

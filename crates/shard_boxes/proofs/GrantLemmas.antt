@@ -1,7 +1,6 @@
 -- The grants of a key, and the grants of all boxes.
 use Rattle.std.proofs.Common.{◌≡◌, ℕ, zero, suc, ◌+◌, ◌<◌, ◌≤◌, false, List, [], ◌∷◌, ◌++◌, length, map, get_or, take, refl, sym, ap, ◌∙◌, subst, arith, append_assoc, length-append}
 use Rattle.std.proofs.lemmas.List.{get_or-map, length-map, take_more}
-use Rattle.shard_boxes.specs.declared.line.Line.{Line}
 use Rattle.shard_boxes.specs.declared.shard_box.Knowledge.{Knowledge}
 use Rattle.shard_boxes.specs.Rule.{IsLawfulList, HasParts, maker, opened, first_of, rest_of, joined}
 use Rattle.item_shards.specs.declared.shard.Shard.{Shard}
@@ -10,7 +9,7 @@ use Rattle.shard_boxes.specs.Passes.{GrantState}
 use Rattle.shard_boxes.specs.Keys.{BoxId, KeyState, key_at, no_seat, holds_at, lines_at, IsNewKey}
 use Rattle.shard_boxes.specs.Seats.{own_of, seat_of, boxes_of, key_of, AreFor}
 use Rattle.shard_boxes.specs.States.{ShardState, state_of, state_at, no_shard, IsInitial}
-use Rattle.shard_boxes.specs.Lines.{after_lines, IsShardHistory, lines_of}
+use Rattle.shard_boxes.specs.Lines.{Line, after_lines, IsShardHistory, lines_of}
 use Rattle.shard_boxes.specs.Closed.{IsSpent, AreSpent}
 use Rattle.shard_boxes.specs.Grants.{makers, ready, IsFree, AreFree, own_at, IsTaken}
 use Rattle.shard_boxes.proofs.Each.{map_push}

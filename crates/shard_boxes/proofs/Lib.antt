@@ -1,5 +1,6 @@
 pub mod LimitLemmas
 pub mod LineLemmas
+pub mod EventLemmas
 pub mod StateLemmas
 pub mod SeatLemmas
 pub mod BoxSteps

@@ -1,5 +1,5 @@
 -- How far acts raise counts and ratings.
-use Rattle.std.proofs.Common.{◌≡◌, ℕ, ◌+◌, ◌*◌, ◌<◌, ◌≤◌, ◌^◌, ℤ, ◌+ℤ◌, FitsSigned, Bool, true, false, cond, [], ◌∷◌, arith, unsigned_abs}
+use Rattle.std.proofs.Common.{ℕ, ◌+◌, ◌*◌, ◌<◌, ◌≤◌, ◌^◌, ℤ, ◌+ℤ◌, FitsSigned, Bool, true, false, cond, [], ◌∷◌, arith, unsigned_abs}
 use Rattle.std.specs.Int.{w64}
 use Rattle.std.proofs.lemmas.Int.{ints, fits_signed_from_abs}
 use Rattle.phase_laws.specs.Replay.{SawInTurn}
@@ -8,14 +8,12 @@ use Rattle.auction_rows.specs.declared.requests.Object.{Object}
 use Rattle.auction_rows.specs.declared.requests.Object.TheVariants.{Item, User, Category}
 use Rattle.auction_rows.specs.declared.values.Stars.{Stars}
 use Rattle.auction_rows.specs.Requests.{same_object}
-use Rattle.item_shards.specs.declared.shard.acts.Act.{Act}
-use Rattle.item_shards.specs.declared.shard.acts.Act.TheVariants.{AddItem, ListItem, Bid, Comment, Buy, Look}
+use Rattle.item_shards.specs.Events.{Event, AddItem, ListItem, Bid, Comment, Buy, Look}
 use Rattle.item_shards.specs.CommitNumbers.{last_number}
 use Rattle.item_shards.specs.Values.{Value}
 use Rattle.item_shards.specs.Contents.{Contents, changed, with_facts, bid_on, bought_of, comment_about, item_listed, after_act, after_acts}
-use Rattle.shard_boxes.specs.declared.line.Line.{Line}
 use Rattle.shard_boxes.specs.States.{ShardState, IsWithin}
-use Rattle.shard_boxes.specs.Lines.{after_line}
+use Rattle.shard_boxes.specs.Lines.{Line, after_line}
 use Rattle.shard_boxes.specs.Limits.{SumsFit}
 
 -- counts of at most n, and ratings of at most r away from 0
@@ -58,7 +56,7 @@ weaken n m r q contents a b h = record {
 further : (z : ℤ) (stars : Stars) → unsigned_abs (z +ℤ stars.value) ≤ unsigned_abs z + 5
 further z stars = omega (arith, ints, stars.at_least, stars.at_most)
 
-act_within : (act : Act) (contents : Contents) (n r : ℕ) → WithinBy n r contents → WithinBy (n + 1) (r + 5) (after_act contents act)
+act_within : (act : Event) (contents : Contents) (n r : ℕ) → WithinBy n r contents → WithinBy (n + 1) (r + 5) (after_act contents act)
 act_within (AddItem id facts) contents n r h = changed_within (Item id) (with_facts facts) contents n r (record { bids = λ v. omega arith; comments = λ v. omega arith; rating = λ v. omega arith }) h
 act_within (ListItem category entry) contents n r h = changed_within (Category category) (item_listed entry) contents n r (record { bids = λ v. omega arith; comments = λ v. omega arith; rating = λ v. omega arith }) h
 act_within (Bid id entry) contents n r h = changed_within (Item id) (bid_on entry) contents n r (record { bids = λ v. omega arith; comments = λ v. omega arith; rating = λ v. omega arith }) h
@@ -66,7 +64,7 @@ act_within (Comment user stars) contents n r h = changed_within (User user) (com
 act_within (Buy id quantity) contents n r h = changed_within (Item id) (bought_of quantity) contents n r (record { bids = λ v. omega arith; comments = λ v. omega arith; rating = λ v. omega arith }) h
 act_within (Look shown) contents n r h = weaken n (n + 1) r (r + 5) contents (omega arith) (omega arith) h
 
-two_within : (first second : Act) (contents : Contents) (n r : ℕ) → WithinBy n r contents → WithinBy (n + 1 + 1) (r + 5 + 5) (after_acts contents (first ∷ second ∷ []))
+two_within : (first second : Event) (contents : Contents) (n r : ℕ) → WithinBy n r contents → WithinBy (n + 1 + 1) (r + 5 + 5) (after_acts contents (first ∷ second ∷ []))
 two_within first second contents n r h = act_within second (after_act contents first) (n + 1) (r + 5) (act_within first contents n r h)
 
 -- the limits go with the clock, which each line raises
@@ -84,7 +82,7 @@ line_within state line h later =
 rating_fits : (z : ℤ) (stars : Stars) (r : ℕ) → unsigned_abs z ≤ r → r + 5 < 2 ^ 63 → FitsSigned w64 (z +ℤ stars.value)
 rating_fits z stars r le small = fits_signed_from_abs w64 (z +ℤ stars.value) (omega (arith, further z stars, le, small))
 
-act_fits : (act : Act) (contents : Contents) (n r : ℕ) → WithinBy n r contents → n + 1 < 2 ^ 64 → r + 5 < 2 ^ 63 → SumsFit contents act
+act_fits : (act : Event) (contents : Contents) (n r : ℕ) → WithinBy n r contents → n + 1 < 2 ^ 64 → r + 5 < 2 ^ 63 → SumsFit contents act
 act_fits (AddItem id facts) contents n r h a b = tt
 act_fits (ListItem category entry) contents n r h a b = tt
 act_fits (Bid id entry) contents n r h a b = omega (arith, h.bids id, a)
@@ -93,7 +91,7 @@ act_fits (Comment user stars) contents n r h a b =
 act_fits (Buy id quantity) contents n r h a b = tt
 act_fits (Look shown) contents n r h a b = tt
 
-pub two_fit : (state : ShardState) (first second : Act) → IsWithin state → state.clock < last_number
+pub two_fit : (state : ShardState) (first second : Event) → IsWithin state → state.clock < last_number
     → SawInTurn SumsFit after_act state.contents (first ∷ second ∷ [])
 two_fit state first second h below =
     let n : ℕ = 16000000 + 2 * state.clock in

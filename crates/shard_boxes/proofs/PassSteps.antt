@@ -8,10 +8,9 @@ use lib.ListN.{get_elem?}
 use Rattle.crossbeam_queue.specs.Fifo.{Forks, Merges}
 use Rattle.crossbeam_queue.proofs.Lists.{at_longer, set_else}
 use Rattle.item_shards.specs.declared.shard.Shard.{Shard}
-use Rattle.shard_boxes.specs.declared.line.Line.{Line}
 use Rattle.shard_boxes.specs.declared.shard_box.Knowledge.{Knowledge}
 use Rattle.shard_boxes.specs.States.{ShardState}
-use Rattle.shard_boxes.specs.Lines.{lines_of, StartsWith}
+use Rattle.shard_boxes.specs.Lines.{Line, lines_of, StartsWith}
 use Rattle.shard_boxes.specs.Rule.{Speaks, BoxState, FitsBox, IsIn, IsOut, BoxRule, head_of, tail_of, first_of, rest_of, longer, joined, spent}
 use Rattle.shard_boxes.proofs.BoxSteps.{Each, at_snoc_index, both_ways, each_set, tail_at, length-tail, length-head, head_at, plus_zero}
 

@@ -2,10 +2,9 @@
 use Rattle.std.specs.Prelude.{◌≡◌, ℕ, ◌+◌, ◌<◌, false, List, [], map, length, replicate, slice_index_or}
 use Rattle.item_shards.specs.declared.shard.Shard.{Shard}
 use Rattle.item_shards.specs.ShardContents.{shard_number}
-use Rattle.shard_boxes.specs.declared.line.Line.{Line}
 use Rattle.shard_boxes.specs.declared.shard_box.Knowledge.{Knowledge}
 use Rattle.shard_boxes.specs.States.{ShardState, state_at, state_of}
-use Rattle.shard_boxes.specs.Lines.{IsShardHistory, lines_of}
+use Rattle.shard_boxes.specs.Lines.{Line, IsShardHistory, lines_of}
 use Rattle.shard_boxes.specs.Keys.{BoxId}
 use Rattle.shard_boxes.specs.Rule.{IsLawfulList, Speaks, maker}
 use Rattle.shard_boxes.specs.Passes.{GrantState}

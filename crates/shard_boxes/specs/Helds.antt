@@ -3,9 +3,8 @@ use Rattle.std.specs.Prelude.{◌≡◌, ℕ, List, Option, Some, None, refl}
 use Rattle.std.specs.Coded.{Coded, code_by, coded×, coded_ℕ}
 use Rattle.item_shards.specs.declared.shard.Shard.{Shard}
 use Rattle.item_shards.specs.contracts.shard.Shard.{the_row as shard_row}
-use Rattle.shard_boxes.specs.declared.line.Line.{Line}
 use Rattle.shard_boxes.specs.States.{ShardState, state_at}
-use Rattle.shard_boxes.specs.Lines.{after_lines, after_line, MayFollow}
+use Rattle.shard_boxes.specs.Lines.{Line, after_lines, after_line, MayFollow}
 use Rattle.shard_boxes.specs.Keys.{KeyState, seen_at}
 
 -- what a held shard shows

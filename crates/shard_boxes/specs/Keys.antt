@@ -1,7 +1,7 @@
 -- What a key shows.
 use Rattle.std.specs.Prelude.{◌≡◌, ℕ, ◌<◌, ◌≤◌, Bool, true, false, List, [], ◌∷◌, ◌++◌, length, slice_index_or, slice_set, Option, Some, None}
 use Rattle.atomic_table.specs.Seated.{TableId}
-use Rattle.shard_boxes.specs.declared.line.Line.{Line}
+use Rattle.shard_boxes.specs.Lines.{Line}
 
 -- what tells one box from another
 abbrev pub BoxId : Type 0

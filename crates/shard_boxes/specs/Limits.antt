@@ -2,12 +2,11 @@
 use Rattle.std.specs.Prelude.{◌+◌, ◌<◌, ◌^◌, ◌+ℤ◌, FitsSigned, ⊤}
 use Rattle.std.specs.Int.{w64}
 use Rattle.auction_rows.specs.declared.requests.Object.TheVariants.{Item, User}
-use Rattle.item_shards.specs.declared.shard.acts.Act.{Act}
-use Rattle.item_shards.specs.declared.shard.acts.Act.TheVariants.{AddItem, ListItem, Bid, Comment, Buy, Look}
+use Rattle.item_shards.specs.Events.{Event, AddItem, ListItem, Bid, Comment, Buy, Look}
 use Rattle.item_shards.specs.Contents.{Contents}
 
 -- the sums that an act makes fit their types
-abbrev pub SumsFit : Contents → Act → Type 0
+abbrev pub SumsFit : Contents → Event → Type 0
 SumsFit contents (AddItem id facts) = ⊤
 SumsFit contents (ListItem category entry) = ⊤
 SumsFit contents (Bid id entry) = (contents (Item id)).bids.bids + 1 < 2 ^ 64

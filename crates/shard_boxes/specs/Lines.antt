@@ -5,20 +5,48 @@ use Rattle.phase_laws.specs.Numbers.{IsLinkedFrom}
 use Rattle.phase_laws.specs.Order.{IsAscendingByNumber, part}
 use Rattle.phase_laws.specs.Replay.{SawInTurn}
 use Rattle.item_shards.specs.declared.shard.acts.Act.{Act}
-use Rattle.item_shards.specs.Looking.{IsTrueAct}
+use Rattle.item_shards.specs.Events.{Event}
+use Rattle.item_shards.specs.declared.shard.Shard.{Shard}
+use Rattle.item_shards.specs.Looking.{IsTrueAct, events_of}
 use Rattle.item_shards.specs.Contents.{Contents, after_act, after_acts}
+use Rattle.item_shards.specs.ShardContents.{clock as clock_of, contents as contents_of}
 use Rattle.item_shards.specs.Writing.{first_act, second_act}
-use Rattle.shard_boxes.specs.declared.line.Acts.{Acts}
-use Rattle.shard_boxes.specs.declared.line.Line.{Line}
 use Rattle.shard_boxes.specs.States.{ShardState, state_at, IsWithin}
 
+-- the two acts of a line, as they were done: a place that is left has a look at nothing
+pub record Acts : Type 0 where
+  -- what was done first
+  pub first : Event
+  -- and then
+  pub second : Event
+
+-- what one transaction did on one shard
+pub record Line : Type 0 where
+  -- the number of the commit
+  pub number : ℕ
+  -- the shard's clock as it was found
+  pub before : ℕ
+  -- the index of the request in its worker's script
+  pub index : ℕ
+  -- what was done, in order
+  pub acts : Acts
+
 -- the two acts of a line, in order
-abbrev pub acts_in : Acts → List Act
+abbrev pub acts_in : Acts → List Event
 acts_in acts = acts.first ∷ acts.second ∷ []
 
 -- the first two of some acts, with looks at nothing in the places that are left
-abbrev pub first_two : List Act → Acts
+abbrev pub first_two : List Event → Acts
 first_two acts = record { first = first_act acts; second = second_act acts }
+
+-- the line of these acts on a shard as it was taken, at this number, of the request of this index
+abbrev pub line_of : ℕ → ℕ → List Act → Shard → Line
+line_of number index acts taken = record {
+  number = number;
+  before = clock_of taken;
+  index = index;
+  acts = first_two (events_of (contents_of taken) acts);
+}
 
 -- the shard after a line: its acts are done, and its number is the clock
 abbrev pub after_line : ShardState → Line → ShardState
@@ -53,7 +81,7 @@ abbrev pub StartsWith : List (ℕ × Line) → List (ℕ × Line) → Type 0
 StartsWith lines seen = (more : List (ℕ × Line)) × (lines ≡ seen ++ more)
 
 -- each look carries what the contents shows of its object, after the acts before it
-abbrev pub AreTrueOf : Contents → List Act → Type 0
+abbrev pub AreTrueOf : Contents → List Event → Type 0
 AreTrueOf contents acts = SawInTurn IsTrueAct after_act contents acts
 
 -- the line may be the next one of the shard

@@ -4,10 +4,9 @@ use mathlib.Core.Option.{some}
 use lib.ListN.{get_elem?}
 use Rattle.item_shards.specs.declared.shard.Shard.{Shard}
 use Rattle.item_shards.specs.ShardContents.{shard_number}
-use Rattle.shard_boxes.specs.declared.line.Line.{Line}
 use Rattle.shard_boxes.specs.declared.shard_box.Knowledge.{Knowledge}
 use Rattle.shard_boxes.specs.States.{ShardState, state_of, state_at, IsWithin, IsInitial}
-use Rattle.shard_boxes.specs.Lines.{after_lines, after_put, put_by, line_put, lines_of, MayFollow, StartsWith}
+use Rattle.shard_boxes.specs.Lines.{Line, after_lines, after_put, put_by, line_put, lines_of, MayFollow, StartsWith}
 use Rattle.shard_boxes.specs.Keys.{added, entries}
 
 -- each line may follow those before it, and its worker has a key

@@ -1,7 +1,7 @@
 -- What a key shows, of its grants.
 use Rattle.std.specs.Prelude.{◌≡◌, ℕ, ◌<◌, List, [], map, length, slice_index_or}
 use Rattle.shard_boxes.specs.Keys.{BoxId, SeatState, KeyState}
-use Rattle.shard_boxes.specs.declared.line.Line.{Line}
+use Rattle.shard_boxes.specs.Lines.{Line}
 use Rattle.shard_boxes.specs.declared.shard_box.Knowledge.{Knowledge}
 use Rattle.shard_boxes.specs.Passes.{GrantState}
 

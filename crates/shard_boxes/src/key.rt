@@ -1,13 +1,17 @@
 //! A worker's right to take the shards of a phase, a shard out of its box, and what it allows.
-ghost use Rattle.std.specs.Prelude.{◌≡◌, ◌<◌, ◌∷◌, [], ℕ, true, false, length};
+ghost use Rattle.std.specs.Prelude.{◌≡◌, ◌<◌, ◌≤◌, ◌∷◌, [], ℕ, true, false, length};
 ghost use Rattle.std.specs.Borrow.{Lends, sem};
 ghost use Rattle.phase_laws.specs.Replay.{SawInTurn};
+ghost use Rattle.auction_rows.specs.declared.requests.Object.TheVariants.{Item};
 ghost use Rattle.item_shards.specs.contracts.shard.Shard.{the_row as shard_row};
-ghost use Rattle.item_shards.specs.declared.shard.acts.Act.{Act};
+ghost use Rattle.item_shards.specs.Events.{Event};
+ghost use Rattle.item_shards.specs.Acting.{CanDo};
 ghost use Rattle.item_shards.specs.CommitNumbers.{last_number};
 ghost use Rattle.item_shards.specs.Contents.{after_act};
+ghost use Rattle.item_shards.specs.ShardContents.{clock, contents, LiesIn};
+ghost use Rattle.item_shards.specs.Values.{stock};
 ghost use Rattle.shard_boxes.specs.States.{state_of, ShardState, IsWithin};
-ghost use Rattle.shard_boxes.specs.Lines.{lines_of, StartsWith, IsShardHistory, after_lines};
+ghost use Rattle.shard_boxes.specs.Lines.{lines_of, StartsWith, IsShardHistory, after_line, after_lines, line_of, MayFollow};
 ghost use Rattle.shard_boxes.specs.Keys.{taking, putting, lines_at, seen_at, holds_at};
 ghost use Rattle.shard_boxes.specs.Helds.{taken_at, MayPut};
 ghost use Rattle.shard_boxes.specs.Passes.{GrantState};
@@ -19,7 +23,9 @@ ghost use Rattle.shard_boxes.specs.Limits.{SumsFit};
 use crate::boxes::PhaseName;
 use crate::line::Line;
 use crate::shard_box::{Grant, ShardBox};
-use item_shards::Shard;
+use auction_rows::{Facts, ItemId};
+use ghost_log::Ghost;
+use item_shards::{Act, Shard};
 use std::marker::{Brand, Model, PhantomData};
 use std::sync::Wait;
 
@@ -174,7 +180,46 @@ impl<N: PhaseName> Held<N> {
         &self.shard
     }
 
-    /// The shard, to act on it.
+    /// The number of the last commit that took the shard, 0 at first.
+    #[inline(always)]
+    pub fn clock(&self) -> u64
+        ensures { result ≡ clock self.now.shard }
+    {
+        self.shard.clock()
+    }
+
+    /// The facts of an item that lies in the shard and how many are left, if it is stored.
+    #[inline(always)]
+    pub fn stock(&self, item: ItemId) -> Option<(Facts, u32)>
+        requires { LiesIn self.now.shard (Item item) }
+        ensures { result ≡ stock (contents self.now.shard (Item item)) }
+    {
+        self.shard.stock(item)
+    }
+
+    /// Does two acts on the shard, one after the other, at a number after its clock, and gives the
+    /// line that they leave, of the request of this index. It takes no memory.
+    #[inline(always)]
+    pub fn act(&mut self, number: u64, index: u32, acts: &[Act; 2]) -> Line
+        requires later { clock self.old.shard < number }
+        requires within { number ≤ last_number }
+        requires can { CanDo self.old.shard acts.now }
+        ensures line { result ≡ line_of number index acts.now self.old.shard }
+        ensures follows { MayFollow (state_of self.old.shard) result }
+        ensures after { state_of self.new.shard ≡ after_line (state_of self.old.shard) result }
+        ensures number { self.new.number ≡ self.old.number }
+    {
+        let line = Line {
+            number,
+            index,
+            found: Ghost::of(&self.shard),
+            acts: Ghost::of(acts),
+        };
+        self.shard.apply_acts(number, acts);
+        line
+    }
+
+    /// The shard, to change it as its own methods do.
     #[inline(always)]
     pub fn shard_mut(&mut self) -> &mut Shard
         ensures* lends { sem 𝓛 (Lends (the_row N.row N.PhaseName) shard_row self.entry result
@@ -187,7 +232,7 @@ impl<N: PhaseName> Held<N> {
 
 /// While a shard's clock is below the last number, the sums that two acts make on it fit their types.
 pub fn sums_fit()
-    ensures { (state : ShardState) (first second : Act) →
+    ensures { (state : ShardState) (first second : Event) →
         IsWithin state → state.clock < last_number →
         SawInTurn SumsFit after_act state.contents (first ∷ second ∷ []) }
 {}

@@ -1,59 +1,36 @@
 //! What one transaction did on one shard, for proofs alone.
-ghost use Rattle.std.specs.Prelude.{◌≡◌};
-
 use ghost_log::Ghost;
-use item_shards::Act;
-use std::marker::Brand;
+use item_shards::{Act, Shard};
+use std::marker::{Brand, Model};
 
-/// What one transaction did on one shard: its number, the clock that it found there, its index in the worker's script, and
-/// its acts.
+/// What one transaction did on one shard. Contracts see its number, the clock that it found there, the index of its
+/// request in its worker's script, and its acts with what they showed.
 #[derive(Drop)]
 pub struct Line {
-    /// The number of the commit.
-    pub number: u64,
-    /// The shard's clock as it was found.
-    pub before: u64,
-    /// The index of the request in its worker's script.
-    pub index: u32,
-    /// What was done, in order.
-    pub acts: Acts,
+    pub(crate) number: u64,
+    pub(crate) index: u32,
+    pub(crate) found: Ghost<Shard>,
+    pub(crate) acts: Ghost<[Act; 2]>,
+}
+
+impl Model for Line {
+    ghost use Rattle.shard_boxes.specs.Lines.{Line as LineValue, line_of};
+
+    ghost Value = { LineValue };
+
+    ghost view = { λ l. line_of l.number l.index l.acts l.found };
 }
 
 /// Names the line with which a shard is put back.
 pub(crate) trait LineName {
     ghost use Rattle.std.specs.Prelude.{Option};
-    ghost use Rattle.shard_boxes.specs.declared.line.Line.{Line};
+    ghost use Rattle.shard_boxes.specs.Lines.{Line as LineValue};
 
-    ghost line: { Option Line };
+    ghost line: { Option LineValue };
 }
 
 impl LineName for Brand {
     ghost use Rattle.std.specs.Prelude.{None};
 
     ghost line = { None };
-}
-
-/// The two acts of a line; a place that is left has a look at nothing. Only proofs read them: they have no bytes.
-#[derive(Drop)]
-pub struct Acts {
-    /// What was done first.
-    pub first: Ghost<Act>,
-    /// And then.
-    pub second: Ghost<Act>,
-}
-
-impl Acts {
-    ghost use Rattle.shard_boxes.specs.Lines.{acts_in};
-
-    /// The acts of a line, in order.
-    #[inline(always)]
-    pub fn of(acts: &[Act; 2]) -> Acts
-        ensures { acts_in result ≡ acts.now }
-    {
-        let [first, second] = acts;
-        Acts {
-            first: Ghost::of(first),
-            second: Ghost::of(second),
-        }
-    }
 }

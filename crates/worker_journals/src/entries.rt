@@ -2,7 +2,7 @@
 ghost use Rattle.std.specs.Prelude.{◌≡◌, ◌+◌, ◌<◌, ◌^◌, ◌∷◌, ◌++◌, [], Some, OnOk, length, option_map, option_to_list, slice_get};
 ghost use Rattle.auction_rows.specs.Choosing.{written_by};
 ghost use Rattle.auction_rows.specs.History.{row_of_entry};
-ghost use Rattle.auction_rows.specs.StoreReplies.{is_refusal, store_reply, reply_of};
+ghost use Rattle.auction_rows.specs.StoreReplies.{is_refusal, store_reply};
 ghost use Rattle.auction_rows.specs.ItemViews.{item_told};
 ghost use Rattle.worker_journals.specs.Sides.{shown_in};
 
@@ -199,30 +199,5 @@ impl<'a> Answer<'a> {
                 None => ReplyForm::Store(StoreReply::Refused(Refusal::NoSuchItem)),
             },
         }
-    }
-
-    /// The whole reply.
-    #[inline(always)]
-    pub fn to_reply(&self) -> Reply
-        ensures { result ≡ self.now }
-    {
-        match self.form {
-            ReplyForm::Store(reply) => whole(reply),
-            ReplyForm::Item(seen) => seen.to_reply(),
-            ReplyForm::Whole(reply) => *reply,
-        }
-    }
-}
-
-#[inline(always)]
-fn whole(reply: StoreReply) -> Reply
-    ensures { result ≡ reply_of reply }
-{
-    match reply {
-        StoreReply::ItemStored(id) => Reply::ItemStored(id),
-        StoreReply::BidStored(id) => Reply::BidStored(id),
-        StoreReply::CommentStored(id) => Reply::CommentStored(id),
-        StoreReply::Bought(id) => Reply::Bought(id),
-        StoreReply::Refused(reason) => Reply::Refused(reason),
     }
 }

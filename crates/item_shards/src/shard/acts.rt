@@ -1,24 +1,28 @@
-//! What a transaction does on a shard, and what it is shown there; and rows written on a shard that
-//! holds every object.
+//! What a transaction does and looks at on a shard, and rows written on a shard that holds every object.
 ghost use Rattle.std.specs.Prelude.{◌≡◌, ◌<◌, ◌≤◌, OnOk, OnErr};
 ghost use Rattle.item_shards.specs.CommitNumbers.{last_number};
 
 use crate::shard::Shard;
-use auction_rows::{BidEntry, Facts, ItemEntry, ItemId, Object, Quantity, Reply, Row, Stars};
-use ghost_log::Ghost;
+use auction_rows::{BidEntry, Facts, ItemEntry, ItemId, Quantity, Row, Stars};
 use std::alloc::AllocError;
 
-/// What a transaction is shown. Each look but one at nothing names its object: who keeps a list of acts
-/// can tell whether they are true of a shard, and need not know whose they are. Only proofs read what a look shows.
-#[derive(Drop)]
-pub enum Shown {
+/// What a transaction looks at on a shard. Each look but the one at nothing names its object; what it shows is
+/// what the shard has, so a look carries no value.
+#[derive(Clone, Copy)]
+pub enum Look {
     Nothing,
     /// An item's facts, if it is stored.
-    Facts(ItemId, Ghost<Option<Facts>>),
+    Facts(ItemId),
     /// An item's facts and how many of it are left, if it is stored.
-    Left(ItemId, Ghost<Option<(Facts, u32)>>),
-    /// The reply to a view of an object.
-    Reply(Object, Ghost<Reply>),
+    Left(ItemId),
+    /// The view of an item.
+    Item(ItemId),
+    /// The view of an item's bids.
+    Bids(ItemId),
+    /// The view of a category.
+    Category(u32),
+    /// The view of a user.
+    User(u32),
 }
 
 /// What a transaction does on a shard.
@@ -35,19 +39,21 @@ pub enum Act {
     /// Buys so many of an item.
     Buy(ItemId, Quantity),
     /// Looks at something, and changes nothing.
-    Look(Shown),
+    Look(Look),
 }
 
 impl Shard {
     ghost use Rattle.item_shards.specs.Contents.{after_act, after_acts};
     ghost use Rattle.item_shards.specs.ShardContents.{contents, clock, rooms, IsSameShard};
     ghost use Rattle.item_shards.specs.Acting.{CanAct, CanDo};
+    ghost use Rattle.item_shards.specs.Looking.{event_at, events_of};
 
     /// Does one act, by one look-up. It takes no memory, and leaves the clock.
     #[inline(always)]
     pub fn act(&mut self, act: &Act)
         requires { CanAct self.old act.now }
-        ensures contents { contents self.new ≡ after_act (contents self.old) act.now }
+        ensures contents { contents self.new
+            ≡ after_act (contents self.old) (event_at (contents self.old) act.now) }
         ensures clock { clock self.new ≡ clock self.old }
         ensures rooms { rooms self.new ≡ rooms self.old }
         ensures same { IsSameShard self.old self.new }
@@ -62,15 +68,14 @@ impl Shard {
         }
     }
 
-    /// Does the acts of a commit, one after the other, and sets the clock to its number: it gives the clock that was found. It
-    /// takes no memory.
+    /// Does the acts of a commit, one after the other, and sets the clock to its number. It takes no memory.
     #[inline(always)]
-    pub fn apply_acts(&mut self, number: u64, acts: &[Act; 2]) -> u64
+    pub fn apply_acts(&mut self, number: u64, acts: &[Act; 2])
         requires later { clock self.old < number }
         requires within { number ≤ last_number }
         requires can { CanDo self.old acts.now }
-        ensures found { result ≡ clock self.old }
-        ensures contents { contents self.new ≡ after_acts (contents self.old) acts.now }
+        ensures contents { contents self.new
+            ≡ after_acts (contents self.old) (events_of (contents self.old) acts.now) }
         ensures clock { clock self.new ≡ number }
         ensures rooms { rooms self.new ≡ rooms self.old }
         ensures same { IsSameShard self.old self.new }
@@ -78,9 +83,7 @@ impl Shard {
         let [first, second] = acts;
         self.act(first);
         self.act(second);
-        let found = self.clock();
         self.set_clock(number);
-        found
     }
 }
 

@@ -1,5 +1,11 @@
-use Rattle.std.proofs.Common.{◌<◌, length, get_or, ap, sym, ◌∙◌, arith}
+use Rattle.std.proofs.Common.{◌<◌, length, map, get_or, ap, sym, ◌∙◌, arith}
 use Rattle.auction_rows.specs.Requests.{shard_of}
+use Rattle.item_shards.specs.Contents.{after_act}
+use Rattle.item_shards.specs.Looking.{event_at}
+use Rattle.item_shards.specs.ShardContents.{contents}
+use Rattle.shard_boxes.specs.States.{ShardState, state_at, state_of}
+use Rattle.phase_floor.specs.Resuming.{event_on}
+use Rattle.phase_floor.proofs.Placed.{seen}
 use Rattle.phase_floor.proofs.ResumeActs.{act_done}
 use Rattle.phase_floor.proofs.resumption.act.Goals as goal
 
@@ -11,7 +17,12 @@ act-requires c =
 
 pub returns : goal.returns
 returns c =
-    let shards = c.args.shards.now.items in let place = c.shard_of-place.result in let did = c.act.ensures in
+    let shards = c.args.shards.now.items in
+    let place = c.shard_of-place.result in
+    let old = c.index_mut.result.now in
+    let did = c.act.ensures in
     let low : place < length shards = omega (arith, c.shard_of-place.ensures.within, c.requires.count) in
-    act_done shards c.requires.numbered place low c.args.object c.args.act c.requires.about (ap (shard_of c.args.object) c.requires.count ∙ sym c.shard_of-place.ensures.shard)
-    c.index_mut.result.now c.act.new.self c.index_mut.ensures.value did.same did.clock did.contents
+    let lies = ap (shard_of c.args.object) c.requires.count ∙ sym c.shard_of-place.ensures.shard in
+    let is = ap (λ (state : ShardState). event_at state.contents c.args.act) (seen shards place low old c.index_mut.ensures.value ∙ ap (state_at (map state_of shards)) (sym lies)) in
+    act_done shards c.requires.numbered place low c.args.object (event_on shards c.args.object c.args.act) c.requires.about lies old c.act.new.self c.index_mut.ensures.value did.same did.clock
+    (did.contents ∙ ap (after_act (contents old)) is)

@@ -1,36 +1,27 @@
-use Rattle.std.proofs.Common.{Some, ◌≡◌, length, refl, sym, ap, subst, ◌∙◌}
-use Rattle.item_shards.specs.declared.shard.Shard.{Shard}
-use Rattle.item_shards.specs.Contents.{after_acts}
-use Rattle.item_shards.specs.ShardContents.{clock, contents, IsSameShard}
-use Rattle.shard_boxes.specs.Keys.{putting}
-use Rattle.shard_boxes.specs.Lines.{first_two}
-use Rattle.phase_permits.specs.Putting.{written_acts, line_of}
-use Rattle.phase_permits.proofs.PutLemmas.{may_put, line_follows}
+use Rattle.std.proofs.Common.{◌≡◌, ℕ, true, Some, sym, subst, ◌∙◌}
+use Rattle.shard_boxes.specs.Helds.{MayPut, taken_at}
+use Rattle.shard_boxes.specs.Keys.{holds_at, putting}
+use Rattle.shard_boxes.specs.Lines.{Line, MayFollow, line_of}
+use Rattle.shard_boxes.specs.States.{ShardState, state_of}
+use Rattle.phase_permits.specs.Putting.{written_acts}
 use Rattle.phase_permits.proofs.deeds.put_with_line.Goals as goal
+
+pub put-requires-clause-holder : goal.put-requires-clause-holder
+put-requires-clause-holder g c = subst (λ (n : ℕ). holds_at c.args.key.now n ≡ true) (sym c.act-line.ensures.number) c.requires.held.holder
 
 pub put-requires-clause-may : goal.put-requires-clause-may
 put-requires-clause-may g c =
-    let acts = written_acts c.args.written in
-    let old = c.args.held.shard in
-    let lent = c.shard_mut.ensures.value in
-    let made = c.apply_acts-before.ensures in
-    let line : line_of c.args.written.number c.args.written.index acts old ≡ record { number = c.args.written.number; before = c.apply_acts-before.result; index = c.args.written.index; acts = c.of.result } =
-    λ i. record { number = c.args.written.number; before = sym (made.found ∙ ap clock lent) i; index = c.args.written.index; acts = first_two (sym c.of.ensures i) } in
-    let two : length acts ≡ 2 = refl in
-    may_put old c.apply_acts-before.new.self _ c.args.written.number c.args.written.index acts _ two line c.requires.held.taken
-    (subst (λ (s : Shard). IsSameShard s c.apply_acts-before.new.self) lent made.same)
-    (made.contents ∙ ap (λ (s : Shard). after_acts (contents s) acts) lent) made.clock c.requires.held.later c.requires.looks
+    let new = state_of c.act-line.new.self.shard in
+    let made = c.act-line.ensures in
+    subst (λ (n : ℕ). MayPut (taken_at g.N.PhaseName.initial c.args.key.now n) new (Some c.act-line.result)) (sym made.number)
+    (subst (λ (t : ShardState). MayPut t new (Some c.act-line.result)) c.requires.held.taken (made.follows, made.after))
 
 pub returns : goal.returns
 returns g c =
-    let acts = written_acts c.args.written in
+    let made = c.act-line.ensures in
+    let shard = c.args.held.shard in
+    let line = line_of c.args.written.number c.args.written.index (written_acts c.args.written) shard in
     record {
-      put = c.put.ensures
-          ∙ (λ i. putting c.args.key.now c.args.held.number (Some (record {
-            number = c.args.written.number;
-            before = (c.apply_acts-before.ensures.found ∙ ap clock c.shard_mut.ensures.value) i;
-            index = c.args.written.index;
-            acts = first_two (c.of.ensures i);
-          })));
-      follows = line_follows _ c.args.held.shard c.args.written.number c.args.written.index acts refl c.requires.held.taken c.requires.held.later c.requires.looks;
+      put = c.put.ensures ∙ (λ i. putting c.args.key.now (made.number i) (Some (made.line i)));
+      follows = subst (λ (t : ShardState). MayFollow t line) c.requires.held.taken (subst (λ (l : Line). MayFollow (state_of shard) l) made.line made.follows);
     }

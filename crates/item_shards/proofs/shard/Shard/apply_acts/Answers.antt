@@ -1,21 +1,34 @@
 use Rattle.std.proofs.Common.{get_or, sym, ap, subst, ◌∙◌, List}
 use Rattle.item_shards.specs.declared.shard.acts.Act.{Act}
-use Rattle.item_shards.specs.Acting.{CanDo}
+use Rattle.item_shards.specs.Acting.{CanActIn, CanDo}
 use Rattle.item_shards.specs.Contents.{Contents, after_act, after_acts}
-use Rattle.item_shards.specs.ShardContents.{contents}
+use Rattle.item_shards.specs.Looking.{event_at, events_of}
+use Rattle.item_shards.specs.ShardContents.{contents, rooms}
 use Rattle.item_shards.proofs.CommitLemmas.{two_of, can_next}
 use Rattle.item_shards.proofs.shard.Shard.apply_acts.Goals as goal
+
+pub act-requires : goal.act-requires
+act-requires c =
+    let old = c.args.self.now in
+    let acts = two_of c.args.acts.now c.index-acts-0.result c.index-acts-1.result c.type_inv.acts in
+    (subst (CanDo old) acts c.requires.can).0
 
 pub act-requires-2 : goal.act-requires-2
 act-requires-2 c =
     let old = c.args.self.now in
+    let first = event_at (contents old) (get_or c.args.acts.now 0 c.index-acts-0.result) in
+    let second = get_or c.args.acts.now 1 c.index-acts-1.result in
     let acts = two_of c.args.acts.now c.index-acts-0.result c.index-acts-1.result c.type_inv.acts in
-    let can = subst (λ (both : List Act). CanDo old both) acts c.requires.can in
-    can_next old c.act.new.self (get_or c.args.acts.now 0 c.index-acts-0.result) (get_or c.args.acts.now 1 c.index-acts-1.result)
-    c.act.ensures.same c.act.ensures.rooms c.act.ensures.contents can.1.0
+    let can = subst (CanDo old) acts c.requires.can in
+    subst (λ (found : Contents). CanActIn c.act.new.self (rooms c.act.new.self) (contents c.act.new.self) (event_at found second)) (sym c.act.ensures.contents)
+    (can_next old c.act.new.self first (event_at (after_act (contents old) first) second)
+    c.act.ensures.same c.act.ensures.rooms c.act.ensures.contents can.1.0)
 
 pub returns-clause-contents : goal.returns-clause-contents
 returns-clause-contents c =
+    let old = contents c.args.self.now in
+    let second = get_or c.args.acts.now 1 c.index-acts-1.result in
     let acts = two_of c.args.acts.now c.index-acts-0.result c.index-acts-1.result c.type_inv.acts in
-    c.set_clock.ensures.contents ∙ c.act-2.ensures.contents ∙ ap (λ (s : Contents). after_act s (get_or c.args.acts.now 1 c.index-acts-1.result)) c.act.ensures.contents
-    ∙ ap (λ (both : List Act). after_acts (contents c.args.self.now) both) (sym acts)
+    c.set_clock.ensures.contents ∙ c.act-2.ensures.contents
+    ∙ ap (λ (now : Contents). after_act now (event_at now second)) c.act.ensures.contents
+    ∙ ap (λ (both : List Act). after_acts old (events_of old both)) (sym acts)

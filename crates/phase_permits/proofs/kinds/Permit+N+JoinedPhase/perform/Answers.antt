@@ -1,6 +1,6 @@
-use Rattle.std.proofs.Common.{refl, subst}
+use Rattle.std.proofs.Common.{◌≡◌, ◌<◌, Some, length, refl, sym, subst}
 use Rattle.phase_permits.specs.Performing.{HasCommittedSome, HasDealt}
-use Rattle.phase_permits.specs.Workers.{with_try}
+use Rattle.phase_permits.specs.Workers.{WorkerState, last_reply, with_try}
 use Rattle.phase_permits.proofs.LastLemmas.{some_entry, as_read}
 use Rattle.phase_permits.proofs.kinds.Permit+N+JoinedPhase.perform.Goals as goal
 
@@ -9,11 +9,13 @@ last_reply-requires g c =
     let is = c.in_ok-commit.ensures in
     let done : HasCommittedSome g.N.PhaseName.initial (with_try c.args.self.now) c.commit.new.self c.args.request.now c.args.index =
     subst (HasDealt g.N.PhaseName.initial (with_try c.args.self.now) c.commit.new.self c.args.request.now c.args.index) (is.joined refl) is.dealt in
-    some_entry g.N.PhaseName.initial (with_try c.args.self.now) c.commit.new.self c.args.request.now c.args.index done.0 done.1
+    subst (λ (w : WorkerState). 0 < length w.journal.entries) (sym c.self.view_is)
+    (some_entry g.N.PhaseName.initial (with_try c.args.self.now) c.commit.new.self c.args.request.now c.args.index done.0 done.1)
 
 pub returns-clause-committed : goal.returns-clause-committed
 returns-clause-committed g c =
     let is = c.in_ok-commit.ensures in
     let done : HasCommittedSome g.N.PhaseName.initial (with_try c.args.self.now) c.commit.new.self c.args.request.now c.args.index =
     subst (HasDealt g.N.PhaseName.initial (with_try c.args.self.now) c.commit.new.self c.args.request.now c.args.index) (is.joined refl) is.dealt in
-    as_read g.N.PhaseName.initial (with_try c.args.self.now) c.commit.new.self c.args.request.now c.args.index done.0 done.1 c.last_reply.result c.last_reply.ensures
+    as_read g.N.PhaseName.initial (with_try c.args.self.now) c.commit.new.self c.args.request.now c.args.index done.0 done.1 c.last_reply.result
+    (subst (λ (w : WorkerState). last_reply w.journal.entries ≡ Some c.last_reply.result) c.self.view_is c.last_reply.ensures)

@@ -1,6 +1,6 @@
-use Rattle.std.proofs.Common.{subst}
+use Rattle.std.proofs.Common.{◌<◌, length, sym, subst}
 use Rattle.phase_permits.specs.Performing.{HasCommittedSome, HasDealt}
-use Rattle.phase_permits.specs.Workers.{with_try}
+use Rattle.phase_permits.specs.Workers.{WorkerState, with_try}
 use Rattle.phase_permits.proofs.LastLemmas.{some_entry}
 use Rattle.phase_permits.proofs.kinds.Permit+N+SplitPhase.perform.Goals as goal
 
@@ -8,4 +8,5 @@ pub last_reply-requires : goal.last_reply-requires
 last_reply-requires g c =
     let done : HasCommittedSome g.N.PhaseName.initial (with_try c.args.self.now) c.commit.new.self c.args.request.now c.args.index =
     subst (HasDealt g.N.PhaseName.initial (with_try c.args.self.now) c.commit.new.self c.args.request.now c.args.index) c.if-branch.true c.in_ok-commit.ensures.dealt in
-    some_entry g.N.PhaseName.initial (with_try c.args.self.now) c.commit.new.self c.args.request.now c.args.index done.0 done.1
+    subst (λ (w : WorkerState). 0 < length w.journal.entries) (sym c.self.view_is)
+    (some_entry g.N.PhaseName.initial (with_try c.args.self.now) c.commit.new.self c.args.request.now c.args.index done.0 done.1)

@@ -10,7 +10,7 @@ unfolding begun_of
 invariant_of-worker g c =
     let w = new_worker c.args.start.key c.args.start.opening c.args.start.counters c.args.start.journal c.args.start.stash c.args.start.slices c.args.start.quota c.args.start.clock in
     let begun : begun_of c.and.result.items ≡ (c.args.start.counters, c.args.start.clock) = ap begun_of (c.and.ensures ∙ ap (λ (none : List (Counters × ℕ)). none ++ (c.args.start.counters, c.args.start.clock) ∷ []) c.new.ensures) in
-    subst IsLawfulWorker (λ i. record w { begun = sym begun i; txns = sym c.new-2.ensures i }) (start_lawful w c.requires.can)
+    subst IsLawfulWorker (λ i. record w { begun = sym begun i }) (start_lawful w c.requires.can)
 
 pub invariant_of-result : goal.invariant_of-result
 unfolding begun_of
@@ -18,11 +18,11 @@ invariant_of-result g c =
     let w = new_worker c.args.start.key c.args.start.opening c.args.start.counters c.args.start.journal c.args.start.stash c.args.start.slices c.args.start.quota c.args.start.clock in
     let shards = length g.N.PhaseName.initial in
     let begun : begun_of c.and.result.items ≡ (c.args.start.counters, c.args.start.clock) = ap begun_of (c.and.ensures ∙ ap (λ (none : List (Counters × ℕ)). none ++ (c.args.start.counters, c.args.start.clock) ∷ []) c.new.ensures) in
-    subst (IsPermit g.K.Kind.IS_JOINED shards) (λ i. record w { begun = sym begun i; txns = sym c.new-2.ensures i }) (c.requires.kind, start_explained shards w c.requires.can refl refl)
+    subst (IsPermit g.K.Kind.IS_JOINED shards) (λ i. record w { begun = sym begun i }) (c.requires.kind, start_explained shards w c.requires.can refl)
 
 pub returns : goal.returns
 unfolding begun_of
 returns g c =
     let w = new_worker c.args.start.key c.args.start.opening c.args.start.counters c.args.start.journal c.args.start.stash c.args.start.slices c.args.start.quota c.args.start.clock in
     let begun : begun_of c.and.result.items ≡ (c.args.start.counters, c.args.start.clock) = ap begun_of (c.and.ensures ∙ ap (λ (none : List (Counters × ℕ)). none ++ (c.args.start.counters, c.args.start.clock) ∷ []) c.new.ensures) in
-    λ i. record w { begun = begun i; txns = c.new-2.ensures i }
+    λ i. record w { begun = begun i }

@@ -1,17 +1,16 @@
 use Rattle.std.proofs.Common.{◌≡◌, length, sym, ap, subst, ◌∙◌}
 use Rattle.auction_rows.specs.StoreReplies.{reply_of}
 use Rattle.shard_boxes.specs.Keys.{KeyState}
-use Rattle.phase_permits.specs.declared.transaction.ReadSet.{ReadSet}
 use Rattle.phase_permits.specs.declared.deeds.Written.{Written}
 use Rattle.phase_permits.specs.Begun.{step_of}
-use Rattle.phase_permits.specs.Deeds.{clocks_of, written_of}
+use Rattle.phase_permits.specs.Deeds.{written_of}
 use Rattle.phase_permits.specs.Homes.{IsWrittenAt}
 use Rattle.phase_permits.specs.Putting.{HasPutAll, written_acts}
 use Rattle.phase_permits.specs.Takens.{held_in, numbers_of, is_one_of, dealt, line_among, CanBeDoneOnAll}
 use Rattle.phase_permits.specs.Txns.{IsOwn}
 use Rattle.phase_permits.specs.Workers.{WorkerState, after_commit}
 use Rattle.phase_permits.proofs.AnswerLemmas.{own_reply, written_at}
-use Rattle.phase_permits.proofs.BegunLemmas.{begun_can, begun_commits, next_reply, seen_answered}
+use Rattle.phase_permits.proofs.BegunLemmas.{begun_can, begun_commits, begun_good, next_reply, seen_answered}
 use Rattle.phase_permits.proofs.worker.Worker.put_store.Goals as goal
 
 pub put_all-requires-clause-can : goal.put_all-requires-clause-can
@@ -24,8 +23,8 @@ put_all-requires-clause-can g c =
     let reply = reply_of store.reply in
     let step = step_of initial g.N.PhaseName.workers c.args.boxes.now c.requires.begun.0 store.homes.now in
     subst (λ (d : Written). CanBeDoneOnAll d.number (held_in took) (dealt took (written_acts d))) (sym c.written-written.ensures)
-    (begun_can step w store.call.request.now c.args.begun begun store.seen.now c.requires.store c.requires.seen reply c.of-deeds.result
-    (c.of-deeds.ensures.footprint w (length initial) begun.homes_are) c.requires.room c.requires.answered c.requires.opened (λ held on. c.of-deeds.ensures.good initial g.N.PhaseName.workers c.args.boxes.now c.requires.begun.0 w held on))
+    (begun_can step w store.call.request.now c.args.begun begun store.seen.now c.requires.store c.requires.seen reply c.of-deeds.result c.requires.room c.requires.answered c.requires.opened
+    (λ held on. c.of-deeds.ensures.good store.seen.now initial g.N.PhaseName.workers c.args.boxes.now c.requires.begun.0 w held on) (c.of-deeds.ensures.footprint w (length initial) begun.homes_are))
 
 pub add_store-requires-clause-home : goal.add_store-requires-clause-home
 add_store-requires-clause-home g c =
@@ -50,15 +49,15 @@ returns g c key begun =
     let number = c.args.begun.number in
     let reply = reply_of store.reply in
     let new = c.add_store.new.self in
-    let found : ReadSet = record { stock = c.of.result; clocks = c.clocks_of.result } in
-    let found_is : found ≡ record { stock = store.seen.now; clocks = clocks_of took } = λ i. record { stock = c.of.ensures i; clocks = c.clocks_of.ensures i } in
     let key_is : new.key ≡ c.put_all.new.key = ap (λ (s : WorkerState). s.key) c.add_store.ensures in
     let written = written_of c.of-deeds.result number store.call.index in
     let lines = line_among number store.call.index (held_in took) (dealt took (written_acts written)) in
     let put = subst (λ (d : Written). HasPutAll initial c.self.inside.key c.put_all.new.key (is_one_of (numbers_of (held_in took))) (line_among d.number d.index (held_in took) (dealt took (written_acts d)))) c.written-written.ensures c.put_all.ensures in
-    begun_commits step w request c.args.begun begun new store.call.index reply store.seen.now c.of-deeds.result found (c.of-deeds.ensures.footprint w (length initial) begun.homes_are)
-    (c.of-deeds.ensures.owed w (length initial) begun.homes_are (own_reply w store.seen.now request reply c.requires.answered c.requires.store) (next_reply w store.seen.now request reply c.requires.answered c.requires.store))
-    found_is (seen_answered step w request c.args.begun begun store.seen.now c.requires.store c.requires.seen store.call.index reply found c.requires.answered found_is)
+    begun_commits step w request c.args.begun begun new store.call.index reply store.seen.now c.of-deeds.result (c.of-deeds.ensures.footprint w (length initial) begun.homes_are)
+    (c.of-deeds.ensures.owed store.seen.now w (length initial) begun.homes_are (own_reply w store.seen.now request reply c.requires.answered c.requires.store) (next_reply w store.seen.now request reply c.requires.answered c.requires.store))
+    (begun_good step w request c.args.begun begun store.seen.now c.requires.store c.requires.seen reply c.of-deeds.result c.requires.room c.requires.answered c.requires.opened
+    (λ held on. c.of-deeds.ensures.good store.seen.now initial g.N.PhaseName.workers c.args.boxes.now key w held on))
+    (seen_answered step w request c.args.begun begun store.seen.now c.requires.store c.requires.seen store.call.index reply c.requires.answered)
     (subst (λ (k : KeyState). HasPutAll initial w.key k (is_one_of (numbers_of (held_in took))) lines) (sym key_is)
     (subst (λ (s : WorkerState). HasPutAll initial s.key c.put_all.new.key (is_one_of (numbers_of (held_in took))) lines) c.self.view_is put))
-    (c.add_store.ensures ∙ (λ i. record (after_commit (c.self.view_is i) number store.call.index request reply found) { key = sym key_is i }))
+    (c.add_store.ensures ∙ (λ i. record (after_commit (c.self.view_is i) number store.call.index request reply) { key = sym key_is i }))

@@ -1,8 +1,7 @@
 use Rattle.std.proofs.Common.{ℕ, ◌<◌, ◌++◌, List, true, ap, sym, ◌∙◌, subst, arith, length}
-use Rattle.shard_boxes.specs.declared.line.Line.{Line}
 use Rattle.shard_boxes.specs.declared.shard_box.Knowledge.{Knowledge}
 use Rattle.shard_boxes.specs.States.{state_of}
-use Rattle.shard_boxes.specs.Lines.{IsShardHistory, lines_of}
+use Rattle.shard_boxes.specs.Lines.{Line, IsShardHistory, lines_of}
 use Rattle.shard_boxes.specs.Passes.{GrantState}
 use Rattle.shard_boxes.specs.Keys.{KeyState, SeatState, taking}
 use Rattle.shard_boxes.specs.Seats.{own_of}

@@ -1,0 +1,16 @@
+-- An event: an act as it was done on a shard, with what it showed.
+use Rattle.std.specs.Prelude.{ℕ}
+use Rattle.auction_rows.specs.declared.values.Stars.{Stars}
+use Rattle.auction_rows.specs.declared.requests.BidEntry.{BidEntry}
+use Rattle.auction_rows.specs.declared.requests.Facts.{Facts}
+use Rattle.auction_rows.specs.declared.requests.ItemEntry.{ItemEntry}
+use Rattle.auction_rows.specs.declared.requests.ItemId.{ItemId}
+use Rattle.item_shards.specs.Shown.{Shown}
+
+pub data Event : Type 0 where
+  AddItem : ItemId → Facts → Event
+  ListItem : ℕ → ItemEntry → Event
+  Bid : ItemId → BidEntry → Event
+  Comment : ℕ → Stars → Event
+  Buy : ItemId → ℕ → Event
+  Look : Shown → Event
