@@ -29,8 +29,7 @@ use item_shards::{Look, Shard, refusal_with};
 use shard_boxes::PhaseName;
 
 impl<N: PhaseName> Worker<N> {
-    /// What a store sees of the item that it needs: of a hot one what is fixed, of another one what
-    /// its shard has.
+    /// What a store sees of the item that it needs: what is fixed if it is hot, else its shard's.
     #[inline(always)]
     pub(crate) fn seen(
         &self,

@@ -9,6 +9,7 @@ ghost use Rattle.phase_permits.specs.Deeds.{written_of};
 ghost use Rattle.phase_permits.specs.Putting.{CanDo, written_acts, line_of, IsHeldFor, IsPutWith};
 
 use crate::homes::{Home, Homes};
+use crate::transaction::Known;
 use auction_rows::{BidEntry, Facts, ItemEntry, Request, StoreReply};
 use item_shards::{Act, Look};
 use shard_boxes::{Boxes, Held, Key, PhaseName};
@@ -51,7 +52,7 @@ pub(crate) struct Deeds {
 impl Deeds {
     /// Those of a store with this reply, whatever it saw of its item.
     #[inline]
-    pub(crate) fn of(request: &Request, reply: StoreReply, homes: &Homes) -> Deeds
+    pub(crate) fn of<K: Known>(request: &Request, reply: StoreReply, homes: &Homes) -> Deeds
         requires store { is_view request.now ≡ false }
         ensures owed { (seen : Option (FactsValue × ℕ)) →
             AreOwedBy request.now (reply_of reply) seen homes.now result }

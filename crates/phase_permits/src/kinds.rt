@@ -70,8 +70,7 @@ impl<N: PhaseName> Permit<N, JoinedPhase> {
     }
 
     /// Performs a request of the quota and commits it with its reply. After a fault nothing has
-    /// changed but `tries` and what the key has seen of the request's shards. It takes memory only
-    /// for a new item.
+    /// changed but `tries` and what the key has seen of its shards. Only a new item takes memory.
     pub fn perform<R: Wait>(
         &mut self,
         rt: &R,
@@ -182,8 +181,7 @@ impl<N: PhaseName> Permit<N, SplitPhase> {
     }
 
     /// A comment about a hot user on the occasion of a hot item: None exactly where the worker's
-    /// clock is at the end of numbers, and then nothing has changed. It takes no shard and no
-    /// memory.
+    /// clock is at the end of numbers, and then nothing has changed. It takes no shard, no memory.
     pub fn comment_hot(
         &mut self,
         author: u32,

@@ -103,8 +103,7 @@ impl<N: PhaseName, K: Kind> Permit<N, K> {
         }
     }
 
-    /// Performs a request of the quota, as `perform` does: false where it is put off. Its reply is
-    /// left in the journal.
+    /// Performs a request of the quota, as `perform` does, without its reply: false if put off.
     pub fn commit<R: Wait>(
         &mut self,
         rt: &R,

@@ -90,8 +90,7 @@ const GUESSES: u32 = 64;
 #[derive(Drop)]
 pub struct Slices {
     hot: IndexMap<Object, Hot>,
-    // Where an object may be: whoever asks looks at the object that is there, so nothing relies on
-    // it.
+    // Where an object may be: a guess, which is checked at its place.
     guesses: [u8; 64],
 }
 

@@ -1,12 +1,14 @@
 //! What a worker does with a request that is not put off: what it finds, and how it answers.
 ghost use Rattle.std.specs.Prelude.{◌≡◌, ◌<◌, ◌≤◌, ◌↔◌, ℕ, suc, max, None, Some, IsNone, IfNone, IfSome, IfOk, IfErr, false, true, length};
 ghost use Rattle.std.specs.List.{AllByRecursion};
+ghost use Rattle.auction_rows.specs.declared.requests.Request.{Request as RequestValue};
 ghost use Rattle.auction_rows.specs.Refusals.{number_refusal};
 ghost use Rattle.auction_rows.specs.Requests.{is_view};
 ghost use Rattle.auction_rows.specs.StoreReplies.{reply_of};
 ghost use Rattle.item_shards.specs.CommitNumbers.{last_number};
 ghost use Rattle.shard_boxes.specs.Keys.{KeyState};
 ghost use Rattle.phase_permits.specs.declared.transaction.PermitFault.TheVariants.{NumberFull};
+ghost use Rattle.phase_permits.specs.Txns.{IsBid};
 
 use crate::answers::{item_on, view_on};
 use crate::deeds::{Call, Deeds, Store, View, Written};
@@ -41,6 +43,53 @@ pub enum Done {
     Stashed,
 }
 
+/// Requests for which a transaction has code of its own, in which their kind is known.
+pub(crate) trait Known {
+    /// Whether a request is one of them.
+    ghost includes: { RequestValue → Type 0 };
+    /// The request, made anew.
+    fn known(request: &Request) -> Request
+        requires { includes request.now }
+        ensures { result ≡ request.now };
+}
+
+/// Bids: most requests of a busy auction.
+pub(crate) struct Bids;
+
+impl Known for Bids {
+    ghost includes = { IsBid };
+
+    #[inline(always)]
+    fn known(request: &Request) -> Request {
+        match *request {
+            Request::StoreBid {
+                bidder,
+                item,
+                amount,
+                time,
+            } => Request::StoreBid {
+                bidder,
+                item,
+                amount,
+                time,
+            },
+            _ => unreachable!(),
+        }
+    }
+}
+
+/// All requests.
+pub(crate) struct AnyRequest;
+
+impl Known for AnyRequest {
+    ghost includes = { λ _. Unit {0} };
+
+    #[inline(always)]
+    fn known(request: &Request) -> Request {
+        *request
+    }
+}
+
 impl<N: PhaseName> Worker<N> {
     ghost use Rattle.phase_permits.specs.declared.homes.Homes.{Homes as HomesValue};
     ghost use Rattle.phase_permits.specs.Begun.{step_of, HasBegun, HasFirst, HasRoomFor, IsSeen, states_in};
@@ -64,6 +113,25 @@ impl<N: PhaseName> Worker<N> {
         requires { CanTransact N.initial boxes.now self.old request.now }
         ensures { HasPerformed N.initial self.old self.new request.now index result }
     {
+        if let Request::StoreBid { .. } = *request {
+            return self.transact_as::<Bids, R>(rt, boxes, request, index);
+        }
+        self.transact_as::<AnyRequest, R>(rt, boxes, request, index)
+    }
+
+    // As `transact`, by code for requests of one kind.
+    fn transact_as<K: Known, R: Wait>(
+        &mut self,
+        rt: &R,
+        boxes: &Boxes<N>,
+        asked: &Request,
+        index: u32,
+    ) -> Result<(), PermitFault>
+        requires kind { K.includes asked.now }
+        requires can { CanTransact N.initial boxes.now self.old asked.now }
+        ensures { HasPerformed N.initial self.old self.new asked.now index result }
+    {
+        let request = &K::known(asked);
         let call = Call { request, index };
 
         // A request that the opening refuses takes no shard, nor does a store on hot objects alone.
@@ -96,7 +164,7 @@ impl<N: PhaseName> Worker<N> {
             seen: &seen,
             reply,
         };
-        self.put_store(rt, boxes, begun, &store);
+        self.put_store::<K, R>(rt, boxes, begun, &store);
         Ok(())
     }
 
@@ -163,8 +231,7 @@ impl<N: PhaseName> Worker<N> {
         Ok(())
     }
 
-    // Takes the shards of a footprint, with the number after the worker's clock and theirs. If
-    // there is none, they went back as they were.
+    // Takes the shards of a footprint, with the number after all clocks; without one, none.
     #[inline(always)]
     fn begin<R: Wait>(
         &mut self,
@@ -211,8 +278,7 @@ impl<N: PhaseName> Worker<N> {
         }
     }
 
-    // Performs a view over its one shard, which shows what is viewed: apart, as no other request
-    // has room for a whole reply. That of an item makes none.
+    // Performs a view over its one shard: apart, as no other request has room for a whole reply.
     #[inline(never)]
     fn show<R: Wait>(&mut self, rt: &R, boxes: &Boxes<N>, begun: Begun<N>, call: Call<'_>)
         requires view { is_view call.request.now ≡ true }
@@ -275,7 +341,13 @@ impl<N: PhaseName> Worker<N> {
 
     // Does a store's acts on the shards that were taken, puts these back, and commits it.
     #[inline]
-    fn put_store<R: Wait>(&mut self, rt: &R, boxes: &Boxes<N>, begun: Begun<N>, store: &Store<'_>)
+    fn put_store<K: Known, R: Wait>(
+        &mut self,
+        rt: &R,
+        boxes: &Boxes<N>,
+        begun: Begun<N>,
+        store: &Store<'_>,
+    )
         requires store { is_view store.now.call.request.now ≡ false }
         requires opened { HaveOpening N.initial self.old.opening }
         requires begun { (key : KeyState) × HasBegun
@@ -294,7 +366,7 @@ impl<N: PhaseName> Worker<N> {
             store.now.call.request.now store.now.call.index (reply_of store.now.reply) }
     {
         let Begun { taken, number } = begun;
-        let deeds = Deeds::of(store.call.request, store.reply, store.homes);
+        let deeds = Deeds::of::<K>(store.call.request, store.reply, store.homes);
         let written = deeds.written(number, store.call.index);
         put_all(rt, boxes, &mut self.key, taken, written);
         self.add_store(number, store);

@@ -10,7 +10,7 @@ use Rattle.phase_permits.proofs.deeds.Deeds.of.Goals as goal
 use Rattle.phase_permits.proofs.deeds.Deeds.of.Goals.{in-BidStored, in_default-reply-2, in-CommentStored, in_default-reply-3, in-Bought, in_default-reply-4}
 
 pub returns-after-reply-2-clause-good : goal.returns-after-reply-2-clause-good
-returns-after-reply-2-clause-good c seen initial workers boxes key w held its =
+returns-after-reply-2-clause-good g c seen initial workers boxes key w held its =
     let a = shard_at c.args.homes.now.item in
     let reply = reply_of c.args.reply in
     let of = c.in-StoreBid in
@@ -22,7 +22,7 @@ returns-after-reply-2-clause-good c seen initial workers boxes key w held its =
     ]
 
 pub returns-after-reply-3-clause-good : goal.returns-after-reply-3-clause-good
-returns-after-reply-3-clause-good c seen initial workers boxes key w held its =
+returns-after-reply-3-clause-good g c seen initial workers boxes key w held its =
     let a = shard_at c.args.homes.now.item in
     let b = shard_at c.args.homes.now.other in
     let reply = reply_of c.args.reply in
@@ -35,7 +35,7 @@ returns-after-reply-3-clause-good c seen initial workers boxes key w held its =
     ]
 
 pub returns-after-reply-4-clause-good : goal.returns-after-reply-4-clause-good
-returns-after-reply-4-clause-good c seen initial workers boxes key w held its =
+returns-after-reply-4-clause-good g c seen initial workers boxes key w held its =
     let a = shard_at c.args.homes.now.item in
     let reply = reply_of c.args.reply in
     let of = c.in-BuyNow in

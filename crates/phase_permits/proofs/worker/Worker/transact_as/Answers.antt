@@ -1,11 +1,12 @@
 use Rattle.std.proofs.Common.{◌≡◌, ℕ, true, Some, None, length, Result, Ok, Err, sym, ap, subst, ◌∙◌}
 use Rattle.std.specs.Prelude.{is_err, IfErr}
 use Rattle.auction_rows.specs.declared.requests.Object.TheVariants.{Item}
+use Rattle.auction_rows.specs.declared.requests.Request.{Request}
 use Rattle.auction_rows.specs.Refusals.{number_refusal}
 use Rattle.auction_rows.specs.StoreReplies.{reply_of}
 use Rattle.phase_permits.specs.declared.transaction.PermitFault.TheVariants.{Memory}
 use Rattle.phase_permits.specs.Begun.{step_of}
-use Rattle.phase_permits.specs.Performing.{HasCommitted, HasFailed, asks}
+use Rattle.phase_permits.specs.Performing.{CanTransact, HasCommitted, HasCommittedSome, HasFailed, HasPerformed, asks}
 use Rattle.phase_permits.specs.Takens.{footprint_of, is_one_of, AreBack}
 use Rattle.phase_permits.specs.WorkerFields.{state_in}
 use Rattle.phase_permits.specs.Workers.{WorkerState, IsLawfulWorker}
@@ -13,7 +14,7 @@ use Rattle.phase_permits.proofs.AnswerLemmas.{item_home}
 use Rattle.phase_permits.proofs.BegunLemmas.{begun_fails, item_first}
 use Rattle.phase_permits.proofs.EmptyLemmas.{stored_performed, refused_untaken, hot_untaken}
 use Rattle.phase_permits.proofs.FirstLemmas.{begun_before}
-use Rattle.phase_permits.proofs.worker.Worker.transact.Goals as goal
+use Rattle.phase_permits.proofs.worker.Worker.transact_as.Goals as goal
 
 of_err : {T E : Type 0} {P : Type 0} (result : Result T E) → is_err result ≡ true → IfErr result (λ _. P) → P
 of_err (Ok x) is p = absurd (cc)
@@ -23,26 +24,30 @@ pub returns-in-Some : goal.returns-in-Some
 returns-in-Some g c =
     let initial = g.N.PhaseName.initial in
     let old = c.args.self.now in
-    let request = c.args.request.now in
+    let can = subst (CanTransact initial c.args.boxes.now old) (sym c.known.ensures) c.requires.can in
+    let request = c.known.result in
     let refused : number_refusal old.opening request ≡ Some c.in-Some.reason = sym (ap (λ (w : WorkerState). number_refusal w.opening request) c.self.view_is) ∙ sym c.number_refusal.ensures ∙ c.in-Some.is in
-    stored_performed initial old c.refuse.new.self request c.args.index c.requires.idle c.refuse.result c.refuse.ensures
-    (λ answer stored. refused_untaken old (length initial) c.args.index request c.in-Some.reason answer refused) c.requires.goes
+    subst (λ (r : Request). HasPerformed initial old c.refuse.new.self r c.args.index c.refuse.result) c.known.ensures
+    (stored_performed initial old c.refuse.new.self request c.args.index can.idle c.refuse.result c.refuse.ensures
+    (λ answer stored. refused_untaken old (length initial) c.args.index request c.in-Some.reason answer refused) can.goes)
 
 pub returns-in-None-None : goal.returns-in-None-None
 returns-in-None-None g c =
     let initial = g.N.PhaseName.initial in
     let old = c.args.self.now in
-    let request = c.args.request.now in
+    let can = subst (CanTransact initial c.args.boxes.now old) (sym c.known.ensures) c.requires.can in
+    let request = c.known.result in
     let homes = c.homes-homes.result in
     let allowed : number_refusal old.opening request ≡ None = sym (ap (λ (w : WorkerState). number_refusal w.opening request) c.self.view_is) ∙ sym c.number_refusal.ensures ∙ c.in_default.is in
-    stored_performed initial old c.store_hot.new.self request c.args.index c.requires.idle c.store_hot.result c.store_hot.ensures
+    subst (λ (r : Request). HasPerformed initial old c.store_hot.new.self r c.args.index c.store_hot.result) c.known.ensures
+    (stored_performed initial old c.store_hot.new.self request c.args.index can.idle c.store_hot.result c.store_hot.ensures
     (λ answer stored. hot_untaken old c.store_hot.new.self (length initial) c.args.index request homes answer allowed stored
     (subst (λ n. (t : ℕ) → asks n old request t ≡ is_one_of (footprint_of homes) t) c.shards.ensures.count c.homes-homes.ensures.footprint)
-    (sym c.shard.ensures ∙ c.in-None-None.is-0) (sym c.shard-2.ensures ∙ c.in-None-None.is-1)) c.requires.goes
+    (sym c.shard.ensures ∙ c.in-None-None.is-0) (sym c.shard-2.ensures ∙ c.in-None-None.is-1)) can.goes)
 
 pub prepare-requires : goal.prepare-requires
 prepare-requires g c = record {
-  begun = item_first (step_of g.N.PhaseName.initial g.N.PhaseName.workers c.args.boxes.now c.args.self.now.key c.homes-homes.result) c.begin.new.self c.args.request.now c.in_ok-begun.begun
+  begun = item_first (step_of g.N.PhaseName.initial g.N.PhaseName.workers c.args.boxes.now c.args.self.now.key c.homes-homes.result) c.begin.new.self c.known.result c.in_ok-begun.begun
       c.in_ok-begun.ensures.begun (subst IsLawfulWorker c.self-2.view_is c.self-2.invariant);
 }
 
@@ -51,14 +56,15 @@ returns-then-is_err g c =
     let initial = g.N.PhaseName.initial in
     let old = c.args.self.now in
     let w = c.begin.new.self in
-    let request = c.args.request.now in
+    let request = c.known.result in
     let begun = begun_before c.in_ok-begun.begun c.prepare.new.begun c.prepare.ensures.same c.prepare.ensures.number c.in_ok-begun.ensures.begun in
     let back : WorkerState = record (state_in c.self-2.inside) { key = c.put_back.new.key } in
-    subst (λ (s : WorkerState). HasFailed initial s back request Memory) (λ i. record (c.begin.ensures.worker i) { key = old.key })
+    subst (λ (r : Request). HasFailed initial old back r Memory) c.known.ensures
+    (subst (λ (s : WorkerState). HasFailed initial s back request Memory) (λ i. record (c.begin.ensures.worker i) { key = old.key })
     (begun_fails (step_of initial g.N.PhaseName.workers c.args.boxes.now old.key c.homes-homes.result) w request c.prepare.new.begun begun back
     (subst (λ (s : WorkerState). AreBack s.key c.put_back.new.key) c.self-2.view_is c.put_back.ensures)
     (of_err c.prepare.result (sym c.is_err.ensures.value ∙ c.if-is_err.true) c.prepare.ensures.refused)
-    (λ i. record (c.self-2.view_is i) { key = c.put_back.new.key }))
+    (λ i. record (c.self-2.view_is i) { key = c.put_back.new.key })))
 
 pub put_store-requires-clause-begun : goal.put_store-requires-clause-begun
 put_store-requires-clause-begun g c = (
@@ -71,7 +77,7 @@ put_store-requires-clause-seen g c =
     let w = c.begin.new.self in
     let homes_are = c.in_ok-begun.ensures.begun.homes_are in
     record {
-      fixed = λ item needs none. c.seen-seen.ensures.fixed (Item item) (length g.N.PhaseName.initial) (item_home w (length g.N.PhaseName.initial) c.args.request.now c.homes-homes.result item homes_are needs) none;
+      fixed = λ item needs none. c.seen-seen.ensures.fixed (Item item) (length g.N.PhaseName.initial) (item_home w (length g.N.PhaseName.initial) c.known.result c.homes-homes.result item homes_are needs) none;
       found = λ item t needs at. c.seen-seen.ensures.found item t needs at;
     }
 
@@ -79,7 +85,8 @@ pub returns : goal.returns
 returns g c =
     let initial = g.N.PhaseName.initial in
     let old = c.args.self.now in
-    let request = c.args.request.now in
+    let request = c.known.result in
     let reply = reply_of c.reply-reply.result in
     let begun = begun_before c.in_ok-begun.begun c.prepare.new.begun c.prepare.ensures.same c.prepare.ensures.number c.in_ok-begun.ensures.begun in
+    subst (λ (r : Request). HasCommittedSome initial old c.put_store.new.self r c.args.index) c.known.ensures
     (reply, subst (λ (s : WorkerState). HasCommitted initial s c.put_store.new.self request c.args.index reply) (λ i. record (c.begin.ensures.worker i) { key = old.key }) (c.put_store.ensures old.key begun))
