@@ -146,7 +146,7 @@ impl Plain<Vec<Row>, Rows, u64> for Add {
     ghost state = { λ rows. None };
 }
 
-/// A prefix of the list of phases: how many they are, and for proofs alone which. Contracts see it as its phases.
+/// A prefix of the list of phases: how many they are, and, only for proofs, which. Contracts see it as its phases.
 #[derive(Drop)]
 pub struct Prefix<J: WindowName> {
     count: u64,

@@ -1,12 +1,27 @@
 -- Why an item refuses a request.
-use Rattle.std.specs.Prelude.{ℕ, Option, option_map, unwrap_or}
+use Rattle.std.specs.Prelude.{◌≡◌, ℕ, Option, Some, option_map, option_and_then, unwrap_or}
 use Rattle.auction_rows.specs.declared.replies.Refusal.{Refusal}
 use Rattle.auction_rows.specs.declared.requests.Facts.{Facts}
+use Rattle.auction_rows.specs.declared.requests.ItemId.{ItemId}
+use Rattle.auction_rows.specs.declared.requests.Object.TheVariants.{Item}
 use Rattle.auction_rows.specs.declared.requests.Request.{Request}
 use Rattle.auction_rows.specs.Refusals.{item_refusal}
-use Rattle.item_shards.specs.Values.{stock_facts, stock_left}
+use Rattle.auction_rows.specs.Requests.{item_of}
+use Rattle.item_shards.specs.declared.shard.Shard.{Shard}
+use Rattle.item_shards.specs.Contents.{Contents}
+use Rattle.item_shards.specs.ShardContents.{LiesIn}
+use Rattle.item_shards.specs.Values.{stock, stock_facts, stock_left}
 
 -- the first reason for which an item refuses a request, by its facts and how many are left, if it is stored
 abbrev pub refusal_with : Option (Facts × ℕ) → Request → Option Refusal
-refusal_with stock request =
-    item_refusal request (option_map stock_facts stock) (unwrap_or (option_map stock_left stock) 0)
+refusal_with found request =
+    item_refusal request (option_map stock_facts found) (unwrap_or (option_map stock_left found) 0)
+
+-- the item that a request needs, if it needs one, lies in the shard
+abbrev pub HasItemOf : Shard → Request → Type 0
+HasItemOf shard request = (item : ItemId) → item_of request ≡ Some item → LiesIn shard (Item item)
+
+-- what contents have of the item that a request needs
+abbrev pub stock_needed : Contents → Request → Option (Facts × ℕ)
+stock_needed contents request =
+    option_and_then (λ item. stock (contents (Item item))) (item_of request)

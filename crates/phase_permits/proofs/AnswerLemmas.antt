@@ -1,5 +1,5 @@
 -- The reply to a store: it is the answer by what was seen and by the counters.
-use Rattle.std.proofs.Common.{◌≡◌, ℕ, suc, max, Bool, true, false, cond, List, Option, Some, None, Result, Ok, Err, MatchOption, option_map, option_and_then, unwrap_or, refl, sym, ap, subst, ◌∙◌, arith}
+use Rattle.std.proofs.Common.{◌≡◌, ℕ, suc, Bool, true, false, cond, List, Option, Some, None, Result, Ok, Err, MatchOption, option_map, option_and_then, unwrap_or, refl, sym, ap, subst, ◌∙◌, arith}
 use Rattle.std.specs.Prelude.{◌≤◌, ◌↔◌, IsNone, IfNone, IfSome, IsErrAnd}
 use Rattle.std.specs.Result.{result_ok}
 use Rattle.std.specs.Option.{option_or}
@@ -19,7 +19,10 @@ use Rattle.auction_rows.specs.Footprint.{is_hot}
 use Rattle.auction_rows.specs.Refusals.{number_refusal, item_refusal}
 use Rattle.auction_rows.specs.Replies.{row_of}
 use Rattle.auction_rows.specs.Requests.{item_of, is_view}
+use Rattle.item_shards.specs.Answering.{refusal_with}
 use Rattle.item_shards.specs.CommitNumbers.{last_number}
+use Rattle.item_shards.specs.ShardContents.{contents}
+use Rattle.item_shards.specs.Values.{stock}
 use Rattle.item_shards.specs.Writing.{writes_if}
 use Rattle.phase_permits.specs.declared.worker.Counters.{Counters}
 use Rattle.phase_permits.specs.declared.transaction.PermitFault.{PermitFault}
@@ -27,8 +30,11 @@ use Rattle.phase_permits.specs.declared.transaction.PermitFault.TheVariants.{Mem
 use Rattle.phase_permits.specs.declared.homes.Home.{Home}
 use Rattle.phase_permits.specs.declared.homes.Home.TheVariants as home
 use Rattle.phase_permits.specs.declared.homes.Homes.{Homes}
+use Rattle.phase_permits.specs.declared.homes.Taken.{Taken}
+use Rattle.phase_permits.specs.declared.homes.Taken.TheVariants as taken
 use Rattle.phase_permits.specs.declared.slices.Hot.{Hot}
-use Rattle.phase_permits.specs.Deeds.{IsReplyBy}
+use Rattle.phase_permits.specs.Begun.{IsRefusedBy}
+use Rattle.phase_permits.specs.Deeds.{IsReplyBy, IsReplyUnless, stock_on, stock_taken}
 use Rattle.phase_permits.specs.Homes.{IsHomeOf, AreHomesOf, HasHomes, IsWrittenAt}
 use Rattle.phase_permits.specs.Performing.{HasStoredOrIsFull, HasStoredSome}
 use Rattle.phase_permits.specs.Slicing.{hot_objects, stocks_of, stock_of, slices_after_acts}
@@ -36,10 +42,6 @@ use Rattle.phase_permits.specs.Takens.{shard_at}
 use Rattle.phase_permits.specs.Txns.{refusal_by, refusal_seen, reason_seen, stock_seen, is_put_off, IsReplyTo, IsAnswered, IsOwn, ReadSet}
 use Rattle.phase_permits.specs.Workers.{WorkerState, setting_of, txn_of, hot_txn, nothing, with_entry, after_commit}
 use Rattle.phase_permits.proofs.HomeLemmas.{same_objects_of}
-
--- the number after a clock, where no shard is taken
-next_of_own : (a n : ℕ) → n ≡ suc (max a 0) → n ≡ suc a
-next_of_own a n is = omega (arith, is)
 
 -- an id in a reply to a store is one of the worker
 own_answer : (counters : Counters) (worker : ℕ) (request : Request) (reply : Reply) → IsReplyTo counters worker request reply → is_view request ≡ false → IsOwn worker reply
@@ -70,12 +72,52 @@ refusal_as opening (StoreComment author about item stars) seen other store same 
 refusal_as opening (BuyNow buyer item quantity time) seen other store same = ap (λ s. refusal_by opening s (BuyNow buyer item quantity time)) (same item refl)
 refusal_as opening request seen other store same = absurd (true≢false store)
 
+-- the reply by the refusal of its item is that by what was seen of the item
+pub reply_by : (w : WorkerState) (seen : Option (Facts × ℕ)) (request : Request) (refused : Option Refusal) (reply : Reply) → number_refusal w.opening request ≡ None → refused ≡ refusal_with seen request
+    → IsReplyUnless w refused request reply → IsReplyBy w seen request reply
+reply_by w seen request refused reply allowed by is =
+    subst (λ reason. IsReplyUnless w reason request reply) (by ∙ sym (ap (λ first. option_or first (refusal_with seen request)) allowed)) is
+
 -- the home of a request's item
 pub item_home : (w : WorkerState) (shards : ℕ) (request : Request) (homes : Homes) (item : ItemId) → AreHomesOf w shards request homes → item_of request ≡ Some item → IsHomeOf w.slices shards (Item item) homes.item
 item_home w shards (StoreItem facts time) homes item are is = absurd (cc)
 item_home w shards (ViewCategory category) homes item are is = absurd (cc)
 item_home w shards (ViewUser user) homes item are is = absurd (cc)
 item_home w shards request homes item are is = subst (λ i. IsHomeOf w.slices shards (Item i) homes.item) (same_Some _ item is) are.0
+
+-- what refuses a store whose item lies in a shard that was taken
+seen_taken : {N : Type 0} (took : Taken N) (request : Request) (item : ItemId) → item_of request ≡ Some item → stock_taken took request ≡ stock_on took item
+seen_taken taken.Nothing request item needs = refl
+seen_taken (taken.One one) request item needs = ap (option_and_then (λ id. stock (contents one.shard (Item id)))) needs
+seen_taken (taken.Two one other) request item needs = ap (option_and_then (λ id. stock (contents one.shard (Item id)))) needs
+
+pub refused_by_shard : {N : Type 0} (w : WorkerState) (request : Request) (homes : Homes) (took : Taken N) (shard : ℕ) (refused : Option Refusal) → homes.item ≡ home.Shard shard
+    → refused ≡ refusal_with (stock_taken took request) request → IsRefusedBy w request homes took refused
+refused_by_shard w request homes took shard refused at by =
+    let there = ap shard_at at in
+    record {
+      seen = stock_taken took request;
+      saw = record { fixed = λ item needs none. absurd (cc (there, none)); found = λ item t needs is. seen_taken took request item needs };
+      by = by;
+    }
+
+-- and one whose item is hot
+in_no_shard : (h : Home) (t : ℕ) → ((n : ℕ) → h ≡ home.Shard n → ⊥) → shard_at h ≡ Some t → ⊥
+in_no_shard home.Nowhere t other is = absurd (cc)
+in_no_shard (home.Slice place) t other is = absurd (cc)
+in_no_shard (home.Shard n) t other is = other n refl
+
+pub refused_by_fixed : {N : Type 0} (w : WorkerState) (shards : ℕ) (request : Request) (homes : Homes) (took : Taken N) (seen : Option (Facts × ℕ)) (refused : Option Refusal)
+    → AreHomesOf w shards request homes → ((object : Object) (some : ℕ) → IsHomeOf w.slices some object homes.item → shard_at homes.item ≡ None → seen ≡ stock_of (stocks_of w.slices) object)
+    → ((n : ℕ) → homes.item ≡ home.Shard n → ⊥) → refused ≡ refusal_with seen request → IsRefusedBy w request homes took refused
+refused_by_fixed w shards request homes took seen refused are fixed other by = record {
+  seen = seen;
+  saw = record {
+    fixed = λ item needs none. fixed (Item item) shards (item_home w shards request homes item are needs) none;
+    found = λ item t needs is. absurd (in_no_shard homes.item t other is);
+  };
+  by = by;
+}
 
 -- what a store writes has its home among them
 pub written_at : (w : WorkerState) (request : Request) (homes : Homes) → HasHomes w request homes → IsWrittenAt w.slices request homes
@@ -129,7 +171,7 @@ either_reason true first by_item reason is = is
 either_reason false first by_item reason is = ap (λ one. option_or one by_item) is
 
 pub refusal_stored : (w new : WorkerState) (number index : ℕ) (request : Request) (reason : Refusal) → number_refusal w.opening request ≡ Some reason → is_put_off (hot_objects w.slices) request ≡ false
-    → number ≡ suc (max w.clock 0) → number ≤ last_number → new ≡ with_entry w number index request (Refused reason) → HasStoredOrIsFull w new request index (Ok tt)
+    → number ≡ suc w.clock → number ≤ last_number → new ≡ with_entry w number index request (Refused reason) → HasStoredOrIsFull w new request index (Ok tt)
 refusal_stored w new number index request reason refused goes next within is = (
   omega (arith, next, within),
   (
@@ -137,7 +179,7 @@ refusal_stored w new number index request reason refused goes next within is = (
     record {
       worker =
           is
-          ∙ (λ i. with_entry w (next_of_own w.clock number next i) index request (Refused reason))
+          ∙ (λ i. with_entry w (next i) index request (Refused reason))
           ∙ (λ i. record (with_entry w (suc w.clock) index request (Refused reason)) { slices = slices_after_acts w.slices (writes_if (sym (no_row w.journal.worker request reason) i)) });
       answered = λ shards.
           let z = setting_of w shards in
@@ -154,23 +196,23 @@ refusal_stored w new number index request reason refused goes next within is = (
 )
 
 pub hot_stored : (w new : WorkerState) (number index : ℕ) (request : Request) (reply : Reply) → ((shards : ℕ) → IsAnswered (setting_of w shards) w.counters (hot_txn w request index reply))
-    → number ≡ suc (max w.clock 0) → number ≤ last_number → new ≡ after_commit w number index request reply → HasStoredOrIsFull w new request index (Ok tt)
+    → number ≡ suc w.clock → number ≤ last_number → new ≡ after_commit w number index request reply → HasStoredOrIsFull w new request index (Ok tt)
 hot_stored w new number index request reply answered next within is = (
   omega (arith, next, within),
   (
     reply,
     record {
-      worker = is ∙ (λ i. after_commit w (next_of_own w.clock number next i) index request reply);
+      worker = is ∙ (λ i. after_commit w (next i) index request reply);
       answered = answered;
     },
   ),
 )
 
 -- where there is no number nothing was stored
-pub full_stored : (w : WorkerState) (request : Request) (index : ℕ) (result : Result Unit PermitFault) (fault : PermitFault) → IsErrAnd result (λ f. f ≡ fault) → fault ≡ NumberFull → last_number ≤ max w.clock 0
+pub full_stored : (w : WorkerState) (request : Request) (index : ℕ) (result : Result Unit PermitFault) (fault : PermitFault) → IsErrAnd result (λ f. f ≡ fault) → fault ≡ NumberFull → last_number ≤ w.clock
     → HasStoredOrIsFull w w request index result
 full_stored w request index (Ok done) fault err is full = absurd err
-full_stored w request index (Err f) fault err is full = subst (λ g. HasStoredOrIsFull w w request index (Err g)) (sym (err ∙ is)) (omega (arith, full), refl)
+full_stored w request index (Err f) fault err is full = subst (λ g. HasStoredOrIsFull w w request index (Err g)) (sym (err ∙ is)) (full, refl)
 
 -- what became of it, as an option
 module _ (old new : WorkerState) (request : Request) (index : ℕ) where

@@ -25,7 +25,7 @@ use Rattle.phase_permits.specs.declared.homes.Home.{Home}
 use Rattle.phase_permits.specs.declared.homes.Home.TheVariants as home
 use Rattle.phase_permits.specs.declared.slices.Hot.{Hot}
 use Rattle.phase_permits.specs.declared.homes.Begun.{Begun}
-use Rattle.phase_permits.specs.Begun.{Step, HasBegun, HasFirst, HasRoomFor, IsAnsweredOn, IsSeen}
+use Rattle.phase_permits.specs.Begun.{Step, FirstHas, HasBegun, HasFirst, HasRoomFor, IsAnsweredOn, IsSeen}
 use Rattle.phase_permits.specs.Deeds.{IsReplyBy, IsNextIf, AreDeedsOf, AreGoodOn, acts_for, event_with, found_on, written_of, footprint_on}
 use Rattle.phase_permits.specs.Homes.{IsHomeOf}
 use Rattle.phase_permits.specs.Performing.{HasCommitted, HasFailed, HaveOpening, StoresItem}
@@ -63,7 +63,7 @@ same_named w shards number index (StoreItem facts time) reply found allowed answ
 same_named w shards number index request reply found allowed answered = refl
 
 -- the item that a worker stores next is not hot
-next_cold : (w : WorkerState) (b : Bool) → is_hot (hot_objects w.slices) (Item (next_item w)) ≡ b → IsLawfulWorker w → b ≡ false
+pub next_cold : (w : WorkerState) (b : Bool) → is_hot (hot_objects w.slices) (Item (next_item w)) ≡ b → IsLawfulWorker w → b ≡ false
 next_cold w true hot lawful = let less = lawful.stored (next_item w) hot refl in absurd (omega (arith, less))
 next_cold w false cold lawful = refl
 
@@ -80,6 +80,13 @@ item_first step w (StoreItem facts time) b begun lawful stores =
     let shard = cold_shard w.slices (length step.initial) (next_item w) homes.item at (next_cold w (is_hot (hot_objects w.slices) (Item (next_item w))) refl lawful) in
     first_has step.initial step.workers w.key w.slices b.taken homes.item homes.other (next_item w) shard.0 at shard.1 begun.taken.numbers begun.taken.taken
 item_first step w request b begun lawful stores = absurd stores
+
+-- so does the item that a request needs, where it lies in a shard
+pub needed_first : {N : Type 0} (step : Step) (w : WorkerState) (request : Request) (b : Begun N) → HasBegun step w request b → (item : ItemId) (t : ℕ) → item_of request ≡ Some item → shard_at step.homes.item ≡ Some t
+    → FirstHas b.taken item
+needed_first step w request b begun item t needs at =
+    let homes = step.homes in
+    first_has step.initial step.workers w.key w.slices b.taken homes.item homes.other item t (item_home w (length step.initial) request homes item begun.homes_are needs) at begun.taken.numbers begun.taken.taken
 
 -- what was seen of an item, hot or not
 seen_by_home : (hots : List (Object × Hot)) (shards : ℕ) (item : ItemId) (h : Home) (seen found : Option (Facts × ℕ)) → IsHomeOf hots shards (Item item) h → (shard_at h ≡ None → seen ≡ stock_of (stocks_of hots) (Item item)) → found ≡ seen

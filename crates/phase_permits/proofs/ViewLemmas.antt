@@ -3,6 +3,9 @@ use Rattle.std.proofs.Common.{◌≡◌, ℕ, true, false, cond, List, [], ◌�
 use Rattle.std.specs.List.{AllByRecursion}
 use Rattle.std.proofs.lemmas.Bool.{true≢false, false≢true}
 use Rattle.std.proofs.lemmas.Option.{same_Some}
+use Rattle.auction_rows.specs.declared.values.Stars.{Stars}
+use Rattle.auction_rows.specs.declared.requests.Facts.{Facts}
+use Rattle.auction_rows.specs.declared.requests.ItemId.{ItemId}
 use Rattle.auction_rows.specs.declared.requests.Object.{Object}
 use Rattle.auction_rows.specs.declared.requests.Object.TheVariants.{Item, User, Category}
 use Rattle.auction_rows.specs.declared.replies.Reply.{Reply}
@@ -11,7 +14,7 @@ use Rattle.auction_rows.specs.declared.requests.Request.{Request}
 use Rattle.auction_rows.specs.declared.requests.Request.TheVariants.{StoreItem, StoreBid, StoreComment, BuyNow, ViewItem, ViewBids, ViewCategory, ViewUser}
 use Rattle.auction_rows.specs.Footprint.{is_hot}
 use Rattle.auction_rows.specs.Refusals.{number_refusal}
-use Rattle.auction_rows.specs.Requests.{is_view}
+use Rattle.auction_rows.specs.Requests.{is_view, shard_of}
 use Rattle.item_shards.specs.declared.shard.acts.Act.TheVariants.{Look}
 use Rattle.item_shards.specs.declared.shard.acts.Look.{Look as LookedAt}
 use Rattle.item_shards.specs.declared.shard.acts.Look.TheVariants as look
@@ -19,7 +22,7 @@ use Rattle.item_shards.specs.Events as event
 use Rattle.item_shards.specs.Shown as shown
 use Rattle.item_shards.specs.Contents.{target}
 use Rattle.item_shards.specs.Looking.{IsTrueOf}
-use Rattle.item_shards.specs.ShardContents.{contents}
+use Rattle.item_shards.specs.ShardContents.{contents, LiesIn}
 use Rattle.item_shards.specs.Writing.{padded, done_on}
 use Rattle.shard_boxes.specs.Helds.{HeldState}
 use Rattle.shard_boxes.specs.Keys.{KeyState}
@@ -32,18 +35,20 @@ use Rattle.phase_permits.specs.declared.homes.Homes.{Homes}
 use Rattle.phase_permits.specs.declared.slices.Hot.{Hot}
 use Rattle.phase_permits.specs.declared.homes.Begun.{Begun}
 use Rattle.phase_permits.specs.declared.homes.Taken.{Taken}
-use Rattle.phase_permits.specs.Begun.{Step, HasBegun, look_for, viewed}
+use Rattle.phase_permits.specs.declared.homes.Taken.TheVariants as taken
+use Rattle.phase_permits.specs.Begun.{Step, HasBegun, IsOnOne, look_for, viewed}
 use Rattle.phase_permits.specs.Deeds.{AreDeedsOf, AreGoodOn, acts_for, found_on, event_with, first_dealt, second_dealt, shown_with}
 use Rattle.phase_permits.specs.Homes.{IsHomeOf, AreHomesOf}
-use Rattle.phase_permits.specs.Performing.{HasCommittedSome}
+use Rattle.phase_permits.specs.Performing.{HasCommittedSome, HaveOpening}
 use Rattle.phase_permits.specs.Slicing.{hot_objects}
-use Rattle.phase_permits.specs.Putting.{HasPutAll}
+use Rattle.phase_permits.specs.Putting.{HasPutAll, IsAsTaken}
 use Rattle.phase_permits.specs.Takens.{shard_at, each_once, footprint_of, held_in, numbers_of, is_one_of, dealt, line_among}
 use Rattle.phase_permits.specs.Txns.{IsReplyTo, IsAnswered, is_put_off, reason_seen, refusal_seen, ReadSet}
 use Rattle.phase_permits.specs.Viewing.{IsShownBy}
 use Rattle.phase_permits.specs.Workers.{WorkerState, setting_of, txn_of, with_entry, after_commit}
 use Rattle.phase_permits.proofs.BegunLemmas.{begun_commits}
 use Rattle.phase_permits.proofs.DeedLemmas.{done_is, one_owed}
+use Rattle.phase_permits.proofs.GoodLemmas.{home_number}
 use Rattle.phase_permits.proofs.HomeLemmas.{same_objects_of, no_other}
 
 -- the home of the object that is viewed
@@ -75,6 +80,16 @@ shard_cold : (hots : List (Object × Hot)) (shards : ℕ) (object : Object) (h :
 shard_cold hots shards object home.Nowhere at cold = absurd at
 shard_cold hots shards object (home.Slice place) at cold = absurd (true≢false (sym at.1 ∙ cold))
 shard_cold hots shards object (home.Shard shard) at cold = (shard, refl)
+
+-- what is no store is a view
+pub view_else : (request : Request) → ((facts : Facts) (time : ℕ) → request ≡ StoreItem facts time → ⊥) → ((bidder : ℕ) (item : ItemId) (amount time : ℕ) → request ≡ StoreBid bidder item amount time → ⊥)
+    → ((author about : ℕ) (item : ItemId) (stars : Stars) → request ≡ StoreComment author about item stars → ⊥) → ((buyer : ℕ) (item : ItemId) (quantity time : ℕ) → request ≡ BuyNow buyer item quantity time → ⊥)
+    → is_view request ≡ true
+view_else (StoreItem facts time) no_item no_bid no_comment no_buy = absurd (no_item facts time refl)
+view_else (StoreBid bidder item amount time) no_item no_bid no_comment no_buy = absurd (no_bid bidder item amount time refl)
+view_else (StoreComment author about item stars) no_item no_bid no_comment no_buy = absurd (no_comment author about item stars refl)
+view_else (BuyNow buyer item quantity time) no_item no_bid no_comment no_buy = absurd (no_buy buyer item quantity time refl)
+view_else request no_item no_bid no_comment no_buy = refl
 
 -- a view shows one object
 pub shows_one : (request : Request) → is_view request ≡ true → (object : Object) × (viewed request ≡ Some object)
@@ -144,6 +159,22 @@ module _ {N : Type 0} (step : Step) (w : WorkerState) (request : Request) (b : B
 
   abbrev n : ℕ
   n = its_shard.0
+
+  -- it took one shard, which can show what it asks for
+  pub on_one : HaveOpening initial w.opening → IsOnOne request took
+  on_one openings = go took begun.taken.taken (begun.taken.numbers ∙ its_home.1.only n its_shard.1)
+    where
+      go : (its : Taken N) → AllByRecursion (IsAsTaken initial step.workers w.key) (held_in its) → numbers_of (held_in its) ≡ n ∷ [] → IsOnOne request its
+      go taken.Nothing all numbers = absurd (cc)
+      go (taken.One one) all numbers =
+          let number : one.number ≡ n = (cc) in
+          let lies : LiesIn one.shard object =
+          ap (shard_of object) all.0.shards_is ∙ sym (home_number w.slices (length initial) n object h its_home.1.at its_shard.1) ∙ sym number ∙ sym all.0.number_is in
+          record {
+            here = λ other is. subst (LiesIn one.shard) (same_Some object other (sym (shows_one request view).1 ∙ is)) lies;
+            allowed = subst (λ start. number_refusal start request ≡ None) (sym (all.0.opening_is ∙ openings one.number all.0.known)) begun.allowed;
+          }
+      go (taken.Two one other) all numbers = absurd (cc)
 
   -- what it did is a commit
   view_answered : (index : ℕ) (reply : Reply) (found : ReadSet) → ((counters : Counters) (worker : ℕ) → IsReplyTo counters worker request reply) → IsAnswered (setting_of w (length initial)) w.counters (txn_of w number request index reply found)

@@ -3,6 +3,7 @@ use Rattle.std.specs.Prelude.{◌≡◌, ℕ, suc, max, ◌<◌, ◌≤◌, fals
 use Rattle.auction_rows.specs.declared.requests.ItemId.{ItemId}
 use Rattle.auction_rows.specs.declared.requests.Object.{Object}
 use Rattle.auction_rows.specs.declared.requests.Object.TheVariants.{Item, User, Category}
+use Rattle.auction_rows.specs.declared.replies.Refusal.{Refusal}
 use Rattle.auction_rows.specs.declared.replies.Reply.{Reply}
 use Rattle.auction_rows.specs.declared.requests.Facts.{Facts}
 use Rattle.auction_rows.specs.declared.requests.Request.{Request}
@@ -11,6 +12,7 @@ use Rattle.item_shards.specs.declared.shard.acts.Look.{Look}
 use Rattle.item_shards.specs.declared.shard.acts.Look.TheVariants as look
 use Rattle.auction_rows.specs.Refusals.{number_refusal}
 use Rattle.auction_rows.specs.Requests.{item_of}
+use Rattle.item_shards.specs.Answering.{refusal_with}
 use Rattle.item_shards.specs.CommitNumbers.{last_number}
 use Rattle.item_shards.specs.ShardContents.{HasItemRoom, LiesIn, clock, contents, opening as opening_of}
 use Rattle.item_shards.specs.declared.shard.Shard.{Shard}
@@ -74,6 +76,20 @@ pub record IsSeen {N : Type 0} (w : WorkerState) (request : Request) (homes : Ho
       seen ≡ stock_of (stocks_of w.slices) (Item item)
   pub found : (item : ItemId) (t : ℕ) → item_of request ≡ Some item → shard_at homes.item ≡ Some t →
       seen ≡ stock_on took item
+
+-- The first reason for which its item refuses a store, by what the store saw of it.
+pub record IsRefusedBy {N : Type 0} (w : WorkerState) (request : Request) (homes : Homes)
+    (took : Taken N) (refused : Option Refusal) : Type 0 where
+  pub seen : Option (Facts × ℕ)
+  pub saw : IsSeen w request homes took seen
+  pub by : refused ≡ refusal_with seen request
+
+-- A store has this reply, by what it saw of its item.
+pub record IsAnsweredBy {N : Type 0} (w : WorkerState) (request : Request) (homes : Homes)
+    (took : Taken N) (reply : Reply) : Type 0 where
+  pub seen : Option (Facts × ℕ)
+  pub saw : IsSeen w request homes took seen
+  pub answered : IsReplyBy w seen request reply
 
 -- the shards that were taken, but for the rooms that they have
 abbrev pub states_in : {N : Type 0} → Taken N → List (ℕ × ShardState)

@@ -8,6 +8,7 @@ use Rattle.phase_permits.specs.declared.deeds.Deeds.{Deeds}
 use Rattle.phase_permits.specs.declared.slices.Hot.{Hot}
 use Rattle.phase_permits.specs.Takens.{each_once, shard_at}
 use Rattle.auction_rows.specs.declared.requests.Object.TheVariants.{Item}
+use Rattle.auction_rows.specs.declared.replies.Refusal.{Refusal}
 use Rattle.auction_rows.specs.declared.replies.Reply.{Reply}
 use Rattle.auction_rows.specs.declared.replies.Reply.TheVariants.{ItemStored, Refused}
 use Rattle.auction_rows.specs.declared.requests.Facts.{Facts}
@@ -24,6 +25,7 @@ use Rattle.item_shards.specs.Writing.{padded, done_on, looks_of, writes_if}
 use Rattle.item_shards.specs.ShardContents.{contents, clock, opening as opening_of, rooms, shard_count, shard_number}
 use Rattle.item_shards.specs.declared.shard.Shard.{Shard}
 use Rattle.item_shards.specs.Acting.{CanActOn}
+use Rattle.item_shards.specs.Answering.{stock_needed}
 use Rattle.item_shards.specs.Contents.{Contents, after_act}
 use Rattle.item_shards.specs.Looking.{IsTrueAct}
 use Rattle.item_shards.specs.Values.{stock, stock_facts}
@@ -73,12 +75,21 @@ stock_on taken.Nothing item = None
 stock_on (taken.One one) item = stock (contents one.shard (Item item))
 stock_on (taken.Two one other) item = stock (contents one.shard (Item item))
 
--- the reply to a store, by what was seen of its item: the first reason to refuse it, or the
--- worker's next id of the kind
-abbrev pub IsReplyBy : WorkerState → Option (Facts × ℕ) → Request → Reply → Type 0
-IsReplyBy w seen request reply =
-    MatchOption (refusal_by w.opening seen request)
+-- what the shards that were taken have of the item that a request needs
+abbrev pub stock_taken : {N : Type 0} → Taken N → Request → Option (Facts × ℕ)
+stock_taken taken.Nothing request = None
+stock_taken (taken.One one) request = stock_needed (contents one.shard) request
+stock_taken (taken.Two one other) request = stock_needed (contents one.shard) request
+
+-- the reply to a store: the reason to refuse it, or else the worker's next id of the kind
+abbrev pub IsReplyUnless : WorkerState → Option Refusal → Request → Reply → Type 0
+IsReplyUnless w refused request reply =
+    MatchOption refused
     (IsReplyTo w.counters w.journal.worker request reply) (λ reason. reply ≡ Refused reason)
+
+-- the reply to a store, by what was seen of its item
+abbrev pub IsReplyBy : WorkerState → Option (Facts × ℕ) → Request → Reply → Type 0
+IsReplyBy w seen request reply = IsReplyUnless w (refusal_by w.opening seen request) request reply
 
 -- of two acts, whose objects lie in these shards or in none, the one that is done first
 abbrev pub first_dealt : Act → Act → Option ℕ → Option ℕ → Act

@@ -1,4 +1,5 @@
 -- What the fields of a worker show.
+use Rattle.std.specs.Prelude.{◌≡◌, ℕ, ◌<◌}
 use Rattle.phase_permits.specs.declared.worker.Worker.TheInside.{Inside}
 use Rattle.phase_permits.specs.Workers.{WorkerState, IsLawfulWorker, begun_of}
 
@@ -17,6 +18,11 @@ state_in w = record {
   clock = w.clock;
 }
 
--- the worker with these fields is lawful
-abbrev pub AreLawful : {N : Type 0} → Inside N → Type 0
-AreLawful w = IsLawfulWorker (state_in w)
+-- The worker with these fields is lawful, in a phase with so many shards.
+pub record AreLawful {N : Type 0} (shards : ℕ) (w : Inside N) : Type 0 where
+  pub lawful : IsLawfulWorker (state_in w)
+  -- its number is that of its journal
+  pub worker_is : w.worker ≡ w.journal.worker
+  -- it knows how many shards there are
+  pub shards_is : w.shards ≡ shards
+  pub some : 0 < shards

@@ -1,53 +1,49 @@
 //! What a store is answered, by what it sees of the item that it needs, and what a view shows.
-ghost use Rattle.std.specs.Prelude.{◌≡◌, ℕ, None, Some, false, ◌∷◌, [], true, Option};
+ghost use Rattle.std.specs.Prelude.{◌≡◌, ℕ, None, Some, false, ◌∷◌, [], true};
 ghost use Rattle.auction_rows.specs.declared.requests.Object.{Object as ObjectValue};
 ghost use Rattle.auction_rows.specs.declared.requests.ItemId.{ItemId as ItemIdValue};
-ghost use Rattle.auction_rows.specs.Refusals.{number_refusal};
 ghost use Rattle.auction_rows.specs.Requests.{is_view, item_of};
 ghost use Rattle.auction_rows.specs.StoreReplies.{reply_of};
-ghost use Rattle.auction_rows.specs.declared.requests.Facts.{Facts as FactsValue};
 ghost use Rattle.auction_rows.specs.declared.requests.Request.TheVariants.{ViewItem};
 ghost use Rattle.auction_rows.specs.ItemViews.{item_told};
 ghost use Rattle.item_shards.specs.declared.shard.acts.Look.TheVariants as look;
 ghost use Rattle.item_shards.specs.Looking.{IsTrueOf};
 ghost use Rattle.item_shards.specs.ShardContents.{contents};
 ghost use Rattle.phase_permits.specs.declared.worker.Counters.{Counters as CountersValue};
-ghost use Rattle.phase_permits.specs.Begun.{CanView, FirstHas, IsOnOne, look_for};
-ghost use Rattle.phase_permits.specs.Deeds.{IsReplyBy, shown_with, stock_on};
-ghost use Rattle.phase_permits.specs.Homes.{IsHomeOf};
+ghost use Rattle.phase_permits.specs.Begun.{CanView, FirstHas, IsOnOne, IsRefusedBy, look_for};
+ghost use Rattle.phase_permits.specs.Deeds.{IsReplyUnless, shown_with};
+ghost use Rattle.phase_permits.specs.Homes.{HasHomes, IsHomeOf};
 ghost use Rattle.phase_permits.specs.Slicing.{stocks_of, stock_of};
 ghost use Rattle.phase_permits.specs.Takens.{shard_at};
 ghost use Rattle.phase_permits.specs.Txns.{IsReplyTo};
 ghost use Rattle.phase_permits.specs.Viewing.{IsShownBy};
 
-use crate::homes::{Home, Homes, Taken, stock_in};
+use crate::homes::{Home, Homes, Taken, refusal_in};
 use crate::worker::Worker;
 use auction_rows::{
-    BidId, BuyId, CommentId, Facts, ItemId, ItemView, Reply, Request, StoreReply, item_of,
+    BidId, BuyId, CommentId, Facts, ItemId, ItemView, Refusal, Reply, Request, StoreReply,
 };
 use item_shards::{Look, Shard, refusal_with};
 use shard_boxes::PhaseName;
 
 impl<N: PhaseName> Worker<N> {
-    /// What a store sees of the item that it needs: what is fixed if it is hot, else its shard's.
+    /// The first reason for which its item refuses a store: by what is fixed of it if it is hot,
+    /// else by what its shard has.
     #[inline(always)]
-    pub(crate) fn seen(
+    pub(crate) fn refusal(
         &self,
         taken: &Taken<N>,
         request: &Request,
         homes: &Homes,
-    ) -> Option<(Facts, u32)>
+    ) -> Option<Refusal>
+        requires homes { HasHomes self.now request.now homes.now }
         requires there { (item : ItemIdValue) → (t : ℕ) → item_of request.now ≡ Some item →
             shard_at homes.now.item ≡ Some t → FirstHas taken.now item }
-        ensures fixed { (object : ObjectValue) → (shards : ℕ) →
-            IsHomeOf self.now.slices shards object homes.now.item → shard_at homes.now.item ≡ None
-            → result ≡ stock_of (stocks_of self.now.slices) object }
-        ensures found { (item : ItemIdValue) → (t : ℕ) → item_of request.now ≡ Some item →
-            shard_at homes.now.item ≡ Some t → result ≡ stock_on taken.now item }
+        ensures { IsRefusedBy self.now request.now homes.now taken.now result }
     {
-        match (homes.item, item_of(*request)) {
-            (Home::Shard(_), Some(item)) => stock_in(taken, item),
-            (home, _) => self.fixed(home),
+        match homes.item {
+            Home::Shard(_) => refusal_in(taken, request),
+            _ => refusal_with(&self.fixed(homes.item), request),
         }
     }
 
@@ -64,18 +60,16 @@ impl<N: PhaseName> Worker<N> {
         }
     }
 
-    /// The reply to a store that the opening does not refuse: the first reason of its item to
-    /// refuse it, by what was seen of that, or else the worker's next id of the kind.
+    /// The reply to a store: the reason to refuse it, or else the worker's next id of the kind.
     #[inline(always)]
-    pub(crate) fn reply(&self, seen: &Option<(Facts, u32)>, request: &Request) -> StoreReply
-        requires allowed { number_refusal self.now.opening request.now ≡ None }
+    pub(crate) fn reply(&self, refused: Option<Refusal>, request: &Request) -> StoreReply
         requires store { is_view request.now ≡ false }
-        ensures { IsReplyBy self.now seen.now request.now (reply_of result) }
+        ensures { IsReplyUnless self.now refused request.now (reply_of result) }
     {
-        if let Some(reason) = refusal_with(seen, request) {
+        if let Some(reason) = refused {
             return StoreReply::Refused(reason);
         }
-        let worker = self.journal.worker();
+        let worker = self.worker;
         match *request {
             Request::StoreItem { .. } => StoreReply::ItemStored(self.next_item()),
             Request::StoreBid { .. } => StoreReply::BidStored(BidId {
@@ -114,7 +108,7 @@ pub(crate) fn item_on<N: PhaseName>(taken: &Taken<N>, item: ItemId) -> Option<It
     ensures { IsShownBy taken.now (ViewItem item) (look.Item item) (item_told result) }
 {
     match taken {
-        Taken::One(one) => one.shard().item_seen(item),
+        Taken::One(one) => one.item_seen(item),
         Taken::Nothing | Taken::Two(_, _) => unreachable!(),
     }
 }

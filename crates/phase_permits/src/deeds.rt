@@ -1,5 +1,4 @@
-//! A store whose reply is known, what it does on the shards that it takes, and shards that go back
-//! with a line.
+//! What a store does on the shards that it takes, and shards that go back with their lines.
 ghost use Rattle.std.specs.Prelude.{◌≡◌, ℕ, false, Option};
 ghost use Rattle.auction_rows.specs.declared.requests.Facts.{Facts as FactsValue};
 ghost use Rattle.auction_rows.specs.Requests.{is_view};
@@ -10,7 +9,7 @@ ghost use Rattle.phase_permits.specs.Putting.{CanDo, written_acts, line_of, IsHe
 
 use crate::homes::{Home, Homes};
 use crate::transaction::Known;
-use auction_rows::{BidEntry, Facts, ItemEntry, Request, StoreReply};
+use auction_rows::{BidEntry, ItemEntry, Request, StoreReply};
 use item_shards::{Act, Look};
 use shard_boxes::{Boxes, Held, Key, PhaseName};
 use std::sync::Wait;
@@ -23,12 +22,11 @@ pub(crate) struct Call<'a> {
     pub(crate) index: u32,
 }
 
-/// A store whose reply is known, with the homes of its objects and what it saw of its item.
+/// A store whose reply is known, with the homes of its objects.
 #[derive(Drop)]
 pub(crate) struct Store<'a> {
     pub(crate) call: Call<'a>,
     pub(crate) homes: &'a Homes,
-    pub(crate) seen: &'a Option<(Facts, u32)>,
     pub(crate) reply: StoreReply,
 }
 

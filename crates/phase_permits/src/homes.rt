@@ -1,21 +1,24 @@
 //! Where a worker finds the objects of a request, and the shards that a transaction takes.
-ghost use Rattle.std.specs.Prelude.{◌≡◌, ◌<◌, ℕ, None, false, true, List, ◌≤◌, length, IfOk};
+ghost use Rattle.std.specs.Prelude.{◌≡◌, ◌<◌, ℕ, suc, max, None, Some, false, true, List, ◌≤◌, length, IfNone, IfSome, IfOk};
 ghost use Rattle.std.specs.List.{AllByRecursion};
 ghost use Rattle.auction_rows.specs.Footprint.{is_hot};
+ghost use Rattle.auction_rows.specs.Requests.{item_of};
+ghost use Rattle.auction_rows.specs.declared.requests.ItemId.{ItemId as ItemIdValue};
 ghost use Rattle.auction_rows.specs.declared.requests.Object.{Object as ObjectValue};
+ghost use Rattle.item_shards.specs.Answering.{refusal_with};
 ghost use Rattle.item_shards.specs.CommitNumbers.{last_number};
 ghost use Rattle.phase_permits.specs.declared.slices.Hot.{Hot};
 ghost use Rattle.phase_permits.specs.Homes.{IsHomeOf, AreHomesOf};
 ghost use Rattle.phase_permits.specs.Takens.{each_once, shard_at, footprint_of, is_one_of, greatest_held, held_in, numbers_of, dealt, line_among, HasTakenAll, AreHeldAll, AreBack, CanBeDoneOnAll, IsReady};
 ghost use Rattle.phase_permits.specs.Slicing.{hot_objects};
 ghost use Rattle.phase_permits.specs.Begun.{states_in, FirstHas, FirstHasRoom};
-ghost use Rattle.phase_permits.specs.Deeds.{stock_on};
+ghost use Rattle.phase_permits.specs.Deeds.{stock_taken};
 ghost use Rattle.phase_permits.specs.Putting.{HasPutAll, written_acts};
 
 use crate::deeds::{Written, put_with_line};
 use crate::worker::Worker;
-use auction_rows::{Facts, ItemId, Object, Request, shard_of};
-use item_shards::{Act, Look};
+use auction_rows::{ItemId, Object, Refusal, Request, shard_of};
+use item_shards::{Act, Look, next_number, refusal_with};
 use shard_boxes::{Boxes, Held, Key, PhaseName};
 use std::alloc::AllocError;
 use std::sync::Wait;
@@ -59,74 +62,75 @@ impl<N: PhaseName> Worker<N> {
     /// Where the objects are of a request: the shards among them are its footprint. What it views
     /// or buys is not hot, since it is not put off, nor is the item that it stores.
     #[inline(always)]
-    pub(crate) fn homes(&self, request: &Request, shards: u32) -> Homes
-        requires some { 0 < shards }
+    pub(crate) fn homes(&self, request: &Request) -> Homes
         requires allowed { number_refusal self.now.opening request.now ≡ None }
         requires goes { is_put_off (hot_objects self.now.slices) request.now ≡ false }
-        ensures homes { AreHomesOf self.now shards request.now result }
+        ensures homes { AreHomesOf self.now (length N.initial) request.now result }
         ensures footprint { (t : ℕ) →
-            asks shards self.now request.now t ≡ is_one_of (footprint_of result) t }
-        ensures known { AllByRecursion (λ s. s < shards) (footprint_of result) }
+            asks (length N.initial) self.now request.now t ≡ is_one_of (footprint_of result) t }
+        ensures known { AllByRecursion (λ s. s < length N.initial) (footprint_of result) }
     {
         match *request {
             Request::StoreItem { facts, .. } => Homes {
-                item: cold(Object::Item(self.next_item()), shards),
-                other: self.home(Object::Category(facts.category), shards),
+                item: self.cold(Object::Item(self.next_item())),
+                other: self.home(Object::Category(facts.category)),
             },
             Request::StoreBid { item, .. } => Homes {
-                item: self.home(Object::Item(item), shards),
+                item: self.home(Object::Item(item)),
                 other: Home::Nowhere,
             },
             Request::StoreComment { item, about, .. } => Homes {
-                item: self.home(Object::Item(item), shards),
-                other: self.home(Object::User(about), shards),
+                item: self.home(Object::Item(item)),
+                other: self.home(Object::User(about)),
             },
             Request::BuyNow { item, .. } => Homes {
-                item: cold(Object::Item(item), shards),
+                item: self.cold(Object::Item(item)),
                 other: Home::Nowhere,
             },
             Request::ViewItem { item } => Homes {
-                item: cold(Object::Item(item), shards),
+                item: self.cold(Object::Item(item)),
                 other: Home::Nowhere,
             },
             Request::ViewBids { item } => Homes {
-                item: cold(Object::Item(item), shards),
+                item: self.cold(Object::Item(item)),
                 other: Home::Nowhere,
             },
             Request::ViewCategory { category } => Homes {
                 item: Home::Nowhere,
-                other: cold(Object::Category(category), shards),
+                other: self.cold(Object::Category(category)),
             },
             Request::ViewUser { user } => Homes {
                 item: Home::Nowhere,
-                other: cold(Object::User(user), shards),
+                other: self.cold(Object::User(user)),
             },
         }
     }
 
     // Where an object is that may be hot.
     #[inline(always)]
-    fn home(&self, object: Object, shards: u32) -> Home
-        requires some { 0 < shards }
-        ensures { IsHomeOf self.now.slices shards object result }
+    fn home(&self, object: Object) -> Home
+        ensures at { IsHomeOf self.now.slices (length N.initial) object result }
+        ensures some { 0 < length N.initial }
     {
         match self.slices.place_of(object) {
             Some(place) => Home::Slice(place),
-            None => cold(object, shards),
+            None => self.cold(object),
         }
     }
-}
 
-// Where an object is that is not hot.
-#[inline(always)]
-fn cold(object: Object, shards: u32) -> Home
-    requires some { 0 < shards }
-    ensures home { (hots : List (ObjectValue × Hot)) → is_hot (hot_objects hots) object ≡ false →
-        IsHomeOf hots shards object result }
-    ensures item { AllByRecursion (λ s. s < shards) (each_once (shard_at result) None) }
-    ensures other { AllByRecursion (λ s. s < shards) (each_once None (shard_at result)) }
-{
-    Home::Shard(shard_of(object, shards))
+    // Where an object is that is not hot.
+    #[inline(always)]
+    fn cold(&self, object: Object) -> Home
+        ensures home { (hots : List (ObjectValue × Hot)) →
+            is_hot (hot_objects hots) object ≡ false →
+            IsHomeOf hots (length N.initial) object result }
+        ensures item { AllByRecursion
+            (λ s. s < length N.initial) (each_once (shard_at result) None) }
+        ensures other { AllByRecursion
+            (λ s. s < length N.initial) (each_once None (shard_at result)) }
+    {
+        Home::Shard(shard_of(object, self.shards))
+    }
 }
 
 /// The shards of a transaction, each once. They must be put back.
@@ -176,28 +180,31 @@ pub(crate) fn take_all<N: PhaseName, R: Wait>(
     }
 }
 
-/// The greatest of the shards' clocks, 0 where none is taken.
+/// The number after a worker's clock and those of the shards, if there is one.
 #[inline(always)]
-pub(crate) fn clock_of<N: PhaseName>(taken: &Taken<N>) -> u64
-    ensures { result ≡ greatest_held (held_in taken.now) }
+pub(crate) fn number_on<N: PhaseName>(taken: &Taken<N>, own: u64) -> Option<u64>
+    ensures number { IfSome result (λ number.
+        number ≡ suc (max own (greatest_held (held_in taken.now)))) }
+    ensures within { IfSome result (λ number. number ≤ last_number) }
+    ensures full { IfNone result (last_number ≤ max own (greatest_held (held_in taken.now))) }
 {
     match taken {
-        Taken::Nothing => 0,
-        Taken::One(one) => one.clock(),
-        Taken::Two(item, other) => item.clock().max(other.clock()),
+        Taken::Nothing => next_number(own, 0),
+        Taken::One(one) => one.next_number(own),
+        Taken::Two(item, other) => item.next_number(own.max(other.clock())),
     }
 }
 
-/// What the shards have of an item that lies in the first of them.
+/// The first reason for which its item, which lies in the first of the shards, refuses a request.
 #[inline(always)]
-pub(crate) fn stock_in<N: PhaseName>(taken: &Taken<N>, item: ItemId) -> Option<(Facts, u32)>
-    requires { FirstHas taken.now item }
-    ensures { result ≡ stock_on taken.now item }
+pub(crate) fn refusal_in<N: PhaseName>(taken: &Taken<N>, request: &Request) -> Option<Refusal>
+    requires { (item : ItemIdValue) → item_of request.now ≡ Some item → FirstHas taken.now item }
+    ensures { result ≡ refusal_with (stock_taken taken.now request.now) request.now }
 {
     match taken {
-        Taken::Nothing => None,
-        Taken::One(one) => one.stock(item),
-        Taken::Two(one, _) => one.stock(item),
+        Taken::Nothing => refusal_with(&None, request),
+        Taken::One(one) => one.refusal(request),
+        Taken::Two(one, _) => one.refusal(request),
     }
 }
 

@@ -86,6 +86,8 @@ impl<N: PhaseName, K: Kind> Permit<N, K> {
             clock,
         } = start;
         let worker = Worker {
+            worker: journal.worker(),
+            shards: key.shards(),
             key,
             opening,
             counters,

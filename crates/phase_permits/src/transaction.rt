@@ -1,5 +1,5 @@
 //! What a worker does with a request that is not put off: what it finds, and how it answers.
-ghost use Rattle.std.specs.Prelude.{◌≡◌, ◌<◌, ◌≤◌, ◌↔◌, ℕ, suc, max, None, Some, IsNone, IfNone, IfSome, IfOk, IfErr, false, true, length};
+ghost use Rattle.std.specs.Prelude.{◌≡◌, ◌<◌, ◌≤◌, ◌↔◌, ℕ, suc, None, Some, IsNone, IfNone, IfSome, IfOk, IfErr, false, true, length};
 ghost use Rattle.std.specs.List.{AllByRecursion};
 ghost use Rattle.auction_rows.specs.declared.requests.Request.{Request as RequestValue};
 ghost use Rattle.auction_rows.specs.Refusals.{number_refusal};
@@ -12,10 +12,10 @@ ghost use Rattle.phase_permits.specs.Txns.{IsBid};
 
 use crate::answers::{item_on, view_on};
 use crate::deeds::{Call, Deeds, Store, View, Written};
-use crate::homes::{Begun, Homes, clock_of, make_room, put_all, put_back, take_all};
+use crate::homes::{Begun, Homes, make_room, number_on, put_all, put_back, take_all};
 use crate::worker::Worker;
-use auction_rows::{Refusal, Reply, Request, StoreReply, is_view, number_refusal};
-use item_shards::{Act, Look, next_number};
+use auction_rows::{Refusal, Reply, Request, StoreReply, number_refusal};
+use item_shards::{Act, Look, next_number, refusal_with};
 use shard_boxes::{Boxes, PhaseName};
 use std::alloc::AllocError;
 use std::sync::Wait;
@@ -43,11 +43,11 @@ pub enum Done {
     Stashed,
 }
 
-/// Requests for which a transaction has code of its own, in which their kind is known.
+/// Which stores a copy of the code is for.
 pub(crate) trait Known {
-    /// Whether a request is one of them.
+    /// Whether a store is one of them.
     ghost includes: { RequestValue → Type 0 };
-    /// The request, made anew.
+    /// The same store, as its copy of the code takes it.
     fn known(request: &Request) -> Request
         requires { includes request.now }
         ensures { result ≡ request.now };
@@ -59,6 +59,7 @@ pub(crate) struct Bids;
 impl Known for Bids {
     ghost includes = { IsBid };
 
+    // The bid is made anew: then the compiler knows its kind.
     #[inline(always)]
     fn known(request: &Request) -> Request {
         match *request {
@@ -78,10 +79,10 @@ impl Known for Bids {
     }
 }
 
-/// All requests.
-pub(crate) struct AnyRequest;
+/// All stores: nothing is known of their kind.
+pub(crate) struct AnyStore;
 
-impl Known for AnyRequest {
+impl Known for AnyStore {
     ghost includes = { λ _. Unit {0} };
 
     #[inline(always)]
@@ -92,8 +93,7 @@ impl Known for AnyRequest {
 
 impl<N: PhaseName> Worker<N> {
     ghost use Rattle.phase_permits.specs.declared.homes.Homes.{Homes as HomesValue};
-    ghost use Rattle.phase_permits.specs.Begun.{step_of, HasBegun, HasFirst, HasRoomFor, IsSeen, states_in};
-    ghost use Rattle.phase_permits.specs.Deeds.{IsReplyBy};
+    ghost use Rattle.phase_permits.specs.Begun.{step_of, HasBegun, HasFirst, HasRoomFor, IsAnsweredBy, states_in};
     ghost use Rattle.phase_permits.specs.Homes.{AreHomesOf, HasHomes, IsHotStore};
     ghost use Rattle.phase_permits.specs.Performing.{asks, CanTransact, HasCommitted, HasCommittedSome, HasFailed, HasPerformed, HasStoredOrIsFull, HasStoredSome, HaveOpening, StoresItem};
     ghost use Rattle.phase_permits.specs.Slicing.{hot_objects};
@@ -113,14 +113,17 @@ impl<N: PhaseName> Worker<N> {
         requires { CanTransact N.initial boxes.now self.old request.now }
         ensures { HasPerformed N.initial self.old self.new request.now index result }
     {
-        if let Request::StoreBid { .. } = *request {
-            return self.transact_as::<Bids, R>(rt, boxes, request, index);
+        match *request {
+            Request::StoreBid { .. } => self.store::<Bids, R>(rt, boxes, request, index),
+            Request::StoreItem { .. } | Request::StoreComment { .. } | Request::BuyNow { .. } => {
+                self.store::<AnyStore, R>(rt, boxes, request, index)
+            }
+            _ => self.show(rt, boxes, request, index),
         }
-        self.transact_as::<AnyRequest, R>(rt, boxes, request, index)
     }
 
-    // As `transact`, by code for requests of one kind.
-    fn transact_as<K: Known, R: Wait>(
+    // Performs a store, by a copy of the code for each `K`.
+    fn store<K: Known, R: Wait>(
         &mut self,
         rt: &R,
         boxes: &Boxes<N>,
@@ -128,40 +131,35 @@ impl<N: PhaseName> Worker<N> {
         index: u32,
     ) -> Result<(), PermitFault>
         requires kind { K.includes asked.now }
+        requires store { is_view asked.now ≡ false }
         requires can { CanTransact N.initial boxes.now self.old asked.now }
         ensures { HasPerformed N.initial self.old self.new asked.now index result }
     {
         let request = &K::known(asked);
         let call = Call { request, index };
 
-        // A request that the opening refuses takes no shard, nor does a store on hot objects alone.
+        // A store that the opening refuses takes no shard, nor does one on hot objects alone.
         if let Some(reason) = number_refusal(self.opening, *request) {
             return self.refuse(call, reason);
         }
-        let homes = self.homes(request, boxes.shards());
+        let homes = self.homes(request);
         if let (None, None) = (homes.item.shard(), homes.other.shard()) {
             return self.store_hot(call, &homes);
         }
 
         // The shards are taken in ascending order, each once, before anything is read.
         let mut begun = self.begin(rt, boxes, request, &homes)?;
-        if is_view(*request) {
-            self.show(rt, boxes, begun, call);
-            return Ok(());
-        }
         if self.prepare(&mut begun, request).is_err() {
             let Begun { taken, number: _ } = begun;
             put_back(rt, boxes, &mut self.key, taken);
             return Err(PermitFault::Memory);
         }
 
-        // Its item may refuse it.
-        let seen = self.seen(&begun.taken, request, &homes);
-        let reply = self.reply(&seen, request);
+        let refused = self.refusal(&begun.taken, request, &homes);
+        let reply = self.reply(refused, request);
         let store = Store {
             call,
             homes: &homes,
-            seen: &seen,
             reply,
         };
         self.put_store::<K, R>(rt, boxes, begun, &store);
@@ -181,8 +179,7 @@ impl<N: PhaseName> Worker<N> {
         match number_refusal(self.opening, *request) {
             Some(reason) => self.refuse(call, reason).ok(),
             None => {
-                // None of its objects lies in a shard, so it is the same for any number of shards.
-                let homes = self.homes(request, 1);
+                let homes = self.homes(request);
                 self.store_hot(call, &homes).ok()
             }
         }
@@ -197,7 +194,7 @@ impl<N: PhaseName> Worker<N> {
         ensures { HasStoredOrIsFull self.old self.new
             call.entry.request.now call.entry.index result }
     {
-        let number = number_after(self.clock, 0)?;
+        let number = number_after(self.clock)?;
         let answer = Answer {
             form: ReplyForm::Store(StoreReply::Refused(reason)),
         };
@@ -218,20 +215,15 @@ impl<N: PhaseName> Worker<N> {
         ensures { HasStoredOrIsFull self.old self.new
             call.entry.request.now call.entry.index result }
     {
-        let number = number_after(self.clock, 0)?;
-        let seen = self.fixed(homes.item);
-        let reply = self.reply(&seen, call.request);
-        let store = Store {
-            call,
-            homes,
-            seen: &seen,
-            reply,
-        };
+        let number = number_after(self.clock)?;
+        let refused = refusal_with(&self.fixed(homes.item), call.request);
+        let reply = self.reply(refused, call.request);
+        let store = Store { call, homes, reply };
         self.add_store(number, &store);
         Ok(())
     }
 
-    // Takes the shards of a footprint, with the number after all clocks; without one, none.
+    // Takes the shards of a footprint, with the number after all clocks, or puts them back.
     #[inline(always)]
     fn begin<R: Wait>(
         &mut self,
@@ -253,12 +245,11 @@ impl<N: PhaseName> Worker<N> {
         ensures full { IfErr result (HasFailed N.initial self.old self.new request.now) }
     {
         let taken = take_all(rt, boxes, &mut self.key, homes);
-        let before = clock_of(&taken);
-        match number_after(self.clock, before) {
-            Ok(number) => Ok(Begun { taken, number }),
-            Err(fault) => {
+        match number_on(&taken, self.clock) {
+            Some(number) => Ok(Begun { taken, number }),
+            None => {
                 put_back(rt, boxes, &mut self.key, taken);
-                Err(fault)
+                Err(PermitFault::NumberFull)
             }
         }
     }
@@ -278,21 +269,26 @@ impl<N: PhaseName> Worker<N> {
         }
     }
 
-    // Performs a view over its one shard: apart, as no other request has room for a whole reply.
+    // Performs a view: apart, as no other request has room for a whole reply on its stack.
     #[inline(never)]
-    fn show<R: Wait>(&mut self, rt: &R, boxes: &Boxes<N>, begun: Begun<N>, call: Call<'_>)
-        requires view { is_view call.request.now ≡ true }
-        requires opened { HaveOpening N.initial self.old.opening }
-        requires begun { (homes : HomesValue) × (key : KeyState) × HasBegun
-            (step_of N.initial N.workers boxes.now key homes) self.old call.request.now begun }
-        requires left { 0 < self.old.left }
-        ensures { (homes : HomesValue) → (key : KeyState) → HasBegun
-            (step_of N.initial N.workers boxes.now key homes) self.old
-            call.entry.request.now begun →
-            HasCommittedSome N.initial (record self.old { key = key }) self.new
-            call.entry.request.now call.entry.index }
+    fn show<R: Wait>(
+        &mut self,
+        rt: &R,
+        boxes: &Boxes<N>,
+        request: &Request,
+        index: u32,
+    ) -> Result<(), PermitFault>
+        requires view { is_view request.now ≡ true }
+        requires can { CanTransact N.initial boxes.now self.old request.now }
+        ensures { HasPerformed N.initial self.old self.new request.now index result }
     {
-        if let Request::ViewItem { item } = *call.request {
+        let call = Call { request, index };
+        if let Some(reason) = number_refusal(self.opening, *request) {
+            return self.refuse(call, reason);
+        }
+        let homes = self.homes(request);
+        let begun = self.begin(rt, boxes, request, &homes)?;
+        if let Request::ViewItem { item } = *request {
             let seen = item_on(&begun.taken, item);
             let view = View {
                 call,
@@ -300,15 +296,16 @@ impl<N: PhaseName> Worker<N> {
                 answer: Answer::of_item(&seen),
             };
             self.put_view(rt, boxes, begun, &view);
-            return;
+            return Ok(());
         }
-        let (look, reply) = view_on(&begun.taken, call.request);
+        let (look, reply) = view_on(&begun.taken, request);
         let view = View {
             call,
             look,
             answer: Answer::of(&reply),
         };
         self.put_view(rt, boxes, begun, &view);
+        Ok(())
     }
 
     // Puts the shard of a view back with its line, and commits it.
@@ -353,11 +350,9 @@ impl<N: PhaseName> Worker<N> {
         requires begun { (key : KeyState) × HasBegun
             (step_of N.initial N.workers boxes.now key store.now.homes.now)
             self.old store.now.call.request.now begun }
-        requires seen { IsSeen self.old store.now.call.request.now
-            store.now.homes.now begun.taken store.now.seen.now }
         requires room { HasRoomFor self.old store.now.call.request.now begun.taken }
-        requires answered { IsReplyBy self.old store.now.seen.now
-            store.now.call.request.now (reply_of store.now.reply) }
+        requires answered { IsAnsweredBy self.old store.now.call.request.now
+            store.now.homes.now begun.taken (reply_of store.now.reply) }
         requires left { 0 < self.old.left }
         ensures { (key : KeyState) → HasBegun
             (step_of N.initial N.workers boxes.now key store.now.homes.now)
@@ -373,13 +368,13 @@ impl<N: PhaseName> Worker<N> {
     }
 }
 
-// The number after two clocks, if there is one.
+// The number after a worker's clock, if there is one.
 #[inline(always)]
-fn number_after(own: u64, found: u64) -> Result<u64, PermitFault>
-    ensures number { IfOk result (λ number. number ≡ suc (max own found)) }
+fn number_after(own: u64) -> Result<u64, PermitFault>
+    ensures number { IfOk result (λ number. number ≡ suc own) }
     ensures within { IfOk result (λ number. number ≤ last_number) }
     ensures fault { IfErr result (λ fault. fault ≡ NumberFull) }
-    ensures full { IfErr result (λ _. last_number ≤ max own found) }
+    ensures full { IfErr result (λ _. last_number ≤ own) }
 {
-    next_number(own, found).ok_or(PermitFault::NumberFull)
+    next_number(own, 0).ok_or(PermitFault::NumberFull)
 }

@@ -23,6 +23,10 @@ use worker_journals::{Answer, Journal, ReplyForm};
 /// What a worker has in a phase: its right to take shards, and what no other worker touches.
 #[derive(Drop)]
 pub(crate) struct Worker<N: PhaseName> {
+    // Its number.
+    pub(crate) worker: u32,
+    // How many shards the phase has.
+    pub(crate) shards: u32,
     pub(crate) key: Key<N>,
     pub(crate) opening: Opening,
     pub(crate) counters: Counters,
@@ -32,7 +36,7 @@ pub(crate) struct Worker<N: PhaseName> {
     pub(crate) left: u32,
     pub(crate) tries: u32,
     pub(crate) clock: u64,
-    // What it began with: for proofs alone.
+    // What it began with: only for proofs.
     pub(crate) begun: GhostList<Counters, u64>,
 }
 
@@ -53,7 +57,7 @@ impl<N: PhaseName> Model for Worker<N> {
 
     ghost view = { state_in };
 
-    ghost invariant = { AreLawful };
+    ghost invariant = { λ w. AreLawful (length N.initial) w };
 }
 
 impl<N: PhaseName> Worker<N> {
@@ -73,7 +77,7 @@ impl<N: PhaseName> Worker<N> {
         ensures cold { is_hot (hot_objects self.now.slices) (Item result) ≡ false }
     {
         ItemId {
-            worker: self.journal.worker(),
+            worker: self.worker,
             serial: self.counters.items,
         }
     }

@@ -56,15 +56,6 @@ impl<N: PhaseName> Model for Boxes<N> {
 }
 
 impl<N: PhaseName> Boxes<N> {
-    /// How many shards there are, 1 to 64.
-    #[inline(always)]
-    pub fn shards(&self) -> u32
-        ensures count { result ≡ length N.initial }
-        ensures some { 0 < length N.initial }
-    {
-        self.boxes.len() as u32
-    }
-
     /// Takes a shard: it tries until the shard is in its box. A key that holds shards takes only greater ones: then
     /// workers don't wait for one another in a ring. It takes no memory.
     #[inline(always)]

@@ -117,6 +117,7 @@ fn deal_all<N: PhaseName>(
     rooms: Vec<Vec<Grant>>,
     mut keys: Vec<Key<N>>,
 ) -> Vec<Key<N>>
+    requires few { (0 < length N.initial) × (length N.initial ≤ MOST_SHARDS) }
     requires boxes { length boxes.now ≡ length N.initial }
     requires grants { AreReady boxes.now 0 N.workers grants.items }
     requires workers { N.workers < 2 ^ 32 }
@@ -142,6 +143,7 @@ fn deal<N: PhaseName>(
     mut room: Vec<Grant>,
     worker: u32,
 ) -> Key<N>
+    requires few { (0 < length N.initial) × (length N.initial ≤ MOST_SHARDS) }
     requires worker { worker < N.workers }
     requires boxes { length boxes.now ≡ length N.initial }
     requires grants { AreReady boxes.now worker (N.workers - worker) grants.old.items }

@@ -1,15 +1,17 @@
 //! A worker's right to take the shards of a phase, a shard out of its box, and what it allows.
-ghost use Rattle.std.specs.Prelude.{◌≡◌, ◌<◌, ◌≤◌, ◌∷◌, [], ℕ, true, false, length};
+ghost use Rattle.std.specs.Prelude.{◌≡◌, ◌<◌, ◌≤◌, ◌↔◌, ◌∷◌, [], ℕ, true, false, length, max, IsNone};
 ghost use Rattle.std.specs.Borrow.{Lends, sem};
 ghost use Rattle.phase_laws.specs.Replay.{SawInTurn};
+ghost use Rattle.auction_rows.specs.ItemViews.{item_told};
 ghost use Rattle.auction_rows.specs.declared.requests.Object.TheVariants.{Item};
 ghost use Rattle.item_shards.specs.contracts.shard.Shard.{the_row as shard_row};
 ghost use Rattle.item_shards.specs.Events.{Event};
 ghost use Rattle.item_shards.specs.Acting.{CanDo};
-ghost use Rattle.item_shards.specs.CommitNumbers.{last_number};
+ghost use Rattle.item_shards.specs.Answering.{refusal_with, stock_needed, HasItemOf};
+ghost use Rattle.item_shards.specs.CommitNumbers.{last_number, next_number};
 ghost use Rattle.item_shards.specs.Contents.{after_act};
 ghost use Rattle.item_shards.specs.ShardContents.{clock, contents, LiesIn};
-ghost use Rattle.item_shards.specs.Values.{stock};
+ghost use Rattle.item_shards.specs.Views.{item_view};
 ghost use Rattle.shard_boxes.specs.States.{state_of, ShardState, IsWithin};
 ghost use Rattle.shard_boxes.specs.Lines.{lines_of, StartsWith, IsShardHistory, after_line, after_lines, line_of, MayFollow};
 ghost use Rattle.shard_boxes.specs.Keys.{taking, putting, lines_at, seen_at, holds_at};
@@ -23,9 +25,9 @@ ghost use Rattle.shard_boxes.specs.Limits.{SumsFit};
 use crate::boxes::PhaseName;
 use crate::line::Line;
 use crate::shard_box::{Grant, ShardBox};
-use auction_rows::{Facts, ItemId};
+use auction_rows::{ItemId, ItemView, Refusal, Request};
 use ghost_log::Ghost;
-use item_shards::{Act, Shard};
+use item_shards::{Act, Shard, next_number};
 use std::marker::{Brand, Model, PhantomData};
 use std::sync::Wait;
 
@@ -39,7 +41,8 @@ pub struct Key<N: PhaseName> {
 }
 
 impl<N: PhaseName> Model for Key<N> {
-    ghost use Rattle.std.specs.Prelude.{◌≡◌, ◌<◌, length, vec_len};
+    ghost use Rattle.std.specs.Prelude.{◌≡◌, ◌<◌, ◌≤◌, length, vec_len};
+    ghost use Rattle.auction_rows.specs.declared.limits.TheConstants.{MOST_SHARDS};
     ghost use Rattle.shard_boxes.specs.Keys.{KeyState};
     ghost use Rattle.shard_boxes.specs.Seats.{key_of, AreFor};
 
@@ -48,7 +51,8 @@ impl<N: PhaseName> Model for Key<N> {
     ghost view = { λ k. key_of k.worker k.grants.items };
 
     ghost invariant = { λ k. (k.worker < N.workers) × (vec_len k.grants ≡ length N.initial)
-        × AreFor k.grants.items k.worker };
+        × AreFor k.grants.items k.worker
+        × (0 < length N.initial) × (length N.initial ≤ MOST_SHARDS) };
 }
 
 impl<N: PhaseName> Key<N> {
@@ -60,6 +64,15 @@ impl<N: PhaseName> Key<N> {
         ensures seats { length self.now.seats ≡ length N.initial }
     {
         self.worker
+    }
+
+    /// How many shards there are, 1 to 64.
+    #[inline(always)]
+    pub fn shards(&self) -> u32
+        ensures count { result ≡ length N.initial }
+        ensures some { 0 < length N.initial }
+    {
+        self.grants.len() as u32
     }
 
     // Tries until the shard is in the box.
@@ -188,13 +201,33 @@ impl<N: PhaseName> Held<N> {
         self.shard.clock()
     }
 
-    /// The facts of an item that lies in the shard and how many are left, if it is stored.
+    /// The number of a commit that finds this clock besides the shard's: 1 + the greater. There is
+    /// none if the greater is the last number or past it.
     #[inline(always)]
-    pub fn stock(&self, item: ItemId) -> Option<(Facts, u32)>
-        requires { LiesIn self.now.shard (Item item) }
-        ensures { result ≡ stock (contents self.now.shard (Item item)) }
+    pub fn next_number(&self, other: u64) -> Option<u64>
+        ensures number { result ≡ next_number other (clock self.now.shard) }
+        ensures none { IsNone result ↔ (last_number ≤ max other (clock self.now.shard)) }
     {
-        self.shard.stock(item)
+        next_number(other, self.shard.clock())
+    }
+
+    /// What a view of an item that lies in the shard shows: None if it is not stored.
+    #[inline(always)]
+    pub fn item_seen(&self, item: ItemId) -> Option<ItemView>
+        requires here { LiesIn self.now.shard (Item item) }
+        ensures { item_told result ≡ item_view (contents self.now.shard (Item item)) }
+    {
+        self.shard.item_seen(item)
+    }
+
+    /// The first reason for which its item refuses a request: None if the request needs no item.
+    #[inline(always)]
+    pub fn refusal(&self, request: &Request) -> Option<Refusal>
+        requires here { HasItemOf self.now.shard request.now }
+        ensures { result
+            ≡ refusal_with (stock_needed (contents self.now.shard) request.now) request.now }
+    {
+        self.shard.refusal(request)
     }
 
     /// Does two acts on the shard, one after the other, at a number after its clock, and gives the

@@ -1,10 +1,10 @@
 //! The items of a shard, and the bids and purchases, which the shard of their item answers.
 ghost use Rattle.std.specs.Prelude.{◌≡◌, ◌+◌, ◌<◌, ◌^◌, IfSome, OnOk, OnErr};
-ghost use Rattle.item_shards.specs.Answering.{refusal_with};
+ghost use Rattle.item_shards.specs.Answering.{refusal_with, stock_needed, HasItemOf};
 
 use crate::shard::Shard;
 use crate::shard::records::ItemRecord;
-use auction_rows::{BidEntry, Facts, ItemId, Quantity, Refusal, Request, item_refusal};
+use auction_rows::{BidEntry, Facts, ItemId, Quantity, Refusal, Request, item_of, item_refusal};
 use std::alloc::AllocError;
 
 /// The first reason for which an item refuses a request, by its facts and how many are left, if it is stored.
@@ -84,6 +84,18 @@ impl Shard {
     {
         match self.record(item) {
             Some(record) => record.stock(),
+            None => None,
+        }
+    }
+
+    /// The first reason for which its item refuses a request: None if the request needs no item.
+    #[inline(always)]
+    pub fn refusal(&self, request: &Request) -> Option<Refusal>
+        requires here { HasItemOf self.now request.now }
+        ensures { result ≡ refusal_with (stock_needed (contents self.now) request.now) request.now }
+    {
+        match item_of(*request) {
+            Some(item) => refusal_with(&self.stock(item), request),
             None => None,
         }
     }

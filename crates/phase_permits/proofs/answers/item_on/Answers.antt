@@ -1,12 +1,10 @@
-use Rattle.std.proofs.Common.{refl, subst, sym}
+use Rattle.std.proofs.Common.{refl, subst}
 use Rattle.auction_rows.specs.declared.requests.Object.TheVariants.{Item}
 use Rattle.auction_rows.specs.declared.requests.Request.TheVariants.{ViewItem}
-use Rattle.item_shards.specs.declared.shard.Shard.{Shard}
-use Rattle.item_shards.specs.ShardContents.{LiesIn}
 use Rattle.phase_permits.specs.Begun.{CanView, IsOnOne}
 use Rattle.phase_permits.proofs.answers.item_on.Goals as goal
 
 pub item_seen-requires : goal.item_seen-requires
 item_seen-requires g c =
     let can : CanView c.in-One.one.shard (ViewItem c.args.item) = subst (IsOnOne (ViewItem c.args.item)) c.in-One.is c.requires in
-    record { here = subst (λ (s : Shard). LiesIn s (Item c.args.item)) (sym c.shard.ensures) (can.here (Item c.args.item) refl) }
+    record { here = can.here (Item c.args.item) refl }

@@ -10,6 +10,9 @@ overflow_add-worker g c = let step = c.in-Some.ensures.steps in omega (arith, st
 pub deal-requires-clause-worker : goal.deal-requires-clause-worker
 deal-requires-clause-worker g c = is_next _ _ _ _ _ c.in-Some.ensures.steps.1 c.loop-room.invariant.0 refl
 
+pub deal-requires-clause-few : goal.deal-requires-clause-few
+deal-requires-clause-few g c = c.requires.few
+
 pub deal-requires-clause-boxes : goal.deal-requires-clause-boxes
 deal-requires-clause-boxes g c = c.requires.boxes
 

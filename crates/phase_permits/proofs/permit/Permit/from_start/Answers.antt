@@ -10,7 +10,12 @@ unfolding begun_of
 invariant_of-worker g c =
     let w = new_worker c.args.start.key c.args.start.opening c.args.start.counters c.args.start.journal c.args.start.stash c.args.start.slices c.args.start.quota c.args.start.clock in
     let begun : begun_of c.and.result.items ≡ (c.args.start.counters, c.args.start.clock) = ap begun_of (c.and.ensures ∙ ap (λ (none : List (Counters × ℕ)). none ++ (c.args.start.counters, c.args.start.clock) ∷ []) c.new.ensures) in
-    subst IsLawfulWorker (λ i. record w { begun = sym begun i }) (start_lawful w c.requires.can)
+    record {
+      lawful = subst IsLawfulWorker (λ i. record w { begun = sym begun i }) (start_lawful w c.requires.can);
+      worker_is = c.worker.ensures;
+      shards_is = c.shards.ensures.count;
+      some = c.shards.ensures.some;
+    }
 
 pub invariant_of-result : goal.invariant_of-result
 unfolding begun_of

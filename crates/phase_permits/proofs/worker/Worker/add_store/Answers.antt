@@ -13,5 +13,10 @@ invariant_of-self g c =
     let old = c.args.self.now in
     let commits = ap (λ (s : WorkerState). s.counters.commits) (c.self.view_is ∙ c.add_entry.ensures.entry) ∙ (counts_one old.counters (reply_of c.args.store.now.reply)).commits in
     let few = c.store.ensures.few old.counters.commits (subst (λ (s : WorkerState). HaveAtMost old.counters.commits s.slices) (sym c.self.view_is) c.add_entry.ensures.few) in
-    lawful_sliced _ c.store.new.self c.self.invariant (ap hot_objects (c.store.ensures.written old.journal.worker c.requires.own) ∙ objects-acts inside.slices (writes_if (row_of old.journal.worker c.args.store.now.call.request.now (reply_of c.args.store.now.reply))))
-    (subst (λ n. HaveAtMost n c.store.new.self) (sym commits) few)
+    record {
+      lawful = lawful_sliced _ c.store.new.self c.self.invariant.lawful (ap hot_objects (c.store.ensures.written old.journal.worker c.requires.own) ∙ objects-acts inside.slices (writes_if (row_of old.journal.worker c.args.store.now.call.request.now (reply_of c.args.store.now.reply))))
+          (subst (λ n. HaveAtMost n c.store.new.self) (sym commits) few);
+      worker_is = c.self.invariant.worker_is;
+      shards_is = c.self.invariant.shards_is;
+      some = c.self.invariant.some;
+    }

@@ -23,8 +23,8 @@ put_all-requires-clause-can g c =
     let reply = reply_of store.reply in
     let step = step_of initial g.N.PhaseName.workers c.args.boxes.now c.requires.begun.0 store.homes.now in
     subst (λ (d : Written). CanBeDoneOnAll d.number (held_in took) (dealt took (written_acts d))) (sym c.written-written.ensures)
-    (begun_can step w store.call.request.now c.args.begun begun store.seen.now c.requires.store c.requires.seen reply c.of-deeds.result c.requires.room c.requires.answered c.requires.opened
-    (λ held on. c.of-deeds.ensures.good store.seen.now initial g.N.PhaseName.workers c.args.boxes.now c.requires.begun.0 w held on) (c.of-deeds.ensures.footprint w (length initial) begun.homes_are))
+    (begun_can step w store.call.request.now c.args.begun begun c.requires.answered.seen c.requires.store c.requires.answered.saw reply c.of-deeds.result c.requires.room c.requires.answered.answered c.requires.opened
+    (λ held on. c.of-deeds.ensures.good c.requires.answered.seen initial g.N.PhaseName.workers c.args.boxes.now c.requires.begun.0 w held on) (c.of-deeds.ensures.footprint w (length initial) begun.homes_are))
 
 pub add_store-requires-clause-home : goal.add_store-requires-clause-home
 add_store-requires-clause-home g c =
@@ -35,7 +35,7 @@ pub add_store-requires-clause-own : goal.add_store-requires-clause-own
 add_store-requires-clause-own g c =
     let store = c.args.store.now in
     let reply = reply_of store.reply in
-    subst (λ (w : WorkerState). IsOwn w.journal.worker reply) (sym c.self.view_is) (own_reply c.args.self.now store.seen.now store.call.request.now reply c.requires.answered c.requires.store)
+    subst (λ (w : WorkerState). IsOwn w.journal.worker reply) (sym c.self.view_is) (own_reply c.args.self.now c.requires.answered.seen store.call.request.now reply c.requires.answered.answered c.requires.store)
 
 pub returns : goal.returns
 returns g c key begun =
@@ -53,11 +53,11 @@ returns g c key begun =
     let written = written_of c.of-deeds.result number store.call.index in
     let lines = line_among number store.call.index (held_in took) (dealt took (written_acts written)) in
     let put = subst (λ (d : Written). HasPutAll initial c.self.inside.key c.put_all.new.key (is_one_of (numbers_of (held_in took))) (line_among d.number d.index (held_in took) (dealt took (written_acts d)))) c.written-written.ensures c.put_all.ensures in
-    begun_commits step w request c.args.begun begun new store.call.index reply store.seen.now c.of-deeds.result (c.of-deeds.ensures.footprint w (length initial) begun.homes_are)
-    (c.of-deeds.ensures.owed store.seen.now w (length initial) begun.homes_are (own_reply w store.seen.now request reply c.requires.answered c.requires.store) (next_reply w store.seen.now request reply c.requires.answered c.requires.store))
-    (begun_good step w request c.args.begun begun store.seen.now c.requires.store c.requires.seen reply c.of-deeds.result c.requires.room c.requires.answered c.requires.opened
-    (λ held on. c.of-deeds.ensures.good store.seen.now initial g.N.PhaseName.workers c.args.boxes.now key w held on))
-    (seen_answered step w request c.args.begun begun store.seen.now c.requires.store c.requires.seen store.call.index reply c.requires.answered)
+    begun_commits step w request c.args.begun begun new store.call.index reply c.requires.answered.seen c.of-deeds.result (c.of-deeds.ensures.footprint w (length initial) begun.homes_are)
+    (c.of-deeds.ensures.owed c.requires.answered.seen w (length initial) begun.homes_are (own_reply w c.requires.answered.seen request reply c.requires.answered.answered c.requires.store) (next_reply w c.requires.answered.seen request reply c.requires.answered.answered c.requires.store))
+    (begun_good step w request c.args.begun begun c.requires.answered.seen c.requires.store c.requires.answered.saw reply c.of-deeds.result c.requires.room c.requires.answered.answered c.requires.opened
+    (λ held on. c.of-deeds.ensures.good c.requires.answered.seen initial g.N.PhaseName.workers c.args.boxes.now key w held on))
+    (seen_answered step w request c.args.begun begun c.requires.answered.seen c.requires.store c.requires.answered.saw store.call.index reply c.requires.answered.answered)
     (subst (λ (k : KeyState). HasPutAll initial w.key k (is_one_of (numbers_of (held_in took))) lines) (sym key_is)
     (subst (λ (s : WorkerState). HasPutAll initial s.key c.put_all.new.key (is_one_of (numbers_of (held_in took))) lines) c.self.view_is put))
     (c.add_store.ensures ∙ (λ i. record (after_commit (c.self.view_is i) number store.call.index request reply) { key = sym key_is i }))

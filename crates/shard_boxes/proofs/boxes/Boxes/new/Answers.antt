@@ -19,6 +19,7 @@ deal_all-keys-requires g c =
     let workers = g.N.PhaseName.workers in
     let count : c.len-count.result ≡ length g.N.PhaseName.initial = c.len-count.ensures ∙ c.args.shards.ok.0 ∙ as_many_states c.args.shards.items g.N.PhaseName.initial c.requires.opening in
     record {
+      few = c.requires.few;
       boxes = c.deref-2.ensures.len ∙ c.in-Ok.ensures.len ∙ count;
       grants = subst (λ (boxes : List BoxId). AreReady boxes 0 workers c.open_all-grants.result.items) (c.deref.ensures.value ∙ sym c.deref-2.ensures.value) c.open_all-grants.ensures;
       workers = subst (λ n. n < 2 ^ 32) c.requires.workers c.ranges.workers.fits;

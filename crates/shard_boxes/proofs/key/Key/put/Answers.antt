@@ -69,4 +69,6 @@ invariant_of-self g c =
         from = ap (λ (l : GrantState). l.knows.first) new ∙ ap (λ (l : GrantState). l.knows.first) at ∙ fit.from;
         as_many = ap (λ (l : GrantState). length l.knows.own) new ∙ length-with_first grant.knows.own _ ∙ ap (λ (l : GrantState). length l.knows.own) at ∙ fit.as_many;
       }),
+      c.self.invariant.3,
+      c.self.invariant.4,
     )

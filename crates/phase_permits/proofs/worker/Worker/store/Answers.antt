@@ -1,20 +1,20 @@
-use Rattle.std.proofs.Common.{◌≡◌, ℕ, true, Some, None, length, Result, Ok, Err, sym, ap, subst, ◌∙◌}
+use Rattle.std.proofs.Common.{◌≡◌, true, Some, None, length, Result, Ok, Err, sym, ap, subst, ◌∙◌}
 use Rattle.std.specs.Prelude.{is_err, IfErr}
-use Rattle.auction_rows.specs.declared.requests.Object.TheVariants.{Item}
 use Rattle.auction_rows.specs.declared.requests.Request.{Request}
 use Rattle.auction_rows.specs.Refusals.{number_refusal}
+use Rattle.auction_rows.specs.Requests.{is_view}
 use Rattle.auction_rows.specs.StoreReplies.{reply_of}
 use Rattle.phase_permits.specs.declared.transaction.PermitFault.TheVariants.{Memory}
 use Rattle.phase_permits.specs.Begun.{step_of}
-use Rattle.phase_permits.specs.Performing.{CanTransact, HasCommitted, HasCommittedSome, HasFailed, HasPerformed, asks}
-use Rattle.phase_permits.specs.Takens.{footprint_of, is_one_of, AreBack}
+use Rattle.phase_permits.specs.Performing.{CanTransact, HasCommitted, HasCommittedSome, HasFailed, HasPerformed}
+use Rattle.phase_permits.specs.Takens.{AreBack}
 use Rattle.phase_permits.specs.WorkerFields.{state_in}
 use Rattle.phase_permits.specs.Workers.{WorkerState, IsLawfulWorker}
-use Rattle.phase_permits.proofs.AnswerLemmas.{item_home}
-use Rattle.phase_permits.proofs.BegunLemmas.{begun_fails, item_first}
+use Rattle.phase_permits.proofs.AnswerLemmas.{reply_by}
+use Rattle.phase_permits.proofs.BegunLemmas.{begun_fails, item_first, needed_first}
 use Rattle.phase_permits.proofs.EmptyLemmas.{stored_performed, refused_untaken, hot_untaken}
 use Rattle.phase_permits.proofs.FirstLemmas.{begun_before}
-use Rattle.phase_permits.proofs.worker.Worker.transact_as.Goals as goal
+use Rattle.phase_permits.proofs.worker.Worker.store.Goals as goal
 
 of_err : {T E : Type 0} {P : Type 0} (result : Result T E) → is_err result ≡ true → IfErr result (λ _. P) → P
 of_err (Ok x) is p = absurd (cc)
@@ -42,13 +42,22 @@ returns-in-None-None g c =
     subst (λ (r : Request). HasPerformed initial old c.store_hot.new.self r c.args.index c.store_hot.result) c.known.ensures
     (stored_performed initial old c.store_hot.new.self request c.args.index can.idle c.store_hot.result c.store_hot.ensures
     (λ answer stored. hot_untaken old c.store_hot.new.self (length initial) c.args.index request homes answer allowed stored
-    (subst (λ n. (t : ℕ) → asks n old request t ≡ is_one_of (footprint_of homes) t) c.shards.ensures.count c.homes-homes.ensures.footprint)
+    c.homes-homes.ensures.footprint
     (sym c.shard.ensures ∙ c.in-None-None.is-0) (sym c.shard-2.ensures ∙ c.in-None-None.is-1)) can.goes)
+
+pub store_hot-requires-clause-store : goal.store_hot-requires-clause-store
+store_hot-requires-clause-store g c = ap is_view c.known.ensures ∙ c.requires.store
+
+pub reply-reply-requires : goal.reply-reply-requires
+reply-reply-requires g c = record { store = ap is_view c.known.ensures ∙ c.requires.store }
+
+pub put_store-requires-clause-store : goal.put_store-requires-clause-store
+put_store-requires-clause-store g c = ap is_view c.known.ensures ∙ c.requires.store
 
 pub prepare-requires : goal.prepare-requires
 prepare-requires g c = record {
   begun = item_first (step_of g.N.PhaseName.initial g.N.PhaseName.workers c.args.boxes.now c.args.self.now.key c.homes-homes.result) c.begin.new.self c.known.result c.in_ok-begun.begun
-      c.in_ok-begun.ensures.begun (subst IsLawfulWorker c.self-2.view_is c.self-2.invariant);
+      c.in_ok-begun.ensures.begun (subst IsLawfulWorker c.self-2.view_is c.self-2.invariant.lawful);
 }
 
 pub returns-then-is_err : goal.returns-then-is_err
@@ -72,13 +81,21 @@ put_store-requires-clause-begun g c = (
   begun_before c.in_ok-begun.begun c.prepare.new.begun c.prepare.ensures.same c.prepare.ensures.number c.in_ok-begun.ensures.begun,
 )
 
-pub put_store-requires-clause-seen : goal.put_store-requires-clause-seen
-put_store-requires-clause-seen g c =
-    let w = c.begin.new.self in
-    let homes_are = c.in_ok-begun.ensures.begun.homes_are in
+pub refusal-refused-requires : goal.refusal-refused-requires
+refusal-refused-requires g c =
+    let begun = begun_before c.in_ok-begun.begun c.prepare.new.begun c.prepare.ensures.same c.prepare.ensures.number c.in_ok-begun.ensures.begun in
     record {
-      fixed = λ item needs none. c.seen-seen.ensures.fixed (Item item) (length g.N.PhaseName.initial) (item_home w (length g.N.PhaseName.initial) c.known.result c.homes-homes.result item homes_are needs) none;
-      found = λ item t needs at. c.seen-seen.ensures.found item t needs at;
+      homes = (length g.N.PhaseName.initial, begun.homes_are);
+      there = λ item t needs at. needed_first (step_of g.N.PhaseName.initial g.N.PhaseName.workers c.args.boxes.now c.args.self.now.key c.homes-homes.result) c.begin.new.self c.known.result c.prepare.new.begun begun item t needs at;
+    }
+
+pub put_store-requires-clause-answered : goal.put_store-requires-clause-answered
+put_store-requires-clause-answered g c =
+    let refused = c.refusal-refused.ensures in
+    record {
+      seen = refused.seen;
+      saw = refused.saw;
+      answered = reply_by c.begin.new.self refused.seen c.known.result c.refusal-refused.result (reply_of c.reply-reply.result) c.in_ok-begun.ensures.begun.allowed refused.by c.reply-reply.ensures;
     }
 
 pub returns : goal.returns
