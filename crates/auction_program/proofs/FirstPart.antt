@@ -14,7 +14,6 @@ use Rattle.auction_text.specs.declared.reading.parts.Part.{Part}
 use Rattle.item_shards.specs.OpeningRows.{AreRows, IsTooLong, opening_rows}
 use Rattle.item_shards.specs.declared.openings.Opened.{Opened}
 use Rattle.part_log.specs.declared.log.Teller.{Teller}
-use Rattle.run_laws.specs.Serving.{lists}
 use Rattle.auction_program.specs.Options.{opening_asked}
 use Rattle.auction_program.specs.PartRuns.{HasServed, IsPastReading, IsSession, Opens, RunsPart, ServesPart, StartsAt}
 use Rattle.auction_program.specs.Serving.{ArePartTold, AreTold, IsLoggedBefore, IsNothingTold, nothing_gone, opening_text, unlogged_rows}
@@ -64,14 +63,14 @@ module _ {R L W : Type 0} (remaining : R → Option (List ℕ)) (accepted : L �
 
     -- the first part is served
     pub first_served : (next : Served) → KeepsWorkers workers part.end
-        → ((book : Book) → StartsAt options start.start book → ServesPart options book (gone_by start.before) (lists part.input.scripts.items) next (AreTold accepted contents opened new))
+        → ((book : Book) → StartsAt options start.start book → ServesPart options book (gone_by start.before) part.input.scripts.items next (AreTold accepted contents opened new))
         → IsSession remaining options logged all next part.end (AreTold accepted contents old new)
     first_served next keeps serves =
         session_more remaining accepted contents options logged all old opened new start all [] begun refl workers most asked part same read next keeps serves
 
     -- it may not be told whole
     pub first_not_served : ((book : Book) → StartsAt options start.start book
-        → RunsPart options book (gone_by start.before) (lists part.input.scripts.items) (ArePartTold accepted contents opened new) ⊎ IsNothingTold accepted contents opened new)
+        → RunsPart options book (gone_by start.before) part.input.scripts.items (ArePartTold accepted contents opened new) ⊎ IsNothingTold accepted contents opened new)
         → IsLoggedBefore accepted contents old new options logged all
     first_not_served runs = inr (session_first remaining accepted contents options logged all old opened new start all [] begun refl workers most asked part same read runs)
 

@@ -22,7 +22,6 @@ use Rattle.auction_text.specs.declared.reading.record.Record.{Record}
 use Rattle.item_shards.specs.OpeningRows.{AreRows, IsTooLong, opening_rows}
 use Rattle.item_shards.specs.declared.openings.Opened.{Opened}
 use Rattle.part_log.specs.declared.log.Teller.{Teller}
-use Rattle.run_laws.specs.Serving.{lists}
 use Rattle.auction_program.specs.Execution.{commits_text}
 use Rattle.auction_program.specs.Options.{opening_asked}
 use Rattle.auction_program.specs.PartRuns.{HasServed, IsSession, Opens, RunsPart, ServesPart, StartsAt, book_past, gone_with}

@@ -14,7 +14,6 @@ use Rattle.auction_text.specs.declared.reading.parts.PartEnd.TheVariants.{More, 
 use Rattle.auction_text.specs.declared.reading.record.Record.{Record}
 use Rattle.item_shards.specs.declared.openings.Opened.{Opened}
 use Rattle.part_log.specs.declared.log.Teller.{Teller}
-use Rattle.run_laws.specs.Serving.{lists}
 use Rattle.auction_program.specs.PartRuns.{HasServed, IsSession, RunsPart, ServesPart, StartsAt}
 use Rattle.auction_program.specs.Serving.{ArePartTold, AreTold, IsNothingTold, ServesAll, ServesFirst, scripts_in}
 use Rattle.auction_program.specs.declared.options.Options.{Options}
@@ -58,12 +57,12 @@ module _ {R L W : Type 0} (remaining : R → Option (List ℕ)) (accepted : L �
     few : 1 ≤ options.live → requests_in read.said ≤ options.live
     few some = subst (λ (n : ℕ). requests_in read.said ≤ n) (asked some) read.few
 
-    scripts_are : lists part.input.scripts.items ≡ scripts_in options read.said
+    scripts_are : part.input.scripts.items ≡ scripts_in options read.said
     scripts_are = ap (λ (a : Asked). a.scripts) read.asked ∙ ap (λ (n : ℕ). (asked_in n read.said).scripts) same
 
     -- one part more
     pub session_more : (next : Served) → KeepsWorkers workers part.end
-        → ((book : Book) → StartsAt options served.start book → ServesPart options book (gone_by served.before) (lists part.input.scripts.items) next (AreTold accepted contents old new))
+        → ((book : Book) → StartsAt options served.start book → ServesPart options book (gone_by served.before) part.input.scripts.items next (AreTold accepted contents old new))
         → IsSession remaining options logged all next part.end (AreTold accepted contents start new)
     session_more next keeps serves = record {
       said = said ++ read.said;
@@ -75,7 +74,7 @@ module _ {R L W : Type 0} (remaining : R → Option (List ℕ)) (accepted : L �
 
     -- a part that may not be told whole
     pub session_first : ((book : Book) → StartsAt options served.start book
-        → RunsPart options book (gone_by served.before) (lists part.input.scripts.items) (ArePartTold accepted contents old new) ⊎ IsNothingTold accepted contents old new)
+        → RunsPart options book (gone_by served.before) part.input.scripts.items (ArePartTold accepted contents old new) ⊎ IsNothingTold accepted contents old new)
         → ServesFirst options logged all (ArePartTold accepted contents start new)
     session_first runs =
         let left = rest_of remaining others read.said part.end read.goes_on in
@@ -89,7 +88,7 @@ module _ {R L W : Type 0} (remaining : R → Option (List ℕ)) (accepted : L �
     (reads : (others : Readable) → CanRead remaining left others → IsPart remaining (workers_of left) most others part) where
   -- the next part is served
   pub next_served : (next : Served) → KeepsWorkers (workers_of left) part.end
-      → ((book : Book) → StartsAt options served.start book → ServesPart options book (gone_by served.before) (lists part.input.scripts.items) next (AreTold accepted contents old new))
+      → ((book : Book) → StartsAt options served.start book → ServesPart options book (gone_by served.before) part.input.scripts.items next (AreTold accepted contents old new))
       → IsSession remaining options logged all next part.end (AreTold accepted contents start new)
   next_served next keeps serves =
       session_more remaining accepted contents options logged all start old new served session.goes_on.0 session.said session.so_far session.goes_on.1.0 (workers_of left) most asked part session.workers
@@ -97,7 +96,7 @@ module _ {R L W : Type 0} (remaining : R → Option (List ℕ)) (accepted : L �
 
   -- it may not be told whole
   pub next_first : ((book : Book) → StartsAt options served.start book
-      → RunsPart options book (gone_by served.before) (lists part.input.scripts.items) (ArePartTold accepted contents old new) ⊎ IsNothingTold accepted contents old new)
+      → RunsPart options book (gone_by served.before) part.input.scripts.items (ArePartTold accepted contents old new) ⊎ IsNothingTold accepted contents old new)
       → ServesFirst options logged all (ArePartTold accepted contents start new)
   next_first runs =
       session_first remaining accepted contents options logged all start old new served session.goes_on.0 session.said session.so_far session.goes_on.1.0 (workers_of left) most asked part session.workers

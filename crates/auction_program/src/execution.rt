@@ -5,7 +5,6 @@ ghost use Rattle.std.specs.Prelude.{◌≡◌, OnOk, IfErr, IfSome, List, [], fa
 ghost use Rattle.auction_rows.specs.declared.rows.Row.{Row as Stored};
 ghost use Rattle.auction_rows.specs.Book.{Book};
 ghost use Rattle.item_shards.specs.OpeningBooks as opened;
-ghost use Rattle.auction_run.specs.Phases.{lists};
 ghost use Rattle.auction_text.specs.declared.writing.WriteFault.{WriteFault};
 ghost use Rattle.auction_program.specs.Execution.{Answers, ArePartWritten, AreWritten, IsCausedBy, IsOneWritten, IsUnwritten, IsNotPerformed, Performs, IsAnsweredBy};
 ghost use Rattle.auction_program.specs.Options.{opening_asked};
@@ -15,9 +14,9 @@ ghost use Rattle.auction_program.specs.declared.options.Options.{Options as Aske
 use crate::faults::Fault;
 use crate::options::Options;
 use crate::texts::{report_lines, write_texts};
-use auction_rows::{Object, Opening, Request};
-use auction_run::{FreeGate, Outcome, WindowBoard, run, run_shown};
-use auction_text::{ReportLines, read_scripts};
+use auction_rows::{Object, Opening};
+use auction_run::{FreeGate, Outcome, WindowBoard, run_scripts, run_scripts_shown};
+use auction_text::{ReportLines, read_compact_scripts};
 use auction_window::{PhaseLog, Publisher, Told, Window, WindowName};
 use indexmap::IndexSet;
 use item_shards::OpeningBook;
@@ -27,7 +26,7 @@ use std::io::{Read, Write};
 use std::marker::Brand;
 use std::sync::Wait;
 use std::thread::Threads;
-use worker_journals::History;
+use worker_journals::{History, Script};
 
 /// Opens an auction with the rows that the reader gives, performs its scripts, one thread a worker,
 /// and writes the replies, the history or the rows, and then the report, as the options say. The
@@ -53,7 +52,7 @@ pub fn execute<R: Threads + Wait + Sync, I: Read + Drop, W: Write>(
     ensures cause { IfErr result (λ fault. IfSome (I.remaining reader) (λ input.
         IsCausedBy options.now input fault)) }
 {
-    let input = read_scripts(alloc, reader, options.workers)?;
+    let input = read_compact_scripts(alloc, reader, options.workers)?;
     let book = OpeningBook::new(alloc, options.opening(), input.rows)?;
     let performed = perform(rt, alloc, &book, input.scripts, options)?;
     write_texts(rt, alloc, writer, options, book.rows(), &performed)?;
@@ -92,21 +91,21 @@ pub fn perform<R: Threads + Wait + Sync>(
     rt: &R,
     alloc: Global,
     book: &OpeningBook,
-    scripts: Vec<Vec<Request>>,
+    scripts: Vec<Script>,
     options: &Options,
 ) -> Result<Performed, Fault>
     requires { opened.opening_of book.now ≡ opening_asked options.now }
     ensures performs { IfOk result (
-        Performs options.now (opened.rows_of_book book.now) (lists scripts.items)) }
+        Performs options.now (opened.rows_of_book book.now) scripts.items) }
     ensures unasked { IfOk result (λ performed.
         ¬ IsTrue options.now.report → performed.lines ≡ None) }
     ensures cause { IfErr result (λ fault.
-        IsNotPerformed options.now fault (opened.rows_of_book book.now) (lists scripts.items)) }
+        IsNotPerformed options.now fault (opened.rows_of_book book.now) scripts.items) }
 {
     if options.report {
         return perform_watched::<Brand, R>(rt, alloc, PhaseLog::new(), book, scripts, options);
     }
-    let outcome = run(rt, alloc, book, scripts, options.policy(), &FreeGate)?;
+    let outcome = run_scripts(rt, alloc, book, scripts, options.policy(), &FreeGate)?;
     Ok(told_of(outcome, None))
 }
 
@@ -116,7 +115,7 @@ fn perform_watched<J: WindowName, R: Threads + Wait + Sync>(
     alloc: Global,
     log: PhaseLog,
     book: &OpeningBook,
-    scripts: Vec<Vec<Request>>,
+    scripts: Vec<Script>,
     options: &Options,
 ) -> Result<Performed, Fault>
     requires log { log ≡ J.log }
@@ -125,9 +124,9 @@ fn perform_watched<J: WindowName, R: Threads + Wait + Sync>(
     requires options { opened.opening_of book.now ≡ opening_asked options.now }
     requires report { IsTrue options.now.report }
     ensures performs { IfOk result (
-        Performs options.now (opened.rows_of_book book.now) (lists scripts.items)) }
+        Performs options.now (opened.rows_of_book book.now) scripts.items) }
     ensures cause { IfErr result (λ fault.
-        IsNotPerformed options.now fault (opened.rows_of_book book.now) (lists scripts.items)) }
+        IsNotPerformed options.now fault (opened.rows_of_book book.now) scripts.items) }
 {
     let (publisher, mut windows) = Publisher::<J>::new(rt, alloc, log, book, 1)?;
     let mut board = WindowBoard::new(publisher);
@@ -145,7 +144,7 @@ fn watch<J: WindowName, R: Threads + Wait + Sync>(
     board: &mut WindowBoard<J>,
     window: &mut Window<J>,
     book: &OpeningBook,
-    scripts: Vec<Vec<Request>>,
+    scripts: Vec<Script>,
     options: &Options,
 ) -> Result<Performed, Fault>
     requires publisher { board.old.publisher ≡ record { phases = []; failed = false } }
@@ -154,11 +153,11 @@ fn watch<J: WindowName, R: Threads + Wait + Sync>(
     requires rows { opened.rows_of_book book.now ≡ J.rows }
     requires options { opened.opening_of book.now ≡ opening_asked options.now }
     ensures performs { IfOk result (
-        Performs options.now (opened.rows_of_book book.now) (lists scripts.items)) }
+        Performs options.now (opened.rows_of_book book.now) scripts.items) }
     ensures cause { IfErr result (λ fault.
-        IsNotPerformed options.now fault (opened.rows_of_book book.now) (lists scripts.items)) }
+        IsNotPerformed options.now fault (opened.rows_of_book book.now) scripts.items) }
 {
-    let outcome = run_shown(rt, alloc, book, scripts, options.policy(), &FreeGate, board)?;
+    let outcome = run_scripts_shown(rt, alloc, book, scripts, options.policy(), &FreeGate, board)?;
     let told = board.told.take();
     let lines = last_lines(alloc, told, window, &outcome.state, options.opening());
     Ok(told_of(outcome, lines))

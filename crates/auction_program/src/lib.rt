@@ -4,7 +4,6 @@
 
 mod execution;
 mod faults;
-mod help;
 mod opening;
 mod options;
 mod parts;

@@ -6,13 +6,12 @@ ghost use Rattle.program_options.specs.declared.words.UsageFault.{UsageFault};
 ghost use Rattle.auction_program.specs.Options.{AreInRange};
 ghost use Rattle.auction_program.specs.Words.{log_in, options_in, options_of, program};
 
-use crate::help;
 use auction_rows::{MOST_HOT, MOST_SHARDS, MOST_WORKERS, Opening};
 use auction_run::Policy;
 use clap::{ArgMatches, Command};
 use program_options::{
-    FROM_ONE, FROM_ZERO, NumberRange, UsageFault, described_file, described_flag, described_number,
-    described_program, flag_of, number_of, parse_words, text_of,
+    Description, FROM_ONE, FROM_ZERO, NumberRange, UsageFault, described_file, described_flag,
+    described_number, described_program, flag_of, number_of, parse_words, text_of,
 };
 use std::alloc::{AllocError, Global};
 
@@ -102,21 +101,21 @@ fn command<'a>(alloc: Global) -> Result<Command<'a>, AllocError>
     ensures { IfOk result (λ command. app_of command ≡ program) }
 {
     let options = vec![in alloc;
-        described_number(alloc, "workers", WORKERS, "1", help::WORKERS),
-        described_number(alloc, "shards", SHARDS, "4", help::SHARDS),
-        described_number(alloc, "joined", FROM_ONE, "64", help::JOINED),
-        described_number(alloc, "split", FROM_ONE, "64", help::SPLIT),
-        described_number(alloc, "threshold", FROM_ONE, "8", help::THRESHOLD),
-        described_number(alloc, "hot", HOT, "8", help::HOT),
-        described_number(alloc, "users", FROM_ZERO, "100", help::USERS),
-        described_number(alloc, "categories", FROM_ZERO, "10", help::CATEGORIES),
-        described_number(alloc, "live", FROM_ZERO, "0", help::LIVE),
-        described_file(alloc, "log", help::LOG),
-        described_flag(alloc, "history", help::HISTORY),
-        described_flag(alloc, "rows", help::ROWS),
-        described_flag(alloc, "report", help::REPORT),
+        described_number(alloc, "workers", WORKERS, "1", WORKERS_HELP),
+        described_number(alloc, "shards", SHARDS, "4", SHARDS_HELP),
+        described_number(alloc, "joined", FROM_ONE, "64", JOINED_HELP),
+        described_number(alloc, "split", FROM_ONE, "64", SPLIT_HELP),
+        described_number(alloc, "threshold", FROM_ONE, "8", THRESHOLD_HELP),
+        described_number(alloc, "hot", HOT, "8", HOT_HELP),
+        described_number(alloc, "users", FROM_ZERO, "100", USERS_HELP),
+        described_number(alloc, "categories", FROM_ZERO, "10", CATEGORIES_HELP),
+        described_number(alloc, "live", FROM_ZERO, "0", LIVE_HELP),
+        described_file(alloc, "log", LOG_HELP),
+        described_flag(alloc, "history", HISTORY_HELP),
+        described_flag(alloc, "rows", ROWS_HELP),
+        described_flag(alloc, "report", REPORT_HELP),
     ]?;
-    described_program(alloc, "rubis_auction", help::DESCRIPTION).args(options)
+    described_program(alloc, "rubis_auction", DESCRIPTION).args(options)
 }
 
 fn options_of(matches: &ArgMatches<'_>) -> Options
@@ -163,3 +162,67 @@ pub fn read_options(alloc: Global, words: &[String]) -> Result<Invocation, Usage
         log,
     })
 }
+
+// What the program says of itself and of its options.
+const DESCRIPTION: Description<'static> = Description {
+    about: "\
+Executes the scripts of up to 16 workers on an auction in memory, and writes the replies.",
+    usage: "rubis_auction [OPTIONS] < INPUT",
+    after: FORMATS,
+};
+
+const WORKERS_HELP: &str = "Workers, each with a script in the input, 1 to 16";
+
+const SHARDS_HELP: &str = "Parts of the data, each held by one worker at a time, 1 to 64";
+
+const JOINED_HELP: &str = "Requests of each worker in a joined phase, 1 to 1000000";
+
+const SPLIT_HELP: &str = "Requests of each worker in a split phase, 1 to 1000000; 4096 for speed";
+
+const THRESHOLD_HELP: &str =
+    "New items, bids and comments on an object in a joined phase that make it hot, 1 to 1000000";
+
+const HOT_HELP: &str = "Objects that may be hot, and are split, at a time, 0 to 64";
+
+const USERS_HELP: &str = "Users of the auction, 0 to 1000000";
+
+const CATEGORIES_HELP: &str = "Categories of the auction, 0 to 1000000";
+
+const LIVE_HELP: &str =
+    "Reply while requests come, to at most N at a time, 0 to 1000000; 0 reads all first";
+
+const LOG_HELP: &str =
+    "File that keeps the rows, each before its reply is written; the auction opens with them";
+
+const HISTORY_HELP: &str = "Write the history, in the serial order, instead of the replies";
+
+const ROWS_HELP: &str = "Write the rows, from which a later run can continue, instead of either";
+
+const REPORT_HELP: &str = "Then also write a report of counts, hot sets, categories and users";
+
+// What is read and written.
+const FORMATS: &str = "\
+Reads one record per line from standard input; ITEM is an item's worker and serial, such as 0.0:
+  WORKER,item,SELLER,CATEGORY,NAME,START,CLOSES,TIME[,QUANTITY]
+  WORKER,bid,BIDDER,ITEM,AMOUNT,TIME
+  WORKER,comment,AUTHOR,ABOUT,ITEM,STARS
+  WORKER,buynow,BUYER,ITEM,QUANTITY,TIME
+  WORKER,viewitem,ITEM
+  WORKER,viewbids,ITEM
+  WORKER,viewcategory,CATEGORY
+  WORKER,viewuser,USER
+Rows that open the auction come first; their kinds are +item, +bid, +comment and +buynow.
+
+Writes one line per request to standard output, WORKER,INDEX,REPLY: after all are executed, or
+with --live while more requests come.
+Faults, this help and the version go to standard error.
+Status: 0 all written, 1 options or help, 2 input, 3 run, 4 output, 5 log.
+A refused request is no fault: its reply says why.
+
+The defaults are for small inputs: phases are short, and --history shows how they alternate.
+Phases of at most 256 requests run on one thread. For speed on busy items, with W workers, use
+--shards 4*W --split 4096; views of busy items then wait longer for the next joined phase.
+
+Examples:
+  rubis_auction < first.csv
+  rubis_auction --workers 4 --shards 16 --split 4096 < load.csv > replies.txt";

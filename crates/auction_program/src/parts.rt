@@ -2,7 +2,6 @@
 ghost use Rattle.std.specs.Prelude.{◌⊎◌, IfErr, IfOk, ◌≡◌, [], IfSome, OnOk, drop};
 ghost use Rattle.auction_rows.specs.Book.{Book};
 ghost use Rattle.auction_rows.specs.History.{book_after};
-ghost use Rattle.auction_run.specs.Phases.{lists};
 ghost use Rattle.auction_text.specs.Moved.{gone_by};
 ghost use Rattle.auction_text.specs.RowLines.{rows_text};
 ghost use Rattle.auction_text.specs.Writing.{WritesText};
@@ -14,8 +13,8 @@ ghost use Rattle.auction_program.specs.declared.parts.RunStart.{RunStart};
 
 use crate::faults::Fault;
 use crate::options::Options;
-use auction_rows::{Request, Row};
-use auction_run::{FreeGate, Outcome, RunFault, Stopped, run, run_on};
+use auction_rows::Row;
+use auction_run::{FreeGate, Outcome, RunFault, Stopped, run_scripts, run_scripts_on};
 use auction_text::{Before, WriteFault, write_history_on, write_replies_on, write_rows};
 use item_shards::OpeningBook;
 use part_log::{Log, Teller};
@@ -24,7 +23,7 @@ use std::alloc::Global;
 use std::io::Write;
 use std::sync::Wait;
 use std::thread::Threads;
-use worker_journals::History;
+use worker_journals::{History, Script};
 
 /// Where the run of a part begins: at the opening book, or at what the part before left.
 #[derive(Drop)]
@@ -44,7 +43,7 @@ pub struct Served {
 #[derive(Drop)]
 pub struct NextPart {
     pub served: Served,
-    pub scripts: Vec<Vec<Request>>,
+    pub scripts: Vec<Script>,
 }
 
 // Performs the scripts of a part.
@@ -52,19 +51,21 @@ fn run_part<R: Threads + Wait + Sync>(
     rt: &R,
     alloc: Global,
     start: RunStart,
-    scripts: Vec<Vec<Request>>,
+    scripts: Vec<Script>,
     options: &Options,
 ) -> Result<Outcome, RunFault>
     ensures answers { IfOk result (λ outcome. (book : Book) → StartsAt options.now start book →
-        AnswersScripts options.now book (lists scripts.items) outcome) }
+        AnswersScripts options.now book scripts.items outcome) }
     ensures left { IfOk result (λ outcome. (book : Book) → StartsAt options.now start book →
         StartsAt options.now (RunStart.State outcome.state)
         (book_after (opening_asked options.now) book outcome.history.entries)) }
 {
     let policy = options.policy();
     match start {
-        RunStart::Book(book) => run(rt, alloc, &book, scripts, policy, &FreeGate),
-        RunStart::State(state) => match run_on(rt, alloc, state, scripts, policy, &FreeGate) {
+        RunStart::Book(book) => run_scripts(rt, alloc, &book, scripts, policy, &FreeGate),
+        RunStart::State(state) => match run_scripts_on(
+            rt, alloc, state, scripts, policy, &FreeGate,
+        ) {
             Ok(outcome) => Ok(outcome),
             Err(Stopped::Refused(_, fault) | Stopped::Failed(fault)) => Err(fault),
         },
@@ -81,10 +82,10 @@ pub fn serve_part<R: Threads + Wait + Sync, L: Log, W: Write>(
 ) -> Result<Served, Fault>
     ensures serves { IfOk result (λ served.
         (book : Book) → StartsAt options.now part.served.start book →
-        ServesPart options.now book (gone_by part.served.before) (lists part.scripts.items) served
+        ServesPart options.now book (gone_by part.served.before) part.scripts.items served
         (AreTold L.accepted W.contents teller.old teller.new)) }
     ensures first { (book : Book) → StartsAt options.now part.served.start book →
-        RunsPart options.now book (gone_by part.served.before) (lists part.scripts.items)
+        RunsPart options.now book (gone_by part.served.before) part.scripts.items
         (ArePartTold L.accepted W.contents teller.old teller.new)
         ⊎ IsNothingTold L.accepted W.contents teller.old teller.new }
     ensures fault { IfErr result IsPastReading }

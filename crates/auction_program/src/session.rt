@@ -19,7 +19,7 @@ use crate::faults::Fault;
 use crate::opening::open;
 use crate::options::Options;
 use crate::parts::{NextPart, RunStart, Served, serve_part};
-use auction_text::{Before, Input, InputLeft, Part, PartEnd, ReadFault};
+use auction_text::{Before, CompactInput, InputLeft, Part, PartEnd, ReadFault};
 use item_shards::Opened;
 use part_log::{Log, Teller};
 use std::alloc::Global;
@@ -79,7 +79,7 @@ pub fn serve<R: Threads + Wait + Sync, I: Read + Drop, L: Log, W: Write>(
     let LoggedInput { logged, reader } = source;
     let left = InputLeft::of(alloc, reader, options.workers)?;
     let Part { input, end } = left.next_part(alloc, most_of_a_part(options))?;
-    let Input { rows, scripts } = input;
+    let CompactInput { rows, scripts } = input;
     let book = open(alloc, teller, logged, rows.as_slice(), options)?;
     let served = Served {
         start: RunStart::Book(book),
@@ -123,7 +123,7 @@ fn serve_rest<R: Threads + Wait + Sync, I: Read + Drop, L: Log, W: Write>(
             PartEnd::Fault(fault) => return Err(Fault::Read(fault)),
         };
         let Part { input, end: next } = left.next_part(alloc, most_of_a_part(options))?;
-        let Input { rows: _, scripts } = input;
+        let CompactInput { rows: _, scripts } = input;
         served = serve_part(rt, alloc, teller, NextPart { served, scripts }, options)?;
         end = next;
     }

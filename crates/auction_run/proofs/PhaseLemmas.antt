@@ -1,6 +1,5 @@
 -- From the floor, the permits and the receipts of a phase to what a run knows of it.
-use Rattle.std.specs.declared.alloc.Global.{Global}
-use Rattle.std.proofs.Common.{Vec, ◌≡◌, ℕ, zero, suc, ◌+◌, ◌-◌, ◌%◌, ◌<◌, ◌≤◌, ◌⊎◌, inl, inr, min, Bool, true, false, not, cond, List, [], ◌∷◌, ◌++◌, map, length, take, drop, refl, sym, ap, subst, ◌∙◌, arith}
+use Rattle.std.proofs.Common.{◌≡◌, ℕ, zero, suc, ◌+◌, ◌-◌, ◌%◌, ◌<◌, ◌≤◌, ◌⊎◌, inl, inr, min, Bool, true, false, not, cond, List, [], ◌∷◌, ◌++◌, map, length, take, drop, refl, sym, ap, subst, ◌∙◌, arith}
 use Rattle.std.specs.Prelude.{Option, slice_index}
 use Rattle.std.specs.List.{AllByRecursion, AllZip}
 use Rattle.std.proofs.Math.ListN.{get_or-map}
@@ -20,7 +19,7 @@ use Rattle.run_laws.proofs.PartLemmas.{all_of_parts}
 use Rattle.auction_rows.specs.declared.limits.Policy.{Policy}
 use Rattle.run_laws.specs.Run.{first_index, calls_of, calls_given, IsPhasePerformed}
 use Rattle.run_laws.specs.Serving.{call_of, script_of}
-use Rattle.run_laws.proofs.ScriptLemmas.{lists_length, past_end}
+use Rattle.run_laws.proofs.ScriptLemmas.{past_end}
 use Rattle.shard_boxes.specs.Keys.{BoxId}
 use Rattle.shard_boxes.specs.States.{ShardState, state_of}
 use Rattle.phase_permits.specs.Slicing.{hot_objects, stocks_of, slices_of}
@@ -39,7 +38,7 @@ use Rattle.phase_floor.specs.Closings.{AreReceiptsOf, Leaves, stash_of}
 use Rattle.phase_floor.specs.Floors.{FloorState, IsNewPermit, stash_at}
 use Rattle.phase_floor.specs.States.{JoinedState, states_of, StandsFor}
 use Rattle.auction_run.specs.Closed.{HasClosedPhase}
-use Rattle.auction_run.specs.Phases.{lists, told, IsMet, MayPerform, waiting_in, quota_of}
+use Rattle.auction_run.specs.Phases.{told, IsMet, MayPerform, waiting_in, quota_of}
 use Rattle.auction_run.specs.Serving.{CanPerform, HasBegunPhase, HasEnded}
 use Rattle.phase_workers.specs.declared.round.ServingFault.{ServingFault}
 use Rattle.phase_workers.specs.declared.round.ServingFault.TheVariants as serving
@@ -90,13 +89,13 @@ not_too_long may handed quotas handed_is are long =
     absurd (omega (arith, room, same, as_long, over))
 
 -- what each worker is given is its quota of the phase
-pub given_quotas : (policy : Policy) (scripts : List (Vec Request Global)) (phase first : ℕ) (given quotas : List ℕ) (split : Bool) → is_split phase ≡ split → first ≡ first_index policy phase → given ≡ quotas →
-    ((w : ℕ) → w < length scripts → slice_index quotas w ≡ min (cond split policy.split_quota policy.joined_quota) (length (script_of (lists scripts) w) - first)) →
-    (w : ℕ) → w < length (lists scripts) → slice_index given w ≡ quota_of policy phase (script_of (lists scripts) w)
+pub given_quotas : (policy : Policy) (scripts : List (List Request)) (phase first : ℕ) (given quotas : List ℕ) (split : Bool) → is_split phase ≡ split → first ≡ first_index policy phase → given ≡ quotas →
+    ((w : ℕ) → w < length scripts → slice_index quotas w ≡ min (cond split policy.split_quota policy.joined_quota) (length (script_of scripts w) - first)) →
+    (w : ℕ) → w < length scripts → slice_index given w ≡ quota_of policy phase (script_of scripts w)
 given_quotas policy scripts phase first given quotas split is at same are w less =
-    ap (λ qs. slice_index qs w) same ∙ are w (omega (arith, less, lists_length scripts))
-    ∙ ap (λ k. min (cond split policy.split_quota policy.joined_quota) (length (script_of (lists scripts) w) - k)) at
-    ∙ ap (λ b. min (cond b policy.split_quota policy.joined_quota) (length (script_of (lists scripts) w) - first_index policy phase)) (sym is)
+    ap (λ qs. slice_index qs w) same ∙ are w less
+    ∙ ap (λ k. min (cond split policy.split_quota policy.joined_quota) (length (script_of scripts w) - k)) at
+    ∙ ap (λ b. min (cond b policy.split_quota policy.joined_quota) (length (script_of scripts w) - first_index policy phase)) (sym is)
 
 -- ---- the answer of a phase
 

@@ -1,10 +1,9 @@
 //! What is checked before a run begins, why it is refused, and why a run that goes on stops.
-ghost use Rattle.std.specs.Prelude.{◌≡◌, ◌↔◌, ◌<◌, ◌≤◌, ℕ, length, slice_index, IsTrue, OnOk};
+ghost use Rattle.std.specs.Prelude.{◌≡◌, ◌↔◌, ◌<◌, ◌≤◌, ℕ, length, map, slice_index, IsTrue, OnOk};
 ghost use Rattle.item_shards.specs.OpeningBooks.{rows_of_book};
 ghost use Rattle.item_shards.specs.OpeningRows.{rows_by};
 ghost use Rattle.auction_run.specs.Beginning.{HaveWorkers, HasShards, HasQuotas, AreShort, IsFirstToFail};
 ghost use Rattle.auction_run.specs.GoingOn.{AreShortOn, HasScripts, IsCheckedOn};
-ghost use Rattle.auction_run.specs.Phases.{lists};
 
 use auction_rows::{MOST_HOT, MOST_OF_A_WORKER, MOST_SHARDS, MOST_WORKERS, Policy, Request, Row};
 use item_shards::OpeningBook;
@@ -13,6 +12,7 @@ use phase_permits::PermitFault;
 use phase_workers::ServingFault;
 use std::alloc::{AllocError, AllocFailed};
 use thiserror::Error;
+use worker_journals::Script;
 
 /// Why a run gives no outcome. The first four are found before it begins, in this order; after any
 /// fault every worker that was started has ended, and no part of a history is given.
@@ -96,6 +96,18 @@ pub enum Stopped {
     Failed(RunFault),
 }
 
+impl From<AllocError> for Stopped {
+    ghost use Rattle.std.specs.Prelude.{◌≡◌};
+    ghost use Rattle.auction_run.specs.declared.checks.RunFault.TheVariants.{Memory};
+    ghost use Rattle.auction_run.specs.declared.checks.Stopped.TheVariants.{Failed};
+
+    ghost from_gives = { λ _ stopped. stopped ≡ Failed Memory };
+
+    fn from(_refused: AllocError) -> Stopped {
+        Stopped::Failed(RunFault::Memory)
+    }
+}
+
 impl From<RunFault> for Stopped {
     ghost use Rattle.std.specs.Prelude.{◌≡◌};
     ghost use Rattle.auction_run.specs.declared.checks.Stopped.TheVariants.{Failed};
@@ -107,15 +119,44 @@ impl From<RunFault> for Stopped {
     }
 }
 
+/// The requests of a script, however they are kept.
+pub(crate) trait Requests {
+    ghost use Rattle.std.specs.Prelude.{List};
+    ghost use Rattle.auction_rows.specs.declared.requests.Request.{Request as Asked};
+
+    /// The requests that it has, in order.
+    ghost asked: { Self → List Asked };
+
+    /// How many there are.
+    fn count(&self) -> usize
+        ensures { result ≡ length (asked self.now) };
+}
+
+impl Requests for Script {
+    ghost asked = { λ script. script };
+
+    fn count(&self) -> usize {
+        self.len()
+    }
+}
+
+impl Requests for Vec<Request> {
+    ghost asked = { λ script. script.items };
+
+    fn count(&self) -> usize {
+        self.len()
+    }
+}
+
 /// Checks what a run is handed: the fault is that of the first that doesn't hold.
-pub(crate) fn check(
+pub(crate) fn check<S: Requests>(
     book: &OpeningBook,
-    scripts: &[Vec<Request>],
+    scripts: &[S],
     policy: Policy,
 ) -> Result<(), RunFault>
-    ensures { IsFirstToFail result (HaveWorkers (rows_of_book book.now) (lists scripts.now))
+    ensures { IsFirstToFail result (HaveWorkers (rows_of_book book.now) (map S.asked scripts.now))
         (HasShards policy) (HasQuotas policy)
-        (AreShort (rows_of_book book.now) (lists scripts.now)) }
+        (AreShort (rows_of_book book.now) (map S.asked scripts.now)) }
 {
     if !have_workers(book.rows(), scripts) {
         return Err(RunFault::Workers);
@@ -134,13 +175,13 @@ pub(crate) fn check(
 
 /// Checks what a run that goes on from a state is handed: the fault is that of the first that
 /// doesn't hold.
-pub(crate) fn check_on(
+pub(crate) fn check_on<S: Requests>(
     state: &Joined,
-    scripts: &[Vec<Request>],
+    scripts: &[S],
     policy: Policy,
 ) -> Result<(), RunFault>
-    ensures checked { IsCheckedOn result state.now policy (lists scripts.now) }
-    ensures few { OnOk result (length (lists scripts.now) ≤ MOST_WORKERS) }
+    ensures checked { IsCheckedOn result state.now policy (map S.asked scripts.now) }
+    ensures few { OnOk result (length (map S.asked scripts.now) ≤ MOST_WORKERS) }
 {
     if !has_scripts(state, scripts) {
         return Err(RunFault::Workers);
@@ -158,21 +199,21 @@ pub(crate) fn check_on(
 }
 
 // Whether there is a script for each worker of a state.
-fn has_scripts(state: &Joined, scripts: &[Vec<Request>]) -> bool
-    ensures are { IsTrue result ↔ HasScripts state.now (lists scripts.now) }
-    ensures few { IsTrue result → length (lists scripts.now) ≤ MOST_WORKERS }
+fn has_scripts<S: Requests>(state: &Joined, scripts: &[S]) -> bool
+    ensures are { IsTrue result ↔ HasScripts state.now (map S.asked scripts.now) }
+    ensures few { IsTrue result → length (map S.asked scripts.now) ≤ MOST_WORKERS }
 {
     scripts.len() == state.workers() as usize
 }
 
 // Whether no worker's rows and script have more than 1,000,000 together.
-fn are_short_on(state: &Joined, scripts: &[Vec<Request>]) -> bool
-    requires { HasScripts state.now (lists scripts.now) }
-    ensures { IsTrue result ↔ AreShortOn state.now (lists scripts.now) }
+fn are_short_on<S: Requests>(state: &Joined, scripts: &[S]) -> bool
+    requires { HasScripts state.now (map S.asked scripts.now) }
+    ensures { IsTrue result ↔ AreShortOn state.now (map S.asked scripts.now) }
 {
     for worker in 0..scripts.len() {
         let stored = state.stored_by(worker) as usize;
-        if scripts[worker].len() > MOST_OF_A_WORKER as usize - stored {
+        if scripts[worker].count() > MOST_OF_A_WORKER as usize - stored {
             return false;
         }
     }
@@ -180,8 +221,8 @@ fn are_short_on(state: &Joined, scripts: &[Vec<Request>]) -> bool
 }
 
 // Whether there are 1 to 16 scripts, and each row is of a worker that has one.
-fn have_workers(rows: &[Row], scripts: &[Vec<Request>]) -> bool
-    ensures { IsTrue result ↔ HaveWorkers rows.now (lists scripts.now) }
+fn have_workers<S: Requests>(rows: &[Row], scripts: &[S]) -> bool
+    ensures { IsTrue result ↔ HaveWorkers rows.now (map S.asked scripts.now) }
 {
     let workers = scripts.len();
     if workers == 0 || workers > MOST_WORKERS {
@@ -208,13 +249,13 @@ fn has_quotas(policy: Policy) -> bool
 }
 
 // Whether no worker's rows and script have more than 1,000,000 together.
-fn are_short(book: &OpeningBook, scripts: &[Vec<Request>]) -> bool
+fn are_short<S: Requests>(book: &OpeningBook, scripts: &[S]) -> bool
     requires { length scripts.now ≤ MOST_WORKERS }
-    ensures { IsTrue result ↔ AreShort (rows_of_book book.now) (lists scripts.now) }
+    ensures { IsTrue result ↔ AreShort (rows_of_book book.now) (map S.asked scripts.now) }
 {
     let counts = rows_by_each(book.rows());
     for worker in 0..scripts.len() {
-        if scripts[worker].len() > MOST_OF_A_WORKER as usize - counts[worker] {
+        if scripts[worker].count() > MOST_OF_A_WORKER as usize - counts[worker] {
             return false;
         }
     }

@@ -17,13 +17,14 @@ ghost use Rattle.auction_run.specs.Parts.{ArePartsFrom, HaveLeft, book_after_par
 use crate::board::{Board, NoBoard};
 use crate::checks::{Stopped, check_on};
 use crate::phase::Workload;
-use crate::runs::{Outcome, run_from};
+use crate::runs::{Outcome, kept_scripts, run_from};
 use auction_rows::{Policy, Request};
 use phase_floor::Joined;
 use phase_workers::Gate;
 use std::alloc::Global;
 use std::sync::Wait;
 use std::thread::Threads;
+use worker_journals::Script;
 
 /// Goes on from a state that a run left, or with which an auction was resumed: performs scripts of
 /// its workers as `run` does. The history is that of these scripts, and replays from each book of
@@ -69,6 +70,52 @@ pub fn run_on_shown<R: Threads + Wait + Sync, G: Gate + Sync, B: Board>(
         B.has board.old state.opening rows before → IsBookOf state (book_of rows before) →
         HasShownFirstAfter B.has B.has_refused state.opening rows before policy
         (lists scripts.items) board.new (fault_of stopped)) }
+{
+    if let Err(fault) = check_on(&state, scripts.as_slice(), policy) {
+        return Err(Stopped::Refused(state, fault));
+    }
+    let kept = kept_scripts(alloc, scripts.as_slice())?;
+    drop(scripts);
+    run_scripts_on_shown(rt, alloc, state, kept, policy, gate, board)
+}
+
+/// The same of compact scripts: `run_on` copies its lists of requests to such.
+pub fn run_scripts_on<R: Threads + Wait + Sync, G: Gate + Sync>(
+    rt: &R,
+    alloc: Global,
+    state: Joined,
+    scripts: Vec<Script>,
+    policy: Policy,
+    gate: &G,
+) -> Result<Outcome, Stopped>
+    ensures { AnswersNextRun state policy scripts.items result }
+{
+    run_scripts_on_shown(rt, alloc, state, scripts, policy, gate, &mut NoBoard)
+}
+
+/// The same of compact scripts, with a board as `run_on_shown` has it.
+pub fn run_scripts_on_shown<R: Threads + Wait + Sync, G: Gate + Sync, B: Board>(
+    rt: &R,
+    alloc: Global,
+    state: Joined,
+    scripts: Vec<Script>,
+    policy: Policy,
+    gate: &G,
+    board: &mut B,
+) -> Result<Outcome, Stopped>
+    requires { B.can_be_watched → IsUpToDate B.has board.old state }
+    ensures answer { AnswersNextRun state policy scripts.items result }
+    ensures board { IfOk result (λ outcome. (rows : Book) (before : List (List Stored)) →
+        B.has board.old state.opening rows before → IsBookOf state (book_of rows before) →
+        HasShownAfter B.has state.opening rows before (length outcome.hot.items)
+        outcome.history.entries board.new) }
+    ensures up_to_date { IfOk result (λ outcome.
+        IsUpToDate B.has board.old state → IsUpToDate B.has board.new outcome.state) }
+    ensures board_after_fault { IfErr result (λ stopped.
+        (rows : Book) (before : List (List Stored)) →
+        B.has board.old state.opening rows before → IsBookOf state (book_of rows before) →
+        HasShownFirstAfter B.has B.has_refused state.opening rows before policy
+        scripts.items board.new (fault_of stopped)) }
 {
     let work = Workload {
         scripts: scripts.as_slice(),

@@ -9,13 +9,13 @@ ghost use Rattle.phase_permits.specs.Stashes.{StashState};
 ghost use Rattle.phase_floor.specs.declared.floor.BeginFault.TheVariants.{Memory};
 ghost use Rattle.phase_floor.specs.States.{states_of};
 ghost use Rattle.phase_workers.specs.Tasks.{tasks};
-ghost use Rattle.auction_run.specs.Phases.{lists, IsMet, IsPlanOf, MayPerform};
+ghost use Rattle.auction_run.specs.Phases.{IsMet, IsPlanOf, MayPerform};
 ghost use Rattle.auction_run.specs.declared.checks.RunFault.{RunFault};
 ghost use Rattle.auction_run.specs.Closed.{HasPerformedPhase};
 ghost use Rattle.auction_run.specs.Serving.{CanPerform, HasBegunPhase, HasEnded};
 
 use crate::checks::RunFault;
-use auction_rows::{Object, Policy, Request};
+use auction_rows::{Object, Policy};
 use indexmap::IndexSet;
 use phase_floor::{BeginFault, Floor, Joined, JoinedFloor, SplitFloor};
 use phase_permits::{JoinedPermit, Kind, Permit, SplitPermit, Stash};
@@ -25,12 +25,12 @@ use std::alloc::{AllocError, Global};
 use std::marker::Brand;
 use std::sync::Wait;
 use std::thread::Threads;
-use worker_journals::History;
+use worker_journals::{History, Script};
 
 /// What a run performs: the scripts of its workers, by a policy, with a gate.
 #[derive(Drop)]
 pub(crate) struct Workload<'a, G> {
-    pub(crate) scripts: &'a [Vec<Request>],
+    pub(crate) scripts: &'a [Script],
     pub(crate) policy: Policy,
     pub(crate) gate: &'a G,
 }
@@ -93,14 +93,14 @@ fn first_index(policy: Policy, phase: u64) -> u64
 /// request `first` on.
 pub(crate) fn worker_quotas(
     alloc: Global,
-    scripts: &[Vec<Request>],
+    scripts: &[Script],
     quota: u32,
     first: u64,
 ) -> Result<Vec<u32>, AllocError>
     ensures len { IfOk result (λ quotas. length quotas.items ≡ length scripts.now) }
     ensures each { IfOk result (λ quotas. (worker : ℕ) → worker < length scripts.now →
         slice_index quotas.items worker
-        ≡ min quota (length (script_of (lists scripts.now) worker) - first)) }
+        ≡ min quota (length (script_of scripts.now worker) - first)) }
 {
     let mut quotas = Vec::with_capacity(alloc, scripts.len())?;
     for script in scripts {
@@ -120,11 +120,11 @@ pub(crate) fn perform_phase<R: Threads + Wait + Sync, G: Gate + Sync>(
     plan: PhasePlan<'_, G>,
 ) -> Result<Running, RunFault>
     requires plan { IsPlanOf plan running.state.phase }
-    requires may { MayPerform plan.policy (lists plan.round.scripts.now) running.state
+    requires may { MayPerform plan.policy plan.round.scripts.now running.state
         running.stashes.items hot.now.keys }
     ensures performed { IfOk result (HasPerformedPhase plan.entry.policy
-        (lists plan.entry.round.scripts.now) hot.now.keys running) }
-    ensures fault { IfErr result (IsMet (lists plan.entry.round.scripts.now)) }
+        plan.entry.round.scripts.now hot.now.keys running) }
+    ensures fault { IfErr result (IsMet plan.entry.round.scripts.now) }
 {
     if running.state.phase() % 2 == 0 {
         return perform_joined_phase::<Brand, R, G>(rt, alloc, running, plan);
@@ -158,11 +158,11 @@ where
     requires workers { length running.state.counters ≡ N.workers }
     requires joined { is_split running.state.phase ≡ false }
     requires plan { IsPlanOf plan running.state.phase }
-    requires may { MayPerform plan.policy (lists plan.round.scripts.now) running.state
+    requires may { MayPerform plan.policy plan.round.scripts.now running.state
         running.stashes.items [] }
     ensures performed { IfOk result (HasPerformedPhase plan.entry.policy
-        (lists plan.entry.round.scripts.now) [] running) }
-    ensures fault { IfErr result (IsMet (lists plan.entry.round.scripts.now)) }
+        plan.entry.round.scripts.now [] running) }
+    ensures fault { IfErr result (IsMet plan.entry.round.scripts.now) }
 {
     let Running {
         state,
@@ -195,10 +195,10 @@ where
     requires workers { length state.counters ≡ N.workers }
     requires joined { is_split state.phase ≡ false }
     requires first { plan.now.round.first ≡ first_index plan.now.policy state.phase }
-    requires may { MayPerform plan.now.policy (lists plan.now.round.scripts.now) state
+    requires may { MayPerform plan.now.policy plan.now.round.scripts.now state
         stashes.items [] }
     ensures begun { IfOk result (λ begun.
-        HasBegunPhase plan.entry.now.policy (lists plan.entry.now.round.scripts.now) state
+        HasBegunPhase plan.entry.now.policy plan.entry.now.round.scripts.now state
         stashes.items [] begun.0 begun.1.items) }
     ensures fault { IfErr result (λ fault. fault ≡ RunFault.Memory) }
 {
@@ -230,11 +230,11 @@ where
     requires workers { length running.state.counters ≡ N.workers }
     requires split { is_split running.state.phase ≡ true }
     requires plan { IsPlanOf plan running.state.phase }
-    requires may { MayPerform plan.policy (lists plan.round.scripts.now) running.state
+    requires may { MayPerform plan.policy plan.round.scripts.now running.state
         running.stashes.items hot.now.keys }
     ensures performed { IfOk result (HasPerformedPhase plan.entry.policy
-        (lists plan.entry.round.scripts.now) hot.now.keys running) }
-    ensures fault { IfErr result (IsMet (lists plan.entry.round.scripts.now)) }
+        plan.entry.round.scripts.now hot.now.keys running) }
+    ensures fault { IfErr result (IsMet plan.entry.round.scripts.now) }
 {
     let Running {
         state,
@@ -269,9 +269,9 @@ where
     requires split { is_split state.phase ≡ true }
     requires first { plan.now.round.first ≡ first_index plan.now.policy state.phase }
     requires may { (stashes : List StashState) × MayPerform plan.now.policy
-        (lists plan.now.round.scripts.now) state stashes hot.now.keys }
+        plan.now.round.scripts.now state stashes hot.now.keys }
     ensures begun { IfOk result (λ begun.
-        HasBegunPhase plan.entry.now.policy (lists plan.entry.now.round.scripts.now) state
+        HasBegunPhase plan.entry.now.policy plan.entry.now.round.scripts.now state
         [] hot.now.keys begun.0 begun.1.items) }
     ensures fault { IfErr result (λ fault. fault ≡ RunFault.Memory) }
 {
@@ -301,15 +301,15 @@ where
     R: Threads + Wait + Sync,
     G: Gate + Sync,
     requires ready { CanPerform K.IS_JOINED N.initial begun.0 begun.1.items
-        (lists round.scripts.now) round.phase round.first }
+        round.scripts.now round.phase round.first }
     ensures history { OnOk result (history.new.entries
         ≡ history.old.entries ++ added history.old.entries history.new.entries) }
     ensures last { OnOk result
         (merged history.new.last ≡ added history.old.entries history.new.entries) }
     ensures ended { IfOk result (λ ended. HasEnded K.IS_JOINED N.initial begun.0
-        (tasks begun.1.items (lists round.entry.scripts.now) round.entry.first)
+        (tasks begun.1.items round.entry.scripts.now round.entry.first)
         (added history.old.entries history.new.entries) ended.0 ended.1.items) }
-    ensures fault { IfErr result (IsMet (lists round.entry.scripts.now)) }
+    ensures fault { IfErr result (IsMet round.entry.scripts.now) }
 {
     let (floor, permits) = begun;
     let receipts = serve_all(rt, alloc, floor.boxes(), permits, round)?;

@@ -33,7 +33,7 @@ use phase_workers::Gate;
 use std::alloc::{AllocError, Global};
 use std::sync::Wait;
 use std::thread::Threads;
-use worker_journals::History;
+use worker_journals::{History, Script};
 
 // Scripts have fewer phases.
 const MOST_PHASES: u64 = 2 * MOST_OF_A_WORKER + 3;
@@ -61,7 +61,8 @@ pub struct Outcome {
 /// only if there is a thread to start; a fault gives no part of a history. No clause says when
 /// memory is refused, that `NumberFull` is of a worker that met the end of numbers, nor which of
 /// several faults of a phase is told: it is `Spawn` before that of the least worker, and this
-/// before that of the close. The state left can be gone on with, by `run_on`.
+/// before that of the close. The state left can be gone on with, by `run_on`. The scripts are
+/// copied to `Script`s, of 32 bytes per request, before they are let go.
 pub fn run<R: Threads + Wait + Sync, G: Gate + Sync>(
     rt: &R,
     alloc: Global,
@@ -98,6 +99,46 @@ pub fn run_shown<R: Threads + Wait + Sync, G: Gate + Sync, B: Board>(
     ensures board_after_fault { IfErr result (HasShownFirst B.has B.has_refused
         (opening_of book.now) (rows_of_book book.now) policy (lists scripts.items) board.new) }
 {
+    check(book, scripts.as_slice(), policy)?;
+    let kept = kept_scripts(alloc, scripts.as_slice())?;
+    drop(scripts);
+    run_scripts_shown(rt, alloc, book, kept, policy, gate, board)
+}
+
+/// The same run, of compact scripts: `run` copies its lists of requests to such.
+pub fn run_scripts<R: Threads + Wait + Sync, G: Gate + Sync>(
+    rt: &R,
+    alloc: Global,
+    book: &OpeningBook,
+    scripts: Vec<Script>,
+    policy: Policy,
+    gate: &G,
+) -> Result<Outcome, RunFault>
+    ensures { AnswersRun (opening_of book.now) (rows_of_book book.now) policy scripts.items
+        result }
+{
+    run_scripts_shown(rt, alloc, book, scripts, policy, gate, &mut NoBoard)
+}
+
+/// The same run of compact scripts, with a board as `run_shown` has it.
+pub fn run_scripts_shown<R: Threads + Wait + Sync, G: Gate + Sync, B: Board>(
+    rt: &R,
+    alloc: Global,
+    book: &OpeningBook,
+    scripts: Vec<Script>,
+    policy: Policy,
+    gate: &G,
+    board: &mut B,
+) -> Result<Outcome, RunFault>
+    requires { B.has board.old (opening_of book.now) (rows_of_book book.now) [] }
+    ensures answer { AnswersRun (opening_of book.now) (rows_of_book book.now) policy
+        scripts.items result }
+    ensures board { IfOk result
+        (HasShownAll B.has (opening_of book.now) (rows_of_book book.now) board.new) }
+    ensures up_to_date { IfOk result (λ outcome. IsUpToDate B.has board.new outcome.state) }
+    ensures board_after_fault { IfErr result (HasShownFirst B.has B.has_refused
+        (opening_of book.now) (rows_of_book book.now) policy scripts.items board.new) }
+{
     let work = Workload {
         scripts: scripts.as_slice(),
         policy,
@@ -108,6 +149,20 @@ pub fn run_shown<R: Threads + Wait + Sync, G: Gate + Sync, B: Board>(
     run_from(rt, alloc, state, work, board)
 }
 
+/// The same scripts, compact, as a run performs them.
+pub(crate) fn kept_scripts(
+    alloc: Global,
+    scripts: &[Vec<Request>],
+) -> Result<Vec<Script>, AllocError>
+    ensures { IfOk result (λ kept. kept.items ≡ lists scripts.now) }
+{
+    let mut kept = Vec::with_capacity(alloc, scripts.len())?;
+    for script in scripts {
+        kept.push(Script::of(alloc, script)?)?;
+    }
+    Ok(kept)
+}
+
 /// A run from a state with which it begins.
 pub(crate) fn run_from<R: Threads + Wait + Sync, G: Gate + Sync, B: Board>(
     rt: &R,
@@ -116,25 +171,25 @@ pub(crate) fn run_from<R: Threads + Wait + Sync, G: Gate + Sync, B: Board>(
     work: Workload<'_, G>,
     board: &mut B,
 ) -> Result<Outcome, RunFault>
-    requires begins { ¬ CannotBegin state work.policy (lists work.scripts.now) }
+    requires begins { ¬ CannotBegin state work.policy work.scripts.now }
     requires board { B.can_be_watched →
-        CanShowRun B.has board.old state work.policy (lists work.scripts.now) }
+        CanShowRun B.has board.old state work.policy work.scripts.now }
     requires shards { HasShards work.policy }
     requires quotas { HasQuotas work.policy }
     ensures outcome { IfOk result (λ outcome. (book : Book) →
-        BeginsWith state book work.entry.policy (lists work.entry.scripts.now) →
-        IsOutcome state.opening book work.entry.policy (lists work.entry.scripts.now) outcome) }
+        BeginsWith state book work.entry.policy work.entry.scripts.now →
+        IsOutcome state.opening book work.entry.policy work.entry.scripts.now outcome) }
     ensures board { IfOk result (λ outcome. (rows : Book) (before : List (List Stored)) →
-        BeginsWith state (book_of rows before) work.entry.policy (lists work.entry.scripts.now) →
+        BeginsWith state (book_of rows before) work.entry.policy work.entry.scripts.now →
         B.has board.old state.opening rows before →
         HasShownAfter B.has state.opening rows before (length outcome.hot.items)
         outcome.history.entries board.new) }
     ensures board_after_fault { IfErr result (λ fault. (rows : Book) (before : List (List Stored)) →
-        BeginsWith state (book_of rows before) work.entry.policy (lists work.entry.scripts.now) →
+        BeginsWith state (book_of rows before) work.entry.policy work.entry.scripts.now →
         B.has board.old state.opening rows before →
         HasShownFirstAfter B.has B.has_refused state.opening rows before work.entry.policy
-        (lists work.entry.scripts.now) board.new fault) }
-    ensures fault { IfErr result (IsMet (lists work.entry.scripts.now)) }
+        work.entry.scripts.now board.new fault) }
+    ensures fault { IfErr result (IsMet work.entry.scripts.now) }
 {
     let mut running = begin(alloc, state, work.scripts)?;
     for _phase in 0..MOST_PHASES {
@@ -159,10 +214,10 @@ pub(crate) fn run_from<R: Threads + Wait + Sync, G: Gate + Sync, B: Board>(
 }
 
 // A run before its first phase.
-fn begin(alloc: Global, state: Joined, scripts: &[Vec<Request>]) -> Result<Running, AllocError>
+fn begin(alloc: Global, state: Joined, scripts: &[Script]) -> Result<Running, AllocError>
     ensures running { IfOk result (λ running. (rows : Book) (policy : Rule) →
-        BeginsWith state rows policy (lists scripts.now) →
-        IsRunning state.opening rows policy (lists scripts.now) 0 running) }
+        BeginsWith state rows policy scripts.now →
+        IsRunning state.opening rows policy scripts.now 0 running) }
 {
     Ok(Running {
         state,
@@ -185,13 +240,13 @@ fn no_stashes(alloc: Global, workers: usize) -> Result<Vec<Stash>, AllocError>
 }
 
 // Whether a worker has a request or a stash left.
-fn is_left(scripts: &[Vec<Request>], stashes: &[Stash], first: u64) -> bool
+fn is_left(scripts: &[Script], stashes: &[Stash], first: u64) -> bool
     requires { length stashes.now ≡ length scripts.now }
     ensures some { IsTrue result → (worker : ℕ)
-        × ((first < length (script_of (lists scripts.now) worker))
+        × ((first < length (script_of scripts.now worker))
         ⊎ (0 < length (waiting_in stashes.now worker))) }
     ensures none { ¬ IsTrue result → (worker : ℕ) →
-        (length (script_of (lists scripts.now) worker) ≤ first)
+        (length (script_of scripts.now worker) ≤ first)
         × (length (waiting_in stashes.now worker) ≡ 0) }
 {
     for worker in 0..scripts.len() {
@@ -203,7 +258,7 @@ fn is_left(scripts: &[Vec<Request>], stashes: &[Stash], first: u64) -> bool
 }
 
 // Whether this worker has a request or a stash left.
-fn has_left(script: &[Request], stash: &Stash, first: u64) -> bool
+fn has_left(script: &Script, stash: &Stash, first: u64) -> bool
     ensures { IsTrue result ↔ ((first < length script.now) ⊎ (0 < length stash.now.requests)) }
 {
     script.len() as u64 > first || !stash.is_empty()
@@ -220,17 +275,17 @@ fn next_phase<R: Threads + Wait + Sync, G: Gate + Sync>(
     requires quotas { 0 < plan.policy.joined_quota + plan.policy.split_quota }
     requires counted { running.state.phase + 1 < 2 ^ 64 }
     requires plan { IsPlanOf plan running.state.phase }
-    requires running { ¬ ¬ CanGoOn plan.policy (lists plan.round.scripts.now) running }
-    requires left { (worker : ℕ) × HasLeft plan.policy (lists plan.round.scripts.now)
+    requires running { ¬ ¬ CanGoOn plan.policy plan.round.scripts.now running }
+    requires left { (worker : ℕ) × HasLeft plan.policy plan.round.scripts.now
         running.state.phase (waiting_in running.stashes.items) worker }
     ensures running { IfOk result (λ next. (opening : Numbers) (rows : Book) → IsBook opening rows →
-        IsRunning opening rows plan.entry.policy (lists plan.entry.round.scripts.now)
+        IsRunning opening rows plan.entry.policy plan.entry.round.scripts.now
         running.state.phase running →
-        IsRunning opening rows plan.entry.policy (lists plan.entry.round.scripts.now)
+        IsRunning opening rows plan.entry.policy plan.entry.round.scripts.now
         (suc running.state.phase) next) }
     ensures grown { IfOk result (λ next. next.history.entries
         ≡ running.history.entries ++ merged next.history.last) }
-    ensures fault { IfErr result (IsMet (lists plan.entry.round.scripts.now)) }
+    ensures fault { IfErr result (IsMet plan.entry.round.scripts.now) }
 {
     let hot_now = next_hot(alloc, &running, plan.policy)?;
     let mut next = perform_phase(rt, alloc, running, &hot_now, plan)?;

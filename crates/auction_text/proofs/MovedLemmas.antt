@@ -1,14 +1,13 @@
 -- The entries of a part as they stand in the whole: their order, and their lines.
 use Rattle.std.proofs.Common.{arith, ◌≡◌, ◌∙◌, ◌+◌, ◌<◌, ◌==◌, ◌∷◌, ◌++◌, ◌≤◌, ℕ, Bool, List, [], ap, ap₂, get_or, inl, inr, length, map, refl, set, subst, sym}
 use Rattle.std.specs.Cmp.{nat_cmp_is}
-use Rattle.std.specs.Global.{Vec}
 use Rattle.std.specs.List.{AllByRecursion}
 use Rattle.std.specs.Ordering.{is_lt, nat_cmp, ordering_then}
 use Rattle.std.specs.declared.cmp.Ordering.{Ordering}
 use Rattle.std.specs.declared.cmp.Ordering.TheVariants.{Equal, Greater, Less}
 use Rattle.std.proofs.lemmas.Bool.{cases_Bool, cases_eq, cases_lt, cases_order}
 use Rattle.std.proofs.lemmas.Bool.Decides.{nat_tests}
-use Rattle.std.proofs.lemmas.List.{get_or-map, get_or-set_other, get_or-set_same, get_or_default, get_or_past, length-map}
+use Rattle.std.proofs.lemmas.List.{get_or-set_other, get_or-set_same, get_or_default, get_or_past}
 use Rattle.std.proofs.lemmas.List.Folds.{flat_map-map}
 use Rattle.phase_laws.specs.Order.{part}
 use Rattle.auction_rows.specs.declared.requests.Request.{Request}
@@ -112,39 +111,35 @@ none_moved gone (e ∷ es) phases requests =
     ∙ ap (λ (l : List Entry). e ∷ l) (none_moved gone es phases requests)
 
 -- the scripts up to one are counted, beside what was counted at the start
-pub record Counted (start : List ℕ) (scripts : List (Vec Request)) (now : List ℕ) (upto : ℕ) : Type 0 where
-  pub counted : (k : ℕ) → k < upto → get_or now k 0 ≡ get_or start k 0 + length (get_or (map (λ script. script.items) scripts) k [])
+pub record Counted (start : List ℕ) (scripts : List (List Request)) (now : List ℕ) (upto : ℕ) : Type 0 where
+  pub counted : (k : ℕ) → k < upto → get_or now k 0 ≡ get_or start k 0 + length (get_or scripts k [])
   pub others : (k : ℕ) → upto ≤ k → get_or now k 0 ≡ get_or start k 0
 
-module _ (start : List ℕ) (scripts : List (Vec Request)) where
-  abbrev lists : List (List Request)
-  lists = map (λ (script : Vec Request). script.items) scripts
-
+module _ (start : List ℕ) (scripts : List (List Request)) where
   pub counted_none : Counted start scripts start 0
   counted_none = record { counted = λ k less. absurd (omega (arith, less)); others = λ k more. refl }
 
-  pub counted_more : (now : List ℕ) (w count held len : ℕ) (script : Vec Request) → w < length now → w < length scripts → held ≡ get_or now w held → script ≡ get_or scripts w script
-      → len ≡ length script.items → count ≡ held + len → Counted start scripts now w → Counted start scripts (set now w count) (w + 1)
+  pub counted_more : (now : List ℕ) (w count held len : ℕ) (script : List Request) → w < length now → w < length scripts → held ≡ get_or now w held → script ≡ get_or scripts w script
+      → len ≡ length script → count ≡ held + len → Counted start scripts now w → Counted start scripts (set now w count) (w + 1)
   counted_more now w count held len script within in_scripts held_is script_is len_is count_is so_far = record {
     counted = λ k less. elim (cases_eq k w) [
       | inl same ↦
           let before : held ≡ get_or start w 0 = held_is ∙ get_or_default now w held 0 within ∙ so_far.others w (omega arith) in
-          let more : len ≡ length (get_or lists w []) =
-          len_is ∙ ap (λ (s : Vec Request). length s.items) script_is ∙ ap length (sym (get_or-map (λ (s : Vec Request). s.items) scripts w script [] in_scripts)) in
-          let here : get_or (set now w count) w 0 ≡ get_or start w 0 + length (get_or lists w []) =
+          let more : len ≡ length (get_or scripts w []) =
+          len_is ∙ ap length (script_is ∙ get_or_default scripts w script [] in_scripts) in
+          let here : get_or (set now w count) w 0 ≡ get_or start w 0 + length (get_or scripts w []) =
           get_or-set_same now w count 0 within ∙ count_is ∙ ap₂ (λ (m n : ℕ). m + n) before more in
-          subst (λ (i : ℕ). get_or (set now w count) i 0 ≡ get_or start i 0 + length (get_or lists i [])) (sym same) here
+          subst (λ (i : ℕ). get_or (set now w count) i 0 ≡ get_or start i 0 + length (get_or scripts i [])) (sym same) here
       | inr other ↦ get_or-set_other now w k count 0 other ∙ so_far.counted k (omega (arith, less, other))
     ];
     others = λ k more. get_or-set_other now w k count 0 (λ same. absurd (omega (arith, more, same))) ∙ so_far.others k (omega (arith, more));
   }
 
-  pub counted_all : (now : List ℕ) (w : ℕ) → length scripts ≤ w → Counted start scripts now w → (k : ℕ) → get_or now k 0 ≡ get_or start k 0 + length (get_or lists k [])
+  pub counted_all : (now : List ℕ) (w : ℕ) → length scripts ≤ w → Counted start scripts now w → (k : ℕ) → get_or now k 0 ≡ get_or start k 0 + length (get_or scripts k [])
   counted_all now w all so_far k = elim (cases_lt k w) [
     | inl less ↦ so_far.counted k less
     | inr more ↦
-        let many : length lists ≡ length scripts = simp length-map in
-        let past : length lists ≤ k = omega (arith, more, all, many) in
-        let none : length (get_or lists k []) ≡ 0 = ap length (get_or_past lists k [] past) in
+        let past : length scripts ≤ k = omega (arith, more, all) in
+        let none : length (get_or scripts k []) ≡ 0 = ap length (get_or_past scripts k [] past) in
         omega (arith, none, so_far.others k more)
   ]

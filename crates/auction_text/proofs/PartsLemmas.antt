@@ -17,7 +17,7 @@ use Rattle.auction_text.specs.Progress.{unmarked}
 use Rattle.auction_text.specs.Readable.{Readable, after, faulty, first_of, readable}
 use Rattle.auction_text.specs.Reading.{IsPlain, nothing_asked}
 use Rattle.auction_text.specs.Records.{read_record}
-use Rattle.auction_text.specs.Scripts.{asked_by, rows}
+use Rattle.auction_text.specs.Scripts.{asked_of, rows}
 use Rattle.auction_text.specs.Taking.{AskFor, IsAt, IsAtFault, IsTaken}
 use Rattle.auction_text.proofs.ProgressLemmas.{front, front_of}
 use Rattle.auction_text.proofs.ReadableLemmas.{no_rows_after}
@@ -25,7 +25,7 @@ use Rattle.auction_text.proofs.RecordsLeft.{left_all}
 use Rattle.auction_text.proofs.TakingLemmas.{ask_is, ask_none}
 
 -- nothing is taken yet
-pub fresh : (workers : ℕ) (all : Readable) (taken : Taken) (rest : List (List (List ℕ))) → asked_by taken.input ≡ nothing_asked workers → taken.requests ≡ 0
+pub fresh : (workers : ℕ) (all : Readable) (taken : Taken) (rest : List (List (List ℕ))) → asked_of taken.input ≡ nothing_asked workers → taken.requests ≡ 0
     → all ≡ readable workers (taken.count + 1) taken.begun rest → IsTaken workers all taken rest
 fresh workers all taken rest none zero is = record {
   said = [];
@@ -43,7 +43,7 @@ module _ {R : Type 0} (rem : R → Option (List ℕ)) (workers most : ℕ) (all 
       → IsPart rem workers most all (record { input = taken.input; end = end.More left })
   part_more left rest begun is can = record {
     said = is.said;
-    asked = ask_is workers is.said (asked_by taken.input) is.asked;
+    asked = ask_is workers is.said (asked_of taken.input) is.asked;
     few = subst (λ (n : ℕ). n ≤ most) is.requests few;
     goes_on = (readable workers (taken.count + 1) taken.begun rest, (is.front, (subst (λ (b : Bool). rows (readable workers (taken.count + 1) b rest).said ≡ []) (sym begun) (no_rows_after workers (taken.count + 1) rest), can)));
   }
@@ -53,7 +53,7 @@ module _ {R : Type 0} (rem : R → Option (List ℕ)) (workers most : ℕ) (all 
   unfolding readable
   part_all is = record {
     said = is.said;
-    asked = ask_is workers is.said (asked_by taken.input) is.asked;
+    asked = ask_is workers is.said (asked_of taken.input) is.asked;
     few = subst (λ (n : ℕ). n ≤ most) is.requests few;
     goes_on = is.front;
   }
@@ -65,7 +65,7 @@ module _ {R : Type 0} (rem : R → Option (List ℕ)) (workers most : ℕ) (all 
       let is = at.is_taken in
       record {
         said = is.said;
-        asked = ask_is workers is.said (asked_by taken.input) is.asked;
+        asked = ask_is workers is.said (asked_of taken.input) is.asked;
         few = subst (λ (n : ℕ). n ≤ most) is.requests few;
         goes_on = is.front ∙ fault_first is.said (read_record workers (taken.count + 1) taken.begun at.fields) fault _ at.fails;
       }

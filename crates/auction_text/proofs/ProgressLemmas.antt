@@ -1,6 +1,6 @@
 -- How far an input is read, line by line.
 use Rattle.std.proofs.Common.{arith, ◌≡◌, ◌==◌, ◌&&◌, ◌<◌, ◌≤◌, ◌+◌, ◌∷◌, ◌++◌, ◌∙◌, [], ℕ, List, Bool, Option, true, false, drop, length, refl, sym, append_assoc, if◌then◌else◌}
-use Rattle.std.proofs.lemmas.List.{append-nil, length-map}
+use Rattle.std.proofs.lemmas.List.{append-nil}
 use Rattle.csv.specs.Reading.{default_config, records, strip_bom}
 use Rattle.csv.specs.declared.reader.Reader.{Reader}
 use Rattle.auction_text.specs.declared.reading.plain_text.Progress.{Progress}
@@ -9,7 +9,7 @@ use Rattle.auction_text.specs.declared.reading.TheConstants.{MOST_RECORDS}
 use Rattle.auction_text.specs.Lines.{IsLine}
 use Rattle.auction_text.specs.Progress.{HasAdded, IsReadUpTo, ReadsOn, unmarked}
 use Rattle.auction_text.specs.Reading.{IsAtStart}
-use Rattle.auction_text.specs.Scripts.{asked_by, records_of}
+use Rattle.auction_text.specs.Scripts.{asked_of, records_of}
 use Rattle.auction_text.proofs.LineLemmas.{feed_no_bom, records_after_feed}
 use Rattle.auction_text.proofs.RecordsLeft.{left_all}
 use Rattle.auction_text.proofs.SoFar.{IsReading, so_far_more}
@@ -52,9 +52,9 @@ reads_on_line old new text at said next line added room below early = record {
       let source = drop at text ++ more in
       let is : unmarked old.count source ≡ source = same_if (old.count == 0) (strip_bom source) source (line.unmarked more) in
       let some : (old.count + 1 == 0) ≡ false = grind arith in
-      let many : length old.input.scripts.items ≡ workers = sym (length-map old.input.scripts.items (λ script. script.items)) ∙ up_to.workers_are in
+      let many : length old.input.scripts.items ≡ workers = up_to.workers_are in
       let few : said.worker < workers = omega arith in
-      let one = so_far_more workers (records_of bytes) old.count old.begun line.fields (records default_config (drop next text ++ more)) (asked_by old.input) said (rw (is, line.reads more) at up_to) room
+      let one = so_far_more workers (records_of bytes) old.count old.begun line.fields (records default_config (drop next text ++ more)) (asked_of old.input) said (rw (is, line.reads more) at up_to) room
       (line.says workers (old.count + 1) old.begun few early) few in
       rw (added.count, added.begun, added.asked, some) one;
 }
@@ -78,7 +78,7 @@ read_up_to_front workers bytes progress source read =
 -- a reader of these bytes
 pub reading_up_to : {R : Type 0} (rem : R → Option (List ℕ)) (workers : ℕ) (bytes left : List ℕ) (progress : Progress) (reader : Reader R)
     → IsAtStart rem left reader → unmarked progress.count left ≡ strip_bom left → IsReadUpTo workers bytes progress left
-    → IsReading rem workers bytes progress.count progress.begun reader (asked_by progress.input)
+    → IsReading rem workers bytes progress.count progress.begun reader (asked_of progress.input)
 reading_up_to rem workers bytes left progress reader at is read = record {
   source = strip_bom left;
   known = at.source;

@@ -1,7 +1,7 @@
 -- What is taken of an input, record by record.
 use Rattle.std.proofs.Common.{arith, ◌≡◌, ◌==◌, ◌&&◌, ◌||◌, ◌<◌, ◌≤◌, ◌+◌, ◌∷◌, ◌++◌, ◌∙◌, [], ℕ, Bool, List, Option, Some, Result, Ok, Err, true, false, not, drop, length, map, take, refl, sym, ap, subst, append_assoc, take-append-drop, if◌then◌else◌, inl, inr}
 use Rattle.std.proofs.lemmas.Bool.{cases_Bool}
-use Rattle.std.proofs.lemmas.List.{append-nil, ext_get_or, length-map, length-replicate, get_or-replicate}
+use Rattle.std.proofs.lemmas.List.{append-nil, ext_get_or, length-replicate, get_or-replicate}
 use Rattle.std.proofs.lemmas.List.Sums.{sum_by-append}
 use Rattle.std.proofs.lemmas.List.FromFn.{get_or-map-range_with_len, length-map-range_with_len}
 use Rattle.std.specs.Io.KnownBytes.{prepend_known}
@@ -19,7 +19,7 @@ use Rattle.auction_text.specs.Progress.{unmarked}
 use Rattle.auction_text.specs.Readable.{Readable, after, first_of, readable, requests_in}
 use Rattle.auction_text.specs.Reading.{IsPlain, nothing_asked, with_record}
 use Rattle.auction_text.specs.Records.{read_record}
-use Rattle.auction_text.specs.Scripts.{Asked, asked_by, asked_in, script}
+use Rattle.auction_text.specs.Scripts.{Asked, asked_of, asked_in, script}
 use Rattle.auction_text.specs.Taking.{AskFor, HasTaken, IsAt, IsAtFault, IsTaken, IsTakenUpTo, KnowsBegun, TakesLines, TakesOn}
 use Rattle.auction_text.proofs.LineBufferLemmas.{after_front, known_behind}
 use Rattle.auction_text.proofs.ProgressLemmas.{same_if}
@@ -76,7 +76,7 @@ unfolding readable
 taken_more workers all old new fields rest first taken added reads below = record {
   said = taken.said ++ (first ∷ []);
   front = rw (added.count, added.begun) (front_more all taken.said first (read_record workers (old.count + 1) old.begun fields) (λ one. readable workers (old.count + 1 + 1) (old.begun || not one.is_row) rest) taken.front reads);
-  asked = rw added.asked (ask_more workers taken.said first (asked_by old.input) taken.asked below);
+  asked = rw added.asked (ask_more workers taken.said first (asked_of old.input) taken.asked below);
   requests = added.requests ∙ ap (λ (n : ℕ). n + (if first.is_row then 0 else 1)) taken.requests ∙ sym (requests_more taken.said first);
 }
 
@@ -128,7 +128,7 @@ takes_line old new text at said next line added below early = record {
   takes = λ workers all more up_to.
       let source = drop at text ++ more in
       let is : unmarked old.count source ≡ source = same_if (old.count == 0) (strip_bom source) source (line.unmarked more) in
-      let many : length old.input.scripts.items ≡ workers = sym (length-map old.input.scripts.items (λ script. script.items)) ∙ up_to.asked.workers_are in
+      let many : length old.input.scripts.items ≡ workers = up_to.asked.workers_are in
       let few : said.worker < workers = omega arith in
       let left = records default_config (drop next text ++ more) in
       let one : IsTaken workers all new left = taken_more workers all old new line.fields left said (rw (is, line.reads more) at up_to) added (line.says workers (old.count + 1) old.begun few early) few in

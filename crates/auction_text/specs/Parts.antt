@@ -16,7 +16,7 @@ use Rattle.auction_text.specs.Progress.{unmarked}
 use Rattle.auction_text.specs.Readable.{Readable, after, faulty, no_more, readable, requests_in}
 use Rattle.auction_text.specs.Reading.{IsPlain}
 use Rattle.auction_text.specs.RecordsLeft.{Left}
-use Rattle.auction_text.specs.Scripts.{asked_by, asked_in, rows}
+use Rattle.auction_text.specs.Scripts.{asked_of, asked_in, rows}
 
 -- A buffer of lines has left what can be read.
 pub record HaveLines {R : Type 0} (remaining : R → Option (List ℕ)) (workers count : ℕ)
@@ -72,6 +72,6 @@ GoesOn remaining all said (Fault fault) = all ≡ after said (faulty fault)
 pub record IsPart {R : Type 0} (remaining : R → Option (List ℕ)) (workers most : ℕ)
     (all : Readable) (part : Part R) : Type 0 where
   pub said : List Record
-  pub asked : asked_by part.input ≡ asked_in workers said
+  pub asked : asked_of part.input ≡ asked_in workers said
   pub few : requests_in said ≤ most
   pub goes_on : GoesOn remaining all said part.end

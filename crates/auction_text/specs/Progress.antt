@@ -6,7 +6,7 @@ use Rattle.auction_text.specs.declared.reading.record.Record.{Record}
 use Rattle.auction_text.specs.declared.reading.TheConstants.{MOST_RECORDS}
 use Rattle.auction_text.specs.Reading.{with_record}
 use Rattle.auction_text.specs.Records.{and_then}
-use Rattle.auction_text.specs.Scripts.{Asked, asked_by, read_records, records_of, rows, script}
+use Rattle.auction_text.specs.Scripts.{Asked, asked_of, read_records, records_of, rows, script}
 
 -- What was asked so far is asked by the records before `rest`, which have no fault.
 pub record SoFar (workers : ℕ) (all : List (List (List ℕ))) (count : ℕ) (begun : Bool)
@@ -26,11 +26,11 @@ unmarked count left = if count == 0 then strip_bom left else left
 abbrev pub IsReadUpTo : ℕ → List ℕ → Progress → List ℕ → Type 0
 IsReadUpTo workers bytes progress left =
     SoFar workers (records_of bytes) progress.count progress.begun
-    (records default_config (unmarked progress.count left)) (asked_by progress.input)
+    (records default_config (unmarked progress.count left)) (asked_of progress.input)
 
 -- One more record is read.
 pub record HasAdded (old : Progress) (said : Record) (new : Progress) : Type 0 where
-  pub asked : asked_by new.input ≡ with_record said (asked_by old.input)
+  pub asked : asked_of new.input ≡ with_record said (asked_of old.input)
   pub workers : vec_len new.input.scripts ≡ vec_len old.input.scripts
   pub count : new.count ≡ old.count + 1
   pub begun : new.begun ≡ (old.begun || not said.is_row)

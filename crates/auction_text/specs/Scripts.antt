@@ -5,7 +5,8 @@ use Rattle.csv.specs.Reading.{default_config, records, strip_bom}
 use Rattle.auction_rows.specs.declared.requests.Request.{Request}
 use Rattle.item_shards.specs.declared.openings.Opened.{Opened}
 use Rattle.auction_text.specs.declared.reading.TheConstants.{MOST_RECORDS}
-use Rattle.auction_text.specs.declared.reading.input.Input.{Input}
+use Rattle.auction_text.specs.declared.reading.CompactInput.{CompactInput}
+use Rattle.auction_text.specs.declared.reading.Input.{Input}
 use Rattle.auction_text.specs.declared.reading.ReadFault.{ReadFault}
 use Rattle.auction_text.specs.declared.reading.ReadFault.TheVariants as fault
 use Rattle.auction_text.specs.declared.reading.record.Record.{Record}
@@ -22,6 +23,10 @@ asked_by input = record {
   rows = input.rows.items;
   scripts = map (λ script. script.items) input.scripts.items;
 }
+
+-- what an input with compact scripts asks for
+abbrev pub asked_of : CompactInput → Asked
+asked_of input = record { rows = input.rows.items; scripts = input.scripts.items }
 
 -- the records of a text, as `csv` reads them
 abbrev pub records_of : List ℕ → List (List (List ℕ))

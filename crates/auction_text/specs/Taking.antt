@@ -14,7 +14,7 @@ use Rattle.auction_text.specs.Readable.{Readable, after, readable, requests_in}
 use Rattle.auction_text.specs.Reading.{IsPlain, with_record}
 use Rattle.auction_text.specs.Records.{read_record}
 use Rattle.auction_text.specs.RecordsLeft.{Left}
-use Rattle.auction_text.specs.Scripts.{Asked, asked_by, rows, script}
+use Rattle.auction_text.specs.Scripts.{Asked, asked_of, rows, script}
 
 -- Records that say this ask for these rows, and for the scripts of so many workers.
 pub record AskFor (workers : ℕ) (said : List Record) (asked : Asked) : Type 0 where
@@ -27,7 +27,7 @@ pub record IsTaken (workers : ℕ) (all : Readable) (taken : Taken)
     (rest : List (List (List ℕ))) : Type 0 where
   pub said : List Record
   pub front : all ≡ after said (readable workers (taken.count + 1) taken.begun rest)
-  pub asked : AskFor workers said (asked_by taken.input)
+  pub asked : AskFor workers said (asked_of taken.input)
   pub requests : taken.requests ≡ requests_in said
 
 -- records are taken up to these bytes, which are left
@@ -37,7 +37,7 @@ IsTakenUpTo workers all taken left =
 
 -- One more record is taken.
 pub record HasTaken (old : Taken) (said : Record) (new : Taken) : Type 0 where
-  pub asked : asked_by new.input ≡ with_record said (asked_by old.input)
+  pub asked : asked_of new.input ≡ with_record said (asked_of old.input)
   pub workers : vec_len new.input.scripts ≡ vec_len old.input.scripts
   pub count : new.count ≡ old.count + 1
   pub begun : new.begun ≡ (old.begun || not said.is_row)

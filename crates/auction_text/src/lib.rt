@@ -10,12 +10,9 @@ pub use laws::{
     all_is_readable, moved_in_order, replies_in_order, rows_come_first, rows_of_histories,
 };
 pub use reading::fields::read_u64;
-pub use reading::input::Input;
 pub use reading::parts::{InputLeft, Part, PartEnd};
-pub use reading::scripts::read_scripts;
-pub use reading::{Cause, MOST_RECORDS, ReadFault};
-pub use writing::WriteFault;
-pub use writing::before::Before;
+pub use reading::scripts::{read_compact_scripts, read_scripts};
+pub use reading::{Cause, CompactInput, Input, MOST_RECORDS, ReadFault};
 pub use writing::output::{
     write_history, write_history_on, write_replies, write_replies_by_threads, write_replies_on,
     write_report, write_rows,
@@ -25,3 +22,4 @@ pub use writing::report::ReportLines;
 pub use writing::rows::push_quoted;
 pub use writing::text::{push_labelled, push_labelled_id, push_number, push_text};
 pub use writing::text_blocks::write_last;
+pub use writing::{Before, WriteFault};

@@ -3,11 +3,18 @@
 //! `scripts` reads a whole input, `parts` one that goes on while its requests are served. Both read
 //! plain lines where they lie, and leave the first line that is not plain or has a fault, and all
 //! after it, to `csv`. Of a whole input only records are counted, of a part its requests too.
-use auction_rows::MOST_ROWS;
+ghost use Rattle.std.specs.Prelude.{◌≡◌, ◌<◌, vec_len, IfErr, IfOk, OnOk};
+ghost use Rattle.auction_text.specs.Reading.{IsInputFault, nothing_asked, with_record};
+ghost use Rattle.auction_text.specs.Scripts.{asked_of};
+
+use crate::reading::record::Record;
+use auction_rows::{MOST_ROWS, Request};
+use item_shards::Opened;
+use std::alloc::Global;
 use thiserror::Error;
+use worker_journals::Script;
 
 pub mod fields;
-pub mod input;
 pub mod line_buffer;
 pub mod part_records;
 pub mod parts;
@@ -15,11 +22,28 @@ pub mod plain_fields;
 pub mod plain_lines;
 pub mod plain_text;
 pub mod record;
-pub mod records;
 pub mod scripts;
 
 /// The most records of an input: as many as a book has rows.
 pub const MOST_RECORDS: u32 = MOST_ROWS as u32;
+
+/// What an input asks for: the rows that the auction is opened with, and each worker's script.
+#[derive(Drop)]
+pub struct Input {
+    /// The rows, in their order.
+    pub rows: Vec<Opened>,
+    /// The script of each worker, by the worker's number.
+    pub scripts: Vec<Vec<Request>>,
+}
+
+/// What an input asks for, of which the scripts are compact.
+#[derive(Drop)]
+pub struct CompactInput {
+    /// The rows, in their order.
+    pub rows: Vec<Opened>,
+    /// The script of each worker, by the worker's number.
+    pub scripts: Vec<Script>,
+}
 
 /// What is wrong with a record.
 #[derive(Clone, Copy, Debug, PartialEq, Eq, Drop, Error)]
@@ -68,4 +92,42 @@ pub enum ReadFault {
     /// There are more records than `MOST_RECORDS`.
     #[error("more than {} records", MOST_RECORDS)]
     Long,
+}
+
+/// No rows, and an empty script for each worker.
+pub fn empty_input(alloc: Global, workers: u32) -> Result<CompactInput, ReadFault>
+    ensures empty { IfOk result (λ input. asked_of input ≡ nothing_asked workers) }
+    ensures count { IfOk result (λ input. vec_len input.scripts ≡ workers) }
+    ensures fails { IfErr result (λ fault. IsInputFault fault → ⊥) }
+{
+    let rows = Vec::new(alloc);
+    let mut scripts = Vec::new(alloc);
+    for _ in 0..workers {
+        if scripts.push(Script::new(alloc)).is_err() {
+            return Err(ReadFault::Memory);
+        }
+    }
+    Ok(CompactInput { rows, scripts })
+}
+
+/// Puts a row at the end of the rows, and a request at the end of its worker's script.
+#[inline(always)]
+pub fn add_record(input: &mut CompactInput, said: &Record) -> Result<(), ReadFault>
+    requires { said.now.worker < vec_len input.old.scripts }
+    ensures adds { OnOk result (asked_of input.new ≡ with_record said.now (asked_of input.old)) }
+    ensures count { vec_len input.new.scripts ≡ vec_len input.old.scripts }
+    ensures fails { IfErr result (λ fault. IsInputFault fault → ⊥) }
+{
+    let worker = said.worker;
+    let request = said.request;
+    let refused = if said.is_row {
+        input.rows.push(Opened { worker, request }).is_err()
+    } else {
+        let script = &mut input.scripts[worker as usize];
+        script.push(&request).is_err()
+    };
+    if refused {
+        return Err(ReadFault::Memory);
+    }
+    Ok(())
 }

@@ -97,7 +97,8 @@ pub fn status(fault: &Fault) -> u8
 /// Writes the line of a fault. The words of the parser of options stand as they are, without the
 /// program's name. It takes no memory, so `Write` is the only fault.
 pub fn write_fault<W: Write>(writer: &mut W, fault: &Fault) -> Result<(), WriteFault>
-    ensures words { OnOk result (IfSome (parser_words fault.now) (Appends (W.contents writer.old) (W.contents writer.new))) }
+    ensures words { OnOk result (IfSome (parser_words fault.now)
+        (Appends (W.contents writer.old) (W.contents writer.new))) }
     ensures fault { IfErr result (λ refused. refused ≡ WriteFault.Write) }
 {
     let written = match fault {

@@ -4,7 +4,6 @@
 
 mod execution;
 mod faults;
-mod help;
 mod options;
 
 pub use execution::{execute, verdict_status};

@@ -3,15 +3,15 @@ ghost use Rattle.std.specs.Prelude.{◌≡◌, ◌≤◌, IfOk, IfErr, OnOk, fal
 ghost use Rattle.clap.specs.Words.{app_of, first_value, found_of, one_text, rule_of};
 ghost use Rattle.program_options.specs.Words.{AreTaken, HaveNumbers, text_in, value_in};
 ghost use Rattle.program_options.specs.declared.words.UsageFault.{UsageFault};
-ghost use Rattle.check_program.specs.Words.{SayOptions, history_rule, order_of, plain_history_rule, program};
+ghost use Rattle.check_program.specs.Words.{SayOptions, order_of};
+ghost use Rattle.check_program.specs.Words.{history_rule, plain_history_rule, program};
 
-use crate::help;
 use auction_rows::{MOST_WORKERS, Opening};
 use clap::{Arg, ArgAction, ArgMatches, Command};
 use history_check::Order;
 use program_options::{
-    FROM_ZERO, NumberRange, UsageFault, described_flag, described_number, described_program,
-    flag_of, number_of, parse_words,
+    Description, FROM_ZERO, NumberRange, UsageFault, described_flag, described_number,
+    described_program, flag_of, number_of, parse_words,
 };
 use std::alloc::{AllocError, Global};
 
@@ -48,7 +48,7 @@ fn history_option<'a>(alloc: Global) -> Arg<'a>
     ensures rule { rule_of result ≡ history_rule }
     ensures local { result.global ≡ false }
 {
-    plain_history(alloc).value_name("FILE").help(help::HISTORY)
+    plain_history(alloc).value_name("FILE").help(HISTORY_HELP)
 }
 
 fn command<'a>(alloc: Global) -> Result<Command<'a>, AllocError>
@@ -56,13 +56,13 @@ fn command<'a>(alloc: Global) -> Result<Command<'a>, AllocError>
 {
     let options = vec![in alloc;
         history_option(alloc),
-        described_number(alloc, "workers", WORKERS, "1", help::WORKERS),
-        described_number(alloc, "users", FROM_ZERO, "100", help::USERS),
-        described_number(alloc, "categories", FROM_ZERO, "10", help::CATEGORIES),
-        described_flag(alloc, "order", help::ORDER),
-        described_flag(alloc, "strict", help::STRICT),
+        described_number(alloc, "workers", WORKERS, "1", WORKERS_HELP),
+        described_number(alloc, "users", FROM_ZERO, "100", USERS_HELP),
+        described_number(alloc, "categories", FROM_ZERO, "10", CATEGORIES_HELP),
+        described_flag(alloc, "order", ORDER_HELP),
+        described_flag(alloc, "strict", STRICT_HELP),
     ]?;
-    described_program(alloc, "rubis_check", help::DESCRIPTION).args(options)
+    described_program(alloc, "rubis_check", DESCRIPTION).args(options)
 }
 
 // The order that flags ask for.
@@ -79,8 +79,8 @@ fn order_of(first: bool, strict: bool) -> Order
 }
 
 fn options_of(alloc: Global, matches: &ArgMatches<'_>) -> Result<Options, UsageFault>
-    ensures given { IfOk result (λ options. HaveNumbers program (one_text (found_of matches.now))
-        → SayOptions (one_text (found_of matches.now)) (first_value (found_of matches.now)) options) }
+    ensures given { IfOk result (λ options. HaveNumbers program (one_text (found_of matches.now)) →
+        SayOptions (one_text (found_of matches.now)) (first_value (found_of matches.now)) options) }
     ensures workers { IfOk result (λ options. options.workers ≤ MOST_WORKERS) }
     ensures memory { IfErr result (λ fault. fault ≡ UsageFault.Memory) }
 {
@@ -103,10 +103,12 @@ fn options_of(alloc: Global, matches: &ArgMatches<'_>) -> Result<Options, UsageF
 /// nothing else: one worker, 100 users, 10 categories, any order; a file with a history has to be
 /// named. Words that are refused, or that ask for help, are answered in `clap`'s words.
 pub fn read_options(alloc: Global, words: &[String]) -> Result<Options, UsageFault>
-    ensures given { IfOk result (SayOptions (text_in program (map string_bytes words.now)) (value_in program (map string_bytes words.now))) }
+    ensures given { IfOk result (SayOptions (text_in program (map string_bytes words.now))
+        (value_in program (map string_bytes words.now))) }
     ensures workers { IfOk result (λ options. options.workers ≤ MOST_WORKERS) }
     ensures taken { OnOk result (AreTaken program (map string_bytes words.now)) }
-    ensures memory { IfErr result (λ fault. AreTaken program (map string_bytes words.now) → fault ≡ UsageFault.Memory) }
+    ensures memory { IfErr result (λ fault. AreTaken program (map string_bytes words.now) →
+        fault ≡ UsageFault.Memory) }
 {
     let Ok(command) = command(alloc) else {
         return Err(UsageFault::Memory);
@@ -114,3 +116,33 @@ pub fn read_options(alloc: Global, words: &[String]) -> Result<Options, UsageFau
     let matches = parse_words(alloc, command, words)?;
     options_of(alloc, &matches)
 }
+
+// What the program says of itself and of its options.
+const DESCRIPTION: Description<'static> = Description {
+    about: "Checks whether a single-threaded auction gives the replies of a history, in its order.",
+    usage: "rubis_check [OPTIONS] --history <FILE> < INPUT",
+    after: "\
+Reads rows and scripts from standard input, as rubis_auction does, and from FILE, which may be
+a pipe, a line per request in commit order: PHASE NUMBER WORKER INDEX REPLY.
+Writes one line to standard output, the verdict.
+Faults, this help and the version go to standard error.
+Status: 0 the history replays, 5 wrong reply, 6 wrong request, 7 wrong order, 8 unreadable line;
+1 options or help, 2 input or history not read, 3 row refused, limits or memory, 4 output.
+
+Examples:
+  rubis_check --workers 2 --strict --history engine.history < scripts.csv
+  rubis_check --workers 2 --order \
+      --history <(rubis_auction --workers 2 --history < scripts.csv) < scripts.csv",
+};
+
+const HISTORY_HELP: &str = "History to check; required";
+
+const WORKERS_HELP: &str = "Workers, each with a script in the input, 1 to 16";
+
+const USERS_HELP: &str = "Users of the auction, 0 to 1000000";
+
+const CATEGORIES_HELP: &str = "Categories of the auction, 0 to 1000000";
+
+const ORDER_HELP: &str = "Refuse a request before an earlier item, bid or comment of its script";
+
+const STRICT_HELP: &str = "Refuse any request before an earlier one of its script";

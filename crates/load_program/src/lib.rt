@@ -4,7 +4,6 @@
 
 mod draws;
 mod faults;
-mod help;
 mod load;
 mod options;
 mod plan;

@@ -1,18 +1,20 @@
 //! The options of the program.
-ghost use Rattle.std.specs.Prelude.{◌≡◌, IfOk, IfErr, MatchOption, OnOk, false, codes, map, string_bytes};
+ghost use Rattle.std.specs.Prelude.{◌≡◌, IfOk, IfErr, MatchOption, OnOk};
+ghost use Rattle.std.specs.Prelude.{false, codes, map, string_bytes};
 ghost use Rattle.clap.specs.Words.{app_of, found_of, one_text, rule_of};
 ghost use Rattle.program_options.specs.Options.{SaysNumber};
 ghost use Rattle.program_options.specs.Words.{AreTaken, text_in};
-ghost use Rattle.load_program.specs.Words.{Fits, IsCauseOf, SayCounts, SayMix, SayPlan, SayTooMuch, plain_seed_rule, program, seed_rule};
+ghost use Rattle.load_program.specs.Words.{Fits, IsCauseOf, SayCounts, SayMix, SayPlan, SayTooMuch};
+ghost use Rattle.load_program.specs.Words.{plain_seed_rule, program, seed_rule};
 
 use crate::faults::PlanFault;
-use crate::help;
 use crate::plan::{Counts, Mix, Plan};
 use auction_rows::{MOST_OF_A_WORKER, MOST_WORKERS};
 use auction_text::MOST_RECORDS;
 use clap::{Arg, ArgAction, ArgMatches, Command};
 use program_options::{
-    FROM_ONE, NumberRange, UsageFault, described_number, described_program, number_of, parse_words,
+    Description, FROM_ONE, NumberRange, UsageFault, described_number, described_program, number_of,
+    parse_words,
 };
 use std::alloc::{AllocError, Global};
 
@@ -51,30 +53,31 @@ fn seed_option<'a>(alloc: Global) -> Arg<'a>
     ensures rule { rule_of result ≡ seed_rule }
     ensures local { result.global ≡ false }
 {
-    plain_seed(alloc).value_name("N").help(help::SEED)
+    plain_seed(alloc).value_name("N").help(SEED_HELP)
 }
 
 fn command<'a>(alloc: Global) -> Result<Command<'a>, AllocError>
     ensures { IfOk result (λ command. app_of command ≡ program) }
 {
     let options = vec![in alloc;
-        described_number(alloc, "requests", REQUESTS, "1000", help::REQUESTS),
-        described_number(alloc, "workers", WORKERS, "1", help::WORKERS),
-        described_number(alloc, "items", FROM_ONE, "100", help::ITEMS),
-        described_number(alloc, "users", FROM_ONE, "100", help::USERS),
-        described_number(alloc, "categories", FROM_ONE, "10", help::CATEGORIES),
-        described_number(alloc, "skew", SKEWS, "0", help::SKEW),
-        described_number(alloc, "views", SHARES, "85", help::VIEWS),
-        described_number(alloc, "comments", SHARES, "3", help::COMMENTS),
-        described_number(alloc, "purchases", SHARES, "2", help::PURCHASES),
-        described_number(alloc, "new-items", SHARES, "2", help::NEW_ITEMS),
+        described_number(alloc, "requests", REQUESTS, "1000", REQUESTS_HELP),
+        described_number(alloc, "workers", WORKERS, "1", WORKERS_HELP),
+        described_number(alloc, "items", FROM_ONE, "100", ITEMS_HELP),
+        described_number(alloc, "users", FROM_ONE, "100", USERS_HELP),
+        described_number(alloc, "categories", FROM_ONE, "10", CATEGORIES_HELP),
+        described_number(alloc, "skew", SKEWS, "0", SKEW_HELP),
+        described_number(alloc, "views", SHARES, "85", VIEWS_HELP),
+        described_number(alloc, "comments", SHARES, "3", COMMENTS_HELP),
+        described_number(alloc, "purchases", SHARES, "2", PURCHASES_HELP),
+        described_number(alloc, "new-items", SHARES, "2", NEW_ITEMS_HELP),
         seed_option(alloc),
     ]?;
-    described_program(alloc, "rubis_load", help::DESCRIPTION).args(options)
+    described_program(alloc, "rubis_load", DESCRIPTION).args(options)
 }
 
 fn seed_of(matches: &ArgMatches<'_>) -> u64
-    ensures { SaysNumber 0 18446744073709551615 (one_text (found_of matches.now) (codes "seed")) result }
+    ensures { SaysNumber 0 18446744073709551615
+        (one_text (found_of matches.now) (codes "seed")) result }
 {
     matches.get_one::<u64>("seed").unwrap_or(1)
 }
@@ -92,7 +95,8 @@ fn counts_of(matches: &ArgMatches<'_>) -> Counts
 }
 
 fn mix_of(matches: &ArgMatches<'_>) -> Option<Mix>
-    ensures { MatchOption result (SayTooMuch (one_text (found_of matches.now))) (SayMix (one_text (found_of matches.now))) }
+    ensures { MatchOption result (SayTooMuch (one_text (found_of matches.now)))
+        (SayMix (one_text (found_of matches.now))) }
 {
     Mix::new(
         number_of(matches, "views", SHARES),
@@ -130,7 +134,8 @@ pub fn read_plan(alloc: Global, words: &[String]) -> Result<Plan, PlanFault>
     ensures said { IfOk result (SayPlan (text_in program (map string_bytes words.now))) }
     ensures fits { IfOk result (λ plan. Fits plan.counts) }
     ensures taken { OnOk result (AreTaken program (map string_bytes words.now)) }
-    ensures cause { IfErr result (λ fault. AreTaken program (map string_bytes words.now) → IsCauseOf (text_in program (map string_bytes words.now)) fault) }
+    ensures cause { IfErr result (λ fault. AreTaken program (map string_bytes words.now) →
+        IsCauseOf (text_in program (map string_bytes words.now)) fault) }
 {
     let Ok(command) = command(alloc) else {
         return Err(PlanFault::Usage(UsageFault::Memory));
@@ -140,3 +145,42 @@ pub fn read_plan(alloc: Global, words: &[String]) -> Result<Plan, PlanFault>
         Err(fault) => Err(PlanFault::Usage(fault)),
     }
 }
+
+// What the program says of itself and of its options.
+const DESCRIPTION: Description<'static> = Description {
+    about: "Writes a load for rubis_auction: rows with items, then requests of all workers.",
+    usage: "rubis_load [OPTIONS] > OUTPUT",
+    after: "\
+All other requests are bids. The same options give the same bytes.
+Reads nothing. Writes a record per line to standard output, in the format that rubis_auction reads;
+give that program at least the same --workers, --users and --categories.
+Faults, this help and the version go to standard error.
+Status: 0 all written, 1 options or help, 3 no memory, 4 output.
+
+Examples:
+  rubis_load --workers 4 --requests 100000 --skew 100 > load.csv
+  rubis_load --items 1 --views 0 --comments 0 --purchases 0 --new-items 0 > bids.csv",
+};
+
+const REQUESTS_HELP: &str = "Requests, 0 to 16000000";
+
+const WORKERS_HELP: &str = "Workers that get the requests in turn, 1 to 16";
+
+const ITEMS_HELP: &str = "Items, each in a row at the beginning, 1 to 1000000";
+
+const USERS_HELP: &str = "Users, 1 to 1000000";
+
+const CATEGORIES_HELP: &str = "Categories, 1 to 1000000";
+
+const SKEW_HELP: &str =
+    "Exponent of Zipf's law for items, in hundredths (100 is exponent 1), 0 to 200";
+
+const VIEWS_HELP: &str = "Percentage of views, 0 to 100";
+
+const COMMENTS_HELP: &str = "Percentage of comments, 0 to 100";
+
+const PURCHASES_HELP: &str = "Percentage of purchases, 0 to 100";
+
+const NEW_ITEMS_HELP: &str = "Percentage of new items, 0 to 100";
+
+const SEED_HELP: &str = "Seed of the draws, 0 to 18446744073709551615";

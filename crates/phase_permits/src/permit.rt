@@ -106,6 +106,7 @@ impl<N: PhaseName, K: Kind> Permit<N, K> {
     }
 
     /// Performs a request of the quota, as `perform` does, without its reply: false if put off.
+    #[inline(always)]
     pub fn commit<R: Wait>(
         &mut self,
         rt: &R,

@@ -22,8 +22,7 @@ use std::sync::Wait;
 use thiserror::Error;
 use worker_journals::{Answer, ReplyForm};
 
-/// Why a permit did not perform a request. After either nothing has changed but the number of tries
-/// and what the key has seen of the request's shards.
+/// Why a permit did not perform a request. Only its tries and what its key has seen have changed.
 #[derive(Clone, Copy, Debug, PartialEq, Eq, Drop, Error)]
 pub enum PermitFault {
     /// No memory was left for the place of a new item.
@@ -269,7 +268,7 @@ impl<N: PhaseName> Worker<N> {
         }
     }
 
-    // Performs a view: apart, as no other request has room for a whole reply on its stack.
+    // Performs a view. Not inlined: only a view needs room for a whole reply on the stack.
     #[inline(never)]
     fn show<R: Wait>(
         &mut self,

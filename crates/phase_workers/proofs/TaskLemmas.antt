@@ -1,6 +1,5 @@
 -- The tasks of workers, one after the other.
-use Rattle.std.specs.declared.alloc.Global.{Global}
-use Rattle.std.proofs.Common.{Vec, inl, inr, ◌≡◌, ℕ, zero, suc, ◌+◌, ◌<◌, ◌≤◌, Bool, List, [], ◌∷◌, ◌++◌, map, length, drop, get_or, refl, sym, ap, subst, ◌∙◌, append_assoc, arith}
+use Rattle.std.proofs.Common.{inl, inr, ◌≡◌, ℕ, zero, suc, ◌+◌, ◌<◌, ◌≤◌, Bool, List, [], ◌∷◌, ◌++◌, map, length, drop, get_or, refl, sym, ap, subst, ◌∙◌, append_assoc, arith}
 use Rattle.std.specs.Prelude.{OnOk, IfErr, Result, unwrap_or, None, Some, Ok, Err}
 use Rattle.std.specs.List.{AllByRecursion, AllZip}
 use Rattle.std.proofs.lemmas.List.{map-append, length-map}
@@ -13,19 +12,19 @@ use Rattle.shard_boxes.specs.States.{ShardState}
 use Rattle.phase_workers.specs.declared.round.ServingFault.{ServingFault}
 use Rattle.phase_workers.specs.declared.round.ServingFault.TheVariants.{Worker, Spawn, Memory}
 use Rattle.phase_workers.specs.declared.round.WorkerAnswer.{WorkerAnswer}
-use Rattle.phase_workers.specs.Tasks.{lists, Task, task, tasks, HasDoneTask, HasMetFault, without_fault, fault_or, first_fault, IsFirstFault, IsFaultBy}
+use Rattle.phase_workers.specs.Tasks.{Task, task, tasks, HasDoneTask, HasMetFault, without_fault, fault_or, first_fault, IsFirstFault, IsFaultBy}
 use Rattle.phase_workers.specs.Threads.{IsUnstarted}
 
 -- the next of the scripts that are left
-pub next_script : (scripts : List (Vec Request Global)) (n m : ℕ) (script : Vec Request Global) → n < length scripts → script ≡ get_or scripts n script → m ≡ n + 1 →
-    drop n (lists scripts) ≡ script.items ∷ drop m (lists scripts)
+pub next_script : (scripts : List (List Request)) (n m : ℕ) (script : List Request) → n < length scripts → script ≡ get_or scripts n script → m ≡ n + 1 →
+    drop n scripts ≡ script ∷ drop m scripts
 next_script [] n m script less is one = absurd (omega (arith, less))
 next_script (x ∷ xs) zero m script less is one =
     let e : 1 ≡ m = omega (arith, one) in
-    ap (λ (v : Vec Request Global). v.items ∷ lists xs) (sym is) ∙ ap (λ k. script.items ∷ drop k (lists (x ∷ xs))) e
+    ap (λ own. own ∷ xs) (sym is) ∙ ap (λ k. script ∷ drop k (x ∷ xs)) e
 next_script (x ∷ xs) (suc n) m script less is one =
     let e : suc (n + 1) ≡ m = omega (arith, one) in
-    next_script xs n (n + 1) script (omega (arith, less)) is refl ∙ ap (λ k. script.items ∷ drop k (lists (x ∷ xs))) e
+    next_script xs n (n + 1) script (omega (arith, less)) is refl ∙ ap (λ k. script ∷ drop k (x ∷ xs)) e
 
 pub next_within : (n left rest all : ℕ) → left + 1 ≡ rest → n + rest ≡ all → n < all
 next_within n left rest all one so_far = omega (arith, one, so_far)
@@ -103,14 +102,13 @@ tasks_few (p ∷ ps) [] first = omega arith
 tasks_few (p ∷ ps) (s ∷ ss) first = let again = tasks_few ps ss first in omega (arith, again)
 
 -- there are no more tasks than scripts
-pub tasks_of_few : {D : Type 0} (of : D → Task) (owns : List D) (permits : List WorkerState) (scripts : List (Vec Request Global)) (first : ℕ) →
-    map of owns ≡ tasks permits (lists scripts) first → length owns ≤ length scripts
+pub tasks_of_few : {D : Type 0} (of : D → Task) (owns : List D) (permits : List WorkerState) (scripts : List (List Request)) (first : ℕ) →
+    map of owns ≡ tasks permits scripts first → length owns ≤ length scripts
 tasks_of_few of owns permits scripts first are =
     let mapped : length (map of owns) ≡ length owns = simp length-map in
-    let of_lists : length (lists scripts) ≡ length scripts = simp length-map in
-    let few = tasks_few permits (lists scripts) first in
-    let same : length (map of owns) ≡ length (tasks permits (lists scripts) first) = ap length are in
-    omega (arith, mapped, of_lists, few, same)
+    let few = tasks_few permits scripts first in
+    let same : length (map of owns) ≡ length (tasks permits scripts first) = ap length are in
+    omega (arith, mapped, few, same)
 
 -- ---- receipts
 

@@ -1,6 +1,6 @@
 -- What a permit's calls are after one more request.
 use Rattle.std.proofs.Common.{◌≡◌, ℕ, zero, suc, ◌+◌, ◌-◌, ◌<◌, ◌≤◌, Bool, true, false, cond, List, [], ◌∷◌, ◌++◌, length, map, take, drop, Some, None, refl, sym, ap, subst, ◌∙◌, append_assoc, arith}
-use Rattle.std.specs.Prelude.{Option, Result, Ok, Err, OnOk, IfErr, IsErrAnd, slice_get, not, unwrap_or}
+use Rattle.std.specs.Prelude.{Option, Result, Ok, Err, OnOk, IfOk, IfErr, IsErrAnd, slice_get, not, unwrap_or}
 use Rattle.std.specs.List.{filter, AllByRecursion}
 use Rattle.std.proofs.Math.Seq.{drop-nil}
 use Rattle.std.proofs.lemmas.Bool.{false≢true}
@@ -155,9 +155,36 @@ dealt_next initial old new request index false h = record {
   tries = ap (λ (d : WorkerState). d.tries) h.worker;
 }
 
+pub err_as : {A E : Type 0} (result : Result A E) (fault : E) (Q : E → Type 0) → IsErrAnd result (λ e. e ≡ fault) → Q fault → IfErr result Q
+err_as (Ok a) fault Q is q = tt
+err_as (Err e) fault Q is q = subst Q (sym is) q
+
+-- what a permit did with the request at a place of the script, where the request is found there
+module _ (initial : List ShardState) (old mid new : WorkerState) (script : List Request) (place : ℕ) (asked request : Request) (done result : Result Bool PermitFault)
+    (at : slice_get script place ≡ Some request) (found : slice_get script place ≡ Some asked) (mid_is : mid ≡ new) (done_is : done ≡ result) where
+  same_request : asked ≡ request
+  same_request = ap (λ (o : Option Request). unwrap_or o asked) (sym found ∙ at)
+
+  pub dealt_found : (still_waiting : Bool) → done ≡ Ok still_waiting → IfOk result (HasDealt initial (with_try old) new asked place) → HasDealtWithNext (place, request) old mid
+  dealt_found still_waiting is dealt =
+      subst (λ (w : WorkerState). HasDealtWithNext (place, request) old w) (sym mid_is) (subst (λ (r : Request). HasDealtWithNext (place, r) old new) same_request
+      (dealt_next initial old new asked place still_waiting (subst (λ r. IfOk r (HasDealt initial (with_try old) new asked place)) (sym done_is ∙ is) dealt)))
+
+  pub failed_found : (given : Result Unit PermitFault) (fault : PermitFault) → done ≡ Err fault → IsErrAnd given (λ e. e ≡ fault) → IfErr result (HasFailed initial (with_try old) new asked) →
+      IfErr given (HasFailed initial (with_try old) mid request)
+  failed_found given fault is gives failed =
+      subst (λ (w : WorkerState). IfErr given (HasFailed initial (with_try old) w request)) (sym mid_is) (subst (λ (r : Request). IfErr given (HasFailed initial (with_try old) new r)) same_request
+      (err_as given fault (HasFailed initial (with_try old) new asked) gives (subst (λ r. IfErr r (HasFailed initial (with_try old) new asked)) (sym done_is ∙ is) failed)))
+
 -- a place of the quota is one of the script
 pub within_script : (first place left long : ℕ) → place < left → left ≤ long - first → first + place < long
 within_script first place left long less given = omega (arith, less, given)
+
+-- and a request is there
+pub request_there : (script : List Request) (place : ℕ) → place < length script → (request : Request) × (slice_get script place ≡ Some request)
+request_there [] place less = absurd (omega (arith, less))
+request_there (request ∷ script) zero less = (request, refl)
+request_there (request ∷ script) (suc place) less = request_there script place (omega (arith, less))
 
 pub some_left : (now place left : ℕ) → now + place ≡ left → place < left → 0 < now
 some_left now place left so_far less = omega (arith, so_far, less)
@@ -305,10 +332,6 @@ on_ok3 (Ok a) b c d all = all b c d
 on_ok3 (Err e) b c d all = tt
 
 -- ---- faults
-
-pub err_as : {A E : Type 0} (result : Result A E) (fault : E) (Q : E → Type 0) → IsErrAnd result (λ e. e ≡ fault) → Q fault → IfErr result Q
-err_as (Ok a) fault Q is q = tt
-err_as (Err e) fault Q is q = subst Q (sym is) q
 
 module _ (initial : List ShardState) (old mid new : WorkerState) (fault : PermitFault) where
   -- the request that waits longest met a fault

@@ -2,12 +2,12 @@
 //! and why they are not done.
 ghost use Rattle.std.specs.Prelude.{◌≡◌, ◌≤◌, Some, length, map, vec_len, vec_capacity, IfOk, IfErr, OnOk};
 ghost use Rattle.std.specs.List.{AllByRecursion, AllZip};
-ghost use Rattle.phase_workers.specs.Tasks.{lists, task, tasks, CanBeDone, HasDoneTask, HasMetFault, without_fault, first_fault, IsFirstFault, IsFaultBy};
+ghost use Rattle.phase_workers.specs.Tasks.{task, tasks, CanBeDone, HasDoneTask, HasMetFault, without_fault, first_fault, IsFirstFault, IsFaultBy};
 ghost use Rattle.phase_workers.specs.Working.{IsPermitOf, ArePermitsOf};
 
 use crate::threads::{Job, work};
 use crate::worker::{Gate, Post, perform_task, waiting};
-use auction_rows::{MOST_WORKERS, Request};
+use auction_rows::MOST_WORKERS;
 use phase_permits::{Kind, Permit, PermitFault, Receipt};
 use shard_boxes::{Boxes, PhaseName};
 use std::alloc::{AllocError, AllocFailed, Global};
@@ -15,6 +15,7 @@ use std::sync::Wait;
 use std::thread::Threads;
 use std::vec::IntoIter;
 use thiserror::Error;
+use worker_journals::Script;
 
 /// Why a phase's workers leave no receipts. Every worker that was started has ended, and all
 /// permits are spent.
@@ -68,7 +69,7 @@ const SHORT_PHASE: u64 = 256;
 #[derive(Drop)]
 pub struct Round<'a, G> {
     /// A script for each worker.
-    pub scripts: &'a [Vec<Request>],
+    pub scripts: &'a [Script],
     /// The index from which on each script is gone on with.
     pub first: u64,
     pub phase: u64,
@@ -89,7 +90,7 @@ pub(crate) struct WorkerTask<'a, N: PhaseName, K: Kind, R, G> {
     rt: &'a R,
     post: Post<'a, N, G>,
     permit: Permit<N, K>,
-    script: &'a [Request],
+    script: &'a Script,
     first: usize,
 }
 
@@ -153,15 +154,15 @@ where
     requires workers { vec_len permits ≡ length round.scripts.now }
     requires few { length round.scripts.now ≤ MOST_WORKERS }
     requires can { AllByRecursion (CanBeDone N.initial boxes.now)
-        (tasks permits.items (lists round.scripts.now) round.first) }
+        (tasks permits.items round.scripts.now round.first) }
     requires of { ArePermitsOf round.phase 0 permits.items }
     ensures done { IfOk result (λ receipts.
         AllZip (HasDoneTask K.IS_JOINED)
-        (tasks permits.items (lists round.entry.scripts.now) round.entry.first)
+        (tasks permits.items round.entry.scripts.now round.entry.first)
         receipts.items) }
-    ensures fault { IfErr result (IsFaultBy (length (lists round.entry.scripts.now))
+    ensures fault { IfErr result (IsFaultBy (length round.entry.scripts.now)
         (IsFirstFault K.IS_JOINED N.initial
-        (tasks permits.items (lists round.entry.scripts.now) round.entry.first))) }
+        (tasks permits.items round.entry.scripts.now round.entry.first))) }
 {
     let gate = round.gate;
     let own_tasks = own_tasks(rt, alloc, boxes, permits, round)?;
@@ -192,14 +193,14 @@ fn own_tasks<'a, N: PhaseName, K: Kind, R, G>(
     requires workers { vec_len permits ≡ length round.scripts.now }
     requires few { length round.scripts.now ≤ MOST_WORKERS }
     requires can { AllByRecursion (CanBeDone N.initial boxes.now)
-        (tasks permits.items (lists round.scripts.now) round.first) }
+        (tasks permits.items round.scripts.now round.first) }
     requires of { ArePermitsOf round.phase 0 permits.items }
     ensures can { IfOk result (λ made. AllByRecursion (λ own.
         CanBeDone N.initial own.post.boxes.now (task own.permit own.script.now own.first)
         × IsPermitOf own.post.phase own.post.worker own.permit) made.items) }
     ensures tasks { IfOk result (λ made.
         map (λ own. task own.permit own.script.now own.first) made.items
-        ≡ tasks permits.items (lists round.entry.scripts.now) round.entry.first) }
+        ≡ tasks permits.items round.entry.scripts.now round.entry.first) }
 {
     let mut permits = permits.into_iter();
     let Ok(mut made) = Vec::with_capacity(alloc, round.scripts.len()) else {
@@ -217,7 +218,7 @@ fn own_tasks<'a, N: PhaseName, K: Kind, R, G>(
                 worker: worker as u32,
             },
             permit,
-            script: round.scripts[worker].as_slice(),
+            script: &round.scripts[worker],
             first: round.first as usize,
         });
     }

@@ -1,14 +1,16 @@
 //! What a worker does in a phase of a run, and where it can be watched.
-ghost use Rattle.std.specs.Prelude.{◌≡◌, ◌+◌, ◌-◌, ◌≤◌, ◌<◌, ◌++◌, false, true, length, OnOk, IfErr};
+ghost use Rattle.std.specs.Prelude.{◌≡◌, ◌+◌, ◌-◌, ◌≤◌, ◌<◌, ◌++◌, false, true, Some, length, slice_get, OnOk, IfErr};
+ghost use Rattle.auction_rows.specs.declared.requests.Request.{Request as Asked};
 ghost use Rattle.phase_permits.specs.Performing.{HasFailed, HaveOpening, HasFailedFirst};
 ghost use Rattle.phase_permits.specs.Workers.{with_try};
 ghost use Rattle.phase_workers.specs.Tasks.{task, CanBeDone, HasDoneTask, HasMetFault};
 ghost use Rattle.phase_workers.specs.Working.{calls_from, committed, stashed, taken, hot_for, put_off, not_put_off, IsPermitOf, IsSamePermit, HasDealtWithNext, HasPerformedStash, HasPerformedWaiting, HasStopped};
 
-use auction_rows::{MOST_OF_A_WORKER, MOST_TRIES, Request};
+use auction_rows::{MOST_OF_A_WORKER, MOST_TRIES};
 use phase_permits::{Kind, Permit, PermitFault};
 use shard_boxes::{Boxes, PhaseName};
 use std::sync::Wait;
+use worker_journals::Script;
 
 /// What a worker calls before and after each request that it performs, a stashed one at both
 /// attempts, while it holds no shard.
@@ -67,7 +69,7 @@ pub(crate) fn perform_task<N: PhaseName, K: Kind, R: Wait, G: Gate>(
     rt: &R,
     post: &Post<'_, N, G>,
     permit: &mut Permit<N, K>,
-    script: &[Request],
+    script: &Script,
     first: usize,
 ) -> Result<(), PermitFault>
     requires can { CanBeDone N.initial post.now.boxes.now
@@ -140,7 +142,7 @@ fn perform_quota<N: PhaseName, K: Kind, R: Wait, G: Gate>(
     rt: &R,
     post: &Post<'_, N, G>,
     permit: &mut Permit<N, K>,
-    script: &[Request],
+    script: &Script,
     first: usize,
 ) -> Result<(), PermitFault>
     requires of { permit.old.key.boxes ≡ post.now.boxes.now }
@@ -160,31 +162,38 @@ fn perform_quota<N: PhaseName, K: Kind, R: Wait, G: Gate>(
         permit.old permit.new) }
 {
     for place in 0..permit.left() {
-        let index = first + place as usize;
-        perform_next(rt, post, permit, &script[index], index as u32)?;
+        perform_next(rt, post, permit, script, first + place as usize)?;
     }
     Ok(())
 }
 
-// A request of the quota.
+// The request of the quota at this place of the script.
+#[inline(always)]
 fn perform_next<N: PhaseName, K: Kind, R: Wait, G: Gate>(
     rt: &R,
     post: &Post<'_, N, G>,
     permit: &mut Permit<N, K>,
-    request: &Request,
-    index: u32,
+    script: &Script,
+    place: usize,
 ) -> Result<(), PermitFault>
     requires of { permit.old.key.boxes ≡ post.now.boxes.now }
     requires opening { HaveOpening N.initial permit.old.opening }
     requires left { 0 < permit.old.left }
     requires tries { permit.old.tries < MOST_TRIES }
-    ensures dealt { OnOk result
-        (HasDealtWithNext (index, request.now) permit.old permit.new) }
-    ensures failed { IfErr result
-        (HasFailed N.initial (with_try permit.old) permit.new request.now) }
+    requires within { place < length script.now }
+    requires short { length script.now ≤ MOST_OF_A_WORKER }
+    ensures dealt { (request : Asked) → slice_get script.now place ≡ Some request →
+        OnOk result (HasDealtWithNext (place, request) permit.old permit.new) }
+    ensures failed { (request : Asked) → slice_get script.now place ≡ Some request →
+        IfErr result (HasFailed N.initial (with_try permit.old) permit.new request) }
 {
+    let index = place as u32;
     post.arrive(index);
-    let done = permit.commit(rt, post.boxes, request, index);
+    // A bid is made from its fields; another request is first made whole.
+    let done = match script.bid(place) {
+        Some(bid) => permit.commit(rt, post.boxes, &bid, index),
+        None => permit.commit(rt, post.boxes, &script.request(place), index),
+    };
     post.leave(index);
     done?;
     Ok(())

@@ -24,7 +24,7 @@ use Rattle.worker_journals.specs.Sides.{SideLists, request_from, reply_from, Has
 use Rattle.worker_journals.specs.Entries.{entry_from, HasHead, shown, IsKept}
 use Rattle.worker_journals.proofs.JournalLemmas.{lawful_after}
 
-request_stays : (all more : List Facts) (short : ShortRequest) → HasRequest all short → SaysRequest (all ++ more) short (request_from all short)
+pub request_stays : (all more : List Facts) (short : ShortRequest) → HasRequest all short → SaysRequest (all ++ more) short (request_from all short)
 request_stays all more (ask.StoreItem facts time) h = record {
   within = omega (arith, length-append all more, h);
   is = ap (λ f. StoreItem f time) (get_or_append_left all more _ facts h);

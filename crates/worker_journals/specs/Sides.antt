@@ -1,5 +1,6 @@
 -- What a journal keeps beside its heads, and what a head says with it.
-use Rattle.std.specs.Prelude.{◌≡◌, ℕ, pos, ◌+◌, ◌-◌, ◌<◌, ◌≤◌, List, [], ◌∷◌, ◌++◌, ⊤, None, length, take, drop, slice_index_or}
+use Rattle.std.specs.Prelude.{◌≡◌, ℕ, pos, ◌+◌, ◌-◌, ◌<◌, ◌≤◌, List, [], ◌∷◌, ◌++◌, ⊤, None, map, length, take, drop, slice_index_or}
+use Rattle.std.specs.List.{AllByRecursion}
 use Rattle.auction_rows.specs.declared.limits.TheConstants.{MOST_SHOWN}
 use Rattle.auction_rows.specs.declared.requests.Facts.{Facts}
 use Rattle.auction_rows.specs.declared.requests.Request.{Request}
@@ -169,6 +170,14 @@ HasRequest all (ask.ViewItem item) = ⊤
 HasRequest all (ask.ViewBids item) = ⊤
 HasRequest all (ask.ViewCategory category) = ⊤
 HasRequest all (ask.ViewUser user) = ⊤
+
+-- the requests that short ones say, with the facts that are kept
+abbrev pub requests_from : List Facts → List ShortRequest → List Request
+requests_from all shorts = map (request_from all) shorts
+
+-- the place of each short request lies within the facts
+abbrev pub HaveRequests : List Facts → List ShortRequest → Type 0
+HaveRequests all shorts = AllByRecursion (HasRequest all) shorts
 
 -- the place of a short reply lies within the lists
 abbrev pub HasReply : List ItemView → List SeenUser → List BidShown → List ItemShown →

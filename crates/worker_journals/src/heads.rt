@@ -7,11 +7,16 @@ ghost use Rattle.auction_rows.specs.StoreReplies.{is_refusal, store_reply};
 ghost use Rattle.worker_journals.specs.declared.heads.UserSeen.{UserSeen as SeenUser};
 ghost use Rattle.worker_journals.specs.Sides.{reply_from};
 
-use auction_rows::{BidId, BuyId, CommentId, ItemId, Quantity, Refusal, Stars, StoreReply};
+use auction_rows::{
+    BidId, BuyId, CommentId, Facts, ItemId, Quantity, Refusal, Request, Stars, StoreReply,
+};
 use std::marker::Model;
 
 // Seven words: less than a cache line.
 const _: () = prove!(size_of::<Head>() == 56);
+
+// Half of one: a script has a request in each.
+const _: () = prove!(size_of::<ShortRequest>() == 32);
 
 // What the halves of a place count to.
 const HALF: usize = 4_294_967_296;
@@ -82,6 +87,46 @@ pub(crate) enum ShortRequest {
     ViewBids(ItemId),
     ViewCategory(u32),
     ViewUser(u32),
+}
+
+impl ShortRequest {
+    ghost use Rattle.worker_journals.specs.Sides.{HasRequest, request_from};
+
+    /// The request, made whole, with the facts that are kept beside it.
+    #[inline(always)]
+    pub(crate) fn whole(self, all: &[Facts]) -> Request
+        requires { HasRequest all.now self }
+        ensures { result ≡ request_from all.now self }
+    {
+        match self {
+            ShortRequest::StoreItem(facts, time) => Request::StoreItem {
+                facts: all[facts.get()],
+                time,
+            },
+            ShortRequest::StoreBid(bidder, item, amount, time) => Request::StoreBid {
+                bidder,
+                item,
+                amount,
+                time,
+            },
+            ShortRequest::StoreComment(author, about, item, stars) => Request::StoreComment {
+                author,
+                about,
+                item,
+                stars,
+            },
+            ShortRequest::BuyNow(buyer, item, quantity, time) => Request::BuyNow {
+                buyer,
+                item,
+                quantity,
+                time,
+            },
+            ShortRequest::ViewItem(item) => Request::ViewItem { item },
+            ShortRequest::ViewBids(item) => Request::ViewBids { item },
+            ShortRequest::ViewCategory(category) => Request::ViewCategory { category },
+            ShortRequest::ViewUser(user) => Request::ViewUser { user },
+        }
+    }
 }
 
 /// A reply; what a view shows lies at a place among what views of its kind show, with a length if it is a list.

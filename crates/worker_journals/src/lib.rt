@@ -7,6 +7,7 @@ mod heads;
 mod history;
 mod journal;
 mod merge;
+mod script;
 mod sides;
 
 pub use auction_rows::Entry;
@@ -14,3 +15,4 @@ pub use entries::{Answer, EntryRef, ReplyForm};
 pub use history::{Entries, History, WorkerEntries};
 pub use journal::{Journal, JournalEntries};
 pub use merge::{entries_by_worker, journals_merge, merge_journals, numbers_come_after};
+pub use script::Script;

@@ -120,34 +120,7 @@ impl Sides {
         requires { HasRequest self.now.facts short }
         ensures { result ≡ request_from self.now.facts short }
     {
-        match short {
-            ShortRequest::StoreItem(facts, time) => Request::StoreItem {
-                facts: self.facts[facts.get()],
-                time,
-            },
-            ShortRequest::StoreBid(bidder, item, amount, time) => Request::StoreBid {
-                bidder,
-                item,
-                amount,
-                time,
-            },
-            ShortRequest::StoreComment(author, about, item, stars) => Request::StoreComment {
-                author,
-                about,
-                item,
-                stars,
-            },
-            ShortRequest::BuyNow(buyer, item, quantity, time) => Request::BuyNow {
-                buyer,
-                item,
-                quantity,
-                time,
-            },
-            ShortRequest::ViewItem(item) => Request::ViewItem { item },
-            ShortRequest::ViewBids(item) => Request::ViewBids { item },
-            ShortRequest::ViewCategory(category) => Request::ViewCategory { category },
-            ShortRequest::ViewUser(user) => Request::ViewUser { user },
-        }
+        short.whole(&self.facts)
     }
 
     /// The reply of a head of this journal.
@@ -262,9 +235,9 @@ fn part_of<T: Copy>(list: &[T], place: SideIndex, count: u8) -> Ten<T>
     shown
 }
 
-// A request, with the facts that it stores at the end of the facts.
+/// A request, with the facts that it stores at the end of the facts. It takes no memory.
 #[inline(always)]
-fn keep_request(all: &mut Vec<Facts>, request: &Request) -> ShortRequest
+pub(crate) fn keep_request(all: &mut Vec<Facts>, request: &Request) -> ShortRequest
     requires { HasListRoom 1 (vec_len all.old) (vec_capacity all.old) }
     ensures kept { all.new.items ≡ all.old.items ++ facts_in request.now }
     ensures capacity { vec_capacity all.new ≡ vec_capacity all.old }

@@ -6,13 +6,11 @@ ghost use Rattle.auction_text.specs.Readable.{Readable};
 ghost use Rattle.auction_text.specs.Reading.{IsInputFault};
 ghost use Rattle.auction_text.specs.Taking.{HasTaken, IsAt, IsStopped, KnowsBegun, TakesLines, TakesOn};
 
-use crate::reading::ReadFault;
-use crate::reading::input::{Input, add_record};
 use crate::reading::line_buffer::LineBuffer;
 use crate::reading::plain_lines::{bid_at, line_at};
 use crate::reading::plain_text::lines_end;
-use crate::reading::record::{Record, read_record};
-use crate::reading::records::read_next;
+use crate::reading::record::{Record, read_next, read_record};
+use crate::reading::{CompactInput, ReadFault, add_record};
 use csv::{ByteRecord, Reader};
 use std::io::Read;
 
@@ -20,7 +18,7 @@ use std::io::Read;
 #[derive(Drop)]
 pub struct Taken {
     /// What its records ask for.
-    pub input: Input,
+    pub input: CompactInput,
     /// How many of them are requests.
     pub requests: u32,
     /// How many records of the input were taken, with those of the parts before.

@@ -7,11 +7,10 @@ ghost use Rattle.auction_text.specs.Readable.{Readable, readable_of};
 ghost use Rattle.auction_text.specs.Reading.{IsInputFault};
 ghost use Rattle.auction_text.specs.Taking.{IsAt, IsStopped, IsTakenUpTo};
 
-use crate::reading::ReadFault;
-use crate::reading::input::{Input, empty_input};
 use crate::reading::line_buffer::LineBuffer;
 use crate::reading::part_records::{Stop, Taken, take_lines, take_record};
-use crate::reading::records::front_of;
+use crate::reading::record::front_of;
+use crate::reading::{CompactInput, ReadFault, empty_input};
 use csv::{ByteRecord, Reader, ReaderBuilder};
 use std::alloc::Global;
 use std::io::{Chain, Read};
@@ -55,7 +54,7 @@ pub enum PartEnd<R> {
 #[derive(Drop)]
 pub struct Part<R> {
     /// What its records ask for.
-    pub input: Input,
+    pub input: CompactInput,
     /// How the input goes on.
     pub end: PartEnd<R>,
 }

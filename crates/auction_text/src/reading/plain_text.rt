@@ -5,17 +5,16 @@ ghost use Rattle.auction_text.specs.Progress.{HasAdded, ReadsOn};
 ghost use Rattle.auction_text.specs.Reading.{IsInputFault};
 ghost use Rattle.auction_text.specs.declared.reading.TheConstants.{MOST_RECORDS};
 
-use crate::reading::input::{Input, add_record};
 use crate::reading::plain_lines::{bid_at, line_at};
 use crate::reading::record::Record;
-use crate::reading::{MOST_RECORDS, ReadFault};
+use crate::reading::{CompactInput, MOST_RECORDS, ReadFault, add_record};
 use std::io::Read;
 
 /// What was read of an input so far.
 #[derive(Drop)]
 pub struct Progress {
     /// What its records ask for.
-    pub input: Input,
+    pub input: CompactInput,
     /// How many they are.
     pub count: u32,
     /// Whether a request is among them: a row is late then.

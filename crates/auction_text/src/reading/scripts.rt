@@ -1,19 +1,19 @@
 //! The rows and scripts of a whole input.
-ghost use Rattle.std.specs.Prelude.{◌<◌, vec_len, IfErr, OnOk, ℕ, ◌≡◌, ◌≤◌, ◌++◌, true, IfOk, List, IfSome};
+ghost use Rattle.std.specs.Prelude.{◌<◌, vec_len, IfErr, OnOk, ℕ, ◌≡◌, ◌≤◌, ◌++◌, true, length, map, IfOk, List, IfSome};
 ghost use Rattle.csv.specs.Reading.{strip_bom};
 ghost use Rattle.auction_text.specs.Progress.{IsReadUpTo, unmarked};
 ghost use Rattle.auction_text.specs.Reading.{IsInputFault, IsAtStart, IsPlain};
 ghost use Rattle.auction_text.specs.declared.reading.TheConstants.{MOST_RECORDS};
-ghost use Rattle.auction_text.specs.Scripts.{asked_by, input_of};
+ghost use Rattle.auction_text.specs.Scripts.{asked_by, asked_of, input_of};
 
-use crate::reading::input::{Input, empty_input};
 use crate::reading::plain_text::{Progress, ROOM_TO_READ, add, read_lines};
-use crate::reading::record::read_record;
-use crate::reading::records::{front_of, read_next};
-use crate::reading::{MOST_RECORDS, ReadFault};
+use crate::reading::record::{front_of, read_next, read_record};
+use crate::reading::{CompactInput, Input, MOST_RECORDS, ReadFault, empty_input};
+use auction_rows::Request;
 use csv::{ByteRecord, Reader, ReaderBuilder};
-use std::alloc::Global;
+use std::alloc::{AllocError, Global};
 use std::io::Read;
+use worker_journals::Script;
 
 // Reads the records that a reader of the rest of an input has, and adds each.
 fn read_all<R: Read>(
@@ -28,7 +28,7 @@ fn read_all<R: Read>(
     ensures input { OnOk result ((bytes left : List ℕ) → IsAtStart R.remaining left records.old →
         unmarked progress.old.count left ≡ strip_bom left →
         IsReadUpTo workers bytes progress.old left →
-        input_of workers bytes ≡ Ok (asked_by progress.new.input)) }
+        input_of workers bytes ≡ Ok (asked_of progress.new.input)) }
     ensures count { OnOk result (vec_len progress.new.input.scripts ≡ workers) }
     ensures fault { IfErr result (λ fault. IsInputFault fault →
         (bytes left : List ℕ) → IsAtStart R.remaining left records.old →
@@ -64,7 +64,7 @@ fn read_rest<R: Read + Drop>(
     ensures input { OnOk result (IfSome (R.remaining reader) (λ left. (bytes : List ℕ) →
         unmarked progress.old.count left ≡ strip_bom left →
         IsReadUpTo workers bytes progress.old left →
-        input_of workers bytes ≡ Ok (asked_by progress.new.input))) }
+        input_of workers bytes ≡ Ok (asked_of progress.new.input))) }
     ensures count { OnOk result (vec_len progress.new.input.scripts ≡ workers) }
     ensures fault { IfErr result (λ fault. IsInputFault fault →
         IfSome (R.remaining reader) (λ left. (bytes : List ℕ) →
@@ -92,7 +92,7 @@ fn hand_over<R: Read + Drop>(
     requires room { progress.old.count ≤ MOST_RECORDS }
     ensures input { OnOk result (IfSome (R.remaining reader) (λ left. (bytes : List ℕ) →
         IsReadUpTo workers bytes progress.old (held.now ++ left) →
-        input_of workers bytes ≡ Ok (asked_by progress.new.input))) }
+        input_of workers bytes ≡ Ok (asked_of progress.new.input))) }
     ensures count { OnOk result (vec_len progress.new.input.scripts ≡ workers) }
     ensures fault { IfErr result (λ fault. IsInputFault fault →
         IfSome (R.remaining reader) (λ left. (bytes : List ℕ) →
@@ -115,7 +115,7 @@ fn read_input<R: Read + Drop>(
     requires room { progress.old.count ≤ MOST_RECORDS }
     ensures input { OnOk result (IfSome (R.remaining reader) (λ bytes.
         IsReadUpTo workers bytes progress.old bytes →
-        input_of workers bytes ≡ Ok (asked_by progress.new.input))) }
+        input_of workers bytes ≡ Ok (asked_of progress.new.input))) }
     ensures count { OnOk result (vec_len progress.new.input.scripts ≡ workers) }
     ensures fault { IfErr result (λ fault. IsInputFault fault →
         IfSome (R.remaining reader) (λ bytes. IsReadUpTo workers bytes progress.old bytes →
@@ -125,6 +125,19 @@ fn read_input<R: Read + Drop>(
     let mut buffer = [0u8; ROOM_TO_READ];
     let filled = read_lines(progress, &mut buffer, &mut reader)?;
     hand_over(alloc, &buffer[..filled], reader, workers, progress)
+}
+
+// The requests of each script, in the scripts' order.
+fn lists_of(alloc: Global, scripts: &[Script]) -> Result<Vec<Vec<Request>>, AllocError>
+    ensures same { IfOk result (λ lists.
+        map (λ requests. requests.items) lists.items ≡ scripts.now) }
+    ensures count { IfOk result (λ lists. vec_len lists ≡ length scripts.now) }
+{
+    let mut lists = Vec::with_capacity(alloc, scripts.len())?;
+    for script in scripts {
+        lists.push(script.to_requests(alloc)?)?;
+    }
+    Ok(lists)
 }
 
 /// Reads to its end what a reader gives: rows to open with, and after them the scripts of so many
@@ -141,6 +154,25 @@ pub fn read_scripts<R: Read + Drop>(
 ) -> Result<Input, ReadFault>
     ensures input { IfOk result (λ input. IfSome (R.remaining reader) (λ bytes.
         input_of workers bytes ≡ Ok (asked_by input))) }
+    ensures count { IfOk result (λ input. vec_len input.scripts ≡ workers) }
+    ensures fault { IfErr result (λ fault. IsInputFault fault →
+        IfSome (R.remaining reader) (λ bytes. input_of workers bytes ≡ Err fault)) }
+{
+    let CompactInput { rows, scripts } = read_compact_scripts(alloc, reader, workers)?;
+    let Ok(scripts) = lists_of(alloc, scripts.as_slice()) else {
+        return Err(ReadFault::Memory);
+    };
+    Ok(Input { rows, scripts })
+}
+
+/// Reads an input as `read_scripts` does, into scripts that are compact, as a run performs them.
+pub fn read_compact_scripts<R: Read + Drop>(
+    alloc: Global,
+    reader: R,
+    workers: u32,
+) -> Result<CompactInput, ReadFault>
+    ensures input { IfOk result (λ input. IfSome (R.remaining reader) (λ bytes.
+        input_of workers bytes ≡ Ok (asked_of input))) }
     ensures count { IfOk result (λ input. vec_len input.scripts ≡ workers) }
     ensures fault { IfErr result (λ fault. IsInputFault fault →
         IfSome (R.remaining reader) (λ bytes. input_of workers bytes ≡ Err fault)) }

@@ -7,8 +7,6 @@ ghost use Rattle.auction_text.specs.Report.{report_text};
 ghost use Rattle.auction_text.specs.RowLines.{rows_text};
 ghost use Rattle.auction_text.specs.Writing.{IsPartWritten, PutsText, WritesText};
 
-use crate::writing::WriteFault;
-use crate::writing::before::Before;
 use crate::writing::block::{Block, ROOM};
 use crate::writing::reply_order::{all_late_entries, put_all_replies, worker_texts};
 use crate::writing::report::{
@@ -16,6 +14,7 @@ use crate::writing::report::{
 };
 use crate::writing::rows::{push_rows, push_rows_of};
 use crate::writing::text_blocks::{flush, put_entry, write_last, write_parts};
+use crate::writing::{Before, WriteFault};
 use auction_rows::{Object, Row};
 use indexmap::IndexSet;
 use std::alloc::{AllocError, Global};

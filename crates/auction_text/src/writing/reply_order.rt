@@ -11,11 +11,10 @@ ghost use Rattle.auction_text.specs.Turns.{front, late, rest};
 ghost use Rattle.auction_text.specs.Workers.{AreEach, late_of, replies_of};
 ghost use Rattle.auction_text.specs.Writing.{PutsText};
 
-use crate::writing::WriteFault;
-use crate::writing::before::Before;
 use crate::writing::block::{Block, ROOM};
 use crate::writing::text::push_text;
 use crate::writing::text_blocks::put_reply;
+use crate::writing::{Before, WriteFault};
 use std::alloc::{AllocError, Global};
 use std::io::Write;
 use std::thread::{Threads, map_indices};

@@ -6,10 +6,9 @@ ghost use Rattle.auction_text.specs.Moved.{gone_by, line_after, moved};
 ghost use Rattle.auction_text.specs.Replies.{history_line};
 ghost use Rattle.auction_text.specs.Writing.{IsPartWritten, PutsText};
 
-use crate::writing::WriteFault;
-use crate::writing::before::Before;
 use crate::writing::block::{Block, ROOM};
 use crate::writing::replies::{MOST_OF_A_LINE, put_history_line, put_reply_line};
+use crate::writing::{Before, WriteFault};
 use std::io::Write;
 use worker_journals::EntryRef;
 

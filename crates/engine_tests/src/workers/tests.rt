@@ -3,7 +3,6 @@ ghost use Rattle.std.specs.Prelude.{◌≡◌, ◌∷◌, [], length, map};
 ghost use Rattle.shard_boxes.specs.States.{state_of, AreInitial};
 ghost use Rattle.phase_permits.specs.Workers.{IsUnused};
 ghost use Rattle.phase_permits.specs.Performing.{HaveOpening};
-ghost use Rattle.phase_workers.specs.Tasks.{lists};
 
 use crate::comparing::assert_same;
 use crate::testing::OPENING;
@@ -18,7 +17,7 @@ use std::marker::Brand;
 use std::sync::Wait;
 use std::test::Fail;
 use std::thread::Threads;
-use worker_journals::Journal;
+use worker_journals::{Journal, Script};
 
 // The fault of a joined phase of one worker, who has no script, whose clock is at the end of
 // numbers and in whose stash a view waits.
@@ -27,7 +26,7 @@ fn fault_at_the_end<N, R>(
     alloc: Global,
     boxes: &Boxes<N>,
     key: Key<N>,
-    scripts: &[Vec<Request>],
+    scripts: &[Script],
 ) -> Result<Option<ServingFault>, Fail>
 where
     N: PhaseName + Send + Sync,
@@ -36,7 +35,7 @@ where
     requires worker { key.worker ≡ 0 }
     requires unused { IsUnused key }
     requires one { length scripts.now ≡ 1 }
-    requires scripts { lists scripts.now ≡ [] ∷ [] }
+    requires scripts { scripts.now ≡ [] ∷ [] }
     requires users { HaveOpening N.initial (record { users = 10; categories = 2 }) }
 {
     let journal = Journal::with_room(alloc, 0, 0, 1)?;
@@ -67,7 +66,7 @@ where
     requires workers { 1 ≡ N.workers }
 {
     let (boxes, key) = boxes_of_one::<N, R>(rt, alloc, shards)?;
-    let scripts = [Vec::new(alloc)];
+    let scripts = [Script::new(alloc)];
     fault_at_the_end(rt, alloc, &boxes, key, &scripts)
 }
 

@@ -7,7 +7,7 @@ use auction_text::{
 };
 use std::alloc::{AllocError, Global};
 use std::test::Fail;
-use worker_journals::{History, Journal};
+use worker_journals::{History, Journal, Script};
 
 const SEEN: Request = Request::ViewItem { item: FIRST };
 
@@ -24,8 +24,8 @@ fn one_phase(alloc: Global) -> Result<History, AllocError> {
     Ok(history)
 }
 
-fn requests(alloc: Global, count: usize) -> Result<Vec<Request>, AllocError> {
-    vec![in alloc; SEEN; count]
+fn requests(alloc: Global, count: usize) -> Result<Script, AllocError> {
+    Script::of(alloc, &vec![in alloc; SEEN; count]?)
 }
 
 // Before a part: 9 requests of worker 0, 100 of worker 1, none of worker 2, and 7 phases.

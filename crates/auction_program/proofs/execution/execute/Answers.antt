@@ -3,7 +3,6 @@ use Rattle.item_shards.specs.OpeningBooks as book
 use Rattle.item_shards.specs.OpeningRows.{AreRows, opening_rows}
 use Rattle.auction_program.specs.Execution.{ArePartWritten, AreWritten, IsCausedBy, IsNotPerformed, IsOneWritten, IsRefused}
 use Rattle.auction_program.specs.Options.{opening_asked}
-use Rattle.auction_run.specs.Phases.{lists}
 use Rattle.auction_program.specs.declared.faults.Fault.TheVariants.{Resume, Write}
 use Rattle.auction_program.proofs.Answering.{answered, error_is, not_long, not_performed, of_input, refused, write_is}
 use Rattle.auction_program.proofs.execution.execute.Goals as goal
@@ -15,14 +14,14 @@ returns-in_err-book-clause-cause g c =
     let fault = c.in_err-book.field-0.0 in
     let remaining = g.I.Read.remaining c.args.reader in
     error_is c.from_residual-in_err-book.result (Resume fault) (λ f. IfSome remaining (λ input. IsCausedBy options input f)) c.from_residual-in_err-book.ensures
-    (of_input options rows (lists c.in_ok-input.input.scripts.items) remaining c.in_ok-input.ensures.input (λ rs ss. IsRefused (opening_asked options) fault rs)
+    (of_input options rows c.in_ok-input.input.scripts.items remaining c.in_ok-input.ensures.input (λ rs ss. IsRefused (opening_asked options) fault rs)
     (subst (λ o. IsRefused o fault rows) c.opening.ensures (refused c.opening.result rows c.new.result fault c.in_err-book.was c.new.ensures.too_long c.new.ensures.bad_row)))
 
 pub returns-in_err-performed-clause-cause : goal.returns-in_err-performed-clause-cause
 returns-in_err-performed-clause-cause g c =
     let options = c.args.options.now in
     let rows = c.in_ok-input.input.rows.items in
-    let scripts = lists c.in_ok-input.input.scripts.items in
+    let scripts = c.in_ok-input.input.scripts.items in
     let fault = c.in_err-performed.field-0.0 in
     let remaining = g.I.Read.remaining c.args.reader in
     let opens : book.rows_of_book c.in_ok-book.book ≡ opening_rows (opening_asked options) rows = c.in_ok-book.ensures.rows ∙ ap (λ o. opening_rows o rows) c.opening.ensures in

@@ -1,6 +1,5 @@
 use Rattle.std.proofs.Common.{subst}
 use Rattle.std.proofs.lemmas.Result.{IfOk-weaker}
-use Rattle.auction_run.specs.Phases.{lists}
 use Rattle.item_shards.specs.OpeningBooks as opened
 use Rattle.auction_program.specs.Execution.{IsNotPerformed, IsNotRun}
 use Rattle.auction_program.specs.declared.faults.Fault.TheVariants.{Run}
@@ -17,10 +16,10 @@ pub returns-in_err-outcome-clause-cause : goal.returns-in_err-outcome-clause-cau
 returns-in_err-outcome-clause-cause g c =
     let options = c.args.options.now in
     let rows = opened.rows_of_book c.args.book.now in
-    let scripts = lists c.args.scripts.items in
+    let scripts = c.args.scripts.items in
     let fault = c.in_err-outcome.field-0.0 in
-    let refused = c.run.ensures.refused in
+    let refused = c.run_scripts.ensures.refused in
     error_is c.from_residual.result (Run fault) (λ f. IsNotPerformed options f rows scripts) c.from_residual.ensures
     (subst (λ p. IsNotRun p fault rows scripts) c.policy.ensures
-    (not_run c.policy.result rows scripts c.run.result fault c.in_err-outcome.was refused.workers refused.shards refused.quota refused.too_long
-    c.run.ensures.spawn))
+    (not_run c.policy.result rows scripts c.run_scripts.result fault c.in_err-outcome.was refused.workers refused.shards refused.quota refused.too_long
+    c.run_scripts.ensures.spawn))

@@ -6,7 +6,6 @@ use Rattle.auction_rows.specs.Book.{Book}
 use Rattle.auction_rows.specs.History.{book_after, ReplaysFrom}
 use Rattle.auction_rows.proofs.HistoryLemmas.{book_after-replays}
 use Rattle.auction_run.specs.Boards.{phase_rows}
-use Rattle.auction_run.specs.Phases.{lists}
 use Rattle.auction_run.proofs.BoardLemmas.{rows_length}
 use Rattle.auction_window.specs.Published.{book_of}
 use Rattle.item_shards.specs.OpeningBooks as opened
@@ -51,10 +50,10 @@ pub returns-in_err-outcome-clause-cause : goal.returns-in_err-outcome-clause-cau
 returns-in_err-outcome-clause-cause g c =
     let options = c.args.options.now in
     let rows = opened.rows_of_book c.args.book.now in
-    let scripts = lists c.args.scripts.items in
+    let scripts = c.args.scripts.items in
     let fault = c.in_err-outcome.field-0.0 in
-    let refused = c.run_shown.ensures.answer.refused in
+    let refused = c.run_scripts_shown.ensures.answer.refused in
     error_is c.from_residual.result (Run fault) (λ f. IsNotPerformed options f rows scripts) c.from_residual.ensures
     (subst (λ p. IsNotRun p fault rows scripts) c.policy.ensures
-    (not_run c.policy.result rows scripts c.run_shown.result fault c.in_err-outcome.was refused.workers refused.shards refused.quota refused.too_long
-    c.run_shown.ensures.answer.spawn))
+    (not_run c.policy.result rows scripts c.run_scripts_shown.result fault c.in_err-outcome.was refused.workers refused.shards refused.quota refused.too_long
+    c.run_scripts_shown.ensures.answer.spawn))

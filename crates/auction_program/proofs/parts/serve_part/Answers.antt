@@ -2,7 +2,6 @@ use Rattle.std.proofs.Common.{◌≡◌, ◌∙◌, ◌+◌, ℕ, List, [], ap, 
 use Rattle.std.proofs.lemmas.List.{length-map}
 use Rattle.auction_run.specs.Phases.{hot_sets}
 use Rattle.auction_text.specs.Moved.{gone_by}
-use Rattle.run_laws.specs.Serving.{lists}
 use Rattle.auction_program.specs.PartRuns.{gone_with}
 use Rattle.auction_program.proofs.ToldLemmas.{run_told, same_gone}
 use Rattle.auction_program.proofs.parts.serve_part.Goals as goal
@@ -11,18 +10,18 @@ pub returns-clause-serves : goal.returns-clause-serves
 returns-clause-serves g c = λ book at.
     let outcome = c.in_ok-outcome.outcome in
     let gone = gone_by c.args.part.served.before in
-    let scripts = lists c.args.part.scripts.items in
+    let scripts = c.args.part.scripts.items in
     record {
       runs = record { hot = hot_sets outcome.hot.items; history = outcome.history.entries; answer = c.in_ok-outcome.ensures.answers book at; holds = c.in_ok-tell_part.ensures.told };
       starts = c.in_ok-outcome.ensures.left book at;
       before = same_gone (gone_by c.in-Some-with_phases.next) (gone_with gone (length (hot_sets outcome.hot.items)) scripts)
           (c.in-Some-with_phases.ensures.phases ∙ ap₂ (λ (a b : ℕ). a + b) c.in-Some.ensures.phases (c.len.ensures ∙ outcome.hot.ok.0 ∙ sym (length-map outcome.hot.items (λ set. set.keys))))
           (λ worker. c.in-Some-with_phases.ensures.requests worker ∙ c.in-Some.ensures.requests worker
-          ∙ ap (λ xs. slice_index c.args.part.served.before.requests worker + length (slice_index_or (lists xs) worker [])) c.as_slice.ensures.value);
+          ∙ ap (λ xs. slice_index c.args.part.served.before.requests worker + length (slice_index_or xs worker [])) c.as_slice.ensures.value);
     }
 
 pub returns-in_err-tell_part-clause-first : goal.returns-in_err-tell_part-clause-first
 returns-in_err-tell_part-clause-first g c = λ book at.
     let outcome = c.in_ok-outcome.outcome in
-    run_told g.L.Log.accepted g.W.Write.contents c.args.teller.now c.tell_part.new.teller c.args.options.now book (gone_by c.args.part.served.before) (lists c.args.part.scripts.items)
+    run_told g.L.Log.accepted g.W.Write.contents c.args.teller.now c.tell_part.new.teller c.args.options.now book (gone_by c.args.part.served.before) c.args.part.scripts.items
     (hot_sets outcome.hot.items) outcome.history.entries (c.in_ok-outcome.ensures.answers book at) c.tell_part.ensures.part

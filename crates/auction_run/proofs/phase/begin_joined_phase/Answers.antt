@@ -1,7 +1,6 @@
-use Rattle.std.proofs.Common.{false, length, refl, sym, ap, ◌∙◌}
+use Rattle.std.proofs.Common.{false, length, refl, ap, ◌∙◌}
 use Rattle.phase_permits.specs.Slicing.{hot_objects}
 use Rattle.auction_run.proofs.PhaseLemmas.{only_memory, not_too_long, given_quotas}
-use Rattle.run_laws.proofs.ScriptLemmas.{lists_length}
 use Rattle.auction_run.proofs.phase.begin_joined_phase.Goals as goal
 
 pub begin_joined-requires : goal.begin_joined-requires
@@ -11,7 +10,7 @@ begin_joined-requires g c =
       can = record {
         shards = c.requires.shards;
         workers = c.requires.workers;
-        quotas = ap length c.deref.ensures.value ∙ c.in_ok-quotas.ensures.len ∙ sym (lists_length c.args.plan.now.round.scripts.now) ∙ may.scripts_are ∙ c.requires.workers;
+        quotas = ap length c.deref.ensures.value ∙ c.in_ok-quotas.ensures.len ∙ may.scripts_are ∙ c.requires.workers;
         phase = may.counted;
       };
       stashes = c.args.stashes.ok.0 ∙ may.stashes_are ∙ c.requires.workers;

@@ -1,7 +1,6 @@
 use Rattle.std.proofs.Common.{true, [], map, length, sym, ap, ◌∙◌}
 use Rattle.phase_floor.specs.Begins.{empty_stash}
 use Rattle.auction_run.proofs.PhaseLemmas.{only_memory, not_too_long, given_quotas, empty_at}
-use Rattle.run_laws.proofs.ScriptLemmas.{lists_length}
 use Rattle.auction_run.proofs.phase.begin_split_phase.Goals as goal
 
 pub begin_split-requires : goal.begin_split-requires
@@ -11,7 +10,7 @@ begin_split-requires g c =
       can = record {
         shards = c.requires.shards;
         workers = c.requires.workers;
-        quotas = ap length c.deref.ensures.value ∙ c.in_ok-quotas.ensures.len ∙ sym (lists_length c.args.plan.now.round.scripts.now) ∙ may.scripts_are ∙ c.requires.workers;
+        quotas = ap length c.deref.ensures.value ∙ c.in_ok-quotas.ensures.len ∙ may.scripts_are ∙ c.requires.workers;
         phase = may.counted;
       };
     }

@@ -1,12 +1,11 @@
 use Rattle.std.proofs.Common.{◌∙◌}
 use Rattle.phase_workers.proofs.WorkLemmas.{err_as}
-use Rattle.run_laws.proofs.ScriptLemmas.{lists_length}
-use Rattle.auction_run.specs.Phases.{IsMet, lists, told}
+use Rattle.auction_run.specs.Phases.{IsMet, told}
 use Rattle.auction_run.proofs.PhaseLemmas.{can_with, fault_met}
 use Rattle.auction_run.proofs.phase.perform_begun.Goals as goal
 
 pub serve_all-requires-clause-workers : goal.serve_all-requires-clause-workers
-serve_all-requires-clause-workers g c κs within = c.args.begun.1.ok.0 ∙ c.requires.ready.permits_are ∙ lists_length c.args.round.scripts.now
+serve_all-requires-clause-workers g c κs within = c.args.begun.1.ok.0 ∙ c.requires.ready.permits_are
 
 pub serve_all-requires-clause-can : goal.serve_all-requires-clause-can
 serve_all-requires-clause-can g c κs within = can_with c.requires.ready c.boxes.ensures.boxes c.boxes.ensures.opening
@@ -20,7 +19,7 @@ close-requires g c = c.requires.ready.receipts_are c.in_ok-receipts.receipts.ite
 pub returns-in_err-receipts-clause-fault : goal.returns-in_err-receipts-clause-fault
 returns-in_err-receipts-clause-fault g c =
     let fault = c.in_err-receipts.field-0.0 in
-    let scripts = lists c.args.round.scripts.now in
+    let scripts = c.args.round.scripts.now in
     err_as c.from_residual.result (told fault) (IsMet scripts) c.from_residual.ensures.1 (fault_met scripts _ fault c.in_err-receipts.ensures.fault)
 
 pub returns-clause-history : goal.returns-clause-history

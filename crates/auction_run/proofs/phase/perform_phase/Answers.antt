@@ -1,7 +1,7 @@
 use Rattle.std.proofs.Common.{sym, subst}
 use Rattle.std.specs.Prelude.{IfOk}
 use Rattle.auction_run.specs.Closed.{HasPerformedPhase}
-use Rattle.auction_run.specs.Phases.{lists, MayPerform}
+use Rattle.auction_run.specs.Phases.{MayPerform}
 use Rattle.auction_run.proofs.PhaseLemmas.{even_joined, odd_split}
 use Rattle.auction_run.proofs.phase.perform_phase.Goals as goal
 
@@ -11,12 +11,12 @@ perform_joined_phase-requires-clause-joined g c κs within = even_joined c.phase
 pub perform_joined_phase-requires-clause-may : goal.perform_joined_phase-requires-clause-may
 perform_joined_phase-requires-clause-may g c κs within =
     let may = c.requires.may in
-    subst (MayPerform c.args.plan.policy (lists c.args.plan.round.scripts.now) c.args.running.state c.args.running.stashes.items)
+    subst (MayPerform c.args.plan.policy c.args.plan.round.scripts.now c.args.running.state c.args.running.stashes.items)
     (may.joined (even_joined c.phase.ensures c.if-phase-eq0.true)) may
 
 pub returns-then-phase-eq0-clause-performed : goal.returns-then-phase-eq0-clause-performed
 returns-then-phase-eq0-clause-performed g c =
-    subst (λ hot. IfOk c.perform_joined_phase.result (HasPerformedPhase c.args.plan.policy (lists c.args.plan.round.scripts.now) hot c.args.running))
+    subst (λ hot. IfOk c.perform_joined_phase.result (HasPerformedPhase c.args.plan.policy c.args.plan.round.scripts.now hot c.args.running))
     (sym (c.requires.may.joined (even_joined c.phase.ensures c.if-phase-eq0.true))) c.perform_joined_phase.ensures.performed
 
 pub perform_split_phase-requires-clause-split : goal.perform_split_phase-requires-clause-split

@@ -1,6 +1,6 @@
 use Rattle.std.proofs.Common.{false, refl, sym, subst}
 use Rattle.phase_workers.proofs.WorkLemmas.{err_as}
-use Rattle.auction_run.specs.Phases.{IsMet, lists}
+use Rattle.auction_run.specs.Phases.{IsMet}
 use Rattle.auction_run.proofs.PhaseLemmas.{ended_phase, can_perform, begun_split}
 use Rattle.auction_run.proofs.phase.perform_split_phase.Goals as goal
 
@@ -9,7 +9,7 @@ begin_split_phase-requires g c = record { shards = c.requires.shards; workers = 
 
 pub returns-in_err-begun-clause-fault : goal.returns-in_err-begun-clause-fault
 returns-in_err-begun-clause-fault g c =
-    let scripts = lists c.args.plan.round.scripts.now in
+    let scripts = c.args.plan.round.scripts.now in
     err_as c.from_residual.result c.in_err-begun.field-0.0 (IsMet scripts) c.from_residual.ensures.1 (subst (IsMet scripts) (sym c.in_err-begun.ensures.fault) tt)
 
 pub perform_begun-requires-clause-ready : goal.perform_begun-requires-clause-ready

@@ -1,26 +1,23 @@
-use Rattle.std.proofs.Common.{arith, ◌<◌, ◌⊎◌, ◌∙◌, length, sym, subst}
+use Rattle.std.proofs.Common.{◌∙◌, sym}
 use Rattle.std.proofs.lemmas.Bool.{false≢true}
-use Rattle.auction_run.specs.Phases.{lists}
 use Rattle.auction_run.proofs.ScriptLemmas.{nothing_left, something_left, one_worker_more, nobody}
 use Rattle.auction_run.proofs.runs.is_left.Goals as goal
-use Rattle.run_laws.proofs.ScriptLemmas.{lists_length}
 
 pub loop-worker-preserved : goal.loop-worker-preserved
 loop-worker-preserved c = one_worker_more _ c.loop-worker.worker c.loop-worker.invariant
     (nothing_left c.args.scripts.now c.args.stashes.now c.args.first c.loop-worker.worker c.index-scripts-worker.result c.index-stashes-worker.result c.loop-worker-test.true c.requires
     c.index-scripts-worker.is c.index-stashes-worker.is
-    (λ some. absurd (false≢true (sym c.if-has_left.false ∙ c.has_left.ensures.1
-    (subst (λ rs. (c.args.first < length rs) ⊎ (0 < length c.index-stashes-worker.result.requests)) (sym c.deref.ensures.value) some)))))
+    (λ some. absurd (false≢true (sym c.if-has_left.false ∙ c.has_left.ensures.1 some))))
 
 pub returns-then-has_left-clause-some : goal.returns-then-has_left-clause-some
 returns-then-has_left-clause-some c = λ yes. (
   c.loop-worker.worker,
   something_left c.args.scripts.now c.args.stashes.now c.args.first c.loop-worker.worker c.index-scripts-worker.result c.index-stashes-worker.result c.loop-worker-test.true c.requires
       c.index-scripts-worker.is c.index-stashes-worker.is
-      (subst (λ rs. (c.args.first < length rs) ⊎ (0 < length c.index-stashes-worker.result.requests)) c.deref.ensures.value (c.has_left.ensures.0 c.if-has_left.true)),
+      (c.has_left.ensures.0 c.if-has_left.true),
 )
 
 pub returns-clause-none : goal.returns-clause-none
 returns-clause-none c = λ none.
-    nobody (lists c.args.scripts.now) c.args.stashes.now c.args.first c.loop-worker.worker (omega (arith, lists_length c.args.scripts.now, c.loop-worker-test.false))
-    (c.requires ∙ sym (lists_length c.args.scripts.now)) c.loop-worker.invariant
+    nobody c.args.scripts.now c.args.stashes.now c.args.first c.loop-worker.worker c.loop-worker-test.false
+    c.requires c.loop-worker.invariant

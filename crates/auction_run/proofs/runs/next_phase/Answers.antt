@@ -1,7 +1,7 @@
 use Rattle.std.proofs.Common.{ap, sym, List, ◌++◌, ◌∷◌, [], ◌∙◌}
 use Rattle.std.proofs.lemmas.List.{map-append}
 use Rattle.auction_rows.specs.declared.rows.Entry.{Entry}
-use Rattle.auction_run.specs.Phases.{lists, hot_sets}
+use Rattle.auction_run.specs.Phases.{hot_sets}
 use Rattle.auction_run.proofs.RunLemmas.{stepped, may_perform}
 use Rattle.auction_run.proofs.StableLemmas.{may_still}
 use Rattle.auction_run.proofs.runs.next_phase.Goals as goal
@@ -9,7 +9,7 @@ use Rattle.auction_run.proofs.runs.next_phase.Goals as goal
 pub perform_phase-requires-clause-may : goal.perform_phase-requires-clause-may
 perform_phase-requires-clause-may g c κs within =
     let policy = c.args.plan.policy in
-    let scripts = lists c.args.plan.round.scripts.now in
+    let scripts = c.args.plan.round.scripts.now in
     let hot = c.in_ok-hot_now.hot_now.keys in
     may_still policy scripts c.args.running.state c.args.running.stashes.items hot c.requires.counted c.in_ok-hot_now.ensures.joined
     (λ never. c.requires.running (λ on.

@@ -4,13 +4,12 @@ use Rattle.auction_rows.specs.Book.{Book}
 use Rattle.auction_window.specs.Published.{book_of}
 use Rattle.auction_run.specs.Boards.{HasShownAfter}
 use Rattle.auction_run.specs.GoingOn.{BeginsWith}
-use Rattle.auction_run.specs.Phases.{lists}
 use Rattle.auction_run.specs.Running.{IsRunning}
 use Rattle.auction_run.proofs.runs.run_from.Given as goal
 
 abbrev pub invariant-loop-phase : goal.invariant-loop-phase
 invariant-loop-phase g l = record {
-  running : (rows : Book) → BeginsWith l.fn.state rows l.work.policy (lists l.work.scripts.now) → IsRunning l.fn.state.opening rows l.work.policy (lists l.work.scripts.now) l._phase l.running;
-  shown : (rows : Book) (before : List (List Row)) → BeginsWith l.fn.state (book_of rows before) l.work.policy (lists l.work.scripts.now) → g.B.Board.has l.fn.board l.fn.state.opening rows before →
+  running : (rows : Book) → BeginsWith l.fn.state rows l.work.policy l.work.scripts.now → IsRunning l.fn.state.opening rows l.work.policy l.work.scripts.now l._phase l.running;
+  shown : (rows : Book) (before : List (List Row)) → BeginsWith l.fn.state (book_of rows before) l.work.policy l.work.scripts.now → g.B.Board.has l.fn.board l.fn.state.opening rows before →
       HasShownAfter g.B.Board.has l.fn.state.opening rows before l._phase l.running.history.entries l.board;
 }

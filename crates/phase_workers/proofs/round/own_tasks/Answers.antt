@@ -1,9 +1,7 @@
-use Rattle.std.specs.declared.alloc.Global.{Global}
-use Rattle.std.proofs.Common.{Vec, ◌≡◌, ℕ, suc, ◌+◌, ◌<◌, ◌≤◌, ◌++◌, map, length, drop, get_or, add-one, zero-add, lt_of_lt_of_le, sym, ap, subst, ◌∙◌, arith, vec_len}
+use Rattle.std.proofs.Common.{◌≡◌, ℕ, suc, ◌+◌, ◌<◌, ◌≤◌, ◌++◌, map, length, drop, get_or, add-one, zero-add, lt_of_lt_of_le, sym, ap, subst, ◌∙◌, arith, vec_len}
 use Rattle.std.specs.List.{AllByRecursion}
 use Rattle.std.specs.Vec.Iter.{into_iter_items, into_iter_len}
-use Rattle.auction_rows.specs.declared.requests.Request.{Request}
-use Rattle.phase_workers.specs.Tasks.{lists, Task, task, tasks, CanBeDone}
+use Rattle.phase_workers.specs.Tasks.{Task, task, tasks, CanBeDone}
 use Rattle.phase_workers.specs.Working.{IsPermitOf, ArePermitsOf}
 use Rattle.phase_workers.proofs.ThreadLemmas.{none_left, all_done}
 use Rattle.phase_workers.proofs.TaskLemmas.{next_script, next_task, next_within, one_made, own_more}
@@ -27,28 +25,20 @@ loop-permit-preserved g c =
     let of_left : ArePermitsOf c.args.round.phase n (into_iter_items c.loop-permit.permits) = was.5 in
     let of_all = subst (λ ps. ArePermitsOf c.args.round.phase n ps) step.0 of_left in
     let own_post = subst (λ m. IsPermitOf c.args.round.phase m c.in-Some.permit) (sym same) of_all.0 in
-    let t : Task = task c.in-Some.permit script.items c.args.round.first in
-    let made : task c.in-Some.permit c.as_slice.result.now c.args.round.first ≡ t =
-    (λ i. task c.in-Some.permit (c.as_slice.ensures.value i) c.args.round.first)
-    ∙ ap (λ (v : Vec Request Global). task c.in-Some.permit v.items c.args.round.first) (sym c.index-round-worker.is) in
+    let t : Task = task c.in-Some.permit script c.args.round.first in
+    let made = ap (λ s. task c.in-Some.permit s c.args.round.first) (sym c.index-round-worker.is) in
     let more = own_more (CanBeDone g.N.PhaseName.initial c.args.boxes.now)
     (λ own. CanBeDone g.N.PhaseName.initial own.post.boxes.now (task own.permit own.script.now own.first)
     × IsPermitOf own.post.phase own.post.worker own.permit)
     (λ own. task own.permit own.script.now own.first)
     c.loop-permit.made.items c.push_reserved.new.self.items
-    (record {
-      rt = c.args.rt;
-      post = record { boxes = c.args.boxes; gate = c.args.round.gate; phase = c.args.round.phase; worker = c.len-worker.result };
-      permit = c.in-Some.permit;
-      script = c.as_slice.result;
-      first = c.args.round.first;
-    })
-    (tasks (into_iter_items c.loop-permit.permits) (drop n (lists c.args.round.scripts.now)) c.args.round.first)
-    (tasks (into_iter_items c.next.new.self) (drop (vec_len c.push_reserved.new.self) (lists c.args.round.scripts.now)) c.args.round.first)
-    (tasks c.args.permits.items (lists c.args.round.scripts.now) c.args.round.first) t push.items
+    _
+    (tasks (into_iter_items c.loop-permit.permits) (drop n c.args.round.scripts.now) c.args.round.first)
+    (tasks (into_iter_items c.next.new.self) (drop (vec_len c.push_reserved.new.self) c.args.round.scripts.now) c.args.round.first)
+    (tasks c.args.permits.items c.args.round.scripts.now c.args.round.first) t push.items
     made
-    (next_task c.args.round.first (into_iter_items c.loop-permit.permits) (into_iter_items c.next.new.self) c.in-Some.permit (drop n (lists c.args.round.scripts.now))
-    (drop (vec_len c.push_reserved.new.self) (lists c.args.round.scripts.now)) script.items step.0
+    (next_task c.args.round.first (into_iter_items c.loop-permit.permits) (into_iter_items c.next.new.self) c.in-Some.permit (drop n c.args.round.scripts.now)
+    (drop (vec_len c.push_reserved.new.self) c.args.round.scripts.now) script step.0
     (next_script c.args.round.scripts.now n (vec_len c.push_reserved.new.self) script within here push.len))
     (λ can. (subst (CanBeDone g.N.PhaseName.initial c.args.boxes.now) (sym made) can, own_post)) was.2 was.3 was.4 in (
       one_made _ _ _ _ _ push.len step.1 was.0,
@@ -74,7 +64,7 @@ loop-permit-init g c =
     let permits = c.into_iter-permits in
     let given = permits.ensures.rest in
     let made = c.in-Ok.ensures in
-    let scripts = lists c.args.round.scripts.now in
+    let scripts = c.args.round.scripts.now in
     let first : ℕ = c.args.round.first in
     let same : tasks c.args.permits.items scripts first ≡ tasks (into_iter_items permits.result) (drop (vec_len c.in-Ok.made) scripts) first =
     λ i. tasks (sym given i) (drop (sym made.len i) scripts) first in (
@@ -93,7 +83,7 @@ returns g c =
     let was = c.loop-permit.invariant in
     let made = c.loop-permit.made in
     let left = c.loop-permit.permits.rest in
-    let scripts = lists c.args.round.scripts.now in
+    let scripts = c.args.round.scripts.now in
     let first : ℕ = c.args.round.first in
     let none = none_left left.items _ left.ok.0 c.in_default-next.ensures.cases.0 in
     record {

@@ -1,7 +1,6 @@
-use Rattle.std.proofs.Common.{◌≡◌, ◌≤◌, map, length, vec_capacity, sym, subst, ◌∙◌, arith}
-use Rattle.std.proofs.lemmas.List.{length-map}
+use Rattle.std.proofs.Common.{◌≤◌, length, vec_capacity, sym, subst, ◌∙◌}
 use Rattle.phase_workers.specs.declared.round.ServingFault.TheVariants.{Worker}
-use Rattle.phase_workers.specs.Tasks.{lists, task, tasks, IsFirstFault, IsFaultBy}
+use Rattle.phase_workers.specs.Tasks.{task, tasks, IsFirstFault, IsFaultBy}
 use Rattle.phase_workers.proofs.TaskLemmas.{as_many, all_done, fault_met, unstarted_by, tasks_of_few}
 use Rattle.phase_workers.proofs.WorkLemmas.{err_as}
 use Rattle.phase_workers.proofs.round.serve_all.Goals as goal
@@ -15,22 +14,21 @@ receipts_of-requires-clause-room g c =
 pub returns-clause-done : goal.returns-clause-done
 returns-clause-done g c =
     all_done (λ own. task own.permit own.script.now own.first) g.K.Kind.IS_JOINED g.N.PhaseName.initial
-    c.in_ok-own_tasks.own_tasks.items c.in_ok-answers.answers.items c.in_ok-receipts_of.field-0.items (tasks c.args.permits.items (lists c.args.round.scripts.now) c.args.round.first)
+    c.in_ok-own_tasks.own_tasks.items c.in_ok-answers.answers.items c.in_ok-receipts_of.field-0.items (tasks c.args.permits.items c.args.round.scripts.now c.args.round.first)
     c.in_ok-answers.ensures.answers c.in_ok-receipts_of.ensures.receipts c.in_ok-own_tasks.ensures.tasks
 
 pub returns-in_err-answers-clause-fault : goal.returns-in_err-answers-clause-fault
 returns-in_err-answers-clause-fault g c =
-    let scripts = lists c.args.round.scripts.now in
+    let scripts = c.args.round.scripts.now in
     let HasMet = IsFirstFault g.K.Kind.IS_JOINED g.N.PhaseName.initial (tasks c.args.permits.items scripts c.args.round.first) in
     let few = tasks_of_few (λ own. task own.permit own.script.now own.first) c.in_ok-own_tasks.own_tasks.items c.args.permits.items c.args.round.scripts.now c.args.round.first
     c.in_ok-own_tasks.ensures.tasks in
-    let mapped : length (lists c.args.round.scripts.now) ≡ length c.args.round.scripts.now = simp length-map in
     err_as c.from_residual-in_err-answers.result c.in_err-answers.field-0.0 (IsFaultBy (length scripts) HasMet) c.from_residual-in_err-answers.ensures.1
-    (unstarted_by (length c.in_ok-own_tasks.own_tasks.items) (length scripts) HasMet c.in_err-answers.field-0.0 (omega (arith, few, mapped)) c.in_err-answers.ensures.fault)
+    (unstarted_by (length c.in_ok-own_tasks.own_tasks.items) (length scripts) HasMet c.in_err-answers.field-0.0 (few) c.in_err-answers.ensures.fault)
 
 pub returns-in_err-receipts_of-clause-fault : goal.returns-in_err-receipts_of-clause-fault
 returns-in_err-receipts_of-clause-fault g c =
-    let scripts = lists c.args.round.scripts.now in
+    let scripts = c.args.round.scripts.now in
     let all = tasks c.args.permits.items scripts c.args.round.first in
     err_as c.from_residual-in_err-receipts_of.result (Worker c.in_err-receipts_of.field-0.0) (IsFaultBy (length scripts) (IsFirstFault g.K.Kind.IS_JOINED g.N.PhaseName.initial all))
     c.from_residual-in_err-receipts_of.ensures.1

@@ -1,5 +1,6 @@
 use Rattle.std.proofs.Common.{◌≡◌, false, ◌+◌, ◌<◌, ◌≤◌, ◌++◌, ◌∷◌, [], ℕ, not, List, take, take_all, drop, add-zero, append-nil, le_of_eq, sym, ap, subst, ◌∙◌, arith}
 use Rattle.std.proofs.lemmas.List.{length-take}
+use Rattle.std.proofs.lemmas.Option.{get_or_from_slice_get}
 use Rattle.auction_rows.specs.declared.requests.Object.{Object}
 use Rattle.auction_rows.specs.declared.requests.Request.{Request}
 use Rattle.auction_rows.specs.Phases.{is_put_off}
@@ -8,23 +9,25 @@ use Rattle.phase_permits.specs.Performing.{HaveOpening}
 use Rattle.run_laws.specs.Turns.{numbered}
 use Rattle.run_laws.proofs.QuotaLemmas.{next_call}
 use Rattle.phase_workers.specs.Working.{calls_from, committed, stashed, hot_for, put_off, not_put_off, HasStopped}
-use Rattle.phase_workers.proofs.WorkLemmas.{same, same_after, kept_more, within_script, some_left, try_left, err_as, stopped_next}
+use Rattle.phase_workers.proofs.WorkLemmas.{same, same_after, kept_more, request_there, within_script, some_left, try_left, err_as, stopped_next}
 use Rattle.phase_workers.proofs.worker.perform_quota.Goals as goal
 
 pub loop-place-preserved : goal.loop-place-preserved
 loop-place-preserved g c =
     let was = c.loop-place.invariant in
-    let step = c.in_ok-perform_next.ensures.dealt in
     let old : WorkerState = c.args.permit.now in
     let mid : WorkerState = c.loop-place.permit in
     let new : WorkerState = c.perform_next.new.permit in
     let first : ℕ = c.args.first in
     let k : ℕ = c.loop-place.place in
-    let request : Request = c.index-script-index.result in
     let calls : List (ℕ × Request) = calls_from c.args.first old.left c.args.script.now in
     let less : c.loop-place.place < old.left = subst (λ n. c.loop-place.place < n) c.left-place-end.ensures c.loop-place-test.true in
+    let there = request_there c.args.script.now (first + k) (within_script _ _ _ _ less c.requires.given) in
+    let request : Request = there.0 in
     let next : take (k + 1) calls ≡ take k calls ++ (first + k, request) ∷ [] =
-    next_call first old.left k c.args.script.now request less c.requires.given c.index-script-index.is in (
+    next_call first old.left k c.args.script.now request less c.requires.given
+    (sym (get_or_from_slice_get c.args.script.now (first + k) request request there.1)) in
+    let step = c.in_ok-perform_next.ensures.dealt request there.1 in (
       same_after old mid new was.0 step.same,
       kept_more (λ call. not (is_put_off (hot_for old) call.1)) (committed mid) (take k calls) (committed new) (committed old) (take (k + 1) calls) (first + k, request)
           (subst (λ (hot : List Object). committed new ≡ committed mid ++ not_put_off hot ((first + k, request) ∷ [])) was.0.hot step.calls) was.1 next,
@@ -40,23 +43,25 @@ returns-in_err-perform_next-clause-stopped g c =
     let old : WorkerState = c.args.permit.now in
     let first : ℕ = c.args.first in
     let k : ℕ = c.loop-place.place in
-    let request : Request = c.index-script-index.result in
     let calls : List (ℕ × Request) = calls_from c.args.first old.left c.args.script.now in
     let less : c.loop-place.place < old.left = subst (λ n. c.loop-place.place < n) c.left-place-end.ensures c.loop-place-test.true in
+    let there = request_there c.args.script.now (first + k) (within_script _ _ _ _ less c.requires.given) in
+    let request : Request = there.0 in
     let next : take (k + 1) calls ≡ take k calls ++ (first + k, request) ∷ [] =
-    next_call first old.left k c.args.script.now request less c.requires.given c.index-script-index.is in
+    next_call first old.left k c.args.script.now request less c.requires.given
+    (sym (get_or_from_slice_get c.args.script.now (first + k) request request there.1)) in
     let new : WorkerState = c.perform_next.new.permit in
     err_as c.from_residual.result c.in_err-perform_next.field-0.0 (HasStopped false g.N.PhaseName.initial calls old new) c.from_residual.ensures.1
     (stopped_next g.N.PhaseName.initial old c.loop-place.permit new c.in_err-perform_next.field-0.0 k calls (first + k, request) next
-    was.1 was.2 c.in_err-perform_next.ensures.failed)
+    was.1 was.2 (c.in_err-perform_next.ensures.failed request there.1))
 
 pub loop-place-init : goal.loop-place-init
 loop-place-init g c =
     let old : WorkerState = c.args.permit.now in
     (same old, sym (append-nil (committed old)), sym (append-nil (stashed old)), add-zero _, sym (add-zero _))
 
-pub bounds-script-index : goal.bounds-script-index
-bounds-script-index g c =
+pub perform_next-requires-clause-within : goal.perform_next-requires-clause-within
+perform_next-requires-clause-within g c =
     let old : WorkerState = c.args.permit.now in
     within_script _ _ _ _ (subst (λ n. c.loop-place.place < n) c.left-place-end.ensures c.loop-place-test.true) c.requires.given
 

@@ -2,7 +2,7 @@ use Rattle.std.proofs.Common.{ap, arith, sym, ◌∙◌, ◌≡◌, true, false,
 use Rattle.std.proofs.lemmas.Result.{IfOk-from_err, err_from_is_err_and}
 use Rattle.csv.specs.Records.{fields_of}
 use Rattle.auction_text.specs.declared.reading.TheConstants.{MOST_RECORDS}
-use Rattle.auction_text.specs.Scripts.{asked_by}
+use Rattle.auction_text.specs.Scripts.{asked_of}
 use Rattle.auction_text.proofs.ProgressLemmas.{reading_up_to}
 use Rattle.auction_text.proofs.SoFar.{reading_end, reading_fault, reading_long, reading_more}
 use Rattle.auction_text.proofs.reading.scripts.read_all.Goals as goal
@@ -43,7 +43,7 @@ loop-progress-preserved g c =
       reads = λ bytes left at is up_to.
           let added = c.in_ok-add.ensures.adds in
           rw (added.count, added.begun, added.asked) (reading_more g.R.Read.remaining c.args.workers bytes c.loop-progress.progress.count c.loop-progress.progress.begun c.loop-progress.records
-          c.read_next.new.records (asked_by c.loop-progress.progress.input) (fields_of c.read_next.new.fields) c.in_ok-said.said
+          c.read_next.new.records (asked_of c.loop-progress.progress.input) (fields_of c.read_next.new.fields) c.in_ok-said.said
           (inv.reads bytes left at is up_to) inv.plain.0 ((rw found at c.in_ok-read_next.ensures.reads) inv.plain) c.loop-progress-test.true (sym c.in_ok-said.ensures.value) c.in_ok-said.ensures.worker);
     }
 

@@ -3,7 +3,7 @@ use Rattle.csv.specs.Reading.{strip_bom}
 use Rattle.auction_text.specs.declared.reading.TheConstants.{MOST_RECORDS}
 use Rattle.auction_text.specs.Progress.{IsReadUpTo, unmarked}
 use Rattle.auction_text.specs.Reading.{IsAtStart, IsPlain}
-use Rattle.auction_text.specs.Scripts.{asked_by}
+use Rattle.auction_text.specs.Scripts.{asked_of}
 use Rattle.auction_text.proofs.SoFar.{IsReading}
 use Rattle.auction_text.proofs.reading.scripts.read_all.Given as goal
 
@@ -13,7 +13,7 @@ invariant-loop-progress g l = record {
   counts : vec_len l.progress.input.scripts ≡ l.workers;
   room : l.progress.count ≤ MOST_RECORDS;
   reads : (bytes left : List ℕ) → IsAtStart g.R.Read.remaining left l.fn.records → unmarked l.fn.progress.count left ≡ strip_bom left → IsReadUpTo l.workers bytes l.fn.progress left
-      → IsReading g.R.Read.remaining l.workers bytes l.progress.count l.progress.begun l.records (asked_by l.progress.input);
+      → IsReading g.R.Read.remaining l.workers bytes l.progress.count l.progress.begun l.records (asked_of l.progress.input);
 }
 
 abbrev pub decreases-loop-progress : goal.decreases-loop-progress
