@@ -12,7 +12,7 @@ use crate::faults::Fault;
 use crate::options::Options;
 use auction_rows::MOST_WORKERS;
 use auction_text::{
-    WriteFault, push_labelled, push_number, push_reply, push_text, read_scripts, write_last,
+    WriteFault, push_labelled, push_number, push_reply, push_text, read_compact_scripts, write_last,
 };
 use history_check::{CommitId, Verdict, Wrong, check_history, read_line};
 use item_shards::OpeningBook;
@@ -35,7 +35,7 @@ pub fn execute<I: Read + Drop, H: BufRead, W: Write>(
     ensures says { IfOk result (λ verdict. SaysOfSome verdict
         (Appends (W.contents writer.old) (W.contents writer.new))) }
 {
-    let input = read_scripts(alloc, reader, options.workers)?;
+    let input = read_compact_scripts(alloc, reader, options.workers)?;
     let book = OpeningBook::new(alloc, options.opening, input.rows)?;
     let mut line = Vec::new(alloc);
     let verdict = check_history(

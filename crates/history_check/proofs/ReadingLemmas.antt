@@ -1,6 +1,5 @@
 -- What is found while a text is read.
-use Rattle.std.specs.declared.alloc.Global.{Global}
-use Rattle.std.proofs.Common.{Vec, ◌≡◌, ℕ, ◌+◌, ◌<◌, ◌≤◌, true, false, cond, List, [], ◌∷◌, ◌++◌, Option, Some, None, length, refl, sym, ap, ◌∙◌, arith}
+use Rattle.std.proofs.Common.{◌≡◌, ℕ, ◌+◌, ◌<◌, ◌≤◌, true, false, cond, List, [], ◌∷◌, ◌++◌, Option, Some, None, length, refl, sym, ap, ◌∙◌, arith}
 use Rattle.std.specs.Prelude.{Result, Ok, Err, IfOk, IsErrAnd, IsErrOf, IfNone, IfSome}
 use Rattle.std.proofs.lemmas.List.{length-append}
 use Rattle.auction_rows.specs.declared.values.Opening.{Opening}
@@ -16,7 +15,6 @@ use Rattle.history_check.specs.declared.lines.Wrong.{Wrong}
 use Rattle.history_check.specs.declared.lines.CommitId.{CommitId}
 use Rattle.history_check.specs.declared.replay.Replay.{Replay}
 use Rattle.history_check.specs.CommitIds.{IsLineOf, line_at, commit_id_of}
-use Rattle.history_check.specs.Scripts.{lists}
 use Rattle.history_check.specs.Texts.{history_lines, lines_of, ReadsLine, HasRead}
 use Rattle.history_check.specs.Checking.{IsAccepted, IsWrong, IsVerdict}
 use Rattle.history_check.specs.Taking.{HasTaken, IsReading, AreMarked, IsUnmarked}
@@ -48,14 +46,14 @@ none_yet : (first : Option (List ℕ)) → HasRead first first []
 none_yet None = tt
 none_yet (Some text) = (text, refl, refl)
 
-module _ (opening : Opening) (start : Book) (scripts : List (Vec Request Global)) (order : Order) where
-  pub begins : (first : Option (List ℕ)) (replay : Replay) → HasTaken opening start (lists scripts) order [] replay
-      → IsReading opening start (lists scripts) order first first replay 0
+module _ (opening : Opening) (start : Book) (scripts : List (List Request)) (order : Order) where
+  pub begins : (first : Option (List ℕ)) (replay : Replay) → HasTaken opening start scripts order [] replay
+      → IsReading opening start scripts order first first replay 0
   begins first replay taken = record { history = []; taken = taken; has_read = none_yet first; number_is = refl }
 
-  module _ (first old new : Option (List ℕ)) (replay : Replay) (number : ℕ) (line : List ℕ) (reading : IsReading opening start (lists scripts) order first old replay number) where
+  module _ (first old new : Option (List ℕ)) (replay : Replay) (number : ℕ) (line : List ℕ) (reading : IsReading opening start scripts order first old replay number) where
     pub goes_on : (after : Replay) (entry : Entry) → ReadsLine old new true line → history_line entry ≡ line
-        → HasTaken opening start (lists scripts) order (reading.history ++ entry ∷ []) after → IsReading opening start (lists scripts) order first new after (number + 1)
+        → HasTaken opening start scripts order (reading.history ++ entry ∷ []) after → IsReading opening start scripts order first new after (number + 1)
     goes_on after entry next is taken = record {
       history = reading.history ++ entry ∷ [];
       taken = taken;
@@ -63,10 +61,10 @@ module _ (opening : Opening) (start : Book) (scripts : List (Vec Request Global)
       number_is = omega (arith, reading.number_is, length-append reading.history (entry ∷ []));
     }
 
-    pub wrong_found : (why : Wrong) → ReadsLine old new true line → IsWrong opening start (lists scripts) order reading.history line why
-        → IfSome first (λ text. IsVerdict opening start (lists scripts) order text (WrongAt (number + 1) why))
+    pub wrong_found : (why : Wrong) → ReadsLine old new true line → IsWrong opening start scripts order reading.history line why
+        → IfSome first (λ text. IsVerdict opening start scripts order text (WrongAt (number + 1) why))
     wrong_found why next wrong = at first reading.has_read where
-      at : (first : Option (List ℕ)) → HasRead first old reading.history → IfSome first (λ text. IsVerdict opening start (lists scripts) order text (WrongAt (number + 1) why))
+      at : (first : Option (List ℕ)) → HasRead first old reading.history → IfSome first (λ text. IsVerdict opening start scripts order text (WrongAt (number + 1) why))
       at None read = tt
       at (Some text) read =
           let left = left_read text old new reading.history line read next in
@@ -80,10 +78,10 @@ module _ (opening : Opening) (start : Book) (scripts : List (Vec Request Global)
             wrong = wrong;
           }
 
-    pub lack_found : (worker index : ℕ) → ReadsLine old new false line → IsUnmarked (lists scripts) replay.marks.rows.items worker index
-        → IfSome first (λ text. IsVerdict opening start (lists scripts) order text (Lacks worker index))
+    pub lack_found : (worker index : ℕ) → ReadsLine old new false line → IsUnmarked scripts replay.marks.rows.items worker index
+        → IfSome first (λ text. IsVerdict opening start scripts order text (Lacks worker index))
     lack_found worker index next unmarked = at first reading.has_read where
-      at : (first : Option (List ℕ)) → HasRead first old reading.history → IfSome first (λ text. IsVerdict opening start (lists scripts) order text (Lacks worker index))
+      at : (first : Option (List ℕ)) → HasRead first old reading.history → IfSome first (λ text. IsVerdict opening start scripts order text (Lacks worker index))
       at None read = tt
       at (Some text) read = record {
         history = reading.history;
@@ -93,13 +91,13 @@ module _ (opening : Opening) (start : Book) (scripts : List (Vec Request Global)
         in_no_line = reading.taken.marks worker index unmarked.worker_below ∙ ap (λ b. cond b 1 0) unmarked.no_mark;
       }
 
-    pub all_found : length scripts ≤ 16 → ReadsLine old new false line → AreMarked (lists scripts) replay.marks.rows.items
-        → IfSome first (λ text. IsVerdict opening start (lists scripts) order text Replays)
+    pub all_found : length scripts ≤ 16 → ReadsLine old new false line → AreMarked scripts replay.marks.rows.items
+        → IfSome first (λ text. IsVerdict opening start scripts order text Replays)
     all_found workers next marked = at first reading.has_read where
-      at : (first : Option (List ℕ)) → HasRead first old reading.history → IfSome first (λ text. IsVerdict opening start (lists scripts) order text Replays)
+      at : (first : Option (List ℕ)) → HasRead first old reading.history → IfSome first (λ text. IsVerdict opening start scripts order text Replays)
       at None read = tt
       at (Some text) read =
-          accepted opening start (lists scripts) order text reading.history (all_read text old new reading.history line read next) reading.taken.go_well
+          accepted opening start scripts order text reading.history (all_read text old new reading.history line read next) reading.taken.go_well
           (λ w i within.
           reading.taken.marks w i (omega (arith, workers, worker_within scripts w i within)) ∙ ap (λ b. cond b 1 0) (marked w i within))
 
@@ -119,7 +117,7 @@ module _ (opening : Opening) (start : Book) (scripts : List (Vec Request Global)
       at (Some text) read = omega (arith, many, reading.number_is, long_read text old reading.history read)
 
   -- what is accepted is found to be
-  pub finds : (first : Option (List ℕ)) (verdict : Verdict) → IfSome first (λ text. IsVerdict opening start (lists scripts) order text verdict)
-      → IfSome first (λ text. IsAccepted opening start (lists scripts) order text → verdict ≡ Replays)
+  pub finds : (first : Option (List ℕ)) (verdict : Verdict) → IfSome first (λ text. IsVerdict opening start scripts order text verdict)
+      → IfSome first (λ text. IsAccepted opening start scripts order text → verdict ≡ Replays)
   finds None verdict is = tt
-  finds (Some text) verdict is = λ ok. found opening start (lists scripts) order text ok verdict is
+  finds (Some text) verdict is = λ ok. found opening start scripts order text ok verdict is

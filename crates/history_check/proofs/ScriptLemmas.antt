@@ -1,29 +1,28 @@
 -- The requests of scripts, and their marks.
-use Rattle.std.specs.declared.alloc.Global.{Global}
-use Rattle.std.proofs.Common.{Vec, ◌≡◌, ℕ, zero, suc, ◌+◌, ◌<◌, ◌≤◌, ◌==◌, ◌&&◌, ◌⊎◌, Bool, true, false, cond, List, [], ◌∷◌, Some, length, get_or, set, refl, subst, sym, ap, ◌∙◌, inl, inr, arith}
+use Rattle.std.proofs.Common.{◌≡◌, ℕ, zero, suc, ◌+◌, ◌<◌, ◌≤◌, ◌==◌, ◌&&◌, ◌⊎◌, Bool, true, false, cond, List, [], Some, length, get_or, set, refl, subst, sym, ap, ◌∙◌, inl, inr, arith}
 use Rattle.std.specs.Prelude.{replicate}
 use Rattle.std.proofs.lemmas.Bool.{cases_lt, eqb-true, eq-eqb, false≢true, and_left, and_right}
 use Rattle.std.proofs.lemmas.List.{get_or_default, get_or-set_same, get_or-set_other}
-use Rattle.std.proofs.lemmas.Option.{slice_get_within}
+use Rattle.std.proofs.lemmas.Option.{slice_get_within, unwrap_or-slice_get}
 use Rattle.auction_rows.specs.declared.requests.Request.{Request}
 use Rattle.run_laws.specs.Serving.{script_of}
-use Rattle.run_laws.proofs.ScriptLemmas.{script_at, past_end, lists_length}
-use Rattle.history_check.specs.Scripts.{lists, request_at}
+use Rattle.run_laws.proofs.ScriptLemmas.{past_end}
+use Rattle.history_check.specs.Scripts.{request_at}
 use Rattle.history_check.specs.Marks.{is_marked, AreWide, HasPlaces}
 
 -- a request that there is, is of a worker and at an index that there is
 pub index_within : (scripts : List (List Request)) (worker index : ℕ) (request : Request) → request_at scripts worker index ≡ Some request → index < length (script_of scripts worker)
 index_within scripts worker index request is = slice_get_within (script_of scripts worker) index request is
 
-pub worker_within : (scripts : List (Vec Request Global)) (worker index : ℕ) → index < length (script_of (lists scripts) worker) → worker < length scripts
+pub worker_within : (scripts : List (List Request)) (worker index : ℕ) → index < length (script_of scripts worker) → worker < length scripts
 worker_within scripts worker index within = at (cases_lt worker (length scripts)) where
   at : (worker < length scripts) ⊎ (length scripts ≤ worker) → worker < length scripts
   at (inl less) = less
-  at (inr over) = absurd (omega (arith, within, ap length (past_end (lists scripts) worker (omega (arith, over, lists_length scripts)))))
+  at (inr over) = absurd (omega (arith, within, ap length (past_end scripts worker over)))
 
 -- a request that there is, is of a worker that there is, and has a place
-pub worker_below : (scripts : List (Vec Request Global)) (worker index : ℕ) (request : Request) → length scripts ≤ 16 → request_at (lists scripts) worker index ≡ Some request → worker < 16
-worker_below scripts worker index request few there = omega (arith, few, worker_within scripts worker index (index_within (lists scripts) worker index request there))
+pub worker_below : (scripts : List (List Request)) (worker index : ℕ) (request : Request) → length scripts ≤ 16 → request_at scripts worker index ≡ Some request → worker < 16
+worker_below scripts worker index request few there = omega (arith, few, worker_within scripts worker index (index_within scripts worker index request there))
 
 pub index_below : (scripts : List (List Request)) (rows : List (List Bool)) (worker index : ℕ) (request : Request) → HasPlaces rows scripts
     → request_at scripts worker index ≡ Some request → index < length rows
@@ -31,17 +30,16 @@ index_below scripts rows worker index request places there = omega (arith, place
 
 -- ---- the longest script
 
-pub all_here : (scripts : List (Vec Request Global)) (most i : ℕ) → length scripts ≤ i → ((w : ℕ) (d : Vec Request Global) → w < i → length (get_or scripts w d).items ≤ most)
-    → (worker : ℕ) → length (script_of (lists scripts) worker) ≤ most
-all_here [] most i whole within worker = omega arith
-all_here (x ∷ xs) most i whole within worker = at (cases_lt worker (length (x ∷ xs))) where
-  at : (worker < length (x ∷ xs)) ⊎ (length (x ∷ xs) ≤ worker) → length (script_of (lists (x ∷ xs)) worker) ≤ most
-  at (inl less) = omega (arith, ap length (script_at (x ∷ xs) worker x less), within worker x (omega (arith, less, whole)))
-  at (inr over) = omega (arith, ap length (past_end (lists (x ∷ xs)) worker (omega (arith, over, lists_length (x ∷ xs)))))
+pub all_here : (scripts : List (List Request)) (most i : ℕ) → length scripts ≤ i → ((w : ℕ) (d : List Request) → w < i → length (get_or scripts w d) ≤ most)
+    → (worker : ℕ) → length (script_of scripts worker) ≤ most
+all_here scripts most i whole within worker = at (cases_lt worker (length scripts)) where
+  at : (worker < length scripts) ⊎ (length scripts ≤ worker) → length (script_of scripts worker) ≤ most
+  at (inl less) = omega (arith, ap length (unwrap_or-slice_get scripts worker []), within worker [] (omega (arith, less, whole)))
+  at (inr over) = omega (arith, ap length (past_end scripts worker over))
 
 -- the script at a place
-pub script_there : (scripts : List (Vec Request Global)) (i : ℕ) (script : Vec Request Global) → i < length scripts → script ≡ get_or scripts i script → script_of (lists scripts) i ≡ script.items
-script_there scripts i script less is = script_at scripts i script less ∙ ap (λ s. s.items) (sym is)
+pub script_there : (scripts : List (List Request)) (i : ℕ) (script : List Request) → i < length scripts → script ≡ get_or scripts i script → script_of scripts i ≡ script
+script_there scripts i script less is = unwrap_or-slice_get scripts i [] ∙ sym (is ∙ get_or_default scripts i script [] less)
 
 -- what holds of the workers before one, and of that one, holds of those up to it
 pub one_worker_more : (P : ℕ → ℕ → Type 0) (n : ℕ) → ((w i : ℕ) → w < n → P w i) → ((i : ℕ) → P n i) → (w i : ℕ) → w < n + 1 → P w i

@@ -3,7 +3,6 @@ use Rattle.std.specs.Prelude.{ℕ, ◌==◌, ◌&&◌, Bool, List, Option, slice
 use Rattle.auction_rows.specs.declared.requests.Request.{Request}
 use Rattle.auction_rows.specs.declared.rows.Entry.{Entry}
 use Rattle.run_laws.specs.Serving.{script_of}
-pub use Rattle.run_laws.specs.Serving.{lists}
 
 -- the request with an index in a worker's script, if there is one
 abbrev pub request_at : List (List Request) → ℕ → ℕ → Option Request

@@ -7,7 +7,6 @@ ghost use Rattle.item_shards.specs.OpeningBooks.{opening_of, rows_of_book};
 ghost use Rattle.auction_text.specs.Replies.{history_line, history_text, reply_text};
 ghost use Rattle.history_check.specs.declared.lines.CheckFault.TheVariants.{TooLong};
 ghost use Rattle.history_check.specs.declared.lines.Verdict.TheVariants.{Replays};
-ghost use Rattle.history_check.specs.Scripts.{lists};
 ghost use Rattle.history_check.specs.Texts.{lines_of, ReadsLine, ShowsName, history_lines};
 ghost use Rattle.history_check.specs.Checking.{IsAccepted, IsVerdict};
 ghost use Rattle.history_check.specs.Taking.{CanTake, ForEachReading, IsReading};
@@ -15,10 +14,11 @@ ghost use Rattle.history_check.specs.CommitIds.{line_at, commit_id_of};
 
 use crate::lines::{CheckFault, Order, Verdict};
 use crate::replay::Replay;
-use auction_rows::{MOST_ROWS, MOST_WORKERS, Request};
+use auction_rows::{MOST_ROWS, MOST_WORKERS};
 use item_shards::OpeningBook;
 use std::alloc::Global;
 use std::io::{BufRead, Error, ErrorKind};
+use worker_journals::Script;
 
 // Why a read failed.
 fn fault_of(error: &Error) -> CheckFault
@@ -49,24 +49,24 @@ fn read_next<R: BufRead>(reader: &mut R, line: &mut Vec<u8>) -> Result<bool, Che
 // is wrong.
 fn find_next<R: BufRead>(
     replay: &mut Replay,
-    scripts: &[Vec<Request>],
+    scripts: &[Script],
     number: usize,
     reader: &mut R,
     line: &mut Vec<u8>,
 ) -> Result<Option<Verdict>, CheckFault>
     requires workers { length scripts.now ≤ MOST_WORKERS }
     requires number { number ≤ MOST_ROWS }
-    requires taken { CanTake (lists scripts.now) replay.old }
+    requires taken { CanTake scripts.now replay.old }
     ensures goes_on { IfOk result (λ found. IfNone found (
-        ForEachReading (lists scripts.now) (R.remaining reader.old) replay.old number
-        (λ opening start order first. IsReading opening start (lists scripts.now) order first
+        ForEachReading scripts.now (R.remaining reader.old) replay.old number
+        (λ opening start order first. IsReading opening start scripts.now order first
         (R.remaining reader.new) replay.new (number + 1)))) }
     ensures verdict { IfOk result (λ found. IfSome found (λ verdict.
-        ForEachReading (lists scripts.now) (R.remaining reader.old) replay.old number
+        ForEachReading scripts.now (R.remaining reader.old) replay.old number
         (λ opening start order first. IfSome first (λ text.
-        IsVerdict opening start (lists scripts.now) order text verdict)))) }
+        IsVerdict opening start scripts.now order text verdict)))) }
     ensures too_long { IsErrOf result TooLong →
-        ForEachReading (lists scripts.now) (R.remaining reader.old) replay.old number
+        ForEachReading scripts.now (R.remaining reader.old) replay.old number
         (λ opening start order first. IfSome first (λ text.
         MOST_ROWS < length start + length (lines_of text))) }
 {
@@ -89,17 +89,17 @@ fn find_next<R: BufRead>(
 pub fn check_history<R: BufRead>(
     alloc: Global,
     book: &OpeningBook,
-    scripts: &[Vec<Request>],
+    scripts: &[Script],
     order: Order,
     reader: &mut R,
     line: &mut Vec<u8>,
 ) -> Result<Verdict, CheckFault>
     requires workers { length scripts.now ≤ MOST_WORKERS }
     ensures verdict { IfOk result (λ verdict. IfSome (R.remaining reader.old) (λ text.
-        IsVerdict (opening_of book.now) (rows_of_book book.now) (lists scripts.now) order text
+        IsVerdict (opening_of book.now) (rows_of_book book.now) scripts.now order text
         verdict)) }
     ensures accepted { IfOk result (λ verdict. IfSome (R.remaining reader.old) (λ text.
-        IsAccepted (opening_of book.now) (rows_of_book book.now) (lists scripts.now) order text →
+        IsAccepted (opening_of book.now) (rows_of_book book.now) scripts.now order text →
         verdict ≡ Replays)) }
     ensures too_long { IsErrOf result TooLong → IfSome (R.remaining reader.old) (λ text.
         MOST_ROWS < length (rows_of_book book.now) + length (lines_of text)) }

@@ -5,7 +5,7 @@ ghost use Rattle.run_laws.specs.Serving.{script_of};
 ghost use Rattle.auction_rows.specs.declared.rows.Entry.{Entry};
 ghost use Rattle.item_shards.specs.OpeningBooks.{opening_of, rows_of_book};
 ghost use Rattle.auction_text.specs.Replies.{reply_text, history_line};
-ghost use Rattle.history_check.specs.Scripts.{lists, request_at};
+ghost use Rattle.history_check.specs.Scripts.{request_at};
 ghost use Rattle.history_check.specs.Marks.{is_marked, HasPlaces, AreWide};
 ghost use Rattle.history_check.specs.Orders.{is_bound, is_late};
 ghost use Rattle.history_check.specs.declared.lines.CheckFault.TheVariants.{TooLong};
@@ -17,6 +17,7 @@ use auction_rows::{MOST_ROWS, MOST_WORKERS, Reply, Request, is_splittable};
 use auction_text::push_reply;
 use item_shards::{OpeningBook, SerialAuction};
 use std::alloc::{AllocError, Global};
+use worker_journals::Script;
 
 /// For each index a mark for each of 16 workers.
 #[derive(Drop)]
@@ -26,16 +27,21 @@ pub struct Marks {
 }
 
 // The request with an index in a worker's script, if there is one.
-pub(crate) fn request_of(scripts: &[Vec<Request>], worker: u32, index: u32) -> Option<Request>
-    ensures { result ≡ request_at (lists scripts.now) worker index }
+pub(crate) fn request_of(scripts: &[Script], worker: u32, index: u32) -> Option<Request>
+    ensures { result ≡ request_at scripts.now worker index }
 {
     let script = scripts.get(worker as usize)?;
-    script.get(index as usize).copied()
+    let place = index as usize;
+    if place < script.len() {
+        Some(script.request(place))
+    } else {
+        None
+    }
 }
 
 // The length of the longest script.
-fn longest(scripts: &[Vec<Request>]) -> usize
-    ensures { (worker : ℕ) → length (script_of (lists scripts.now) worker) ≤ result }
+fn longest(scripts: &[Script]) -> usize
+    ensures { (worker : ℕ) → length (script_of scripts.now worker) ≤ result }
 {
     let mut most = 0;
     for script in scripts {
@@ -48,8 +54,8 @@ fn longest(scripts: &[Vec<Request>]) -> usize
 
 impl Marks {
     /// A place for each request of each script, with no mark.
-    pub fn new(alloc: Global, scripts: &[Vec<Request>]) -> Result<Marks, AllocError>
-        ensures places { IfOk result (λ marks. HasPlaces marks.rows.items (lists scripts.now)) }
+    pub fn new(alloc: Global, scripts: &[Script]) -> Result<Marks, AllocError>
+        ensures places { IfOk result (λ marks. HasPlaces marks.rows.items scripts.now) }
         ensures none { IfOk result (λ marks. (worker index : ℕ) → worker < MOST_WORKERS →
             is_marked marks.rows.items worker index ≡ false) }
     {
@@ -176,11 +182,11 @@ impl Replay {
     pub fn new(
         alloc: Global,
         book: &OpeningBook,
-        scripts: &[Vec<Request>],
+        scripts: &[Script],
         order: Order,
     ) -> Result<Replay, AllocError>
         ensures { IfOk result (HasTaken (opening_of book.now) (rows_of_book book.now)
-            (lists scripts.now) order []) }
+            scripts.now order []) }
     {
         Ok(Replay {
             auction: SerialAuction::resume(alloc, book)?,
@@ -194,20 +200,16 @@ impl Replay {
 
     /// Performs the request of one line more, and says what is wrong with the line. After what is
     /// wrong, or a fault, the replay is to be dropped.
-    pub fn perform(
-        &mut self,
-        scripts: &[Vec<Request>],
-        line: &[u8],
-    ) -> Result<Option<Wrong>, CheckFault>
+    pub fn perform(&mut self, scripts: &[Script], line: &[u8]) -> Result<Option<Wrong>, CheckFault>
         requires workers { length scripts.now ≤ MOST_WORKERS }
-        requires taken { CanTake (lists scripts.now) self.old }
+        requires taken { CanTake scripts.now self.old }
         ensures right { IfOk result (λ found. IfNone found (
-            ForEachTaken (lists scripts.now) self.old (λ opening start order history.
+            ForEachTaken scripts.now self.old (λ opening start order history.
             (entry : Entry) × (history_line entry ≡ line.now)
-            × HasTaken opening start (lists scripts.now) order (history ++ entry ∷ []) self.new))) }
+            × HasTaken opening start scripts.now order (history ++ entry ∷ []) self.new))) }
         ensures wrong { IfOk result (λ found. IfSome found (λ why.
-            ForEachTaken (lists scripts.now) self.old (λ opening start order history.
-            IsWrong opening start (lists scripts.now) order history line.now why))) }
+            ForEachTaken scripts.now self.old (λ opening start order history.
+            IsWrong opening start scripts.now order history line.now why))) }
         ensures too_long { IsErrOf result TooLong → MOST_ROWS ≤ self.old.rows }
     {
         match read_line(line) {
@@ -233,21 +235,21 @@ impl Replay {
     // with a text.
     fn perform_at(
         &mut self,
-        scripts: &[Vec<Request>],
+        scripts: &[Script],
         commit_id: CommitId,
         text: &[u8],
     ) -> Result<Option<Wrong>, CheckFault>
         requires workers { length scripts.now ≤ MOST_WORKERS }
-        requires taken { CanTake (lists scripts.now) self.old }
+        requires taken { CanTake scripts.now self.old }
         requires fits { Fits commit_id }
         ensures right { IfOk result (λ found. IfNone found (
-            ForEachTaken (lists scripts.now) self.old (λ opening start order history.
+            ForEachTaken scripts.now self.old (λ opening start order history.
             (entry : Entry) × (commit_id_of entry ≡ commit_id) × (text.now ≡ reply_text entry.reply)
-            × HasTaken opening start (lists scripts.now) order (history ++ entry ∷ []) self.new))) }
+            × HasTaken opening start scripts.now order (history ++ entry ∷ []) self.new))) }
         ensures wrong { IfOk result (λ found. IfSome found (λ why.
             (line : List ℕ) → IsLineOf line commit_id text.now →
-            ForEachTaken (lists scripts.now) self.old (λ opening start order history.
-            IsWrong opening start (lists scripts.now) order history line why))) }
+            ForEachTaken scripts.now self.old (λ opening start order history.
+            IsWrong opening start scripts.now order history line why))) }
         ensures too_long { IsErrOf result TooLong → MOST_ROWS ≤ self.old.rows }
     {
         let Some(request) = request_of(scripts, commit_id.worker, commit_id.index) else {
@@ -277,12 +279,12 @@ impl Replay {
     }
 
     /// A request that has stood in no line, if there is one: its worker and its index.
-    pub fn lacks(&self, scripts: &[Vec<Request>]) -> Option<(usize, usize)>
+    pub fn lacks(&self, scripts: &[Script]) -> Option<(usize, usize)>
         requires workers { length scripts.now ≤ MOST_WORKERS }
-        requires taken { CanTake (lists scripts.now) self.now }
-        ensures none { IfNone result (AreMarked (lists scripts.now) self.now.marks.rows.items) }
+        requires taken { CanTake scripts.now self.now }
+        ensures none { IfNone result (AreMarked scripts.now self.now.marks.rows.items) }
         ensures some { IfSome result (λ commit_id.
-            IsUnmarked (lists scripts.now) self.now.marks.rows.items commit_id.0 commit_id.1) }
+            IsUnmarked scripts.now self.now.marks.rows.items commit_id.0 commit_id.1) }
     {
         for worker in 0..scripts.len() {
             if let Some(index) = self.marks.lacks(worker, scripts[worker].len()) {

@@ -182,7 +182,10 @@ impl<N: PhaseName> ShardBox<N> {
         ensures place { grant.new.box_id ≡ grant.old.box_id }
         ensures taken { TakenBy N.initial N.workers grant.old.knows result grant.new.knows }
     {
-        take_from(rt, &self.queue, &mut grant.pass)
+        match self.queue.try_pop_as::<TakeStep<N>>(&mut grant.pass) {
+            Some(shard) => shard,
+            None => take_from(rt, &self.queue, &mut grant.pass),
+        }
     }
 
     /// The holder puts the shard back, after the line that is named, if there is one. The line is lent for who
@@ -203,12 +206,14 @@ impl<N: PhaseName> ShardBox<N> {
             (state_of shard) L.line }
         ensures { grant.new ≡ record grant.old { knows = put grant.old.knows L.line } }
     {
-        match self
-            .queue
-            .push_as::<PutStep<L>, R>(rt, &mut grant.pass, shard)
-        {
-            Ok(()) => (),
-            Err(_) => unreachable!(),
+        if let Err(shard) = self.queue.try_push_as::<PutStep<L>>(&mut grant.pass, shard) {
+            match self
+                .queue
+                .push_as::<PutStep<L>, R>(rt, &mut grant.pass, shard)
+            {
+                Ok(()) => (),
+                Err(_) => unreachable!(),
+            }
         }
     }
 
@@ -250,7 +255,8 @@ impl<N: PhaseName> ShardBox<N> {
 }
 
 // Tries until the shard is in the box.
-#[inline]
+#[cold]
+#[inline(never)]
 fn take_from<N: PhaseName, R: Wait>(
     rt: &R,
     queue: &RuledArrayQueue<Shard, Knowledge, OneShard<N>>,

@@ -5,6 +5,7 @@ ghost use Rattle.phase_laws.specs.Ranking.{greatest, greater};
 ghost use Rattle.split_records.specs.Records.{max_laws, max_values};
 
 use crate::Splittable;
+use crate::ordered::is_below;
 use std::marker::Model;
 
 /// Keeps the greatest number, as Doppel's `Max` does.
@@ -57,7 +58,11 @@ impl Splittable for MaxRec {
 
     #[inline(always)]
     fn apply(&mut self, operation: u64) {
-        self.greatest = self.greatest.max(Some(operation));
+        // What stays is not written.
+        if is_below(&operation, &self.greatest) {
+            return;
+        }
+        self.greatest = Some(operation);
     }
 
     fn merge(&mut self, other: Self) {

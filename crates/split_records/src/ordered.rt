@@ -74,7 +74,7 @@ impl<E: Ord + Copy> Splittable for OPutRec<E> {
 
 /// Whether an entry is below the greatest so far.
 #[inline(always)]
-fn is_below<E: Ord>(entry: &E, greatest: &Option<E>) -> bool
+pub(crate) fn is_below<E: Ord>(entry: &E, greatest: &Option<E>) -> bool
     ensures { result ≡ is_lt (option_cmp E.cmp (Some entry.now) greatest.now) }
 {
     match greatest {

@@ -1,6 +1,5 @@
 use Rattle.std.proofs.Common.{◌∙◌, true, false, subst}
 use Rattle.history_check.specs.Checking.{IsWrong}
-use Rattle.history_check.specs.Scripts.{lists}
 use Rattle.history_check.specs.Texts.{ReadsLine}
 use Rattle.history_check.specs.declared.lines.CheckFault.TheVariants.{TooLong}
 use Rattle.history_check.proofs.ReadingLemmas.{goes_on, wrong_found, lack_found, all_found, one_too_many, fault_is}
@@ -43,7 +42,7 @@ returns-in-Some-2 g c =
       goes_on = tt;
       verdict = λ opening start order first reading.
           wrong_found opening start c.args.scripts.now order first old new c.args.replay.now c.args.number line reading c.in-Some-2.wrong next
-          (subst (λ seen. IsWrong opening start (lists c.args.scripts.now) order reading.history seen c.in-Some-2.wrong) c.deref.ensures.value (wrong opening start order reading.history reading.taken));
+          (subst (λ seen. IsWrong opening start c.args.scripts.now order reading.history seen c.in-Some-2.wrong) c.deref.ensures.value (wrong opening start order reading.history reading.taken));
       too_long = λ is. absurd cc;
     }
 

@@ -1,6 +1,8 @@
-use Rattle.std.proofs.Common.{refl, sym, ap, subst, ◌∙◌, ◌∷◌, take}
+use Rattle.std.proofs.Common.{arith, ◌≡◌, ◌≤◌, length, refl, sym, ap, subst, ◌∙◌, ◌∷◌, take}
+use Rattle.std.specs.Prelude.{IfSome}
 use Rattle.phase_laws.specs.Ranking.{top, IsDescending}
 use Rattle.phase_laws.proofs.TopLemmas.{IsDescending-top, top-placed, top-top, top_present, take_of_top}
+use Rattle.top_records.proofs.Places.{stays_full}
 use Rattle.top_records.specs.TopLaws.{IsOwnTop}
 use Rattle.top_records.proofs.TopRec.insert_at_its_place.Goals as goal
 
@@ -21,7 +23,7 @@ returns-in-Some-clause-present g c there =
 pub invariant_of-self : goal.invariant_of-self
 invariant_of-self g c = (
   subst (IsOwnTop g.E.Ord.cmp g.row.K) (sym (returns-in-Some-clause-value g c)) (top-top g.met.E.Ord.total g.row.K (c.args.entry ∷ c.args.self.now)),
-  c.least-self-inside.ensures,
+  c.note_least.ensures,
 )
 
 pub returns-in_default-clause-value : goal.returns-in_default-clause-value
@@ -40,3 +42,13 @@ returns-in_default-clause-present g c there = refl
 pub place-requires : goal.place-requires
 place-requires g c =
     subst (IsDescending g.E.Ord.cmp) (sym c.as_slice.ensures.value) (IsDescending-top g.met.E.Ord.total g.row.K c.self.inside.entries.items c.self.invariant.0)
+
+pub note_least-requires : goal.note_least-requires
+note_least-requires g c =
+    let k = g.row.K in
+    let held = c.self.inside.entries.items in
+    let within = subst (λ l. c.in-Some.index ≤ length l) c.as_slice.ensures.value c.in-Some.ensures.0 in
+    let fits = c.well_formed in (
+      omega arith,
+      subst (λ l. IfSome c.self.inside.least (λ _. length l ≡ k)) (sym c.put_at.ensures) (stays_full k c.in-Some.index held c.args.entry c.self.inside.least within c.self.invariant.1),
+    )

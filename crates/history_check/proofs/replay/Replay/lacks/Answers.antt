@@ -1,6 +1,5 @@
 use Rattle.std.proofs.Common.{◌≡◌, ◌<◌, length, true, arith, ap}
 use Rattle.run_laws.specs.Serving.{script_of}
-use Rattle.history_check.specs.Scripts.{lists}
 use Rattle.history_check.specs.Marks.{is_marked}
 use Rattle.history_check.proofs.ScriptLemmas.{script_there, worker_within, one_worker_more}
 use Rattle.history_check.proofs.replay.Replay.lacks.Goals as goal
@@ -22,7 +21,7 @@ returns-in-Some-clause-some c =
 pub loop-worker-preserved : goal.loop-worker-preserved
 loop-worker-preserved c =
     let here = script_there c.args.scripts.now c.loop-worker.worker c.index-scripts-worker.result c.loop-worker-test.true c.index-scripts-worker.is in
-    λ w i less. one_worker_more (λ w i. i < length (script_of (lists c.args.scripts.now) w) → is_marked c.args.self.now.marks.rows.items w i ≡ true) c.loop-worker.worker
+    λ w i less. one_worker_more (λ w i. i < length (script_of c.args.scripts.now w) → is_marked c.args.self.now.marks.rows.items w i ≡ true) c.loop-worker.worker
     c.loop-worker.invariant (λ i within. c.in_default.ensures.none i (omega (arith, within, ap length here, c.len.ensures))) w i less
 
 pub returns-clause-none : goal.returns-clause-none

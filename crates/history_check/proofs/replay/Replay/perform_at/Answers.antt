@@ -6,7 +6,7 @@ use Rattle.std.proofs.lemmas.List.{length-append}
 use Rattle.auction_rows.specs.History.{book_after}
 use Rattle.auction_rows.specs.Replies.{reply, next}
 use Rattle.item_shards.specs.Serial.{HoldsBook}
-use Rattle.history_check.specs.Scripts.{lists, is_of, request_at}
+use Rattle.history_check.specs.Scripts.{is_of, request_at}
 use Rattle.history_check.specs.CommitIds.{entry_with_id}
 use Rattle.history_check.specs.Orders.{is_late, MayPrecede}
 use Rattle.history_check.specs.Marks.{is_marked}
@@ -19,7 +19,7 @@ pub has-requires-clause-worker : goal.has-requires-clause-worker
 has-requires-clause-worker c = worker_below c.args.scripts.now c.args.commit_id.worker c.args.commit_id.index c.in-Some.request c.requires.workers (sym c.in-Some.ensures)
 
 pub has-requires-clause-index : goal.has-requires-clause-index
-has-requires-clause-index c = index_below (lists c.args.scripts.now) c.args.self.now.marks.rows.items c.args.commit_id.worker c.args.commit_id.index c.in-Some.request c.requires.taken.taken.places (sym c.in-Some.ensures)
+has-requires-clause-index c = index_below c.args.scripts.now c.args.self.now.marks.rows.items c.args.commit_id.worker c.args.commit_id.index c.in-Some.request c.requires.taken.taken.places (sym c.in-Some.ensures)
 
 pub is_late-requires : goal.is_late-requires
 is_late-requires c = worker_below c.args.scripts.now c.args.commit_id.worker c.args.commit_id.index c.in-Some.request c.requires.workers (sym c.in-Some.ensures)
@@ -31,7 +31,7 @@ pub mark-requires-clause-worker : goal.mark-requires-clause-worker
 mark-requires-clause-worker c = worker_below c.args.scripts.now c.args.commit_id.worker c.args.commit_id.index c.in-Some.request c.requires.workers (sym c.in-Some.ensures)
 
 pub mark-requires-clause-index : goal.mark-requires-clause-index
-mark-requires-clause-index c = index_below (lists c.args.scripts.now) c.args.self.now.marks.rows.items c.args.commit_id.worker c.args.commit_id.index c.in-Some.request c.requires.taken.taken.places (sym c.in-Some.ensures)
+mark-requires-clause-index c = index_below c.args.scripts.now c.args.self.now.marks.rows.items c.args.commit_id.worker c.args.commit_id.index c.in-Some.request c.requires.taken.taken.places (sym c.in-Some.ensures)
 
 pub pass-requires : goal.pass-requires
 pass-requires c = worker_below c.args.scripts.now c.args.commit_id.worker c.args.commit_id.index c.in-Some.request c.requires.workers (sym c.in-Some.ensures)
@@ -77,7 +77,7 @@ returns-clause-right c = λ opening start order history taken.
     let due = c.in_ok-due.due in
     let request = c.in-Some.request in
     let entry = entry_with_id commit_id request due in
-    let scripts = lists c.args.scripts.now in
+    let scripts = c.args.scripts.now in
     let book = book_after opening start history in
     let there : request_at scripts commit_id.worker commit_id.index ≡ Some request = sym c.in-Some.ensures in
     let below : commit_id.worker < 16 = worker_below c.args.scripts.now commit_id.worker commit_id.index request c.requires.workers there in
