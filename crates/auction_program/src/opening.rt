@@ -10,7 +10,7 @@ use crate::faults::Fault;
 use crate::options::Options;
 use crate::parts::tell_opening;
 use auction_run::RunFault;
-use auction_text::{Cause, Input, ReadFault, read_scripts};
+use auction_text::{Cause, CompactInput, ReadFault, read_compact_scripts};
 use item_shards::{Opened, OpeningBook};
 use part_log::{FileLog, Log, Teller, whole_lines};
 use std::alloc::Global;
@@ -68,7 +68,7 @@ pub struct OpenedLog {
 
 // The rows of a log: a request is none.
 fn rows_of(alloc: Global, text: &[u8], options: &Options) -> Result<Vec<Opened>, Fault> {
-    let Input { rows, scripts } = read_scripts(alloc, text, options.workers).map_err(
+    let CompactInput { rows, scripts } = read_compact_scripts(alloc, text, options.workers).map_err(
         Fault::LogRecord,
     )?;
     if scripts.iter().any(|script| !script.is_empty()) {

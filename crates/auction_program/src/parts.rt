@@ -14,7 +14,7 @@ ghost use Rattle.auction_program.specs.declared.parts.RunStart.{RunStart};
 use crate::faults::Fault;
 use crate::options::Options;
 use auction_rows::Row;
-use auction_run::{FreeGate, Outcome, RunFault, Stopped, run_scripts, run_scripts_on};
+use auction_run::{FreeGate, Outcome, RunFault, Stopped, run_compact, run_compact_on};
 use auction_text::{Before, WriteFault, write_history_on, write_replies_on, write_rows};
 use item_shards::OpeningBook;
 use part_log::{Log, Teller};
@@ -62,8 +62,8 @@ fn run_part<R: Threads + Wait + Sync>(
 {
     let policy = options.policy();
     match start {
-        RunStart::Book(book) => run_scripts(rt, alloc, &book, scripts, policy, &FreeGate),
-        RunStart::State(state) => match run_scripts_on(
+        RunStart::Book(book) => run_compact(rt, alloc, &book, scripts, policy, &FreeGate),
+        RunStart::State(state) => match run_compact_on(
             rt, alloc, state, scripts, policy, &FreeGate,
         ) {
             Ok(outcome) => Ok(outcome),

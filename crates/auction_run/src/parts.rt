@@ -1,15 +1,16 @@
 //! Runs that go on from what another left, and the parts of a history, which one run after the
 //! other performs, as a law.
-ghost use Rattle.std.specs.Prelude.{List, length, IfOk, IfErr, ◌≡◌, ◌++◌, ◌∷◌, []};
+ghost use Rattle.std.specs.Prelude.{List, length, IfOk, IfErr, ◌≡◌, ◌≤◌, ◌++◌, ◌∷◌, []};
 ghost use Rattle.auction_rows.specs.declared.rows.Row.{Row as Stored};
 ghost use Rattle.auction_rows.specs.Book.{Book};
 ghost use Rattle.auction_rows.specs.History.{book_after, ReplaysFrom};
 ghost use Rattle.auction_rows.specs.declared.values.Opening.{Opening};
 ghost use Rattle.auction_rows.specs.declared.rows.Entry.{Entry};
+ghost use Rattle.auction_rows.specs.declared.limits.TheConstants.{MOST_WORKERS};
 ghost use Rattle.phase_floor.specs.States.{IsBookOf, JoinedState};
 ghost use Rattle.auction_window.specs.Published.{book_of};
 ghost use Rattle.auction_run.specs.Boards.{HasShownAfter, IsUpToDate};
-ghost use Rattle.auction_run.specs.GoingOn.{AnswersNextRun, fault_of};
+ghost use Rattle.auction_run.specs.GoingOn.{AnswersNextRun, IsReadyFor, fault_of};
 ghost use Rattle.auction_run.specs.Outcomes.{HasShownFirstAfter};
 ghost use Rattle.auction_run.specs.Phases.{lists};
 ghost use Rattle.auction_run.specs.Parts.{ArePartsFrom, HaveLeft, book_after_parts, history_of};
@@ -17,7 +18,7 @@ ghost use Rattle.auction_run.specs.Parts.{ArePartsFrom, HaveLeft, book_after_par
 use crate::board::{Board, NoBoard};
 use crate::checks::{Stopped, check_on};
 use crate::phase::Workload;
-use crate::runs::{Outcome, kept_scripts, run_from};
+use crate::runs::{Outcome, compact_scripts, run_from};
 use auction_rows::{Policy, Request};
 use phase_floor::Joined;
 use phase_workers::Gate;
@@ -74,13 +75,17 @@ pub fn run_on_shown<R: Threads + Wait + Sync, G: Gate + Sync, B: Board>(
     if let Err(fault) = check_on(&state, scripts.as_slice(), policy) {
         return Err(Stopped::Refused(state, fault));
     }
-    let kept = kept_scripts(alloc, scripts.as_slice())?;
-    drop(scripts);
-    run_scripts_on_shown(rt, alloc, state, kept, policy, gate, board)
+    let compact = compact_scripts(alloc, scripts)?;
+    let work = Workload {
+        scripts: compact.as_slice(),
+        policy,
+        gate,
+    };
+    run_on_checked(rt, alloc, state, work, board)
 }
 
 /// The same of compact scripts: `run_on` copies its lists of requests to such.
-pub fn run_scripts_on<R: Threads + Wait + Sync, G: Gate + Sync>(
+pub fn run_compact_on<R: Threads + Wait + Sync, G: Gate + Sync>(
     rt: &R,
     alloc: Global,
     state: Joined,
@@ -90,11 +95,11 @@ pub fn run_scripts_on<R: Threads + Wait + Sync, G: Gate + Sync>(
 ) -> Result<Outcome, Stopped>
     ensures { AnswersNextRun state policy scripts.items result }
 {
-    run_scripts_on_shown(rt, alloc, state, scripts, policy, gate, &mut NoBoard)
+    run_compact_on_shown(rt, alloc, state, scripts, policy, gate, &mut NoBoard)
 }
 
 /// The same of compact scripts, with a board as `run_on_shown` has it.
-pub fn run_scripts_on_shown<R: Threads + Wait + Sync, G: Gate + Sync, B: Board>(
+pub fn run_compact_on_shown<R: Threads + Wait + Sync, G: Gate + Sync, B: Board>(
     rt: &R,
     alloc: Global,
     state: Joined,
@@ -125,6 +130,33 @@ pub fn run_scripts_on_shown<R: Threads + Wait + Sync, G: Gate + Sync, B: Board>(
     if let Err(fault) = check_on(&state, work.scripts, policy) {
         return Err(Stopped::Refused(state, fault));
     }
+    run_on_checked(rt, alloc, state, work, board)
+}
+
+// The same of scripts that were checked, with a board as `run_on_shown` has it.
+fn run_on_checked<R: Threads + Wait + Sync, G: Gate + Sync, B: Board>(
+    rt: &R,
+    alloc: Global,
+    state: Joined,
+    work: Workload<'_, G>,
+    board: &mut B,
+) -> Result<Outcome, Stopped>
+    requires ready { IsReadyFor state work.policy work.scripts.now }
+    requires few { length work.scripts.now ≤ MOST_WORKERS }
+    requires board { B.can_be_watched → IsUpToDate B.has board.old state }
+    ensures answer { AnswersNextRun state work.entry.policy work.entry.scripts.now result }
+    ensures board { IfOk result (λ outcome. (rows : Book) (before : List (List Stored)) →
+        B.has board.old state.opening rows before → IsBookOf state (book_of rows before) →
+        HasShownAfter B.has state.opening rows before (length outcome.hot.items)
+        outcome.history.entries board.new) }
+    ensures up_to_date { IfOk result (λ outcome.
+        IsUpToDate B.has board.old state → IsUpToDate B.has board.new outcome.state) }
+    ensures board_after_fault { IfErr result (λ stopped.
+        (rows : Book) (before : List (List Stored)) →
+        B.has board.old state.opening rows before → IsBookOf state (book_of rows before) →
+        HasShownFirstAfter B.has B.has_refused state.opening rows before work.entry.policy
+        work.entry.scripts.now board.new (fault_of stopped)) }
+{
     let state = state.for_next_run();
     let outcome = run_from(rt, alloc, state, work, board)?;
     Ok(outcome)

@@ -13,7 +13,7 @@ ghost use Rattle.item_shards.specs.OpeningBooks.{opening_of, rows_of_book};
 ghost use Rattle.worker_journals.specs.Merged.{merged};
 ghost use Rattle.auction_window.specs.Published.{book_of};
 ghost use Rattle.auction_run.specs.Boards.{CanShow, HasShownAfter, IsUpToDate};
-ghost use Rattle.auction_run.specs.Beginning.{HasShards, HasQuotas};
+ghost use Rattle.auction_run.specs.Beginning.{AreShort, HasShards, HasQuotas, HaveWorkers};
 ghost use Rattle.auction_run.specs.GoingOn.{BeginsWith, CannotBegin, CanShowRun};
 ghost use Rattle.auction_run.specs.Outcomes.{AnswersRun, HasShownAll, HasShownFirst, HasShownFirstAfter, IsOutcome};
 ghost use Rattle.auction_run.specs.Phases.{lists, waiting_in, IsPlanOf, IsMet};
@@ -61,8 +61,8 @@ pub struct Outcome {
 /// only if there is a thread to start; a fault gives no part of a history. No clause says when
 /// memory is refused, that `NumberFull` is of a worker that met the end of numbers, nor which of
 /// several faults of a phase is told: it is `Spawn` before that of the least worker, and this
-/// before that of the close. The state left can be gone on with, by `run_on`. The scripts are
-/// copied to `Script`s, of 32 bytes per request, before they are let go.
+/// before that of the close. The state left can be gone on with, by `run_on`. Each script is copied
+/// to a `Script`, of 32 bytes per request, and then let go.
 pub fn run<R: Threads + Wait + Sync, G: Gate + Sync>(
     rt: &R,
     alloc: Global,
@@ -100,13 +100,17 @@ pub fn run_shown<R: Threads + Wait + Sync, G: Gate + Sync, B: Board>(
         (opening_of book.now) (rows_of_book book.now) policy (lists scripts.items) board.new) }
 {
     check(book, scripts.as_slice(), policy)?;
-    let kept = kept_scripts(alloc, scripts.as_slice())?;
-    drop(scripts);
-    run_scripts_shown(rt, alloc, book, kept, policy, gate, board)
+    let compact = compact_scripts(alloc, scripts)?;
+    let work = Workload {
+        scripts: compact.as_slice(),
+        policy,
+        gate,
+    };
+    run_checked(rt, alloc, book, work, board)
 }
 
 /// The same run, of compact scripts: `run` copies its lists of requests to such.
-pub fn run_scripts<R: Threads + Wait + Sync, G: Gate + Sync>(
+pub fn run_compact<R: Threads + Wait + Sync, G: Gate + Sync>(
     rt: &R,
     alloc: Global,
     book: &OpeningBook,
@@ -117,11 +121,11 @@ pub fn run_scripts<R: Threads + Wait + Sync, G: Gate + Sync>(
     ensures { AnswersRun (opening_of book.now) (rows_of_book book.now) policy scripts.items
         result }
 {
-    run_scripts_shown(rt, alloc, book, scripts, policy, gate, &mut NoBoard)
+    run_compact_shown(rt, alloc, book, scripts, policy, gate, &mut NoBoard)
 }
 
 /// The same run of compact scripts, with a board as `run_shown` has it.
-pub fn run_scripts_shown<R: Threads + Wait + Sync, G: Gate + Sync, B: Board>(
+pub fn run_compact_shown<R: Threads + Wait + Sync, G: Gate + Sync, B: Board>(
     rt: &R,
     alloc: Global,
     book: &OpeningBook,
@@ -145,22 +149,47 @@ pub fn run_scripts_shown<R: Threads + Wait + Sync, G: Gate + Sync, B: Board>(
         gate,
     };
     check(book, work.scripts, policy)?;
-    let state = Joined::resume(alloc, book, work.scripts.len() as u32, policy.shards)?;
+    run_checked(rt, alloc, book, work, board)
+}
+
+// A run of scripts that were checked, with a board as `run_shown` has it.
+fn run_checked<R: Threads + Wait + Sync, G: Gate + Sync, B: Board>(
+    rt: &R,
+    alloc: Global,
+    book: &OpeningBook,
+    work: Workload<'_, G>,
+    board: &mut B,
+) -> Result<Outcome, RunFault>
+    requires workers { HaveWorkers (rows_of_book book.now) work.scripts.now }
+    requires shards { HasShards work.policy }
+    requires quotas { HasQuotas work.policy }
+    requires short { AreShort (rows_of_book book.now) work.scripts.now }
+    requires board { B.has board.old (opening_of book.now) (rows_of_book book.now) [] }
+    ensures answer { AnswersRun (opening_of book.now) (rows_of_book book.now) work.entry.policy
+        work.entry.scripts.now result }
+    ensures board { IfOk result
+        (HasShownAll B.has (opening_of book.now) (rows_of_book book.now) board.new) }
+    ensures up_to_date { IfOk result (λ outcome. IsUpToDate B.has board.new outcome.state) }
+    ensures board_after_fault { IfErr result (HasShownFirst B.has B.has_refused
+        (opening_of book.now) (rows_of_book book.now) work.entry.policy
+        work.entry.scripts.now board.new) }
+{
+    let state = Joined::resume(alloc, book, work.scripts.len() as u32, work.policy.shards)?;
     run_from(rt, alloc, state, work, board)
 }
 
-/// The same scripts, compact, as a run performs them.
-pub(crate) fn kept_scripts(
+/// The same scripts, compact, as a run performs them. Each list is let go once it is copied.
+pub(crate) fn compact_scripts(
     alloc: Global,
-    scripts: &[Vec<Request>],
+    scripts: Vec<Vec<Request>>,
 ) -> Result<Vec<Script>, AllocError>
-    ensures { IfOk result (λ kept. kept.items ≡ lists scripts.now) }
+    ensures { IfOk result (λ compact. compact.items ≡ lists scripts.items) }
 {
-    let mut kept = Vec::with_capacity(alloc, scripts.len())?;
+    let mut compact = Vec::with_capacity(alloc, scripts.len())?;
     for script in scripts {
-        kept.push(Script::of(alloc, script)?)?;
+        compact.push(Script::of(alloc, &script)?)?;
     }
-    Ok(kept)
+    Ok(compact)
 }
 
 /// A run from a state with which it begins.

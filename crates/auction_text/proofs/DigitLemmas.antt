@@ -56,9 +56,10 @@ read_more text from at value reaches within digit so_far =
     }
 
 -- the first digit
-pub read_first : (text : List ℕ) (from : ℕ) → from < length text → is_ascii_digit (get_or text from 0) ≡ true → get_or text from 0 ≤ 57 → ReadTo text from (from + 1) (get_or text from 0 - 48)
-read_first text from within digit low =
-    let same : ((0 * 10) % 2 ^ 64 + (get_or text from 0 - 48)) % 2 ^ 64 ≡ get_or text from 0 - 48 = omega (arith, low) in
+pub read_first : (text : List ℕ) (from : ℕ) → from < length text → is_ascii_digit (get_or text from 0) ≡ true → ReadTo text from (from + 1) (get_or text from 0 - 48)
+read_first text from within digit =
+    let bound = digit_bound (get_or text from 0) digit in
+    let same : ((0 * 10) % 2 ^ 64 + (get_or text from 0 - 48)) % 2 ^ 64 ≡ get_or text from 0 - 48 = omega (arith, bound) in
     rw same at (read_more text from from 0 (omega arith) within digit (read_none text from))
 
 -- digits of which the first is no zero, or the only one, are a numeral
@@ -137,9 +138,12 @@ module _ (text : List ℕ) (from at value stop : ℕ) (reaches : from ≤ at) (w
   pub number_of_more : 1 ≤ at - from → (get_or text from 0 ≡ 48 → ⊥) → IsNumberTo text from stop 64 value (at + 1)
   number_of_more some first = number_with some (inr first)
 
--- a byte that is not more than 9 above `0`, as numbers of 8 bits wrap
-pub digit_of : (c : ℕ) → c < 256 → (c + 208) % 256 ≤ 9 → (is_ascii_digit c ≡ true) × (48 ≤ c) × (c ≤ 57)
-digit_of c byte small =
-    let low : 48 ≤ c = omega arith in
-    let high : c ≤ 57 = omega arith in
-    (grind (arith, common_steps), low, high)
+-- a byte whose value is at most 9 is a digit
+pub digit_of : (c value : ℕ) → (48 ≤ c → value ≡ c - 48) → (c < 48 → 9 < value) → value ≤ 9 → (is_ascii_digit c ≡ true) × (48 ≤ c) × (value ≡ c - 48)
+digit_of c value from_zero below_zero small = elim (cases_lt c 48) [
+  | inl below ↦ absurd (omega (arith, below_zero below))
+  | inr low ↦
+      let is : value ≡ c - 48 = from_zero low in
+      let high : c ≤ 57 = omega arith in
+      (grind (arith, common_steps), low, is)
+]

@@ -9,12 +9,15 @@ use Rattle.history_check.specs.declared.lines.Verdict.TheVariants.{Replays}
 use Rattle.history_check.specs.Checking.{IsAccepted, IsVerdict}
 use Rattle.check_program.specs.declared.options.Options.{Options}
 
--- The input has no fault and asks for rows, each a row at its place, and for scripts; and this is found of a text of theirs.
+-- The input has no fault and asks for rows, each a row at its place, and for scripts; and this is
+-- found of a text of theirs.
 pub record IsFound (options : Options) (input text : List ℕ) (verdict : Verdict) : Type 0 where
   pub rows : List Opened
   pub scripts : List (List Request)
   pub reads : input_of options.workers input ≡ Ok (record { rows = rows; scripts = scripts })
   pub are_rows : AreRows options.opening rows
-  pub found : IsVerdict options.opening (opening_rows options.opening rows) scripts options.order text verdict
+  pub found : IsVerdict options.opening (opening_rows options.opening rows) scripts
+      options.order text verdict
   -- what is accepted is found to replay
-  pub accepted : IsAccepted options.opening (opening_rows options.opening rows) scripts options.order text → verdict ≡ Replays
+  pub accepted : IsAccepted options.opening (opening_rows options.opening rows) scripts
+      options.order text → verdict ≡ Replays

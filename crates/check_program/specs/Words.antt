@@ -12,7 +12,11 @@ use Rattle.check_program.specs.declared.options.Options.{Options}
 
 -- `--history FILE`, which has to be there
 abbrev pub plain_history_rule : Rule
-plain_history_rule = record (new_rule (codes "history")) { long = Some (codes "history"); action = Some Set; required = true }
+plain_history_rule = record (new_rule (codes "history")) {
+  long = Some (codes "history");
+  action = Some Set;
+  required = true;
+}
 
 -- the same, for which help has a word
 abbrev pub history_rule : Rule

@@ -129,11 +129,11 @@ fn push_verdict(text: &mut Vec<u8>, verdict: &Verdict, line: &[u8]) -> Result<()
     }
 }
 
-/// Writes the line of what was found, and flushes. `line` is the line of the history that is
-/// wrong, if one is.
-///
-/// `Memory` comes before the first byte is written; after `Write` a prefix of the line was written.
-pub fn write_verdict<W: Write>(
+// Writes the line of what was found, and flushes. `line` is the line of the history that is wrong,
+// if one is.
+//
+// `Memory` comes before the first byte is written; after `Write` a prefix of the line was written.
+fn write_verdict<W: Write>(
     alloc: Global,
     writer: &mut W,
     verdict: &Verdict,

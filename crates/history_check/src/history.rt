@@ -84,8 +84,9 @@ fn find_next<R: BufRead>(
 
 /// Replays a text, line by line, on an auction of one thread from the book that it is opened with,
 /// and compares each reply with that of the line. `scripts` are those of at most 16 workers. If a
-/// line is wrong, `line` holds it. It takes time in proportion to the text, the rows, the
-/// requests, the users and the categories, and memory for the rows, the scripts and a line.
+/// line is wrong, `line` holds it. It takes time in proportion to the text, the rows, the requests,
+/// the users and the categories. It takes memory for the rows, the users, the categories, 16 marks
+/// for each index of the longest script, and a line.
 pub fn check_history<R: BufRead>(
     alloc: Global,
     book: &OpeningBook,

@@ -18,7 +18,7 @@ use Rattle.phase_permits.specs.Begun.{IsAnsweredOn, Step}
 use Rattle.phase_permits.specs.Deeds.{AreGoodOn}
 use Rattle.phase_permits.specs.Takens.{shard_at}
 use Rattle.phase_permits.specs.Workers.{WorkerState}
-use Rattle.phase_permits.proofs.GoodLemmas.{bid_good, buy_good, look_good, comment_good, refused_comment_good}
+use Rattle.phase_permits.proofs.GoodLemmas.{bid_good, buy_good, comment_good}
 
 -- what is accepted is not refused
 free : (A : Type 0) (refused : Option Refusal) (reply : Reply) → ((reason : Refusal) → reply ≡ Refused reason → ⊥) → MatchOption refused A (λ reason. reply ≡ Refused reason) → refused ≡ None
@@ -52,20 +52,3 @@ module _ {step : Step} {w : WorkerState} {seen : Option (Facts × ℕ)} {held : 
   comment_arm author about item stars is =
       let on = at (StoreComment author about item stars) reply is refl in
       comment_good step.initial step.workers w.key held w.slices w.opening on.taken on.opened on.below author about item stars seen step.homes.item step.homes.other on.homes_are.1 (on.found item refl) on.allowed
-
-  -- and so is the look of one that is refused
-  pub bid_looks : (bidder : ℕ) (item : ItemId) (amount time : ℕ) → request ≡ StoreBid bidder item amount time → AreGoodOn (shard_at step.homes.item) (shard_at step.homes.item) (Look (shown.Left item seen)) (Look shown.Nothing) held
-  bid_looks bidder item amount time is =
-      let on = at (StoreBid bidder item amount time) reply is refl in
-      look_good held item seen (shard_at step.homes.item) (shard_at step.homes.item) (on.found item refl)
-
-  pub buy_looks : (buyer : ℕ) (item : ItemId) (quantity time : ℕ) → request ≡ BuyNow buyer item quantity time → AreGoodOn (shard_at step.homes.item) (shard_at step.homes.item) (Look (shown.Left item seen)) (Look shown.Nothing) held
-  buy_looks buyer item quantity time is =
-      let on = at (BuyNow buyer item quantity time) reply is refl in
-      look_good held item seen (shard_at step.homes.item) (shard_at step.homes.item) (on.found item refl)
-
-  pub comment_looks : (author about : ℕ) (item : ItemId) (stars : Stars) → request ≡ StoreComment author about item stars
-      → AreGoodOn (shard_at step.homes.item) (shard_at step.homes.other) (Look (shown.Facts item (option_map (λ s. s.0) seen))) (Look shown.Nothing) held
-  comment_looks author about item stars is =
-      let on = at (StoreComment author about item stars) reply is refl in
-      refused_comment_good held item seen (shard_at step.homes.item) (shard_at step.homes.other) (on.found item refl)

@@ -74,21 +74,10 @@ home_number hots shards n object home.Nowhere at is = absurd at
 home_number hots shards n object (home.Slice place) at is = absurd (cc)
 home_number hots shards n object (home.Shard s) at is = sym (same_Some s n is) ∙ at.0
 
--- what only looks
-module _ (held : HeldState) where
-  pub look_good : (item : ItemId) (seen : Option (Facts × ℕ)) (a b : Option ℕ) → (a ≡ Some held.number → seen ≡ stock (contents held.shard (Item item)))
-      → AreGoodOn a b (Look (shown.Left item seen)) (Look shown.Nothing) held
-  look_good item seen a b seen_is = record { first = λ is. (tt, seen_is is); second = λ is. (tt, tt); after = λ is also. (tt, tt) }
-
-  facts_of_stock : (value : Value) (facts : Option Facts) → option_map (λ (s : Facts × ℕ). s.0) (option_map (λ f. (f, f.quantity - value.bought)) facts) ≡ facts
-  facts_of_stock value None = refl
-  facts_of_stock value (Some facts) = refl
-
-  pub refused_comment_good : (item : ItemId) (seen : Option (Facts × ℕ)) (a b : Option ℕ) → (a ≡ Some held.number → seen ≡ stock (contents held.shard (Item item)))
-      → AreGoodOn a b (Look (shown.Facts item (option_map (λ s. s.0) seen))) (Look shown.Nothing) held
-  refused_comment_good item seen a b seen_is =
-      let value = contents held.shard (Item item) in
-      record { first = λ is. (tt, ap (option_map (λ s. s.0)) (seen_is is) ∙ facts_of_stock value value.facts); second = λ is. (tt, tt); after = λ is also. (tt, tt) }
+-- the facts of what is left of an item are its own
+facts_of_stock : (value : Value) (facts : Option Facts) → option_map (λ (s : Facts × ℕ). s.0) (option_map (λ f. (f, f.quantity - value.bought)) facts) ≡ facts
+facts_of_stock value None = refl
+facts_of_stock value (Some facts) = refl
 
 -- what writes
 module _ (initial : List ShardState) (workers : ℕ) (key : KeyState) (held : HeldState) (hots : List (Object × Hot)) (start : Opening)
@@ -146,4 +135,4 @@ module _ (initial : List ShardState) (workers : ℕ) (key : KeyState) (held : He
         ),
         tt,
       ) in
-      record { first = λ is. (tt, ap (option_map (λ s. s.0)) (seen_is is) ∙ facts_of_stock held value value.facts); second = writes; after = λ is also. writes also }
+      record { first = λ is. (tt, ap (option_map (λ s. s.0)) (seen_is is) ∙ facts_of_stock value value.facts); second = writes; after = λ is also. writes also }

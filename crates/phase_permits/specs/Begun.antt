@@ -80,15 +80,19 @@ pub record IsSeen {N : Type 0} (w : WorkerState) (request : Request) (homes : Ho
 -- The first reason for which its item refuses a store, by what the store saw of it.
 pub record IsRefusedBy {N : Type 0} (w : WorkerState) (request : Request) (homes : Homes)
     (took : Taken N) (refused : Option Refusal) : Type 0 where
+  -- what it saw of the item that it needs
   pub seen : Option (Facts × ℕ)
   pub saw : IsSeen w request homes took seen
+  -- the reason is by what was seen: the item's first one, if it has any
   pub by : refused ≡ refusal_with seen request
 
 -- A store has this reply, by what it saw of its item.
 pub record IsAnsweredBy {N : Type 0} (w : WorkerState) (request : Request) (homes : Homes)
     (took : Taken N) (reply : Reply) : Type 0 where
+  -- what it saw of the item that it needs
   pub seen : Option (Facts × ℕ)
   pub saw : IsSeen w request homes took seen
+  -- the reply is by what was seen
   pub answered : IsReplyBy w seen request reply
 
 -- the shards that were taken, but for the rooms that they have

@@ -25,4 +25,5 @@ pub record AreLawful {N : Type 0} (shards : ℕ) (w : Inside N) : Type 0 where
   pub worker_is : w.worker ≡ w.journal.worker
   -- it knows how many shards there are
   pub shards_is : w.shards ≡ shards
+  -- there is at least one
   pub some : 0 < shards

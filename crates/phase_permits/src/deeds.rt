@@ -8,7 +8,7 @@ ghost use Rattle.phase_permits.specs.Deeds.{written_of};
 ghost use Rattle.phase_permits.specs.Putting.{CanDo, written_acts, line_of, IsHeldFor, IsPutWith};
 
 use crate::homes::{Home, Homes};
-use crate::transaction::Known;
+use crate::transaction::Stores;
 use auction_rows::{BidEntry, ItemEntry, Request, StoreReply};
 use item_shards::{Act, Look};
 use shard_boxes::{Boxes, Held, Key, PhaseName};
@@ -48,9 +48,10 @@ pub(crate) struct Deeds {
 }
 
 impl Deeds {
-    /// Those of a store with this reply, whatever it saw of its item.
+    /// Those of a store with this reply, whatever it saw of its item. `S` only gives each copy of
+    /// `store` a copy of this.
     #[inline]
-    pub(crate) fn of<K: Known>(request: &Request, reply: StoreReply, homes: &Homes) -> Deeds
+    pub(crate) fn of<S: Stores>(request: &Request, reply: StoreReply, homes: &Homes) -> Deeds
         requires store { is_view request.now ≡ false }
         ensures owed { (seen : Option (FactsValue × ℕ)) →
             AreOwedBy request.now (reply_of reply) seen homes.now result }
@@ -58,27 +59,18 @@ impl Deeds {
             AreGoodFor request.now (reply_of reply) seen homes.now result }
         ensures footprint { HaveFootprint request.now homes.now result }
     {
-        let home = homes.item;
-        let other = homes.other;
+        let mut deeds = Deeds {
+            first: Act::Look(Look::Nothing),
+            second: Act::Look(Look::Nothing),
+            home: homes.item,
+            other: homes.other,
+        };
         match *request {
             Request::StoreItem { facts, time } => {
                 if let StoreReply::ItemStored(id) = reply {
                     let category = facts.category;
-                    let first = Act::AddItem(id, facts);
-                    let second = Act::ListItem(category, ItemEntry { time, id });
-                    Deeds {
-                        first,
-                        second,
-                        home,
-                        other,
-                    }
-                } else {
-                    Deeds {
-                        first: Act::Look(Look::Nothing),
-                        second: Act::Look(Look::Nothing),
-                        home,
-                        other,
-                    }
+                    deeds.first = Act::AddItem(id, facts);
+                    deeds.second = Act::ListItem(category, ItemEntry { time, id });
                 }
             }
             Request::StoreBid {
@@ -87,9 +79,10 @@ impl Deeds {
                 amount,
                 time,
             } => {
-                let first = Act::Look(Look::Left(item));
-                let second = if let StoreReply::BidStored(id) = reply {
-                    Act::Bid(
+                deeds.first = Act::Look(Look::Left(item));
+                deeds.other = homes.item;
+                if let StoreReply::BidStored(id) = reply {
+                    deeds.second = Act::Bid(
                         item,
                         BidEntry {
                             amount,
@@ -97,15 +90,7 @@ impl Deeds {
                             id,
                             bidder,
                         },
-                    )
-                } else {
-                    Act::Look(Look::Nothing)
-                };
-                Deeds {
-                    first,
-                    second,
-                    home,
-                    other: home,
+                    );
                 }
             }
             Request::StoreComment {
@@ -114,35 +99,21 @@ impl Deeds {
                 stars,
                 ..
             } => {
-                let first = Act::Look(Look::Facts(item));
-                let second = if let StoreReply::CommentStored(_) = reply {
-                    Act::Comment(about, stars)
-                } else {
-                    Act::Look(Look::Nothing)
-                };
-                Deeds {
-                    first,
-                    second,
-                    home,
-                    other,
+                deeds.first = Act::Look(Look::Facts(item));
+                if let StoreReply::CommentStored(_) = reply {
+                    deeds.second = Act::Comment(about, stars);
                 }
             }
             Request::BuyNow { item, quantity, .. } => {
-                let first = Act::Look(Look::Left(item));
-                let second = if let StoreReply::Bought(_) = reply {
-                    Act::Buy(item, quantity)
-                } else {
-                    Act::Look(Look::Nothing)
-                };
-                Deeds {
-                    first,
-                    second,
-                    home,
-                    other: home,
+                deeds.first = Act::Look(Look::Left(item));
+                deeds.other = homes.item;
+                if let StoreReply::Bought(_) = reply {
+                    deeds.second = Act::Buy(item, quantity);
                 }
             }
             _ => unreachable!(),
         }
+        deeds
     }
 
     /// The two acts as they are dealt: both to one shard, or one to each of two.

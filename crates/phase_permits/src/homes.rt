@@ -252,9 +252,11 @@ pub(crate) fn put_all<N: PhaseName, R: Wait>(
 )
     requires held { AreHeldAll N.initial N.workers boxes.now key.old (held_in taken) }
     requires within { written.number ≤ last_number }
-    requires can { CanBeDoneOnAll written.number (held_in taken) (dealt taken (written_acts written)) }
+    requires can { CanBeDoneOnAll written.number (held_in taken)
+        (dealt taken (written_acts written)) }
     ensures { HasPutAll N.initial key.old key.new (is_one_of (numbers_of (held_in taken)))
-        (line_among written.number written.index (held_in taken) (dealt taken (written_acts written))) }
+        (line_among written.number written.index (held_in taken)
+        (dealt taken (written_acts written))) }
 {
     match taken {
         Taken::Nothing => {}

@@ -162,7 +162,7 @@ impl<N: PhaseName, K: Kind> Permit<N, K> {
         }
     }
 
-    /// How many requests of the quota are not performed.
+    /// How many requests of the quota are left: one that is put off is used.
     pub fn left(&self) -> u32
         ensures { result ≡ self.now.left }
     {
@@ -184,7 +184,7 @@ impl<N: PhaseName, K: Kind> Permit<N, K> {
         self.worker.stash.get(0)
     }
 
-    /// How many calls of `perform` and `perform_stashed` were made.
+    /// How many calls of `perform`, `commit`, `perform_stashed` and `commit_stashed` were made.
     pub fn tries(&self) -> u32
         ensures { result ≡ self.now.tries }
     {

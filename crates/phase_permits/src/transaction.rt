@@ -42,8 +42,9 @@ pub enum Done {
     Stashed,
 }
 
-/// Which stores a copy of the code is for.
-pub(crate) trait Known {
+/// Which stores a copy of the code is for. It is a type parameter, because in a proved build
+/// inlining makes no second copy of so large a function.
+pub(crate) trait Stores {
     /// Whether a store is one of them.
     ghost includes: { RequestValue → Type 0 };
     /// The same store, as its copy of the code takes it.
@@ -55,7 +56,7 @@ pub(crate) trait Known {
 /// Bids: most requests of a busy auction.
 pub(crate) struct Bids;
 
-impl Known for Bids {
+impl Stores for Bids {
     ghost includes = { IsBid };
 
     // The bid is made anew: then the compiler knows its kind.
@@ -81,7 +82,7 @@ impl Known for Bids {
 /// All stores: nothing is known of their kind.
 pub(crate) struct AnyStore;
 
-impl Known for AnyStore {
+impl Stores for AnyStore {
     ghost includes = { λ _. Unit {0} };
 
     #[inline(always)]
@@ -121,20 +122,20 @@ impl<N: PhaseName> Worker<N> {
         }
     }
 
-    // Performs a store, by a copy of the code for each `K`.
-    fn store<K: Known, R: Wait>(
+    // Performs a store, by a copy of the code for each `S`.
+    fn store<S: Stores, R: Wait>(
         &mut self,
         rt: &R,
         boxes: &Boxes<N>,
         asked: &Request,
         index: u32,
     ) -> Result<(), PermitFault>
-        requires kind { K.includes asked.now }
+        requires kind { S.includes asked.now }
         requires store { is_view asked.now ≡ false }
         requires can { CanTransact N.initial boxes.now self.old asked.now }
         ensures { HasPerformed N.initial self.old self.new asked.now index result }
     {
-        let request = &K::known(asked);
+        let request = &S::known(asked);
         let call = Call { request, index };
 
         // A store that the opening refuses takes no shard, nor does one on hot objects alone.
@@ -161,64 +162,7 @@ impl<N: PhaseName> Worker<N> {
             homes: &homes,
             reply,
         };
-        self.put_store::<K, R>(rt, boxes, begun, &store);
-        Ok(())
-    }
-
-    /// Performs a store on hot objects alone: None exactly where the clock is at the end of
-    /// numbers, and then nothing has changed. It takes no shard and no memory.
-    pub(crate) fn perform_hot(&mut self, request: &Request, index: u32) -> Option<()>
-        requires hot { IsHotStore self.old.slices request.now }
-        requires left { 0 < self.old.left }
-        ensures none { IsNone result ↔ (last_number ≤ self.old.clock) }
-        ensures unchanged { IfNone result (self.new ≡ self.old) }
-        ensures stored { IfSome result (λ done. HasStoredSome self.old self.new request.now index) }
-    {
-        let call = Call { request, index };
-        match number_refusal(self.opening, *request) {
-            Some(reason) => self.refuse(call, reason).ok(),
-            None => {
-                let homes = self.homes(request);
-                self.store_hot(call, &homes).ok()
-            }
-        }
-    }
-
-    /// Commits a request that the opening refuses. It takes no shard and no memory.
-    #[inline(always)]
-    pub(crate) fn refuse(&mut self, call: Call<'_>, reason: Refusal) -> Result<(), PermitFault>
-        requires refused { number_refusal self.old.opening call.request.now ≡ Some reason }
-        requires goes { is_put_off (hot_objects self.old.slices) call.request.now ≡ false }
-        requires left { 0 < self.old.left }
-        ensures { HasStoredOrIsFull self.old self.new
-            call.entry.request.now call.entry.index result }
-    {
-        let number = number_after(self.clock)?;
-        let answer = Answer {
-            form: ReplyForm::Store(StoreReply::Refused(reason)),
-        };
-        self.add_entry(number, call, &answer);
-        Ok(())
-    }
-
-    /// Performs a store on objects with these homes, of which none is in a shard, that the opening
-    /// does not refuse. It takes no shard and no memory.
-    #[inline(always)]
-    pub(crate) fn store_hot(&mut self, call: Call<'_>, homes: &Homes) -> Result<(), PermitFault>
-        requires allowed { number_refusal self.old.opening call.request.now ≡ None }
-        requires store { is_view call.request.now ≡ false }
-        requires goes { is_put_off (hot_objects self.old.slices) call.request.now ≡ false }
-        requires homes { HasHomes self.old call.request.now homes.now }
-        requires hot { shard_at homes.now.item ≡ None }
-        requires left { 0 < self.old.left }
-        ensures { HasStoredOrIsFull self.old self.new
-            call.entry.request.now call.entry.index result }
-    {
-        let number = number_after(self.clock)?;
-        let refused = refusal_with(&self.fixed(homes.item), call.request);
-        let reply = self.reply(refused, call.request);
-        let store = Store { call, homes, reply };
-        self.add_store(number, &store);
+        self.put_store::<S, R>(rt, boxes, begun, &store);
         Ok(())
     }
 
@@ -265,6 +209,95 @@ impl<N: PhaseName> Worker<N> {
         match request {
             Request::StoreItem { .. } => make_room(&mut begun.taken, self.next_item()),
             _ => Ok(()),
+        }
+    }
+
+    // Does a store's acts on the shards that were taken, puts these back, and commits it.
+    // `S` only gives each copy of `store` a copy of this.
+    #[inline]
+    fn put_store<S: Stores, R: Wait>(
+        &mut self,
+        rt: &R,
+        boxes: &Boxes<N>,
+        begun: Begun<N>,
+        store: &Store<'_>,
+    )
+        requires store { is_view store.now.call.request.now ≡ false }
+        requires opened { HaveOpening N.initial self.old.opening }
+        requires begun { (key : KeyState) × HasBegun
+            (step_of N.initial N.workers boxes.now key store.now.homes.now)
+            self.old store.now.call.request.now begun }
+        requires room { HasRoomFor self.old store.now.call.request.now begun.taken }
+        requires answered { IsAnsweredBy self.old store.now.call.request.now
+            store.now.homes.now begun.taken (reply_of store.now.reply) }
+        requires left { 0 < self.old.left }
+        ensures { (key : KeyState) → HasBegun
+            (step_of N.initial N.workers boxes.now key store.now.homes.now)
+            self.old store.now.call.request.now begun →
+            HasCommitted N.initial (record self.old { key = key }) self.new
+            store.now.call.request.now store.now.call.index (reply_of store.now.reply) }
+    {
+        let Begun { taken, number } = begun;
+        let deeds = Deeds::of::<S>(store.call.request, store.reply, store.homes);
+        let written = deeds.written(number, store.call.index);
+        put_all(rt, boxes, &mut self.key, taken, written);
+        self.add_store(number, store);
+    }
+
+    /// Commits a request that the opening refuses. It takes no shard and no memory.
+    #[inline(always)]
+    pub(crate) fn refuse(&mut self, call: Call<'_>, reason: Refusal) -> Result<(), PermitFault>
+        requires refused { number_refusal self.old.opening call.request.now ≡ Some reason }
+        requires goes { is_put_off (hot_objects self.old.slices) call.request.now ≡ false }
+        requires left { 0 < self.old.left }
+        ensures { HasStoredOrIsFull self.old self.new
+            call.entry.request.now call.entry.index result }
+    {
+        let number = number_after(self.clock)?;
+        let answer = Answer {
+            form: ReplyForm::Store(StoreReply::Refused(reason)),
+        };
+        self.add_entry(number, call, &answer);
+        Ok(())
+    }
+
+    /// Performs a store on objects with these homes, of which none is in a shard, that the opening
+    /// does not refuse. It takes no shard and no memory.
+    #[inline(always)]
+    pub(crate) fn store_hot(&mut self, call: Call<'_>, homes: &Homes) -> Result<(), PermitFault>
+        requires allowed { number_refusal self.old.opening call.request.now ≡ None }
+        requires store { is_view call.request.now ≡ false }
+        requires goes { is_put_off (hot_objects self.old.slices) call.request.now ≡ false }
+        requires homes { HasHomes self.old call.request.now homes.now }
+        requires hot { shard_at homes.now.item ≡ None }
+        requires left { 0 < self.old.left }
+        ensures { HasStoredOrIsFull self.old self.new
+            call.entry.request.now call.entry.index result }
+    {
+        let number = number_after(self.clock)?;
+        let refused = refusal_with(&self.fixed(homes.item), call.request);
+        let reply = self.reply(refused, call.request);
+        let store = Store { call, homes, reply };
+        self.add_store(number, &store);
+        Ok(())
+    }
+
+    /// Performs a store on hot objects alone: None exactly where the clock is at the end of
+    /// numbers, and then nothing has changed. It takes no shard and no memory.
+    pub(crate) fn perform_hot(&mut self, request: &Request, index: u32) -> Option<()>
+        requires hot { IsHotStore self.old.slices request.now }
+        requires left { 0 < self.old.left }
+        ensures none { IsNone result ↔ (last_number ≤ self.old.clock) }
+        ensures unchanged { IfNone result (self.new ≡ self.old) }
+        ensures stored { IfSome result (λ done. HasStoredSome self.old self.new request.now index) }
+    {
+        let call = Call { request, index };
+        match number_refusal(self.opening, *request) {
+            Some(reason) => self.refuse(call, reason).ok(),
+            None => {
+                let homes = self.homes(request);
+                self.store_hot(call, &homes).ok()
+            }
         }
     }
 
@@ -333,37 +366,6 @@ impl<N: PhaseName> Worker<N> {
         };
         put_all(rt, boxes, &mut self.key, taken, written);
         self.add_entry(number, view.call, &view.answer);
-    }
-
-    // Does a store's acts on the shards that were taken, puts these back, and commits it.
-    #[inline]
-    fn put_store<K: Known, R: Wait>(
-        &mut self,
-        rt: &R,
-        boxes: &Boxes<N>,
-        begun: Begun<N>,
-        store: &Store<'_>,
-    )
-        requires store { is_view store.now.call.request.now ≡ false }
-        requires opened { HaveOpening N.initial self.old.opening }
-        requires begun { (key : KeyState) × HasBegun
-            (step_of N.initial N.workers boxes.now key store.now.homes.now)
-            self.old store.now.call.request.now begun }
-        requires room { HasRoomFor self.old store.now.call.request.now begun.taken }
-        requires answered { IsAnsweredBy self.old store.now.call.request.now
-            store.now.homes.now begun.taken (reply_of store.now.reply) }
-        requires left { 0 < self.old.left }
-        ensures { (key : KeyState) → HasBegun
-            (step_of N.initial N.workers boxes.now key store.now.homes.now)
-            self.old store.now.call.request.now begun →
-            HasCommitted N.initial (record self.old { key = key }) self.new
-            store.now.call.request.now store.now.call.index (reply_of store.now.reply) }
-    {
-        let Begun { taken, number } = begun;
-        let deeds = Deeds::of::<K>(store.call.request, store.reply, store.homes);
-        let written = deeds.written(number, store.call.index);
-        put_all(rt, boxes, &mut self.key, taken, written);
-        self.add_store(number, store);
     }
 }
 

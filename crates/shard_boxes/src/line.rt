@@ -1,4 +1,4 @@
-//! What one transaction did on one shard, only for proofs.
+//! What one transaction did on one shard.
 use ghost_log::Ghost;
 use item_shards::{Act, Shard};
 use std::marker::{Brand, Model};

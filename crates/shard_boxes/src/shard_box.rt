@@ -174,7 +174,7 @@ impl<N: PhaseName> ShardBox<N> {
         }
     }
 
-    /// Tries until the shard is in the box.
+    /// Takes the shard: at the first attempt, or once it is in the box.
     #[inline(always)]
     pub fn take<R: Wait>(&self, rt: &R, grant: &mut Grant) -> Shard
         requires place { grant.old.box_id ≡ self.now }
@@ -188,8 +188,7 @@ impl<N: PhaseName> ShardBox<N> {
         }
     }
 
-    /// The holder puts the shard back, after the line that is named, if there is one. The line is lent for who
-    /// names it.
+    /// The holder puts the shard back, after the line that `L` names, if there is one.
     #[inline(always)]
     pub fn put<L: LineName, R: Wait>(
         &self,
@@ -207,6 +206,7 @@ impl<N: PhaseName> ShardBox<N> {
         ensures { grant.new ≡ record grant.old { knows = put grant.old.knows L.line } }
     {
         if let Err(shard) = self.queue.try_push_as::<PutStep<L>>(&mut grant.pass, shard) {
+            // A failed attempt tells nothing of the box; this call finds it empty.
             match self
                 .queue
                 .push_as::<PutStep<L>, R>(rt, &mut grant.pass, shard)

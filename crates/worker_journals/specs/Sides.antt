@@ -1,4 +1,4 @@
--- What a journal keeps beside its heads, and what a head says with it.
+-- What a journal keeps beside its heads, a script beside its requests, and what is said with it.
 use Rattle.std.specs.Prelude.{◌≡◌, ℕ, pos, ◌+◌, ◌-◌, ◌<◌, ◌≤◌, List, [], ◌∷◌, ◌++◌, ⊤, None, map, length, take, drop, slice_index_or}
 use Rattle.std.specs.List.{AllByRecursion}
 use Rattle.auction_rows.specs.declared.limits.TheConstants.{MOST_SHOWN}

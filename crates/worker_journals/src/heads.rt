@@ -1,4 +1,5 @@
-//! What a journal keeps of each commit in its place: all that is small. The rest lies in the journal's side lists.
+//! What a journal keeps of each commit in its place, and a script of each request: all that is
+//! small. The rest lies in side lists.
 ghost use Rattle.std.specs.Prelude.{◌≡◌, List};
 ghost use Rattle.auction_rows.specs.declared.replies.BidShown.{BidShown};
 ghost use Rattle.auction_rows.specs.declared.replies.ItemShown.{ItemShown};
@@ -15,7 +16,7 @@ use std::marker::Model;
 // Seven words: less than a cache line.
 const _: () = prove!(size_of::<Head>() == 56);
 
-// Half of one: a script has a request in each.
+// Half a cache line: a request of a script.
 const _: () = prove!(size_of::<ShortRequest>() == 32);
 
 // What the halves of a place count to.

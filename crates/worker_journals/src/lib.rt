@@ -1,5 +1,5 @@
-//! The journals of workers: what each worker commits in one phase, in few bytes an entry. And the history, which keeps the
-//! journals of all phases and merges them by number while it is read.
+//! The journals of workers: what each worker commits in one phase, in few bytes per entry. The history, which keeps the
+//! journals of all phases and merges them by number while it is read. And scripts, in 32 bytes per request.
 #![tactic(auto)]
 
 mod entries;

@@ -1,4 +1,4 @@
-//! What a journal keeps beside its heads.
+//! What a journal keeps beside its heads, and a script beside its requests.
 ghost use Rattle.std.specs.Prelude.{◌≡◌, ◌+◌, ◌<◌, ◌≤◌, ◌++◌, ◌∷◌, [], length, take, drop, option_map, option_to_list, vec_len, vec_capacity, IfOk};
 ghost use Rattle.worker_journals.specs.Sides.{HasListRoom, SaysReply, SaysRequest, facts_in, shown_in};
 

@@ -6,6 +6,15 @@ ghost use Rattle.auction_text.specs.QuotedFields.{HasNextField, IsQuotedTo, has_
 use crate::reading::fields::SURE_DIGITS;
 use auction_rows::ItemId;
 
+// The value of a digit, and more than 9 of another byte: as wide as the number that it is added to.
+#[inline(always)]
+fn digit_value(byte: u8) -> u64
+    ensures from_zero { 48 ≤ byte → result ≡ byte - 48 }
+    ensures below_zero { byte < 48 → 9 < result }
+{
+    u64::from(byte).wrapping_sub(u64::from(b'0'))
+}
+
 /// The number that digits write from a place on, up to a stop, and the place after the stop.
 #[inline(always)]
 pub fn number_to(text: &[u8], from: usize, stop: u8) -> Option<(u64, usize)>
@@ -13,30 +22,30 @@ pub fn number_to(text: &[u8], from: usize, stop: u8) -> Option<(u64, usize)>
     requires within { from < length text.now }
     ensures { IfSome result (λ p. IsNumberTo text.now from stop 64 p.0 p.1) }
 {
-    let first = text[from].wrapping_sub(b'0');
+    let first = digit_value(text[from]);
     if first > 9 {
         return None;
     }
-    let mut at = from + 1;
-    if text[at] == stop {
-        return Some((u64::from(first), at + 1));
+    if text[from + 1] == stop {
+        return Some((first, from + 2));
     }
     if first == 0 {
         return None;
     }
-    let mut value = u64::from(first);
+    let mut value = first;
+    let mut count = 1;
     loop {
-        let digit = text[at].wrapping_sub(b'0');
+        let digit = digit_value(text[from + count]);
         if digit > 9 {
             break;
         }
-        value = value.wrapping_mul(10).wrapping_add(u64::from(digit));
-        at += 1;
+        value = value.wrapping_mul(10).wrapping_add(digit);
+        count += 1;
     }
-    if text[at] != stop || at - from > SURE_DIGITS {
+    if text[from + count] != stop || count > SURE_DIGITS {
         return None;
     }
-    Some((value, at + 1))
+    Some((value, from + count + 1))
 }
 
 /// The number of at most 32 bits that a field writes up to a stop, and the place after the stop.

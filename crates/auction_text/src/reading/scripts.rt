@@ -127,11 +127,11 @@ fn read_input<R: Read + Drop>(
     hand_over(alloc, &buffer[..filled], reader, workers, progress)
 }
 
-// The requests of each script, in the scripts' order.
-fn lists_of(alloc: Global, scripts: &[Script]) -> Result<Vec<Vec<Request>>, AllocError>
+// The requests of each script, in the scripts' order. Each script is let go once it is copied.
+fn lists_of(alloc: Global, scripts: Vec<Script>) -> Result<Vec<Vec<Request>>, AllocError>
     ensures same { IfOk result (λ lists.
-        map (λ requests. requests.items) lists.items ≡ scripts.now) }
-    ensures count { IfOk result (λ lists. vec_len lists ≡ length scripts.now) }
+        map (λ requests. requests.items) lists.items ≡ scripts.items) }
+    ensures count { IfOk result (λ lists. vec_len lists ≡ vec_len scripts) }
 {
     let mut lists = Vec::with_capacity(alloc, scripts.len())?;
     for script in scripts {
@@ -159,7 +159,7 @@ pub fn read_scripts<R: Read + Drop>(
         IfSome (R.remaining reader) (λ bytes. input_of workers bytes ≡ Err fault)) }
 {
     let CompactInput { rows, scripts } = read_compact_scripts(alloc, reader, workers)?;
-    let Ok(scripts) = lists_of(alloc, scripts.as_slice()) else {
+    let Ok(scripts) = lists_of(alloc, scripts) else {
         return Err(ReadFault::Memory);
     };
     Ok(Input { rows, scripts })

@@ -1,5 +1,6 @@
-use Rattle.std.proofs.Common.{List, ap, refl, ◌∙◌, subst}
+use Rattle.std.proofs.Common.{◌≤◌, ◌∙◌, List, ap, length, refl, subst, sym}
 use Rattle.std.specs.Prelude.{Err, IfErr}
+use Rattle.auction_rows.specs.declared.limits.TheConstants.{MOST_WORKERS}
 use Rattle.auction_rows.specs.declared.rows.Row.{Row}
 use Rattle.auction_rows.specs.Book.{Book}
 use Rattle.auction_window.specs.Published.{book_of}
@@ -14,26 +15,38 @@ use Rattle.auction_run.proofs.AnswerLemmas.{answered_stopped}
 use Rattle.auction_run.proofs.BoardLemmas.{none_shown}
 use Rattle.auction_run.proofs.parts.run_on_shown.Goals as goal
 
+pub run_on_checked-requires-clause-ready : goal.run_on_checked-requires-clause-ready
+run_on_checked-requires-clause-ready g c κs within =
+    subst (IsReadyFor c.args.state c.args.policy) (ap lists c.as_slice.ensures.value ∙ sym c.in_ok-compact.ensures ∙ sym c.as_slice-2.ensures.value) c.in_default.ensures.checked
+
+pub run_on_checked-requires-clause-few : goal.run_on_checked-requires-clause-few
+run_on_checked-requires-clause-few g c κs within =
+    subst (λ scripts. length scripts ≤ MOST_WORKERS) (ap lists c.as_slice.ensures.value ∙ sym c.in_ok-compact.ensures ∙ sym c.as_slice-2.ensures.value) c.in_default.ensures.few
+
+pub run_on_checked-requires-clause-board : goal.run_on_checked-requires-clause-board
+run_on_checked-requires-clause-board g c κs within = c.requires
+
 pub returns-clause-answer : goal.returns-clause-answer
 returns-clause-answer g c =
-    subst (λ scripts. AnswersNextRun c.args.state c.args.policy scripts c.run_scripts_on_shown.result) (c.in_ok-kept.ensures ∙ ap lists c.as_slice-2.ensures.value) c.run_scripts_on_shown.ensures.answer
+    subst (λ scripts. AnswersNextRun c.args.state c.args.policy scripts c.run_on_checked.result)
+    (c.as_slice-2.ensures.value ∙ c.in_ok-compact.ensures) c.run_on_checked.ensures.answer
 
 pub returns-clause-board_after_fault : goal.returns-clause-board_after_fault
 returns-clause-board_after_fault g c =
     let B = g.B.Board in let state = c.args.state in
-    subst (λ scripts. IfErr c.run_scripts_on_shown.result (λ stopped. (rows : Book) (before : List (List Row)) → B.has c.args.board.now state.opening rows before →
+    subst (λ scripts. IfErr c.run_on_checked.result (λ stopped. (rows : Book) (before : List (List Row)) → B.has c.args.board.now state.opening rows before →
     IsBookOf state (book_of rows before) →
-    HasShownFirstAfter B.has B.has_refused state.opening rows before c.args.policy scripts c.run_scripts_on_shown.new.board (fault_of stopped)))
-    (c.in_ok-kept.ensures ∙ ap lists c.as_slice-2.ensures.value) c.run_scripts_on_shown.ensures.board_after_fault
+    HasShownFirstAfter B.has B.has_refused state.opening rows before c.args.policy scripts c.run_on_checked.new.board (fault_of stopped)))
+    (c.as_slice-2.ensures.value ∙ c.in_ok-compact.ensures) c.run_on_checked.ensures.board_after_fault
 
-pub returns-in_err-kept-clause-answer : goal.returns-in_err-kept-clause-answer
-returns-in_err-kept-clause-answer g c =
+pub returns-in_err-compact-clause-answer : goal.returns-in_err-compact-clause-answer
+returns-in_err-compact-clause-answer g c =
     let state = c.args.state in let policy = c.args.policy in
     answered_stopped state policy (lists c.args.scripts.items) c.from_residual.result (Failed Memory) c.from_residual.ensures.1
     (subst (λ scripts. IsReadyFor state policy (lists scripts)) c.as_slice.ensures.value c.in_default.ensures.checked, tt)
 
-pub returns-in_err-kept-clause-board_after_fault : goal.returns-in_err-kept-clause-board_after_fault
-returns-in_err-kept-clause-board_after_fault g c =
+pub returns-in_err-compact-clause-board_after_fault : goal.returns-in_err-compact-clause-board_after_fault
+returns-in_err-compact-clause-board_after_fault g c =
     let B = g.B.Board in let state = c.args.state in let policy = c.args.policy in
     err_as c.from_residual.result (Failed Memory)
     (λ stopped. (rows : Book) (before : List (List Row)) → B.has c.args.board.now state.opening rows before → IsBookOf state (book_of rows before) →

@@ -1,25 +1,44 @@
-use Rattle.std.proofs.Common.{[], ap, ◌∙◌, subst}
+use Rattle.std.proofs.Common.{◌∙◌, [], ap, subst, sym}
 use Rattle.std.specs.Prelude.{IfErr}
 use Rattle.item_shards.specs.OpeningBooks.{opening_of, rows_of_book}
 use Rattle.phase_workers.proofs.WorkLemmas.{err_as}
 use Rattle.auction_run.specs.declared.checks.RunFault.TheVariants.{Memory}
+use Rattle.auction_run.specs.Beginning.{AreShort, HaveWorkers}
 use Rattle.auction_run.specs.Outcomes.{AnswersRun, HasShownFirst}
 use Rattle.auction_run.specs.Phases.{lists}
 use Rattle.auction_run.proofs.AnswerLemmas.{answered_first, answered_memory}
 use Rattle.auction_run.proofs.BoardLemmas.{none_shown}
 use Rattle.auction_run.proofs.runs.run_shown.Goals as goal
 
+pub run_checked-requires-clause-workers : goal.run_checked-requires-clause-workers
+run_checked-requires-clause-workers g c κs within =
+    subst (HaveWorkers (rows_of_book c.args.book.now)) (ap lists c.as_slice.ensures.value ∙ sym c.in_ok-compact.ensures ∙ sym c.as_slice-2.ensures.value) c.in_ok-check.ensures.0
+
+pub run_checked-requires-clause-shards : goal.run_checked-requires-clause-shards
+run_checked-requires-clause-shards g c κs within = c.in_ok-check.ensures.1.0
+
+pub run_checked-requires-clause-quotas : goal.run_checked-requires-clause-quotas
+run_checked-requires-clause-quotas g c κs within = c.in_ok-check.ensures.1.1.0
+
+pub run_checked-requires-clause-short : goal.run_checked-requires-clause-short
+run_checked-requires-clause-short g c κs within =
+    subst (AreShort (rows_of_book c.args.book.now)) (ap lists c.as_slice.ensures.value ∙ sym c.in_ok-compact.ensures ∙ sym c.as_slice-2.ensures.value) c.in_ok-check.ensures.1.1.1
+
+pub run_checked-requires-clause-board : goal.run_checked-requires-clause-board
+run_checked-requires-clause-board g c κs within = c.requires
+
 pub returns-clause-answer : goal.returns-clause-answer
 returns-clause-answer g c =
     let book = c.args.book.now in
-    subst (λ scripts. AnswersRun (opening_of book) (rows_of_book book) c.args.policy scripts c.run_scripts_shown.result) (c.in_ok-kept.ensures ∙ ap lists c.as_slice-2.ensures.value) c.run_scripts_shown.ensures.answer
+    subst (λ scripts. AnswersRun (opening_of book) (rows_of_book book) c.args.policy scripts c.run_checked.result)
+    (c.as_slice-2.ensures.value ∙ c.in_ok-compact.ensures) c.run_checked.ensures.answer
 
 pub returns-clause-board_after_fault : goal.returns-clause-board_after_fault
 returns-clause-board_after_fault g c =
     let B = g.B.Board in
     let book = c.args.book.now in
-    subst (λ scripts. IfErr c.run_scripts_shown.result (HasShownFirst B.has B.has_refused (opening_of book) (rows_of_book book) c.args.policy scripts c.run_scripts_shown.new.board))
-    (c.in_ok-kept.ensures ∙ ap lists c.as_slice-2.ensures.value) c.run_scripts_shown.ensures.board_after_fault
+    subst (λ scripts. IfErr c.run_checked.result (HasShownFirst B.has B.has_refused (opening_of book) (rows_of_book book) c.args.policy scripts c.run_checked.new.board))
+    (c.as_slice-2.ensures.value ∙ c.in_ok-compact.ensures) c.run_checked.ensures.board_after_fault
 
 pub returns-in_err-check-clause-answer : goal.returns-in_err-check-clause-answer
 returns-in_err-check-clause-answer g c =
@@ -35,16 +54,16 @@ returns-in_err-check-clause-board_after_fault g c =
     err_as c.from_residual.result fault (HasShownFirst B.has B.has_refused (opening_of book) (rows_of_book book) c.args.policy (lists c.args.scripts.items) c.args.board.now) c.from_residual.ensures.1
     (none_shown B.has B.has_refused (opening_of book) (rows_of_book book) [] c.args.policy (lists c.args.scripts.items) c.args.board.now c.requires fault)
 
-pub returns-in_err-kept-clause-answer : goal.returns-in_err-kept-clause-answer
-returns-in_err-kept-clause-answer g c =
-    let book = c.args.book.now in let failed = c.from_residual-in_err-kept in
+pub returns-in_err-compact-clause-answer : goal.returns-in_err-compact-clause-answer
+returns-in_err-compact-clause-answer g c =
+    let book = c.args.book.now in let failed = c.from_residual-in_err-compact in
     subst (λ scripts. AnswersRun (opening_of book) (rows_of_book book) c.args.policy (lists scripts) failed.result) c.as_slice.ensures.value
     (answered_memory (opening_of book) (rows_of_book book) c.args.policy (lists c.as_slice.result.now) book.is_book c.in_ok-check.ensures failed.result failed.ensures.1)
 
-pub returns-in_err-kept-clause-board_after_fault : goal.returns-in_err-kept-clause-board_after_fault
-returns-in_err-kept-clause-board_after_fault g c =
+pub returns-in_err-compact-clause-board_after_fault : goal.returns-in_err-compact-clause-board_after_fault
+returns-in_err-compact-clause-board_after_fault g c =
     let B = g.B.Board in
     let book = c.args.book.now in
-    err_as c.from_residual-in_err-kept.result Memory (HasShownFirst B.has B.has_refused (opening_of book) (rows_of_book book) c.args.policy (lists c.args.scripts.items) c.args.board.now)
-    c.from_residual-in_err-kept.ensures.1
+    err_as c.from_residual-in_err-compact.result Memory (HasShownFirst B.has B.has_refused (opening_of book) (rows_of_book book) c.args.policy (lists c.args.scripts.items) c.args.board.now)
+    c.from_residual-in_err-compact.ensures.1
     (none_shown B.has B.has_refused (opening_of book) (rows_of_book book) [] c.args.policy (lists c.args.scripts.items) c.args.board.now c.requires Memory)

@@ -1,13 +1,21 @@
-use Rattle.std.proofs.Common.{◌++◌, ◌∷◌, [], map, take_all, ap, ap₂, sym, ◌∙◌}
-use Rattle.std.proofs.lemmas.List.{map_push, take_more}
+use Rattle.std.proofs.Common.{◌++◌, ◌∷◌, map, append-nil, append_assoc, ap, sym, ◌∙◌}
+use Rattle.std.specs.Vec.Iter.{into_iter_items}
+use Rattle.std.proofs.lemmas.List.{map_push, nil_from_length}
 use Rattle.auction_text.proofs.reading.scripts.lists_of.Goals as goal
 
 pub loop-script-preserved : goal.loop-script-preserved
 loop-script-preserved c =
-    ap (map (λ requests. requests.items)) c.in_ok-push.ensures.items
-    ∙ map_push (λ requests. requests.items) c.loop-script.lists.items _
-    ∙ ap₂ (λ lists list. lists ++ list ∷ []) c.loop-script.invariant (c.in_ok-to_requests.ensures ∙ c.script-item.is)
-    ∙ sym (take_more c.args.scripts.now c.loop-script.script-index c.script-item.result c.loop-script-test.true)
+    let before = map (λ requests. requests.items) c.loop-script.lists.items in
+    let next = into_iter_items c.next.new.self in
+    ap (λ lists. map (λ requests. requests.items) lists ++ next) c.in_ok-push.ensures.items
+    ∙ ap (λ lists. lists ++ next) (map_push (λ requests. requests.items) c.loop-script.lists.items _)
+    ∙ append_assoc before _ next
+    ∙ ap (λ list. before ++ list ∷ next) c.in_ok-to_requests.ensures
+    ∙ ap (λ scripts. before ++ scripts) (sym c.in-Some.ensures.steps.0)
+    ∙ c.loop-script.invariant
 
 pub returns-clause-same : goal.returns-clause-same
-returns-clause-same c = c.loop-script.invariant ∙ take_all c.loop-script.script-index c.args.scripts.now c.loop-script-test.false
+returns-clause-same c =
+    let left = c.loop-script.script-iterator.rest in
+    let lists = map (λ requests. requests.items) c.loop-script.lists.items in
+    sym (append-nil lists) ∙ ap (λ scripts. lists ++ scripts) (sym (nil_from_length left.items (sym left.ok.0 ∙ c.in-None.ensures.steps.0))) ∙ c.loop-script.invariant

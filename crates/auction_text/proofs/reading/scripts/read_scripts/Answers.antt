@@ -12,10 +12,10 @@ asked rows scripts = record { rows = rows; scripts = scripts }
 pub returns-clause-input : goal.returns-clause-input
 returns-clause-input g c =
     subst (λ scripts. IfSome (g.R.Read.remaining c.args.reader) (λ bytes. input_of c.args.workers bytes ≡ Ok (asked c.in_ok-rows.field-0.rows.items scripts)))
-    (sym (c.in-Ok.ensures.same ∙ c.as_slice.ensures.value)) c.in_ok-rows.ensures.input
+    (sym c.in-Ok.ensures.same) c.in_ok-rows.ensures.input
 
 pub returns-clause-count : goal.returns-clause-count
-returns-clause-count g c = c.in-Ok.ensures.count ∙ c.as_slice.ensures.len ∙ c.in_ok-rows.ensures.count
+returns-clause-count g c = c.in-Ok.ensures.count ∙ c.in_ok-rows.ensures.count
 
 pub returns-in_err-rows-clause-fault : goal.returns-in_err-rows-clause-fault
 returns-in_err-rows-clause-fault g c =

@@ -1,0 +1,48 @@
+use Rattle.std.proofs.Common.{List, refl, subst}
+use Rattle.std.specs.Prelude.{Err, IfErr}
+use Rattle.auction_rows.specs.declared.rows.Row.{Row}
+use Rattle.auction_rows.specs.Book.{Book}
+use Rattle.auction_window.specs.Published.{book_of}
+use Rattle.phase_floor.specs.States.{IsBookOf}
+use Rattle.auction_run.specs.GoingOn.{AnswersNextRun, IsCheckedOn, fault_of}
+use Rattle.auction_run.specs.Outcomes.{HasShownFirstAfter}
+use Rattle.auction_run.proofs.BoardLemmas.{none_shown}
+use Rattle.auction_run.proofs.ScriptLemmas.{checked_on, checked_on_first, few_on}
+use Rattle.auction_run.proofs.parts.run_compact_on_shown.Goals as goal
+
+pub run_on_checked-requires-clause-ready : goal.run_on_checked-requires-clause-ready
+run_on_checked-requires-clause-ready g c κs within = checked_on c.args.state c.args.policy c.as_slice.result.now c.in_default.ensures.checked
+
+pub run_on_checked-requires-clause-few : goal.run_on_checked-requires-clause-few
+run_on_checked-requires-clause-few g c κs within = few_on c.as_slice.result.now c.in_default.ensures.few
+
+pub run_on_checked-requires-clause-board : goal.run_on_checked-requires-clause-board
+run_on_checked-requires-clause-board g c κs within = c.requires
+
+pub returns-clause-answer : goal.returns-clause-answer
+returns-clause-answer g c =
+    subst (λ scripts. AnswersNextRun c.args.state c.args.policy scripts c.run_on_checked.result) c.as_slice.ensures.value c.run_on_checked.ensures.answer
+
+pub returns-clause-board_after_fault : goal.returns-clause-board_after_fault
+returns-clause-board_after_fault g c =
+    let B = g.B.Board in let state = c.args.state in
+    subst (λ scripts. IfErr c.run_on_checked.result (λ stopped. (rows : Book) (before : List (List Row)) → B.has c.args.board.now state.opening rows before →
+    IsBookOf state (book_of rows before) →
+    HasShownFirstAfter B.has B.has_refused state.opening rows before c.args.policy scripts c.run_on_checked.new.board (fault_of stopped)))
+    c.as_slice.ensures.value c.run_on_checked.ensures.board_after_fault
+
+pub returns-in-Err-clause-answer : goal.returns-in-Err-clause-answer
+returns-in-Err-clause-answer g c = record {
+  ready = tt;
+  outcome = tt;
+  left = tt;
+  stopped = (
+    refl,
+    subst (λ scripts. IsCheckedOn {T = Unit {0}} (Err c.in-Err.fault) c.args.state c.args.policy scripts) c.as_slice.ensures.value
+        (checked_on_first c.in-Err.fault c.args.state c.args.policy c.as_slice.result.now c.in-Err.ensures.checked),
+  );
+}
+
+pub returns-in-Err-clause-board_after_fault : goal.returns-in-Err-clause-board_after_fault
+returns-in-Err-clause-board_after_fault g c = λ rows before has of.
+    none_shown g.B.Board.has g.B.Board.has_refused c.args.state.opening rows before c.args.policy c.args.scripts.items c.args.board.now has c.in-Err.fault

@@ -1,0 +1,82 @@
+use Rattle.std.proofs.Common.{List, length, refl, subst, sym}
+use Rattle.auction_rows.specs.declared.rows.Row.{Row}
+use Rattle.auction_rows.specs.Book.{Book}
+use Rattle.auction_window.specs.Published.{book_of}
+use Rattle.phase_floor.specs.States.{IsBookOf}
+use Rattle.phase_workers.proofs.WorkLemmas.{err_as}
+use Rattle.auction_run.specs.declared.checks.Stopped.TheVariants.{Failed}
+use Rattle.auction_run.specs.Boards.{HasShownAfter}
+use Rattle.auction_run.specs.GoingOn.{BeginsWith, fault_of}
+use Rattle.auction_run.specs.Outcomes.{HasShownFirstAfter, IsOutcome}
+use Rattle.auction_run.proofs.AnswerLemmas.{answered_stopped}
+use Rattle.auction_run.proofs.BoardLemmas.{up_to_date}
+use Rattle.auction_run.proofs.GoingOnLemmas.{begins_of, left_book}
+use Rattle.auction_run.proofs.parts.run_on_checked.Goals as goal
+
+pub run_from-requires-clause-begins : goal.run_from-requires-clause-begins
+run_from-requires-clause-begins g c κs within = λ cannot.
+    let next = c.for_next_run-state.ensures in
+    next.of_a_book (λ book of. cannot book (begins_of c.args.state c.for_next_run-state.result book c.args.work.policy _ c.args.work.scripts.now of
+    refl c.requires.few c.requires.ready next.next next.stands))
+
+pub run_from-requires-clause-board : goal.run_from-requires-clause-board
+run_from-requires-clause-board g c κs within = λ watched.
+    let next = c.for_next_run-state.ensures in let is = c.requires.board watched in record {
+      rows = is.rows;
+      before = is.phases;
+      begins = begins_of c.args.state c.for_next_run-state.result (book_of is.rows is.phases) c.args.work.policy _ c.args.work.scripts.now is.book
+          refl c.requires.few c.requires.ready next.next next.stands;
+      has_them = subst (λ state. g.B.Board.has c.args.board.now state.opening is.rows is.phases) (sym next.next) is.has_them;
+    }
+
+pub returns-clause-answer : goal.returns-clause-answer
+returns-clause-answer g c =
+    let state = c.args.state in let policy = c.args.work.policy in let scripts = c.args.work.scripts.now in
+    let next = c.for_next_run-state.ensures in
+    let outcome = c.in_ok-outcome.outcome in
+    let begins : (book : Book) → IsBookOf state book → BeginsWith c.for_next_run-state.result book policy scripts =
+    λ book of. begins_of state c.for_next_run-state.result book policy _ scripts of refl c.requires.few c.requires.ready next.next next.stands in
+    let is : (book : Book) → IsBookOf state book → IsOutcome state.opening book policy scripts outcome =
+    λ book of. subst (λ s. IsOutcome s.opening book policy scripts outcome) next.next (c.in_ok-outcome.ensures.outcome book (begins book of)) in record {
+      ready = c.requires.ready;
+      outcome = is;
+      left = λ book of. left_book state.opening book policy scripts of.is_book (begins book of).own outcome (is book of);
+      stopped = tt;
+    }
+
+pub returns-clause-board : goal.returns-clause-board
+returns-clause-board g c = λ rows before has of.
+    let B = g.B.Board in
+    let next = c.for_next_run-state.ensures in
+    let outcome = c.in_ok-outcome.outcome in
+    let begins = begins_of c.args.state c.for_next_run-state.result (book_of rows before) c.args.work.policy _ c.args.work.scripts.now of
+    refl c.requires.few c.requires.ready next.next next.stands in
+    subst (λ state. HasShownAfter B.has state.opening rows before (length outcome.hot.items) outcome.history.entries c.run_from.new.board) next.next
+    (c.in_ok-outcome.ensures.board rows before begins (subst (λ state. B.has c.args.board.now state.opening rows before) (sym next.next) has))
+
+pub returns-clause-up_to_date : goal.returns-clause-up_to_date
+returns-clause-up_to_date g c = λ is.
+    let outcome = c.in_ok-outcome.outcome in
+    let book = book_of is.rows is.phases in
+    let answer = returns-clause-answer g c in
+    let answers = answer.outcome book is.book in
+    up_to_date g.B.Board.has c.args.state.opening is.rows is.phases (length outcome.hot.items) outcome.history.entries c.run_from.new.board outcome.state
+    (returns-clause-board g c is.rows is.phases is.has_them is.book) answers.replays answers.opening_is (answer.left book is.book)
+
+pub returns-in_err-outcome-clause-answer : goal.returns-in_err-outcome-clause-answer
+returns-in_err-outcome-clause-answer g c =
+    answered_stopped c.args.state c.args.work.policy c.args.work.scripts.now c.from_residual.result (Failed c.in_err-outcome.field-0.0) c.from_residual.ensures.1
+    (c.requires.ready, c.in_err-outcome.ensures.fault)
+
+pub returns-in_err-outcome-clause-board_after_fault : goal.returns-in_err-outcome-clause-board_after_fault
+returns-in_err-outcome-clause-board_after_fault g c =
+    let B = g.B.Board in
+    let next = c.for_next_run-state.ensures in let state = c.args.state in let policy = c.args.work.policy in let scripts = c.args.work.scripts.now in let fault = c.in_err-outcome.field-0.0 in
+    err_as c.from_residual.result (Failed fault)
+    (λ stopped. (rows : Book) (before : List (List Row)) → B.has c.args.board.now state.opening rows before → IsBookOf state (book_of rows before) →
+    HasShownFirstAfter B.has B.has_refused state.opening rows before policy scripts c.run_from.new.board (fault_of stopped))
+    c.from_residual.ensures.1
+    (λ rows before has of.
+    let begins = begins_of state c.for_next_run-state.result (book_of rows before) policy _ scripts of refl c.requires.few c.requires.ready next.next next.stands in
+    subst (λ s. HasShownFirstAfter B.has B.has_refused s.opening rows before policy scripts c.run_from.new.board fault) next.next
+    (c.in_err-outcome.ensures.board_after_fault rows before begins (subst (λ s. B.has c.args.board.now s.opening rows before) (sym next.next) has)))

@@ -1,0 +1,87 @@
+use Rattle.std.proofs.Common.{[], refl, subst, sym}
+use Rattle.std.specs.Prelude.{IfOk}
+use Rattle.std.proofs.lemmas.Result.{IfErr-weaker, IfOk-weaker}
+use Rattle.phase_workers.proofs.WorkLemmas.{err_as}
+use Rattle.item_shards.specs.OpeningBooks.{opening_of, rows_of_book}
+use Rattle.auction_run.specs.declared.checks.RunFault.TheVariants.{Memory}
+use Rattle.auction_run.specs.GoingOn.{BeginsWith}
+use Rattle.auction_run.specs.Outcomes.{HasShownAll, HasShownFirst, IsOutcome}
+use Rattle.auction_run.proofs.AnswerLemmas.{answered, answered_memory}
+use Rattle.auction_run.proofs.BoardLemmas.{none_shown, up_to_date}
+use Rattle.auction_run.proofs.GoingOnLemmas.{begins_resumed, left_book, of_both}
+use Rattle.auction_run.proofs.runs.run_checked.Given as given
+use Rattle.auction_run.proofs.runs.run_checked.Goals as goal
+use Rattle.auction_run.proofs.runs.run_checked.Goals.{After-run_from}
+
+pub run_from-requires-clause-begins : goal.run_from-requires-clause-begins
+run_from-requires-clause-begins g c κs within = λ cannot.
+    let made = c.in_ok-state.ensures in let book = c.args.book.now in
+    cannot (rows_of_book book) (begins_resumed (opening_of book) (rows_of_book book) c.args.work.policy c.args.work.scripts.now c.in_ok-state.state _
+    made.opening made.phase made.shards made.workers refl made.counters made.stands book.is_book c.requires.workers c.requires.short)
+
+pub run_from-requires-clause-board : goal.run_from-requires-clause-board
+run_from-requires-clause-board g c κs within = λ watched.
+    let made = c.in_ok-state.ensures in let book = c.args.book.now in record {
+      rows = rows_of_book book;
+      before = [];
+      begins = begins_resumed (opening_of book) (rows_of_book book) c.args.work.policy c.args.work.scripts.now c.in_ok-state.state _
+          made.opening made.phase made.shards made.workers refl made.counters made.stands book.is_book c.requires.workers c.requires.short;
+      has_them = subst (λ o. g.B.Board.has c.args.board.now o (rows_of_book book) []) (sym made.opening) c.requires.board;
+    }
+
+module _ (g : given.Over) (c : After-run_from g) where
+  begins : BeginsWith c.in_ok-state.state (rows_of_book c.args.book.now) c.args.work.policy c.args.work.scripts.now
+  begins =
+      let made = c.in_ok-state.ensures in let book = c.args.book.now in
+      begins_resumed (opening_of book) (rows_of_book book) c.args.work.policy c.args.work.scripts.now c.in_ok-state.state _
+      made.opening made.phase made.shards made.workers refl made.counters made.stands book.is_book c.requires.workers c.requires.short
+
+  has_none : g.B.Board.has c.args.board.now c.in_ok-state.state.opening (rows_of_book c.args.book.now) []
+  has_none = subst (λ o. g.B.Board.has c.args.board.now o (rows_of_book c.args.book.now) []) (sym c.in_ok-state.ensures.opening) c.requires.board
+
+  outcome_is : IfOk c.run_from.result (IsOutcome (opening_of c.args.book.now) (rows_of_book c.args.book.now) c.args.work.policy c.args.work.scripts.now)
+  outcome_is =
+      let rows = rows_of_book c.args.book.now in let scripts = c.args.work.scripts.now in
+      IfOk-weaker c.run_from.result _ (IsOutcome (opening_of c.args.book.now) rows c.args.work.policy scripts)
+      (λ outcome each. subst (λ o. IsOutcome o rows c.args.work.policy scripts outcome) c.in_ok-state.ensures.opening (each rows begins)) c.run_from.ensures.outcome
+
+pub returns-clause-answer : goal.returns-clause-answer
+returns-clause-answer g c =
+    let book = c.args.book.now in
+    answered (opening_of book) (rows_of_book book) c.args.work.policy c.args.work.scripts.now book.is_book
+    (c.requires.workers, (c.requires.shards, (c.requires.quotas, c.requires.short))) c.run_from.result (outcome_is g c) c.run_from.ensures.fault
+
+pub returns-clause-board : goal.returns-clause-board
+returns-clause-board g c =
+    let rows = rows_of_book c.args.book.now in
+    IfOk-weaker c.run_from.result _ (HasShownAll g.B.Board.has (opening_of c.args.book.now) rows c.run_from.new.board)
+    (λ outcome each. subst (λ o. HasShownAll g.B.Board.has o rows c.run_from.new.board outcome) c.in_ok-state.ensures.opening (each rows [] (begins g c) (has_none g c))) c.run_from.ensures.board
+
+pub returns-clause-up_to_date : goal.returns-clause-up_to_date
+returns-clause-up_to_date g c =
+    let book = c.args.book.now in
+    of_both c.run_from.result _ _ _
+    (λ outcome is shown. up_to_date g.B.Board.has (opening_of book) (rows_of_book book) [] _ outcome.history.entries c.run_from.new.board outcome.state shown is.replays is.opening_is
+    (left_book (opening_of book) (rows_of_book book) c.args.work.policy c.args.work.scripts.now book.is_book c.requires.workers.own outcome is))
+    (outcome_is g c) (returns-clause-board g c)
+
+pub returns-clause-board_after_fault : goal.returns-clause-board_after_fault
+returns-clause-board_after_fault g c =
+    let rows = rows_of_book c.args.book.now in let opening = opening_of c.args.book.now in
+    IfErr-weaker c.run_from.result _ (HasShownFirst g.B.Board.has g.B.Board.has_refused opening rows c.args.work.policy c.args.work.scripts.now c.run_from.new.board)
+    (λ fault each. subst (λ o. HasShownFirst g.B.Board.has g.B.Board.has_refused o rows c.args.work.policy c.args.work.scripts.now c.run_from.new.board fault) c.in_ok-state.ensures.opening
+    (each rows [] (begins g c) (has_none g c))) c.run_from.ensures.board_after_fault
+
+pub returns-in_err-state-clause-answer : goal.returns-in_err-state-clause-answer
+returns-in_err-state-clause-answer g c =
+    let book = c.args.book.now in
+    answered_memory (opening_of book) (rows_of_book book) c.args.work.policy c.args.work.scripts.now book.is_book
+    (c.requires.workers, (c.requires.shards, (c.requires.quotas, c.requires.short))) c.from_residual.result c.from_residual.ensures.1
+
+pub returns-in_err-state-clause-board_after_fault : goal.returns-in_err-state-clause-board_after_fault
+returns-in_err-state-clause-board_after_fault g c =
+    let B = g.B.Board in
+    let book = c.args.book.now in
+    err_as c.from_residual.result Memory (HasShownFirst B.has B.has_refused (opening_of book) (rows_of_book book) c.args.work.policy c.args.work.scripts.now c.args.board.now)
+    c.from_residual.ensures.1
+    (none_shown B.has B.has_refused (opening_of book) (rows_of_book book) [] c.args.work.policy c.args.work.scripts.now c.args.board.now c.requires.board Memory)

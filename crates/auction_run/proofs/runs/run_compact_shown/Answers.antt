@@ -1,0 +1,51 @@
+use Rattle.std.proofs.Common.{[], subst}
+use Rattle.std.specs.Prelude.{IfErr}
+use Rattle.phase_workers.proofs.WorkLemmas.{err_as}
+use Rattle.item_shards.specs.OpeningBooks.{opening_of, rows_of_book}
+use Rattle.auction_run.specs.Outcomes.{AnswersRun, HasShownFirst}
+use Rattle.auction_run.proofs.AnswerLemmas.{answered_first}
+use Rattle.auction_run.proofs.BoardLemmas.{none_shown}
+use Rattle.auction_run.proofs.ScriptLemmas.{checked, checked_first}
+use Rattle.auction_run.proofs.runs.run_compact_shown.Goals as goal
+
+pub run_checked-requires-clause-workers : goal.run_checked-requires-clause-workers
+run_checked-requires-clause-workers g c κs within = (checked c.args.policy (rows_of_book c.args.book.now) c.as_slice.result.now c.in_ok-check.ensures).0
+
+pub run_checked-requires-clause-shards : goal.run_checked-requires-clause-shards
+run_checked-requires-clause-shards g c κs within = c.in_ok-check.ensures.1.0
+
+pub run_checked-requires-clause-quotas : goal.run_checked-requires-clause-quotas
+run_checked-requires-clause-quotas g c κs within = c.in_ok-check.ensures.1.1.0
+
+pub run_checked-requires-clause-short : goal.run_checked-requires-clause-short
+run_checked-requires-clause-short g c κs within = (checked c.args.policy (rows_of_book c.args.book.now) c.as_slice.result.now c.in_ok-check.ensures).1.1.1
+
+pub run_checked-requires-clause-board : goal.run_checked-requires-clause-board
+run_checked-requires-clause-board g c κs within = c.requires
+
+pub returns-clause-answer : goal.returns-clause-answer
+returns-clause-answer g c =
+    let book = c.args.book.now in
+    subst (λ scripts. AnswersRun (opening_of book) (rows_of_book book) c.args.policy scripts c.run_checked.result) c.as_slice.ensures.value c.run_checked.ensures.answer
+
+pub returns-clause-board_after_fault : goal.returns-clause-board_after_fault
+returns-clause-board_after_fault g c =
+    let B = g.B.Board in
+    let book = c.args.book.now in
+    subst (λ scripts. IfErr c.run_checked.result (HasShownFirst B.has B.has_refused (opening_of book) (rows_of_book book) c.args.policy scripts c.run_checked.new.board))
+    c.as_slice.ensures.value c.run_checked.ensures.board_after_fault
+
+pub returns-in_err-check-clause-answer : goal.returns-in_err-check-clause-answer
+returns-in_err-check-clause-answer g c =
+    let book = c.args.book.now in
+    subst (λ scripts. AnswersRun (opening_of book) (rows_of_book book) c.args.policy scripts c.from_residual.result) c.as_slice.ensures.value
+    (answered_first (opening_of book) (rows_of_book book) c.args.policy c.as_slice.result.now c.from_residual.result c.in_err-check.field-0.0 c.from_residual.ensures.1
+    (checked_first c.in_err-check.field-0.0 c.args.policy (rows_of_book book) c.as_slice.result.now c.in_err-check.ensures))
+
+pub returns-in_err-check-clause-board_after_fault : goal.returns-in_err-check-clause-board_after_fault
+returns-in_err-check-clause-board_after_fault g c =
+    let B = g.B.Board in
+    let book = c.args.book.now in
+    let fault = c.in_err-check.field-0.0 in
+    err_as c.from_residual.result fault (HasShownFirst B.has B.has_refused (opening_of book) (rows_of_book book) c.args.policy c.args.scripts.items c.args.board.now) c.from_residual.ensures.1
+    (none_shown B.has B.has_refused (opening_of book) (rows_of_book book) [] c.args.policy c.args.scripts.items c.args.board.now c.requires fault)
