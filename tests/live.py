@@ -31,7 +31,8 @@ from sessions import FIRST, ITEMS, PLAIN, Auction, Era, Refused, is_stored, requ
 
 SEEN = "user rating=0 comments=0"
 LINE_ENDS = ("\n", "\r\n", "\r", "\n\n", "\r\n\r\n", "\r\r")
-IN_USE, UNREAD, UNWRITTEN = (("rubis_auction: " + words, 5) for words in ("log is in use", "log cannot be read", "log cannot be written"))
+IN_USE, UNREAD, UNWRITTEN, NO_FILE, UNKEPT = (("rubis_auction: " + words, 5) for words in (
+    "log is in use", "log cannot be read", "log cannot be written", "log is not a regular file", "cut bytes of the log cannot be kept"))
 SECONDS = 60
 
 
@@ -190,38 +191,96 @@ def told(program, log: Path, *words: str) -> tuple | None:
     return None
 
 
+def rows_of(requests: Iterable[str]) -> bytes:
+    """The rows of these requests, as a log has them."""
+    return expected("".join(f"0,{request}\n" for request in requests).encode(), Options(rows=True)).stdout
+
+
 def cut_logs(tester: Tester) -> None:
-    """a log that is cut at each byte of its last part: its whole lines are read, and the rest is cut off and told"""
-    log = tester.folder / "cut"
+    """a log that is cut at each byte of its last part: its whole lines are read, and the rest is cut off, kept beside it and told"""
+    log, kept_off = tester.folder / "cut", tester.folder / "cut.cut"
     auction = Auction(tester.program, "--log", str(log), *PLAIN)
     auction.many([(0, request) for request in (*FIRST, *requests(random.Random(3), 100))])
     before = log.stat().st_size
     auction.many([(0, 'item,0,0,"Last, vase",10,100,1'), (0, "bid,1,0.0,500,3"), (0, "comment,1,2,0.0,-5")])
     auction.close()
-    whole = log.read_bytes()
+    whole, all_kept_off = log.read_bytes(), b""
     for size in range(before, len(whole) + 1):
         log.write_bytes(whole[:size])
         kept = whole_lines(log)
         got = run([tester.program, "--log", log], b"0,viewuser,99\n")
-        words = f"rubis_auction: {size - len(kept)} bytes of a cut line taken off the log\n".encode() if size > len(kept) else b""
+        words, tail = b"", whole[len(kept):size]
+        if tail:
+            words = f"rubis_auction: {len(tail)} bytes of a cut line taken off the log, kept in {kept_off}\n".encode()
+            all_kept_off += tail + b"\n"
         tester.tally.check((got.status, got.stderr) == (0, words) and log.read_bytes() == kept, f"a log cut at byte {size}: {described(got)}")
+    tester.tally.check(kept_off.read_bytes() == all_kept_off, "what was cut off is kept, a line for each cut")
+
+
+def foreign_files(tester: Tester) -> None:
+    """a file that is no log, and a log with an end that no crash leaves: a fault that names file and line, and each byte is as it was"""
+    file, rows = tester.folder / "foreign", rows_of(FIRST)
+    last, tail = rows.count(b"\n"), "no line end, and not the beginning of a row"
+    other = "not as rows are written"
+    for text, line, words in (
+        (b'{"accounts": [1, 2, 3]}', 1, tail),
+        (b"Dear Sir,\r\nI write to", 1, None),
+        (rows.replace(b"\n", b"\r"), 1, tail),
+        (rows.replace(b"\n", b"\r\n"), 1, other),
+        (rows + bytes(5000), last + 1, tail),
+        (rows + b"0,+bid,1,0.0,5" + bytes(2), last + 1, tail),
+        (rows + b"0,+" + b"9" * 187, last + 1, tail),
+        (rows + b"0,bid,1,0.0,5", last + 1, tail),
+        (rows + b"\n", last + 1, other),
+        (rows + b"0,viewuser,0\n", last + 1, other),
+        (b"0,+item,0,0,Vase,10,100,1,1\n", 1, other),
+        (random.Random(5).randbytes(2995).replace(b"\n", b" "), 1, tail),
+    ):
+        file.write_bytes(text)
+        refused = told(tester.program, file)
+        right = refused is not None and refused[1] == 5 and (words is None or refused[0] == f"rubis_auction: {file}: line {line}: {words}")
+        tester.tally.check(right and file.read_bytes() == text and not file.with_name("foreign.cut").exists(), f"{text[:40]!r} as a log: {refused}")
+
+
+def special_files(tester: Tester) -> None:
+    """a pipe, a device or a folder as a log: a fault at once; a cut row that cannot be kept: a fault, and the log is as it was"""
+    pipe, log = tester.folder / "pipe", tester.folder / "uncut"
+    os.mkfifo(pipe)
+    for path in (pipe, Path("/dev/null"), Path("/dev/full"), Path("/dev/zero")):
+        tester.tally.check(told(tester.program, path) == NO_FILE, f"{path} as a log")
+    tester.tally.check(told(tester.program, tester.folder) == UNREAD, "a folder as a log")
+    tester.tally.check(told(tester.program, tester.folder / "none" / "log") == UNREAD, "a log in no folder")
+    text = rows_of(FIRST) + b"0,+bi"
+    log.write_bytes(text)
+    (tester.folder / "uncut.cut").mkdir()
+    tester.tally.check(told(tester.program, log) == UNKEPT and log.read_bytes() == text, "a cut row that cannot be kept")
+    link, far = tester.folder / "link", tester.folder / "far"
+    far.mkdir()
+    link.symlink_to(far / "log")
+    tester.tally.check(told(tester.program, link) is None and (far / "log").read_bytes() == b"", "a link to a log that is missing")
+
+
+def closed_places(tester: Tester) -> None:
+    """standard input, output or error closed: the log has rows and nothing else, and the next start accepts it"""
+    rows, log = rows_of(FIRST), tester.folder / "places"
+    for closed, statuses in (("<&-", (0, 2)), (">&-", (4,)), ("2>&-", (0,)), ("<&- >&- 2>&-", (0, 2, 4)), (">&- 2>&-", (4,))):
+        log.write_bytes(rows + b"0,+bi")
+        shell = f"exec {tester.program} --live 1 --log {log} {closed}"
+        got = run(["sh", "-c", shell], b"0,bid,1,0.0,20,5\n0,viewuser,0\n")
+        right = got.status in statuses and log.read_bytes() in (rows, rows + b"0,+bid,1,0.0,20,5\n")
+        tester.tally.check(right and told(tester.program, log) is None, f"with {closed}: {described(got)}")
 
 
 def bad_logs(tester: Tester) -> None:
-    """a log with a line that is no row, or a row that is refused: a fault, and the file is as it was"""
-    log = tester.folder / "bad"
-    good = "".join(f"0,+{row}\n" for row in FIRST)
-    for line, words in (("0,viewuser,0", None), ("0,+bid,no row", "log: record 9: wrong number of fields"), ("0,+bid,1,0.0,x,1", "log: record 9: not a number"),
-                        ("7,+comment,1,2,0.0,1", "log: record 9: no such worker"), ("0,+item,0,0,Vase,1,2,3,0", "log: record 9: not a quantity"),
-                        ("x", "log: record 9: not a number"), ("0,+bid,1,0.99,500,3", None)):
+    """a log with a line that is no row, or a row that is refused: a fault that names file, place and reason, and the file is as it was"""
+    log, good = tester.folder / "bad", rows_of(FIRST).decode()
+    for line, words in (("0,+bid,no row", "record 9: wrong number of fields"), ("0,+bid,1,0.0,x,1", "record 9: not a number"), ("7,+comment,1,2,0.0,1", "record 9: no such worker"),
+                        ("0,+item,0,0,Vase,1,2,3,0", "record 9: not a quantity"), ("x", "record 9: not a number"), ("0,+bid,1,0.99,500,3", "row 9: refused")):
         for rest in ("", "0,+comment,1,2,0.0,1\n", "0,+com"):
             log.write_text(f"{good}{line}\n{rest}")
             text = log.read_bytes()
             refused = told(tester.program, log)
-            right = refused is not None and words in (None, refused[0].removeprefix("rubis_auction: "))
-            tester.tally.check(right and log.read_bytes() == text, f"a log with {line!r} and {rest!r}: {refused}")
-    tester.tally.check(told(tester.program, tester.folder) == UNREAD, "a folder as a log")
-    tester.tally.check(told(tester.program, tester.folder / "none" / "log") == UNREAD, "a log in no folder")
+            tester.tally.check(refused == (f"rubis_auction: {log}: {words}", 5) and log.read_bytes() == text, f"a log with {line!r} and {rest!r}: {refused}")
 
 
 def read_back(tester: Tester) -> None:
@@ -252,7 +311,7 @@ def failing_logs(tester: Tester) -> None:
             answered, fault = until_refused(auction, [FIRST[0], *(f"comment,{at},{at},0.0,1" for at in range(9))])
             what = f"{cause} {number} fails"
             tester.tally.check(fault == (UNREAD if (cause, number) == ("sync", 1) else UNWRITTEN), f"{what}: {fault}")
-            lost_nothing(tester, what, log, answered, at_most=len(answered) if cause == "write" else len(answered) + 1)
+            lost_nothing(tester, what, log, answered, at_most=len(answered) + (cause == "write and cut"))
 
 
 def until_refused(auction: Auction, asked: Iterable[str]) -> tuple[list[str], tuple | None]:
@@ -307,7 +366,7 @@ def refused_memory(tester: Tester) -> None:
     shim = build_shim("refused_memory", tester.folder)
     if shim is None:
         return tester.tally.skip(refused_memory.__doc__, "there is no C compiler")
-    log, opening = tester.folder / "refused", "".join(f"0,+{row}\n" for row in FIRST[:2])
+    log, opening = tester.folder / "refused", rows_of(FIRST[:2]).decode()
     data = "".join(f"0,{request}\n" for request in requests(random.Random(9), 8)).encode()
     refusing = Refusing(shim, [tester.program, "--live", "2", "--log", log], data)
     log.write_text(opening)
@@ -350,7 +409,7 @@ def kills(tester: Tester) -> None:
             print(f"{number + 1} kills", flush=True)
 
 
-CHECKS = (line_ends, clients, sockets, no_report, same_bytes, histories, locked_log, cut_logs, bad_logs, read_back, failing_logs, full_disks, refused_memory, kills)
+CHECKS = (line_ends, clients, sockets, no_report, same_bytes, histories, locked_log, cut_logs, foreign_files, special_files, closed_places, bad_logs, read_back, failing_logs, full_disks, refused_memory, kills)
 
 
 def main() -> None:

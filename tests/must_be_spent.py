@@ -1,7 +1,7 @@
 #!/usr/bin/env python3
-"""Shows that what has to be spent can be neither let go nor spent twice: a held shard, a permit of either kind and a publisher. Small functions that do so
-are made a crate beside the others, in a copy of their sources, and `rt try` refuses each by the compiler's words. docs/PROVED.md quotes them. Without `rt`
-it is skipped.
+"""Shows that what has to be spent can be neither let go nor spent twice: a held shard, a permit of either kind and a publisher; and that a `Told` is learned
+once. Small functions that do so are made a crate beside the others, in a copy of their sources, and `rt try` refuses each by the compiler's words.
+docs/PROVED.md quotes them. Without `rt` it is skipped.
 
     tests/must_be_spent.py
 """
@@ -21,7 +21,7 @@ LINE = f"{CRATE}: auction_rows shard_boxes phase_permits auction_window left_rig
 HEAD = """//! Functions that let go what has to be spent, or spend it twice.
 #![tactic(auto)]
 
-use auction_window::{Publisher, WindowName};
+use auction_window::{Publisher, Told, Window, WindowName};
 use phase_permits::{JoinedPhase, Permit, SplitPhase};
 use shard_boxes::{Boxes, Held, Key, PhaseName};
 use std::sync::Wait;
@@ -61,6 +61,8 @@ OWNED = [
     Owned("permit", "Permit<N, SplitPhase>", "N: PhaseName", "let _ = permit.finish();"),
     Owned("publisher", "Publisher<J>", "J: WindowName, R: Wait", "publisher.end(rt);", "rt: &R, "),
 ]
+# It may be let go.
+TOLD = Owned("told", "Told<J>", "J: WindowName", "window.learn(told);", "window: &mut Window<J>, ")
 
 
 def refused(source: Path, functions: list[str]) -> list[str]:
@@ -92,8 +94,8 @@ def main() -> None:
         # What is spent once is no error, so each error is of what is not.
         got = refused(source, once + [owned.let_go(number) for number, owned in enumerate(OWNED)])
         tally.check(got == let_go, f"what is let go is refused: wanted {let_go}; got {got}")
-        twice = [TWICE.format(owned.name) for owned in OWNED]
-        got = refused(source, once + [owned.spent(number, 2) for number, owned in enumerate(OWNED)])
+        twice = [TWICE.format(owned.name) for owned in [*OWNED, TOLD]]
+        got = refused(source, once + [owned.spent(number, 2) for number, owned in enumerate([*OWNED, TOLD])])
         tally.check(got == twice, f"what is spent twice is refused: wanted {twice}; got {got}")
         quoted = QUOTED.findall((DOCUMENTS / "PROVED.md").read_text())
         tally.check(set(quoted) <= set(let_go + twice), f"docs/PROVED.md quotes what the compiler says: {quoted}")

@@ -4,8 +4,9 @@
     tests/worked.py [PROGRAM]
 
 An example has a line each for its name, `case: NAME`, and the program's words, `words: WORDS`. Then come the lines of its input, each after `< `, and of
-its output, each after `> `. `...` in its place stands for any lines, and `or` parts outputs that are all lawful. `status: N` is the exit status, if it is
-not 0, and what stands after `! ` is on standard error. Every answer was worked out from docs/FORMATS.md and docs/DEFINITIONS.md by hand.
+its output, each after `> `. A last line of input without a line feed comes after `<| `. `...` in its place stands for any lines, and `or` parts outputs
+that are all lawful. `status: N` is the exit status, if it is not 0, and what stands after `! ` is on standard error. Every answer was worked out from
+docs/FORMATS.md and docs/DEFINITIONS.md by hand.
 """
 
 import re
@@ -35,6 +36,8 @@ class Example:
             case "status:":
                 self.status = int(rest)
             case "<":
+                self.input.append(rest + "\n")
+            case "<|":
                 self.input.append(rest)
             case ">":
                 self.outputs[-1].append(re.escape(rest) + "\n")
@@ -48,7 +51,7 @@ class Example:
                 raise ValueError(f"{self.name}: not a line of an example: {line}")
 
     def text(self) -> bytes:
-        return "".join(f"{line}\n" for line in self.input).encode()
+        return "".join(self.input).encode()
 
     def is_met(self, got: Outcome) -> bool:
         printed = got.stdout.decode()

@@ -8,3 +8,4 @@ pub mod SessionLemmas
 pub mod ToldLemmas
 pub mod OneHistory
 pub mod FirstPart
+pub mod OpenedLemmas

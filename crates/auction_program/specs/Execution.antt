@@ -27,7 +27,7 @@ use Rattle.auction_run.specs.declared.checks.RunFault.{RunFault}
 use Rattle.auction_run.specs.declared.checks.RunFault.TheVariants as run
 use Rattle.auction_run.specs.declared.runs.Outcome.{Outcome}
 use Rattle.auction_program.specs.declared.faults.Fault.{Fault}
-use Rattle.auction_program.specs.declared.faults.Fault.TheVariants.{Usage, Read, Resume, Make, Run, Write, Report, OpenLog, Locked, LogRecord, Log}
+use Rattle.auction_program.specs.declared.faults.Fault.TheVariants.{Usage, Read, Resume, Make, Run, Write, Report, OpenLog, Log}
 use Rattle.auction_program.specs.declared.options.Options.{Options}
 use Rattle.auction_program.specs.declared.execution.Performed.{Performed}
 
@@ -163,9 +163,7 @@ IsNotPerformed options (Make fault) book scripts = IsTrue options.report
 IsNotPerformed options (Run fault) book scripts = IsNotRun (policy_of options) fault book scripts
 IsNotPerformed options (Write fault) book scripts = ⊥
 IsNotPerformed options Report book scripts = ⊥
-IsNotPerformed options OpenLog book scripts = ⊥
-IsNotPerformed options Locked book scripts = ⊥
-IsNotPerformed options (LogRecord fault) book scripts = ⊥
+IsNotPerformed options (OpenLog fault) book scripts = ⊥
 IsNotPerformed options (Log fault) book scripts = ⊥
 
 -- a fault that comes before anything is written
@@ -177,9 +175,7 @@ IsUnwritten (Resume fault) = Unit {0}
 IsUnwritten (Make fault) = Unit {0}
 IsUnwritten (Run fault) = Unit {0}
 IsUnwritten Report = Unit {0}
-IsUnwritten OpenLog = Unit {0}
-IsUnwritten Locked = Unit {0}
-IsUnwritten (LogRecord fault) = Unit {0}
+IsUnwritten (OpenLog fault) = Unit {0}
 IsUnwritten (Log fault) = Unit {0}
 
 -- Why the program failed, by the input: a fault in the input is its first one, a row that is
@@ -197,7 +193,5 @@ IsCausedBy options input (Run fault) = OfInput options input (λ rows scripts.
     × IsNotRun (policy_of options) fault (opening_rows (opening_asked options) rows) scripts)
 IsCausedBy options input (Write fault) = Answers options input (λ text added. Unit {0})
 IsCausedBy options input Report = ⊥
-IsCausedBy options input OpenLog = ⊥
-IsCausedBy options input Locked = ⊥
-IsCausedBy options input (LogRecord fault) = ⊥
+IsCausedBy options input (OpenLog fault) = ⊥
 IsCausedBy options input (Log fault) = ⊥

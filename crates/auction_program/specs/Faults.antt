@@ -4,7 +4,7 @@ use Rattle.part_log.specs.declared.log.TellFault.{TellFault}
 use Rattle.part_log.specs.declared.log.TellFault.TheVariants as telling
 use Rattle.program_options.specs.Words.{usage_words}
 use Rattle.auction_program.specs.declared.faults.Fault.{Fault}
-use Rattle.auction_program.specs.declared.faults.Fault.TheVariants.{Usage, Read, Resume, Make, Run, Write, Report, OpenLog, Locked, LogRecord, Log}
+use Rattle.auction_program.specs.declared.faults.Fault.TheVariants.{Usage, Read, Resume, Make, Run, Write, Report, OpenLog, Log}
 
 abbrev pub status : Fault → ℕ
 status (Usage fault) = 1
@@ -14,9 +14,7 @@ status (Make fault) = 3
 status (Run fault) = 3
 status (Write fault) = 4
 status Report = 1
-status OpenLog = 5
-status Locked = 5
-status (LogRecord fault) = 5
+status (OpenLog fault) = 5
 status (Log fault) = 5
 
 -- the words of the parser of options, if it refused the program's
@@ -28,9 +26,7 @@ parser_words (Make fault) = None
 parser_words (Run fault) = None
 parser_words (Write fault) = None
 parser_words Report = None
-parser_words OpenLog = None
-parser_words Locked = None
-parser_words (LogRecord fault) = None
+parser_words (OpenLog fault) = None
 parser_words (Log fault) = None
 
 -- the fault of a part that was not told

@@ -3,6 +3,7 @@ use Rattle.std.specs.Prelude.{ℕ, ◌≡◌, ◌+◌, ◌++◌, List, [], Optio
 use Rattle.auction_rows.specs.declared.requests.Object.{Object}
 use Rattle.auction_rows.specs.declared.requests.Request.{Request}
 use Rattle.auction_rows.specs.declared.rows.Entry.{Entry}
+use Rattle.auction_rows.specs.declared.values.Opening.{Opening}
 use Rattle.auction_rows.specs.Book.{Book}
 use Rattle.auction_rows.specs.History.{book_after}
 use Rattle.auction_text.specs.Moved.{Gone, gone_by}
@@ -15,6 +16,7 @@ use Rattle.auction_text.specs.declared.reading.record.Record.{Record}
 use Rattle.item_shards.specs.OpeningBooks as opened
 use Rattle.item_shards.specs.OpeningRows.{AreRows, IsTooLong, opening_rows}
 use Rattle.item_shards.specs.declared.openings.Opened.{Opened}
+use Rattle.item_shards.specs.declared.openings.OpeningBook.{OpeningBook}
 use Rattle.phase_floor.specs.States.{IsBookOf}
 use Rattle.run_laws.specs.Answers.{IsAnswer}
 use Rattle.auction_program.specs.Options.{opening_asked, policy_of}
@@ -24,11 +26,11 @@ use Rattle.auction_program.specs.declared.faults.Fault.TheVariants.{Read}
 use Rattle.auction_program.specs.declared.options.Options.{Options}
 use Rattle.auction_program.specs.declared.parts.Served.{Served}
 use Rattle.auction_program.specs.declared.parts.RunStart.{RunStart}
-use Rattle.auction_program.specs.declared.parts.RunStart.TheVariants.{Book as Opening, State}
+use Rattle.auction_program.specs.declared.parts.RunStart.TheVariants.{Book as AtBook, State}
 
 -- a run begins at this book
 abbrev pub StartsAt : Options → RunStart → Book → Type 0
-StartsAt options (Opening book) rows =
+StartsAt options (AtBook book) rows =
     (opened.opening_of book ≡ opening_asked options) × (opened.rows_of_book book ≡ rows)
 StartsAt options (State state) rows =
     (state.opening ≡ opening_asked options) × IsBookOf state rows
@@ -59,6 +61,13 @@ pub record ServesPart (options : Options) (book : Book) (gone : Gone)
   pub runs : RunsPart options book gone scripts Holds
   pub starts : StartsAt options served.start (book_after (opening_asked options) book runs.history)
   pub before : gone_by served.before ≡ gone_with gone (length runs.hot) scripts
+
+-- Rows that are handed in open an auction with this book.
+pub record IsOpenedBy (opening : Opening) (rows : List Opened) (book : OpeningBook) : Type 0 where
+  pub are_rows : AreRows opening rows
+  pub few : ¬ IsTooLong rows
+  pub opening_is : opened.opening_of book ≡ opening
+  pub rows_are : opened.rows_of_book book ≡ opening_rows opening rows
 
 -- Rows of a log, and then those of an input, open an auction, and this holds of those that the log
 -- has not and of the text.

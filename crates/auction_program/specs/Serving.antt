@@ -1,5 +1,5 @@
 -- What the program answers while requests come.
-use Rattle.std.specs.Prelude.{ℕ, ◌≡◌, ◌≤◌, ◌+◌, ◌++◌, ◌⊎◌, List, [], ◌∷◌, Option, drop, flat_map, length, slice_index_or, if◌then◌else◌}
+use Rattle.std.specs.Prelude.{ℕ, ◌≡◌, ◌≤◌, ◌+◌, ◌++◌, ◌⊎◌, List, [], ◌∷◌, Option, drop, flat_map, length, map, slice_index_or, if◌then◌else◌}
 use Rattle.std.specs.Io.KnownBytes.{Appends, Keeps}
 use Rattle.auction_rows.specs.declared.requests.Object.{Object}
 use Rattle.auction_rows.specs.declared.requests.Request.{Request}
@@ -13,8 +13,10 @@ use Rattle.auction_text.specs.Scripts.{asked_in, rows}
 use Rattle.auction_text.specs.Writing.{IsPartWritten}
 use Rattle.auction_text.specs.declared.reading.ReadFault.{ReadFault}
 use Rattle.auction_text.specs.declared.reading.record.Record.{Record}
-use Rattle.item_shards.specs.OpeningRows.{AreRows, IsTooLong, opening_rows}
+use Rattle.item_shards.specs.OpeningBooks.{rows_of_book}
+use Rattle.item_shards.specs.OpeningRows.{AreRows, IsTooLong, opened_of, opening_rows}
 use Rattle.item_shards.specs.declared.openings.Opened.{Opened}
+use Rattle.item_shards.specs.declared.openings.OpeningBook.{OpeningBook}
 use Rattle.part_log.specs.declared.log.Teller.{Teller}
 use Rattle.run_laws.specs.Answers.{IsAnswer}
 use Rattle.auction_program.specs.Execution.{commits_text}
@@ -26,6 +28,10 @@ pub record PartRun : Type 0 where
   pub said : List Record
   pub hot : List (List Object)
   pub history : List Entry
+
+-- the rows of a log, as they were handed in
+abbrev pub logged_rows : OpeningBook → List Opened
+logged_rows logged = map opened_of (rows_of_book logged)
 
 -- the scripts of records
 abbrev pub scripts_in : Options → List Record → List (List Request)

@@ -1,10 +1,9 @@
 -- What the program's words say of its options, by the parser of words (`clap`).
-use Rattle.std.specs.Prelude.{ℕ, List, [], ◌∷◌, Option, fold, codes}
+use Rattle.std.specs.Prelude.{◌≡◌, ℕ, List, [], ◌∷◌, Option, fold, codes, option_map, string_bytes}
 use Rattle.auction_rows.specs.declared.limits.TheConstants.{MOST_HOT, MOST_SHARDS, MOST_WORKERS}
 use Rattle.clap.specs.Simple.{App, with_rule}
 use Rattle.clap.specs.Walk.{Rule}
 use Rattle.program_options.specs.Options.{file_rule, flag_rule, is_set, named_rule, number_of, versioned_program}
-use Rattle.program_options.specs.Words.{text_in, value_in}
 use Rattle.program_options.specs.declared.options.TheConstants.{MOST_ASKED}
 use Rattle.auction_program.specs.declared.options.Options.{Options}
 
@@ -29,27 +28,18 @@ option_rules =
 abbrev pub program : App
 program = fold with_rule (versioned_program (codes "rubis_auction")) option_rules
 
--- the options, by the text of each
-abbrev pub options_of : (List ℕ → Option (List ℕ)) → Options
-options_of text = record {
-  workers = number_of (text (codes "workers"));
-  shards = number_of (text (codes "shards"));
-  joined = number_of (text (codes "joined"));
-  split = number_of (text (codes "split"));
-  threshold = number_of (text (codes "threshold"));
-  hot = number_of (text (codes "hot"));
-  users = number_of (text (codes "users"));
-  categories = number_of (text (codes "categories"));
-  live = number_of (text (codes "live"));
-  history = is_set (text (codes "history"));
-  rows = is_set (text (codes "rows"));
-  report = is_set (text (codes "report"));
-}
-
--- the options that the words give
-abbrev pub options_in : List (List ℕ) → Options
-options_in words = options_of (text_in program words)
-
--- the name of the log's file, if the words give one
-abbrev pub log_in : List (List ℕ) → Option (List ℕ)
-log_in words = value_in program words (codes "log")
+-- Texts say the options: each number and flag by its own text; the log is the file that is named.
+pub record SayOptions (text value : List ℕ → Option (List ℕ)) (options : Options) : Type 0 where
+  pub workers : options.workers ≡ number_of (text (codes "workers"))
+  pub shards : options.shards ≡ number_of (text (codes "shards"))
+  pub joined : options.joined ≡ number_of (text (codes "joined"))
+  pub split : options.split ≡ number_of (text (codes "split"))
+  pub threshold : options.threshold ≡ number_of (text (codes "threshold"))
+  pub hot : options.hot ≡ number_of (text (codes "hot"))
+  pub users : options.users ≡ number_of (text (codes "users"))
+  pub categories : options.categories ≡ number_of (text (codes "categories"))
+  pub live : options.live ≡ number_of (text (codes "live"))
+  pub log : option_map string_bytes options.log ≡ value (codes "log")
+  pub history : options.history ≡ is_set (text (codes "history"))
+  pub rows : options.rows ≡ is_set (text (codes "rows"))
+  pub report : options.report ≡ is_set (text (codes "report"))

@@ -4,6 +4,7 @@ ghost use Rattle.std.specs.Io.KnownBytes.{Appends};
 ghost use Rattle.auction_text.specs.declared.writing.WriteFault.{WriteFault};
 ghost use Rattle.auction_program.specs.Faults.{status, parser_words};
 
+use crate::log_file::LogFileFault;
 use auction_run::RunFault;
 use auction_text::{ReadFault, WriteFault};
 use auction_window::MakeFault;
@@ -37,15 +38,9 @@ pub enum Fault {
     /// A report was asked for of requests that are answered while more come.
     #[error("no report with --live or --log")]
     Report,
-    /// The log's file could not be opened, read, or freed of a cut line.
-    #[error("log cannot be read")]
-    OpenLog,
-    /// Another program has the log.
-    #[error("log is in use")]
-    Locked,
-    /// A record of the log is no row.
-    #[error("log: {0}")]
-    LogRecord(ReadFault),
+    /// The log could not be opened.
+    #[error("{0}")]
+    OpenLog(LogFileFault),
     /// Rows could not be logged.
     #[error("{0}")]
     Log(LogFault),
@@ -111,6 +106,16 @@ impl From<WriteFault> for Fault {
     }
 }
 
+impl From<LogFileFault> for Fault {
+    ghost use Rattle.auction_program.specs.declared.faults.Fault.TheVariants.{OpenLog};
+
+    ghost from_gives = { λ cause fault. fault ≡ OpenLog cause };
+
+    fn from(cause: LogFileFault) -> Fault {
+        Fault::OpenLog(cause)
+    }
+}
+
 impl From<TellFault> for Fault {
     ghost use Rattle.auction_program.specs.Faults.{of_telling};
 
@@ -134,7 +139,7 @@ pub fn status(fault: &Fault) -> u8
         Fault::Read(_) => 2,
         Fault::Resume(_) | Fault::Make(_) | Fault::Run(_) => 3,
         Fault::Write(_) => 4,
-        Fault::OpenLog | Fault::Locked | Fault::LogRecord(_) | Fault::Log(_) => 5,
+        Fault::OpenLog(_) | Fault::Log(_) => 5,
     }
 }
 

@@ -4,6 +4,7 @@
 
 mod execution;
 mod faults;
+mod log_file;
 mod opening;
 mod options;
 mod parts;
@@ -15,9 +16,10 @@ pub use auction_text::{Cause, ReadFault, WriteFault};
 pub use auction_window::MakeFault;
 pub use execution::{execute, one_worker_has_one_answer};
 pub use faults::{Fault, status, write_fault};
-pub use item_shards::ResumeFault;
-pub use opening::{OpenedLog, open_log};
-pub use options::{Invocation, Options, read_options};
+pub use item_shards::{OpeningBook, ResumeFault};
+pub use log_file::{LogFileFault, OpenedLog, open_log};
+pub use log_opening::OpenFault;
+pub use options::{Options, read_options};
 pub use part_log::{FileLog, LogFault, NoLog, Teller};
 pub use program_options::UsageFault;
 pub use session::{LoggedInput, parts_are_one_history, serve};

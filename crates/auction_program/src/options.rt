@@ -1,10 +1,10 @@
 //! The options of the program.
-ghost use Rattle.std.specs.Prelude.{◌≡◌, IfOk, IfErr, OnOk, map, option_map, string_bytes};
-ghost use Rattle.clap.specs.Words.{app_of, found_of, one_text};
-ghost use Rattle.program_options.specs.Words.{AreTaken, HaveNumbers};
+ghost use Rattle.std.specs.Prelude.{◌≡◌, IfOk, IfErr, OnOk, map, string_bytes};
+ghost use Rattle.clap.specs.Words.{app_of, first_value, found_of, one_text};
+ghost use Rattle.program_options.specs.Words.{AreTaken, HaveNumbers, text_in, value_in};
 ghost use Rattle.program_options.specs.declared.words.UsageFault.{UsageFault};
 ghost use Rattle.auction_program.specs.Options.{AreInRange};
-ghost use Rattle.auction_program.specs.Words.{log_in, options_in, options_of, program};
+ghost use Rattle.auction_program.specs.Words.{SayOptions, program};
 
 use auction_rows::{MOST_HOT, MOST_SHARDS, MOST_WORKERS, Opening};
 use auction_run::Policy;
@@ -16,8 +16,8 @@ use program_options::{
 use std::alloc::{AllocError, Global};
 
 /// What the program is asked to do: how the auction is run, how many users and categories it has,
-/// and what is written.
-#[derive(Clone, Copy)]
+/// whether a log keeps its rows, and what is written.
+#[derive(Drop)]
 pub struct Options {
     /// How many workers there are, 1 to 16.
     pub workers: u32,
@@ -38,21 +38,14 @@ pub struct Options {
     /// How many requests are answered at a time at most, while more are to come: at most 1,000,000,
     /// and 0 if all are read first.
     pub live: u32,
+    /// The name of the log's file, if there is to be a log.
+    pub log: Option<String>,
     /// Whether the history is written in place of the replies.
     pub history: bool,
     /// Whether the rows are written in place of the replies, and of the history.
     pub rows: bool,
     /// Whether the report is written after them.
     pub report: bool,
-}
-
-/// What the program's words ask for.
-#[derive(Drop)]
-pub struct Invocation {
-    /// The options.
-    pub options: Options,
-    /// The name of the log's file, if there is to be a log.
-    pub log: Option<String>,
 }
 
 impl Options {
@@ -118,12 +111,14 @@ fn command<'a>(alloc: Global) -> Result<Command<'a>, AllocError>
     described_program(alloc, "rubis_auction", DESCRIPTION).args(options)
 }
 
-fn options_of(matches: &ArgMatches<'_>) -> Options
-    ensures given { HaveNumbers program (one_text (found_of matches.now)) →
-        result ≡ options_of (one_text (found_of matches.now)) }
-    ensures range { AreInRange result }
+fn options_of(alloc: Global, matches: &ArgMatches<'_>) -> Result<Options, UsageFault>
+    ensures given { IfOk result (λ options. HaveNumbers program (one_text (found_of matches.now)) →
+        SayOptions (one_text (found_of matches.now)) (first_value (found_of matches.now)) options) }
+    ensures range { IfOk result AreInRange }
+    ensures memory { IfErr result (λ fault. fault ≡ UsageFault.Memory) }
 {
-    Options {
+    let log = text_of(alloc, matches, "log")?;
+    Ok(Options {
         workers: number_of(matches, "workers", WORKERS),
         shards: number_of(matches, "shards", SHARDS),
         joined: number_of(matches, "joined", FROM_ONE),
@@ -133,21 +128,21 @@ fn options_of(matches: &ArgMatches<'_>) -> Options
         users: number_of(matches, "users", FROM_ZERO),
         categories: number_of(matches, "categories", FROM_ZERO),
         live: number_of(matches, "live", FROM_ZERO),
+        log,
         history: flag_of(matches, "history"),
         rows: flag_of(matches, "rows"),
         report: flag_of(matches, "report"),
-    }
+    })
 }
 
 /// The options that the words give, the first of which is the program's name. If they say nothing
 /// else: one worker, 4 shards, phases of 64 requests, the threshold 8, 8 hot objects, 100 users, 10
 /// categories, all requests are read first, there is no log, and only the replies are written.
 /// Words that are refused, or that ask for help, are answered in `clap`'s words.
-pub fn read_options(alloc: Global, words: &[String]) -> Result<Invocation, UsageFault>
-    ensures given { IfOk result (λ asked. asked.options ≡ options_in (map string_bytes words.now)) }
-    ensures log { IfOk result (λ asked.
-        option_map string_bytes asked.log ≡ log_in (map string_bytes words.now)) }
-    ensures range { IfOk result (λ asked. AreInRange asked.options) }
+pub fn read_options(alloc: Global, words: &[String]) -> Result<Options, UsageFault>
+    ensures given { IfOk result (SayOptions (text_in program (map string_bytes words.now))
+        (value_in program (map string_bytes words.now))) }
+    ensures range { IfOk result AreInRange }
     ensures taken { OnOk result (AreTaken program (map string_bytes words.now)) }
     ensures memory { IfErr result (λ fault. AreTaken program (map string_bytes words.now) →
         fault ≡ UsageFault.Memory) }
@@ -156,11 +151,7 @@ pub fn read_options(alloc: Global, words: &[String]) -> Result<Invocation, Usage
         return Err(UsageFault::Memory);
     };
     let matches = parse_words(alloc, command, words)?;
-    let log = text_of(alloc, &matches, "log")?;
-    Ok(Invocation {
-        options: options_of(&matches),
-        log,
-    })
+    options_of(alloc, &matches)
 }
 
 // What the program says of itself and of its options.

@@ -11,7 +11,7 @@ ghost use Rattle.auction_text.specs.Moved.{Gone};
 ghost use Rattle.auction_text.specs.Replies.{history_text};
 ghost use Rattle.part_log.specs.declared.log.Teller.{Teller as Told};
 ghost use Rattle.auction_program.specs.PartRuns.{IsSession};
-ghost use Rattle.auction_program.specs.Serving.{ArePartTold, AreTold, IsLoggedBefore, ServesAll, ServesFirst, ArePartRuns, PartRun, part_texts, served_history};
+ghost use Rattle.auction_program.specs.Serving.{ArePartTold, AreTold, IsLoggedBefore, ServesAll, ServesFirst, ArePartRuns, PartRun, logged_rows, part_texts, served_history};
 ghost use Rattle.auction_program.specs.Options.{opening_asked};
 ghost use Rattle.auction_program.specs.declared.options.Options.{Options as Asked};
 
@@ -20,7 +20,7 @@ use crate::opening::open;
 use crate::options::Options;
 use crate::parts::{NextPart, RunStart, Served, serve_part};
 use auction_text::{Before, CompactInput, InputLeft, Part, PartEnd, ReadFault};
-use item_shards::Opened;
+use item_shards::OpeningBook;
 use part_log::{Log, Teller};
 use std::alloc::Global;
 use std::io::{Read, Write};
@@ -31,7 +31,7 @@ use std::thread::Threads;
 #[derive(Drop)]
 pub struct LoggedInput<I> {
     /// The rows that a log has.
-    pub logged: Vec<Opened>,
+    pub logged: OpeningBook,
     /// The reader of the input.
     pub reader: I,
 }
@@ -65,16 +65,17 @@ pub fn serve<R: Threads + Wait + Sync, I: Read + Drop, L: Log, W: Write>(
     options: &Options,
 ) -> Result<(), Fault>
     ensures all { OnOk result (IfSome (I.remaining source.reader) (λ input.
-        ServesAll options.now source.logged.items (readable_of options.now.workers input) None
+        ServesAll options.now (logged_rows source.logged)
+        (readable_of options.now.workers input) None
         (AreTold L.accepted W.contents teller.old teller.new))) }
     ensures fault { (fault : ReadFault) → result ≡ Err (Fault.Read fault) → IsInputFault fault →
         IfSome (I.remaining source.reader) (λ input.
-        ServesAll options.now source.logged.items (readable_of options.now.workers input)
-        (Some fault)
+        ServesAll options.now (logged_rows source.logged)
+        (readable_of options.now.workers input) (Some fault)
         (AreTold L.accepted W.contents teller.old teller.new)) }
     ensures logged { IfSome (I.remaining source.reader) (λ input.
-        IsLoggedBefore L.accepted W.contents teller.old teller.new options.now source.logged.items
-        (readable_of options.now.workers input)) }
+        IsLoggedBefore L.accepted W.contents teller.old teller.new options.now
+        (logged_rows source.logged) (readable_of options.now.workers input)) }
 {
     let LoggedInput { logged, reader } = source;
     let left = InputLeft::of(alloc, reader, options.workers)?;

@@ -51,13 +51,6 @@ impl<J: WindowName> Told<J> {
     {
         Told { phases }
     }
-
-    /// The same, for another window. It takes no memory.
-    pub fn again(&self) -> Told<J>
-        ensures { result ≡ self.now }
-    {
-        Told::new(self.phases.again())
-    }
 }
 
 /// Shows what is published, in any thread, and never goes back. Contracts see the phases of its last view, or those that it

@@ -46,9 +46,3 @@ Says line (WrongAt number wrong) Holds = SaysWrong line wrong (λ said.
     Holds (labelled (codes "line ") number ++ codes ": " ++ said))
 Says line (Lacks worker index) Holds =
     Holds (decimal worker ++ labelled (codes ",") index ++ codes " stands in no line\n")
-
--- A text says what is found, with what is wrong with some line if one is, and this holds of the
--- text.
-pub record SaysOfSome (verdict : Verdict) (Holds : List ℕ → Type 0) : Type 0 where
-  pub line : List ℕ
-  pub says : Says line verdict Holds

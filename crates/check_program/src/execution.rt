@@ -1,12 +1,12 @@
 //! From the bytes of rows and scripts and those of a history to what is found of the history, as a
 //! line and as an exit status.
-ghost use Rattle.std.specs.Prelude.{◌≡◌, ◌≤◌, ◌++◌, Err, IfOk, IfSome, OnOk};
+ghost use Rattle.std.specs.Prelude.{◌≡◌, ◌≤◌, ◌++◌, Err, IfErr, IfOk, OnOk};
 ghost use Rattle.std.specs.Io.KnownBytes.{Appends};
 ghost use Rattle.auction_text.specs.Writing.{IsPartWritten};
 ghost use Rattle.auction_text.specs.declared.writing.WriteFault.{WriteFault};
-ghost use Rattle.check_program.specs.Finding.{IsFound};
+ghost use Rattle.check_program.specs.Finding.{Tells, TellsSome};
 ghost use Rattle.check_program.specs.Faults.{verdict_status};
-ghost use Rattle.check_program.specs.VerdictLines.{place_text, reason_text, Says, SaysOfSome, SaysWrong};
+ghost use Rattle.check_program.specs.VerdictLines.{place_text, reason_text, Says, SaysWrong};
 
 use crate::faults::Fault;
 use crate::options::Options;
@@ -20,8 +20,8 @@ use std::alloc::{AllocError, Global};
 use std::io::{BufRead, Read, Write};
 
 /// Opens an auction with the rows that the first reader gives, replays the history that the second
-/// gives on it, and writes what is found as a line. After a fault nothing was written, or a prefix
-/// of that line.
+/// gives on it, and writes what is found as a line. If the writer fails, a prefix of that line was
+/// written, and after any other fault nothing.
 pub fn execute<I: Read + Drop, H: BufRead, W: Write>(
     alloc: Global,
     reader: I,
@@ -30,10 +30,14 @@ pub fn execute<I: Read + Drop, H: BufRead, W: Write>(
     options: &Options,
 ) -> Result<Verdict, Fault>
     requires { options.now.workers ≤ MOST_WORKERS }
-    ensures found { IfOk result (λ verdict. IfSome (I.remaining reader) (λ input.
-        IfSome (H.remaining history.old) (λ text. IsFound options.now input text verdict))) }
-    ensures says { IfOk result (λ verdict. SaysOfSome verdict
+    ensures tells { IfOk result (λ verdict. Tells options.now (I.remaining reader)
+        (H.remaining history.old) verdict
         (Appends (W.contents writer.old) (W.contents writer.new))) }
+    ensures part { result ≡ Err (Fault.Write WriteFault.Write) → TellsSome options.now
+        (I.remaining reader) (H.remaining history.old)
+        (IsPartWritten (W.contents writer.old) (W.contents writer.new)) }
+    ensures unwritten { IfErr result (λ fault. ¬ (fault ≡ Fault.Write WriteFault.Write) →
+        writer.new ≡ writer.old) }
 {
     let input = read_compact_scripts(alloc, reader, options.workers)?;
     let book = OpeningBook::new(alloc, options.opening, input.rows)?;

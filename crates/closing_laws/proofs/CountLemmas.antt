@@ -16,7 +16,7 @@ use Rattle.auction_rows.specs.Book.{Book, as_item, as_bid, as_comment, as_buy, f
 use Rattle.auction_rows.specs.Replies.{answer, answer_unless, item_seen, row_of, row_if}
 use Rattle.phase_permits.specs.declared.worker.Counters.{Counters}
 use Rattle.phase_permits.specs.Txns.{counters_after}
-use Rattle.closing_laws.specs.Replying.{CountsOf}
+use Rattle.phase_permits.specs.Replying.{CountsOf}
 
 -- the rows of one kind that pass a test, with one row more
 count_more : {R : Type 0} (kind : Row → Option R) (p : R → Bool) (book : Book) (one : Row)

@@ -10,7 +10,7 @@ use Rattle.shard_boxes.specs.Keys.{key_at, lines_at, holds_at}
 use Rattle.shard_boxes.specs.Lines.{lines_of}
 use Rattle.shard_boxes.specs.States.{state_at}
 use Rattle.phase_permits.specs.Txns.{hot_of, line_on, lines_owed}
-use Rattle.closing_laws.specs.Replying.{CountsOf}
+use Rattle.phase_permits.specs.Replying.{CountsOf}
 use Rattle.closing_laws.specs.Phases.{HasClosed, IsReceiptOf, receipt_at}
 use Rattle.closing_laws.specs.Standing.{StandFor, counters_at}
 use Rattle.closing_laws.specs.Example.{setting, counters, txn, line, key, receipt, opened, example_book, example_phase}

@@ -22,8 +22,8 @@ use Rattle.item_shards.specs.Writing.{writes_of}
 use Rattle.item_shards.proofs.RowLemmas.{value_next}
 use Rattle.phase_permits.specs.Txns.{Setting, hot_of, is_put_off}
 use Rattle.phase_permits.specs.Slicing.{stock_of}
+use Rattle.phase_permits.specs.Replying.{HasFixed}
 use Rattle.phase_permits.proofs.HomeLemmas.{no_other}
-use Rattle.closing_laws.specs.Replying.{HasFixed}
 
 -- a row is no purchase of an item
 abbrev IsNoPurchase : ItemId → Row → Type 0

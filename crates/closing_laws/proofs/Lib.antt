@@ -17,5 +17,3 @@ pub mod WorkerLemmas
 pub mod FitLemmas
 pub mod RoomLemmas
 pub mod ExampleLemmas
-pub mod LookLemmas
-pub mod RightLemmas

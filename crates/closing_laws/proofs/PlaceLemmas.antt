@@ -18,8 +18,8 @@ use Rattle.shard_boxes.specs.Lines.{acts_in, AreTrueOf}
 use Rattle.phase_permits.specs.declared.worker.Counters.{Counters}
 use Rattle.phase_permits.specs.Txns.{Setting, Txn, hot_of, takes, line_on, counters_after, after_txn, IsAnswered}
 use Rattle.phase_permits.specs.Slicing.{stock_of}
-use Rattle.closing_laws.specs.Replying.{CountsOf, HasFixed}
-use Rattle.closing_laws.proofs.RightLemmas.{txn_right}
+use Rattle.phase_permits.specs.Replying.{CountsOf, HasFixed}
+use Rattle.phase_permits.proofs.RightLemmas.{txn_right}
 use Rattle.closing_laws.proofs.CountLemmas.{own_commit, other_commit}
 use Rattle.closing_laws.proofs.FixedLemmas.{HasItems, fixed_next}
 

@@ -20,7 +20,7 @@ use Rattle.shard_boxes.specs.Lines.{Line, acts_in, AreTrueOf, after_line}
 use Rattle.shard_boxes.specs.States.{ShardState, state_at}
 use Rattle.phase_permits.specs.declared.worker.Counters.{Counters}
 use Rattle.phase_permits.specs.Txns.{Setting, Txn, hot_of, entry_of, takes, line_on, IsAnswered, after_txn}
-use Rattle.closing_laws.specs.Replying.{CountsOf}
+use Rattle.phase_permits.specs.Replying.{CountsOf}
 use Rattle.closing_laws.specs.Phases.{Phase, HasClosed, counters_of, value_on}
 use Rattle.closing_laws.specs.Standing.{ShardsStandFor, StandFor, counters_at}
 use Rattle.closing_laws.specs.Histories.{ReplaysAndStands, worker_line}

@@ -4,4 +4,3 @@ pub mod Histories
 pub mod Merging
 pub mod Lawful
 pub mod Example
-pub mod Replying

@@ -8,7 +8,7 @@ use Rattle.item_shards.specs.Standing.{ContentsStandsFor}
 use Rattle.shard_boxes.specs.States.{ShardState, state_at}
 use Rattle.phase_permits.specs.declared.worker.Counters.{Counters}
 use Rattle.phase_permits.specs.Workers.{no_counters}
-use Rattle.closing_laws.specs.Replying.{CountsOf}
+use Rattle.phase_permits.specs.Replying.{CountsOf}
 
 -- the counters of a worker
 abbrev pub counters_at : List Counters → ℕ → Counters

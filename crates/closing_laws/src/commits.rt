@@ -9,7 +9,6 @@ ghost use Rattle.auction_rows.specs.declared.rows.Row.{Row};
 ghost use Rattle.auction_rows.specs.Book.{Book};
 ghost use Rattle.auction_rows.specs.Footprint.{footprint};
 ghost use Rattle.auction_rows.specs.History.{IsRight};
-ghost use Rattle.auction_rows.specs.Replies.{reply};
 ghost use Rattle.item_shards.specs.Contents.{Contents};
 ghost use Rattle.item_shards.specs.Writing.{writes_of};
 ghost use Rattle.shard_boxes.specs.Lines.{Line};
@@ -18,7 +17,7 @@ ghost use Rattle.shard_boxes.specs.States.{ShardState};
 ghost use Rattle.phase_permits.specs.declared.worker.Counters.{Counters};
 ghost use Rattle.phase_permits.specs.declared.transaction.PermitFault.{PermitFault};
 ghost use Rattle.phase_permits.specs.Performing.{HasCommitted, HasFailed, shards_asked};
-ghost use Rattle.closing_laws.specs.Replying.{CountsOf, HasStocks, SawTrue, StoodFor, HasFixed, StoodAsTaken};
+ghost use Rattle.phase_permits.specs.Replying.{CountsOf, SawTrue, StoodFor, HasFixed, IsModelReply};
 ghost use Rattle.phase_permits.specs.Slicing.{slices_of, slices_after_acts, HaveAtMost};
 ghost use Rattle.phase_permits.specs.Txns.{Setting, Txn, entry_of, hot_of, IsAnswered};
 ghost use Rattle.phase_permits.specs.Workers.{WorkerState, IsExplained, IsIdle, setting_of, txn_of};
@@ -58,11 +57,9 @@ pub fn replies_are_right()
         (book : Book) → StoodFor z taken book txn → HasFixed z book →
         CountsOf book (entry_of txn).worker counters → IsRight z.opening book (entry_of txn) }
     ensures commits { (initial : List ShardState) (old new : WorkerState)
-        (request : Request) (index : ℕ) (answer : Reply)
-        (done : HasCommitted initial old new request index answer) (book : Book) →
-        StoodAsTaken initial old new request index answer done book → HasStocks book old.slices →
-        CountsOf book old.journal.worker old.counters →
-        answer ≡ reply old.opening book old.journal.worker request }
+        (request : Request) (index : ℕ) (answer : Reply) →
+        HasCommitted initial old new request index answer →
+        IsModelReply initial old new request answer }
 {}
 
 /// A request with an empty footprint leaves the key as it was, whether it was committed or not.

@@ -1,2 +1,3 @@
-//! Tests of `auction_rows`: how its values are printed.
+//! Tests of `auction_rows`: its rules, and how its values are printed.
 mod printing_tests;
+mod rule_tests;

@@ -5,6 +5,7 @@ mod entry_tests;
 mod gate_tests;
 mod going_on_tests;
 mod meeting_tests;
+mod one_shard_tests;
 mod part_tests;
 mod phase_tests;
 mod refusal_tests;

@@ -17,9 +17,9 @@ use std::sync::{Arc, Wait};
 use std::thread;
 use std::thread::Threads;
 
-// The scripts of docs/EXAMPLE.md, which take three phases.
+// The scripts of docs/EXAMPLE.md, which take three phases. Here the second worker looks at user 0.
 const SCRIPTS: &[u8] =
-    b"0,item,0,0,Vase,10,100,1\n1,viewuser,1\n0,bid,0,0.0,10,1\n1,viewuser,1\n0,bid,1,0.0,20,2\n1,bid,2,0.0,25,2\n0,viewitem,0.0\n0,bid,1,0.0,30,3\n";
+    b"0,item,0,0,Vase,10,100,1\n1,viewuser,0\n0,bid,0,0.0,10,1\n1,viewuser,0\n0,bid,1,0.0,20,2\n1,bid,2,0.0,25,2\n0,viewitem,0.0\n0,bid,1,0.0,30,3\n";
 
 const PHASES: u64 = 3;
 

@@ -62,15 +62,14 @@ module _ (opening : Opening) (start : Book) (scripts : List (List Request)) (ord
     }
 
     pub wrong_found : (why : Wrong) → ReadsLine old new true line → IsWrong opening start scripts order reading.history line why
-        → IfSome first (λ text. IsVerdict opening start scripts order text (WrongAt (number + 1) why))
+        → IfSome first (λ text. IsVerdict opening start scripts order text line (WrongAt (number + 1) why))
     wrong_found why next wrong = at first reading.has_read where
-      at : (first : Option (List ℕ)) → HasRead first old reading.history → IfSome first (λ text. IsVerdict opening start scripts order text (WrongAt (number + 1) why))
+      at : (first : Option (List ℕ)) → HasRead first old reading.history → IfSome first (λ text. IsVerdict opening start scripts order text line (WrongAt (number + 1) why))
       at None read = tt
       at (Some text) read =
           let left = left_read text old new reading.history line read next in
           record {
             before = reading.history;
-            line = line;
             rest = left.0;
             split = left.1;
             number_is = ap (λ n. n + 1) reading.number_is;
@@ -79,9 +78,9 @@ module _ (opening : Opening) (start : Book) (scripts : List (List Request)) (ord
           }
 
     pub lack_found : (worker index : ℕ) → ReadsLine old new false line → IsUnmarked scripts replay.marks.rows.items worker index
-        → IfSome first (λ text. IsVerdict opening start scripts order text (Lacks worker index))
+        → IfSome first (λ text. IsVerdict opening start scripts order text line (Lacks worker index))
     lack_found worker index next unmarked = at first reading.has_read where
-      at : (first : Option (List ℕ)) → HasRead first old reading.history → IfSome first (λ text. IsVerdict opening start scripts order text (Lacks worker index))
+      at : (first : Option (List ℕ)) → HasRead first old reading.history → IfSome first (λ text. IsVerdict opening start scripts order text line (Lacks worker index))
       at None read = tt
       at (Some text) read = record {
         history = reading.history;
@@ -92,9 +91,9 @@ module _ (opening : Opening) (start : Book) (scripts : List (List Request)) (ord
       }
 
     pub all_found : length scripts ≤ 16 → ReadsLine old new false line → AreMarked scripts replay.marks.rows.items
-        → IfSome first (λ text. IsVerdict opening start scripts order text Replays)
+        → IfSome first (λ text. IsVerdict opening start scripts order text line Replays)
     all_found workers next marked = at first reading.has_read where
-      at : (first : Option (List ℕ)) → HasRead first old reading.history → IfSome first (λ text. IsVerdict opening start scripts order text Replays)
+      at : (first : Option (List ℕ)) → HasRead first old reading.history → IfSome first (λ text. IsVerdict opening start scripts order text line Replays)
       at None read = tt
       at (Some text) read =
           accepted opening start scripts order text reading.history (all_read text old new reading.history line read next) reading.taken.go_well
@@ -117,7 +116,7 @@ module _ (opening : Opening) (start : Book) (scripts : List (List Request)) (ord
       at (Some text) read = omega (arith, many, reading.number_is, long_read text old reading.history read)
 
   -- what is accepted is found to be
-  pub finds : (first : Option (List ℕ)) (verdict : Verdict) → IfSome first (λ text. IsVerdict opening start scripts order text verdict)
+  pub finds : (first : Option (List ℕ)) (line : List ℕ) (verdict : Verdict) → IfSome first (λ text. IsVerdict opening start scripts order text line verdict)
       → IfSome first (λ text. IsAccepted opening start scripts order text → verdict ≡ Replays)
-  finds None verdict is = tt
-  finds (Some text) verdict is = λ ok. found opening start scripts order text ok verdict is
+  finds None line verdict is = tt
+  finds (Some text) line verdict is = λ ok. found opening start scripts order text ok line verdict is

@@ -155,13 +155,13 @@ module _ (opening : Opening) (start : Book) (scripts : List (List Request)) (ord
   begins before tail well lines =
       front opening scripts start ok.history before tail ok.go_well.requests well.requests ok.go_well.fits well.fits ok.go_well.replays well.replays (ok.lines_are ∙ lines)
 
-  pub found : (verdict : Verdict) → IsVerdict opening start scripts order text verdict → verdict ≡ Replays
-  found Replays is = refl
-  found (WrongAt number why) is = (let more = begins is.before (is.line ∷ is.rest) is.go_well is.split in absurd (at more.0 more.1 more.2)) where
-    at : (after : List Entry) → ok.history ≡ is.before ++ after → history_lines after ≡ is.line ∷ is.rest → ⊥
-    at [] split lines = no_first is.line is.rest lines
-    at (e ∷ after) split lines = not_wrong is.before e after is.line why split (cons-first (history_line e) is.line (history_lines after) is.rest lines) is.wrong
-  found (Lacks worker index) is =
+  pub found : (line : List ℕ) (verdict : Verdict) → IsVerdict opening start scripts order text line verdict → verdict ≡ Replays
+  found line Replays is = refl
+  found line (WrongAt number why) is = (let more = begins is.before (line ∷ is.rest) is.go_well is.split in absurd (at more.0 more.1 more.2)) where
+    at : (after : List Entry) → ok.history ≡ is.before ++ after → history_lines after ≡ line ∷ is.rest → ⊥
+    at [] split lines = no_first line is.rest lines
+    at (e ∷ after) split lines = not_wrong is.before e after line why split (cons-first (history_line e) line (history_lines after) is.rest lines) is.wrong
+  found line (Lacks worker index) is =
       (let more = begins is.history [] is.go_well (sym is.lines_are ∙ sym (append_nil (history_lines is.history))) in absurd (at more.0 more.1 more.2)) where
         at : (after : List Entry) → ok.history ≡ is.history ++ after → history_lines after ≡ [] → ⊥
         at (e ∷ after) split lines = no_first (history_line e) (history_lines after) (sym lines)

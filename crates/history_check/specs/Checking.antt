@@ -75,13 +75,11 @@ IsWrong opening start scripts order before line (Due due) = OfLine line (λ comm
     (due ≡ reply opening (book_after opening start before) commit_id.worker request)
     × ¬ (text ≡ reply_text due)))
 
--- The line with this number, from 1, is the first that is wrong.
+-- This line, with this number from 1, is the first that is wrong.
 pub record IsFirstWrong (opening : Opening) (start : Book) (scripts : List (List Request))
-    (order : Order) (text : List ℕ) (number : ℕ) (why : Wrong) : Type 0 where
+    (order : Order) (text line : List ℕ) (number : ℕ) (why : Wrong) : Type 0 where
   -- the entries whose lines stand before it
   pub before : List Entry
-  -- the line
-  pub line : List ℕ
   -- the lines after it
   pub rest : List (List ℕ)
   pub split : lines_of text ≡ history_lines before ++ line ∷ rest
@@ -104,11 +102,12 @@ pub record IsLacking (opening : Opening) (start : Book) (scripts : List (List Re
   -- and no entry is of it
   pub in_no_line : count_by (is_of worker index) history ≡ 0
 
--- what is found of a text
-abbrev pub IsVerdict : Opening → Book → List (List Request) → Order → List ℕ → Verdict → Type 0
-IsVerdict opening start scripts order text Replays =
+-- what is found of a text, with this line as its first wrong one if a line is wrong
+abbrev pub IsVerdict : Opening → Book → List (List Request) → Order → List ℕ → List ℕ → Verdict →
+    Type 0
+IsVerdict opening start scripts order text line Replays =
     IsAccepted opening start scripts order text
-IsVerdict opening start scripts order text (WrongAt number why) =
-    IsFirstWrong opening start scripts order text number why
-IsVerdict opening start scripts order text (Lacks worker index) =
+IsVerdict opening start scripts order text line (WrongAt number why) =
+    IsFirstWrong opening start scripts order text line number why
+IsVerdict opening start scripts order text line (Lacks worker index) =
     IsLacking opening start scripts order text worker index

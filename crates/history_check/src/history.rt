@@ -46,7 +46,7 @@ fn read_next<R: BufRead>(reader: &mut R, line: &mut Vec<u8>) -> Result<bool, Che
 }
 
 // Reads the next line and performs it. What is found is known if there is no next line, or if it
-// is wrong.
+// is wrong; `line` holds it then.
 fn find_next<R: BufRead>(
     replay: &mut Replay,
     scripts: &[Script],
@@ -64,7 +64,7 @@ fn find_next<R: BufRead>(
     ensures verdict { IfOk result (λ found. IfSome found (λ verdict.
         ForEachReading scripts.now (R.remaining reader.old) replay.old number
         (λ opening start order first. IfSome first (λ text.
-        IsVerdict opening start scripts.now order text verdict)))) }
+        IsVerdict opening start scripts.now order text line.new.items verdict)))) }
     ensures too_long { IsErrOf result TooLong →
         ForEachReading scripts.now (R.remaining reader.old) replay.old number
         (λ opening start order first. IfSome first (λ text.
@@ -98,7 +98,7 @@ pub fn check_history<R: BufRead>(
     requires workers { length scripts.now ≤ MOST_WORKERS }
     ensures verdict { IfOk result (λ verdict. IfSome (R.remaining reader.old) (λ text.
         IsVerdict (opening_of book.now) (rows_of_book book.now) scripts.now order text
-        verdict)) }
+        line.new.items verdict)) }
     ensures accepted { IfOk result (λ verdict. IfSome (R.remaining reader.old) (λ text.
         IsAccepted (opening_of book.now) (rows_of_book book.now) scripts.now order text →
         verdict ≡ Replays)) }

@@ -14,3 +14,12 @@ IsLoggedFirst log next_log rows writer next_writer text =
 abbrev pub IsUnlogged : TellFault → Type 0
 IsUnlogged (Log fault) = Unit {0}
 IsUnlogged (Write fault) = ⊥
+
+-- how far a part was told at a fault: at one of the log neither has changed; at one of the writer
+-- the log has accepted its rows, and a prefix of its text was written
+abbrev pub IsToldSoFar : TellFault → Option (List ℕ) → Option (List ℕ) → List ℕ
+    → Option (List ℕ) → Option (List ℕ) → List ℕ → Type 0
+IsToldSoFar (Log fault) log next_log rows writer next_writer text =
+    Keeps log next_log × Keeps writer next_writer
+IsToldSoFar (Write fault) log next_log rows writer next_writer text =
+    Appends log next_log rows × IsPartWritten writer next_writer text

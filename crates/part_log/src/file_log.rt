@@ -1,5 +1,5 @@
 //! Files at whose end bytes are added, and a log in such a file.
-ghost use Rattle.std.specs.Prelude.{◌≡◌, ℕ, List, Option, None, IsErr, OnOk, take, IfOk};
+ghost use Rattle.std.specs.Prelude.{◌≡◌, ℕ, false, List, Option, None, IsErr, OnOk, take, IfErr, IfOk};
 ghost use Rattle.std.specs.Option.{option_map};
 ghost use Rattle.std.specs.Io.KnownBytes.{append_known};
 ghost use Rattle.part_log.specs.Files.{HoldsSoMany};
@@ -12,25 +12,39 @@ use std::marker::Model;
 
 /// A file at whose end bytes are added, and which can be cut.
 pub trait AppendFile {
-    /// The bytes that it holds, if they are known.
-    ghost held: { Self → Option (List ℕ) } = { λ _. None };
+    /// The bytes that it holds, if they are known: those that a read gives.
+    ghost held: { Self → Option (List ℕ) };
+
+    /// The bytes that the disk keeps, if they are known: those that outlast a crash.
+    ghost synced: { Self → Option (List ℕ) };
 
     /// Adds bytes at the end: of those that it fails to add, a prefix may be there.
     fn append(&mut self, bytes: &[u8]) -> io::Result<()>
         ensures whole { OnOk result (held self.new ≡ append_known (held self.old) bytes.now) }
-        ensures part { (n : ℕ) × (held self.new ≡ append_known (held self.old) (take n bytes.now)) };
+        ensures part { (n : ℕ) × (held self.new ≡ append_known (held self.old) (take n bytes.now)) }
+        ensures synced { synced self.new ≡ synced self.old };
 
     /// Cuts off what is past its first bytes.
     fn cut(&mut self, len: u64) -> io::Result<()>
         ensures cut { OnOk result (held self.new ≡ option_map (take len) (held self.old)) }
-        ensures kept { IsErr result → held self.new ≡ held self.old };
+        ensures cut_synced { OnOk result
+            (synced self.new ≡ option_map (take len) (synced self.old)) }
+        ensures kept { IsErr result → held self.new ≡ held self.old }
+        ensures kept_synced { IsErr result → synced self.new ≡ synced self.old };
 
     /// Has the disk keep what it holds.
     fn sync(&mut self) -> io::Result<()>
-        ensures { held self.new ≡ held self.old };
+        ensures held { held self.new ≡ held self.old }
+        ensures synced { OnOk result (synced self.new ≡ held self.new) }
+        ensures kept { IsErr result → synced self.new ≡ synced self.old };
 }
 
 impl AppendFile for File {
+    // What a file of the system holds, and what its disk keeps, is not known to contracts.
+    ghost held = { λ _. None };
+
+    ghost synced = { λ _. None };
+
     fn append(&mut self, bytes: &[u8]) -> io::Result<()> {
         self.write_all(bytes)
     }
@@ -44,34 +58,42 @@ impl AppendFile for File {
     }
 }
 
-/// A log at the end of a file. Contracts see the bytes that it has accepted, if those of the file
-/// are known.
+/// A log at the end of a file. Contracts see the bytes that it has accepted, which the disk keeps,
+/// those that a start would find, and whether it has ended.
 #[derive(Drop)]
 pub struct FileLog<F: AppendFile + Drop> {
     file: F,
     // So many of the file's bytes were accepted.
     kept: u64,
-    // Whether the file may hold others.
-    is_broken: bool,
+    // Whether nothing more is put by: the file may hold other bytes, or its disk has failed.
+    has_ended: bool,
 }
 
 impl<F: AppendFile + Drop> Model for FileLog<F> {
-    ghost use Rattle.std.specs.Prelude.{ℕ, List, Option, take};
+    ghost use Rattle.std.specs.Prelude.{◌≡◌, take};
     ghost use Rattle.std.specs.Option.{option_map};
-    ghost use Rattle.part_log.specs.Files.{IsKeptIn};
+    ghost use Rattle.part_log.specs.Files.{IsKeptIn, LogState};
 
-    ghost Value = { Option (List ℕ) };
+    ghost Value = { LogState };
 
-    ghost view = { λ l. option_map (take l.kept) (F.held l.file) };
+    ghost view = { λ l. record {
+      accepted = option_map (take l.kept) (F.synced l.file);
+      found = F.held l.file;
+      has_ended = l.has_ended;
+    } };
 
-    ghost invariant = { λ l. IsKeptIn (F.held l.file) l.kept l.is_broken };
+    ghost invariant = { λ l. IsKeptIn (F.held l.file) l.kept l.has_ended
+        × (option_map (take l.kept) (F.held l.file) ≡ option_map (take l.kept) (F.synced l.file)) };
 }
 
 impl<F: AppendFile + Drop> FileLog<F> {
     /// The log that a file's first bytes are: what is past them is cut off.
     pub fn open(file: F, kept: u64) -> io::Result<FileLog<F>>
         requires { HoldsSoMany (F.held file) kept }
-        ensures { IfOk result (λ log. log ≡ option_map (take kept) (F.held file)) }
+        ensures accepted { IfOk result (λ log.
+            log.accepted ≡ option_map (take kept) (F.held file)) }
+        ensures found { IfOk result (λ log. log.found ≡ log.accepted) }
+        ensures goes_on { IfOk result (λ log. log.has_ended ≡ false) }
     {
         let mut file = file;
         file.cut(kept)?;
@@ -79,48 +101,53 @@ impl<F: AppendFile + Drop> FileLog<F> {
         Ok(FileLog {
             file,
             kept,
-            is_broken: false,
+            has_ended: false,
         })
     }
 
-    // Cuts off what was not accepted, and tells the fault.
-    fn take_back(&mut self) -> LogFault
-        ensures { self.new ≡ self.old }
+    // Cuts off what was not accepted.
+    fn take_back(&mut self) -> Result<(), LogFault>
+        ensures accepted { self.new.accepted ≡ self.old.accepted }
+        ensures ended { self.new.has_ended ≡ self.old.has_ended }
+        ensures taken { OnOk result (self.new.found ≡ self.new.accepted) }
+        ensures broken { IfErr result (λ fault. (fault ≡ LogFault.Broken)
+            × (self.new.found ≡ self.old.found)) }
     {
         match self.file.cut(self.kept) {
-            Ok(()) => {
-                self.is_broken = false;
-                LogFault::Write
-            }
-            Err(_) => {
-                self.is_broken = true;
-                LogFault::Broken
-            }
+            Ok(()) => Ok(()),
+            Err(_) => Err(LogFault::Broken),
         }
     }
 }
 
 impl<F: AppendFile + Drop> Log for FileLog<F> {
-    ghost accepted = { λ log. log };
+    ghost accepted = { λ log. log.accepted };
+
+    ghost found = { λ log. log.found };
+
+    ghost has_ended = { λ log. log.has_ended };
 
     fn put(&mut self, bytes: &[u8]) -> Result<(), LogFault> {
-        if self.is_broken {
+        if self.has_ended {
             return Err(LogFault::Broken);
         }
         let Some(kept) = self.kept.checked_add(bytes.len() as u64) else {
             return Err(LogFault::Write);
         };
-        self.is_broken = true;
-        let Ok(()) = self.file.append(bytes) else {
-            return Err(self.take_back());
-        };
-        // After a sync that failed the disk may have let go what it was given: nothing more is
-        // asked of the file.
-        let Ok(()) = self.file.sync() else {
-            return Err(LogFault::Broken);
-        };
+        self.has_ended = true;
+        if self.file.append(bytes).is_err() {
+            self.take_back()?;
+            self.has_ended = false;
+            return Err(LogFault::Write);
+        }
+        // After a sync that failed the disk may have let go what it was given, so it is asked to
+        // keep nothing more. No start finds what was not accepted.
+        if self.file.sync().is_err() {
+            self.take_back()?;
+            return Err(LogFault::Sync);
+        }
         self.kept = kept;
-        self.is_broken = false;
+        self.has_ended = false;
         Ok(())
     }
 }

@@ -6,4 +6,4 @@ mod file_log;
 mod log;
 
 pub use file_log::{AppendFile, FileLog};
-pub use log::{LINE_END, Log, LogFault, NoLog, TellFault, Teller, tell_part, whole_lines};
+pub use log::{Log, LogFault, NoLog, TellFault, Teller, tell_part};

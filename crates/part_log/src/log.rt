@@ -1,8 +1,8 @@
-//! Where rows are put by before a part is told, and what a crash left of a log.
-ghost use Rattle.std.specs.Prelude.{◌≡◌, ℕ, false, List, Option, None, IsErr, OnOk, IfErr};
+//! Where rows are put by before a part is told.
+ghost use Rattle.std.specs.Prelude.{◌≡◌, ℕ, Bool, true, false, List, Option, None, Err, IsErr, OnOk, IfErr};
 ghost use Rattle.std.specs.Io.KnownBytes.{Appends, Keeps};
-ghost use Rattle.part_log.specs.Telling.{IsLoggedFirst, IsUnlogged};
-ghost use Rattle.part_log.specs.WholeLines.{AreWholeLines};
+ghost use Rattle.part_log.specs.Files.{IsEndedAfter, IsFoundAfter};
+ghost use Rattle.part_log.specs.Telling.{IsLoggedFirst, IsToldSoFar, IsUnlogged};
 
 use auction_text::{WriteFault, write_last};
 use std::io::Write;
@@ -14,20 +14,40 @@ pub enum LogFault {
     /// They could not be written, and were taken back: a later call may put other bytes by.
     #[error("log cannot be written")]
     Write,
-    /// What is on the disk is not known: no later call puts anything by.
+    /// They were written but not synced, and were taken back: no later call puts anything by.
+    #[error("log cannot be written")]
+    Sync,
+    /// They could not be taken back, or the log had ended before: no later call puts anything by.
     #[error("log cannot be written")]
     Broken,
 }
 
 /// Where bytes are put by for good.
 pub trait Log {
-    /// The bytes that it has accepted, if they are known.
-    ghost accepted: { Self → Option (List ℕ) } = { λ _. None };
+    /// The bytes that it has accepted, if they are known: they outlast a crash.
+    ghost accepted: { Self → Option (List ℕ) };
 
-    /// Puts these bytes by, after those before, all or none: after `Ok` they outlast a crash.
+    /// The bytes that a start would find, if they are known: those that it has accepted, and once
+    /// it has ended maybe others behind them.
+    ghost found: { Self → Option (List ℕ) };
+
+    /// Whether it puts nothing by any more.
+    ghost has_ended: { Self → Bool };
+
+    /// Puts these bytes by, after those before, all or none: after `Ok` they outlast a crash. A log
+    /// that has ended answers `Broken`.
     fn put(&mut self, bytes: &[u8]) -> Result<(), LogFault>
         ensures accepted { OnOk result (Appends (accepted self.old) (accepted self.new) bytes.now) }
-        ensures refused { IsErr result → Keeps (accepted self.old) (accepted self.new) };
+        ensures found { OnOk result (found self.new ≡ accepted self.new) }
+        ensures goes_on { OnOk result (has_ended self.new ≡ has_ended self.old) }
+        ensures refused { IsErr result → Keeps (accepted self.old) (accepted self.new) }
+        ensures taken_back { has_ended self.old ≡ false →
+            IfErr result (λ fault. IsFoundAfter fault
+            (accepted self.new) (found self.new) bytes.now) }
+        ensures ended_after { IfErr result (λ fault.
+            IsEndedAfter fault (has_ended self.old) (has_ended self.new)) }
+        ensures ended_before { has_ended self.old ≡ true →
+            (result ≡ Err LogFault.Broken) × (self.new ≡ self.old) };
 
     /// Whether it keeps what is put by: if not, nothing need be put by.
     fn keeps(&self) -> bool
@@ -42,6 +62,12 @@ pub trait Log {
 pub struct NoLog;
 
 impl Log for NoLog {
+    ghost accepted = { λ _. None };
+
+    ghost found = { λ _. None };
+
+    ghost has_ended = { λ _. false };
+
     fn put(&mut self, _bytes: &[u8]) -> Result<(), LogFault> {
         Ok(())
     }
@@ -75,6 +101,9 @@ pub fn tell_part<L: Log, W: Write>(
     ensures first { IsLoggedFirst (L.accepted log.old) (L.accepted log.new) rows.now
         (W.contents writer.old) (W.contents writer.new) text.now }
     ensures unlogged { IfErr result (λ fault. IsUnlogged fault → writer.new ≡ writer.old) }
+    ensures fault { IfErr result (λ fault. IsToldSoFar fault
+        (L.accepted log.old) (L.accepted log.new) rows.now
+        (W.contents writer.old) (W.contents writer.new) text.now) }
 {
     if !rows.is_empty() {
         if let Err(fault) = log.put(rows) {
@@ -104,21 +133,10 @@ impl<L: Log, W: Write> Teller<L, W> {
             (W.contents self.old.writer) (W.contents self.new.writer) text.now }
         ensures unlogged { IfErr result (λ fault.
             IsUnlogged fault → self.new.writer ≡ self.old.writer) }
+        ensures fault { IfErr result (λ fault. IsToldSoFar fault
+            (L.accepted self.old.log) (L.accepted self.new.log) rows.now
+            (W.contents self.old.writer) (W.contents self.new.writer) text.now) }
     {
         tell_part(&mut self.log, &mut self.writer, rows, text)
     }
-}
-
-/// The byte that ends a line.
-pub const LINE_END: u8 = b'\n';
-
-/// How many bytes of a text are whole lines: those up to its last line end, and with it.
-pub fn whole_lines(text: &[u8]) -> usize
-    ensures { AreWholeLines text.now result }
-{
-    let mut whole = text.len();
-    while whole > 0 && text[whole - 1] != LINE_END {
-        whole -= 1;
-    }
-    whole
 }

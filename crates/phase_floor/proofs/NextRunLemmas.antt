@@ -7,7 +7,7 @@ use Rattle.auction_rows.specs.declared.values.Opening.{Opening}
 use Rattle.auction_rows.specs.Book.{Book}
 use Rattle.shard_boxes.specs.States.{ShardState}
 use Rattle.phase_permits.specs.declared.worker.Counters.{Counters}
-use Rattle.closing_laws.specs.Replying.{CountsOf}
+use Rattle.phase_permits.specs.Replying.{CountsOf}
 use Rattle.closing_laws.specs.Standing.{StandFor, AreOfWorkers, counters_at, stores}
 use Rattle.phase_permits.specs.Workers.{no_counters}
 use Rattle.phase_floor.specs.NextRun.{stores_as_commits}

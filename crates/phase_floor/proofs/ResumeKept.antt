@@ -9,7 +9,7 @@ use Rattle.item_shards.specs.declared.shard.Shard.{Shard}
 use Rattle.item_shards.specs.OpeningRows.{rows_by}
 use Rattle.shard_boxes.specs.States.{state_of}
 use Rattle.phase_permits.specs.declared.worker.Counters.{Counters}
-use Rattle.closing_laws.specs.Replying.{CountsOf}
+use Rattle.phase_permits.specs.Replying.{CountsOf}
 use Rattle.closing_laws.specs.Standing.{ShardsStandFor, StandFor, AreOfWorkers, counters_at, stores}
 use Rattle.phase_floor.specs.Resuming.{counters_in, AreReady}
 use Rattle.phase_floor.specs.States.{AreOfABook, IsKept, IsWithinLimit, AreWithinLimit}

@@ -26,3 +26,5 @@ pub mod StashedLemmas
 pub mod TakeLemmas
 pub mod ViewLemmas
 pub mod UntouchedLemmas
+pub mod LookLemmas
+pub mod RightLemmas

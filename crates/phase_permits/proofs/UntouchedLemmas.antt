@@ -42,7 +42,7 @@ told_before None given stored told is = ap told is
 told_before (Some reason) given stored told is = refl
 
 -- a commit took the shards that its request asked for
-took_asked : (w : WorkerState) (shards number index : ℕ) (request : Request) (given : Reply) (found : ReadSet) → IsAnswered (setting_of w shards) w.counters (txn_of w number request index given found)
+pub took_asked : (w : WorkerState) (shards number index : ℕ) (request : Request) (given : Reply) (found : ReadSet) → IsAnswered (setting_of w shards) w.counters (txn_of w number request index given found)
     → (let z = setting_of w shards in footprint z.opening z.shards (hot_of z) (txn_of w number request index given found).0) ≡ shards_asked shards w request
 took_asked w shards number index (StoreItem facts time) given found is =
     ap (map (λ object. shard_of object shards))

@@ -83,7 +83,7 @@ pub record IsRefusedBy {N : Type 0} (w : WorkerState) (request : Request) (homes
   -- what it saw of the item that it needs
   pub seen : Option (Facts × ℕ)
   pub saw : IsSeen w request homes took seen
-  -- the reason is by what was seen: the item's first one, if it has any
+  -- the item's first reason, if it has any, by what was seen
   pub by : refused ≡ refusal_with seen request
 
 -- A store has this reply, by what it saw of its item.
@@ -92,7 +92,7 @@ pub record IsAnsweredBy {N : Type 0} (w : WorkerState) (request : Request) (home
   -- what it saw of the item that it needs
   pub seen : Option (Facts × ℕ)
   pub saw : IsSeen w request homes took seen
-  -- the reply is by what was seen
+  -- the reply follows from what was seen
   pub answered : IsReplyBy w seen request reply
 
 -- the shards that were taken, but for the rooms that they have

@@ -7,6 +7,7 @@ pub mod WorkerFields
 pub mod Putting
 pub mod Takens
 pub mod Performing
+pub mod Replying
 pub mod Homes
 pub mod Deeds
 pub mod Begun

@@ -48,8 +48,8 @@ pub(crate) struct Deeds {
 }
 
 impl Deeds {
-    /// Those of a store with this reply, whatever it saw of its item. `S` only gives each copy of
-    /// `store` a copy of this.
+    /// The acts of a store with this reply, whatever it saw of its item. `S` only gives each copy
+    /// of `store` a copy of this.
     #[inline]
     pub(crate) fn of<S: Stores>(request: &Request, reply: StoreReply, homes: &Homes) -> Deeds
         requires store { is_view request.now ≡ false }
@@ -80,6 +80,7 @@ impl Deeds {
                 time,
             } => {
                 deeds.first = Act::Look(Look::Left(item));
+                // Both acts are on the item.
                 deeds.other = homes.item;
                 if let StoreReply::BidStored(id) = reply {
                     deeds.second = Act::Bid(
@@ -106,6 +107,7 @@ impl Deeds {
             }
             Request::BuyNow { item, quantity, .. } => {
                 deeds.first = Act::Look(Look::Left(item));
+                // Both acts are on the item.
                 deeds.other = homes.item;
                 if let StoreReply::Bought(_) = reply {
                     deeds.second = Act::Buy(item, quantity);
@@ -168,6 +170,6 @@ pub(crate) fn put_with_line<N: PhaseName, R: Wait>(
         (line_of written.number written.index (written_acts written) held.shard) }
 {
     let acts = [written.first, written.second];
-    let line = held.act(written.number, written.index, &acts);
-    boxes.put(rt, key, held, Some(line));
+    let trace = held.act(written.number, written.index, &acts);
+    boxes.put_acted(rt, key, held, trace);
 }

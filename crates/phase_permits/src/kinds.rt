@@ -41,6 +41,7 @@ impl Kind for SplitPhase {
 
 impl<N: PhaseName> Permit<N, JoinedPhase> {
     ghost use Rattle.phase_permits.specs.Performing.{HasCommitted, HasFailed, HasFailedFirst, HasPerformedFirst, HaveOpening};
+    ghost use Rattle.phase_permits.specs.Replying.{IsModelReply, IsModelReplyToFirst};
     ghost use Rattle.phase_permits.specs.Workers.{CanStart, new_worker, with_try};
 
     /// A permit to perform so many requests. It takes no memory.
@@ -84,6 +85,7 @@ impl<N: PhaseName> Permit<N, JoinedPhase> {
         requires tries { self.old.tries < MOST_TRIES }
         ensures committed { IfOk result (λ reply.
             HasCommitted N.initial (with_try self.old) self.new request.now index reply) }
+        ensures reply { IfOk result (IsModelReply N.initial self.old self.new request.now) }
         ensures failed { IfErr result
             (HasFailed N.initial (with_try self.old) self.new request.now) }
     {
@@ -106,6 +108,8 @@ impl<N: PhaseName> Permit<N, JoinedPhase> {
         ensures unchanged { IfOk result (λ answer. IfNone answer (self.new ≡ with_try self.old)) }
         ensures performed { IfOk result (λ answer. IfSome answer
             (HasPerformedFirst N.initial (with_try self.old) self.new)) }
+        ensures reply { IfOk result (λ answer. IfSome answer
+            (IsModelReplyToFirst N.initial self.old self.new)) }
         ensures failed { IfErr result (HasFailedFirst N.initial (with_try self.old) self.new) }
     {
         if self.commit_stashed(rt, boxes)? {
@@ -122,6 +126,7 @@ impl<N: PhaseName> Permit<N, SplitPhase> {
     ghost use Rattle.phase_permits.specs.declared.transaction.Done.TheVariants.{Stashed};
     ghost use Rattle.phase_permits.specs.Homes.{IsHotStore};
     ghost use Rattle.phase_permits.specs.Performing.{IsUntouched, HasCommitted, HasDealtWith, HasFailed, HaveOpening};
+    ghost use Rattle.phase_permits.specs.Replying.{IfCommitted, IsModelReply};
     ghost use Rattle.phase_permits.specs.Slicing.{hot_objects};
     ghost use Rattle.phase_permits.specs.Txns.{is_put_off};
     ghost use Rattle.phase_permits.specs.Workers.{CanStart, IsHot, new_worker, with_try};
@@ -169,6 +174,8 @@ impl<N: PhaseName> Permit<N, SplitPhase> {
         ensures committed { IfSome result (λ reply.
             HasCommitted N.initial self.old self.new
             (StoreBid bidder item amount time) index reply) }
+        ensures reply { IfSome result (IsModelReply N.initial self.old self.new
+            (StoreBid bidder item amount time)) }
         ensures key { self.new.key ≡ self.old.key }
     {
         let request = Request::StoreBid {
@@ -198,6 +205,8 @@ impl<N: PhaseName> Permit<N, SplitPhase> {
         ensures committed { IfSome result (λ reply.
             HasCommitted N.initial self.old self.new
             (StoreComment author about item stars) index reply) }
+        ensures reply { IfSome result (IsModelReply N.initial self.old self.new
+            (StoreComment author about item stars)) }
         ensures key { self.new.key ≡ self.old.key }
     {
         let request = Request::StoreComment {
@@ -217,6 +226,7 @@ impl<N: PhaseName> Permit<N, SplitPhase> {
         ensures unchanged { IfNone result (self.new ≡ self.old) }
         ensures committed { IfSome result
             (HasCommitted N.initial self.old self.new request.now index) }
+        ensures reply { IfSome result (IsModelReply N.initial self.old self.new request.now) }
         ensures key { self.new.key ≡ self.old.key }
     {
         self.worker.perform_hot(request, index)?;
@@ -240,6 +250,8 @@ impl<N: PhaseName> Permit<N, SplitPhase> {
         requires tries { self.old.tries < MOST_TRIES }
         ensures dealt { IfOk result
             (HasDealtWith N.initial (with_try self.old) self.new request.now index) }
+        ensures reply { IfOk result (λ done. IfCommitted done
+            (IsModelReply N.initial self.old self.new request.now)) }
         ensures stashed { (result ≡ Ok Stashed)
             ↔ (is_put_off (hot_objects self.old.slices) request.now ≡ true) }
         ensures failed { IfErr result

@@ -162,7 +162,7 @@ impl<N: PhaseName, K: Kind> Permit<N, K> {
         }
     }
 
-    /// How many requests of the quota are left: one that is put off is used.
+    /// How many requests of the quota are left: one that is put off counts as used.
     pub fn left(&self) -> u32
         ensures { result ≡ self.now.left }
     {

@@ -83,7 +83,7 @@ impl Hot {
 }
 
 // How many guesses of a place there are.
-const GUESSES: u32 = 64;
+const GUESSES: usize = 64;
 
 /// A worker's slices of the hot objects of a split phase, in the order handed in. Contracts see the
 /// list of the objects with what is held of each.
@@ -91,7 +91,7 @@ const GUESSES: u32 = 64;
 pub struct Slices {
     hot: IndexMap<Object, Hot>,
     // Where an object may be: a guess, which is checked at its place.
-    guesses: [u8; 64],
+    guesses: [u8; GUESSES],
 }
 
 impl Model for Slices {
@@ -117,7 +117,7 @@ impl Slices {
     {
         Slices {
             hot: IndexMap::new(alloc),
-            guesses: [0; 64],
+            guesses: [0; GUESSES],
         }
     }
 
@@ -129,7 +129,7 @@ impl Slices {
         ensures { IfOk result (λ slices. slices ≡ slices_of hot.now []) }
     {
         let mut slices = IndexMap::with_capacity(alloc, hot.len())?;
-        let mut guesses = [0; 64];
+        let mut guesses = [0; GUESSES];
         for (object, stock) in hot {
             if let Some(guess) = guesses.get_mut(guess_for(*object)) {
                 *guess = (slices.len() % 256) as u8;
@@ -258,5 +258,5 @@ impl Slices {
 // Which of the guesses is that of an object's place.
 #[inline(always)]
 fn guess_for(object: Object) -> usize {
-    shard_of(object, GUESSES) as usize
+    shard_of(object, GUESSES as u32) as usize
 }

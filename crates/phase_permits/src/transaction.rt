@@ -42,8 +42,8 @@ pub enum Done {
     Stashed,
 }
 
-/// Which stores a copy of the code is for. It is a type parameter, because in a proved build
-/// inlining makes no second copy of so large a function.
+/// Which stores a copy of the code is for: a type parameter, because in a proved build inlining
+/// makes no second copy of so large a function.
 pub(crate) trait Stores {
     /// Whether a store is one of them.
     ghost includes: { RequestValue → Type 0 };

@@ -1,3 +1,4 @@
 pub mod AnswerLemmas
+pub mod ClosedLemmas
 pub mod HotLemmas
 pub mod KeyLemmas

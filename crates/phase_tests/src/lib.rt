@@ -1,6 +1,8 @@
-//! Tests of records, shards, journals, permits and floors by their public calls.
+//! Tests of records, shards, boxes, journals, permits and floors by their public calls.
 #![tactic(auto)]
 
+#[cfg(test)]
+mod boxes;
 #[cfg(test)]
 mod calls;
 #[cfg(test)]

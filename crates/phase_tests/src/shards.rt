@@ -1,2 +1,3 @@
-//! Tests of `item_shards`: the end of commit numbers.
+//! Tests of `item_shards`: commit numbers and clocks, and what shards show and merge.
+mod merge_tests;
 mod shard_tests;

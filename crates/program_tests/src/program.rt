@@ -1,2 +1,3 @@
-//! Tests of the faults of `auction_program`. Its runs stand in `tests/`.
+//! Tests of `auction_program`: its options, a run, and its faults. Other runs stand in `tests/`.
 mod failing_tests;
+mod running_tests;

@@ -3,8 +3,8 @@
 #![tactic(auto)]
 
 use auction_program::{
-    Fault, Invocation, LoggedInput, NoLog, OpenedLog, Options, Teller, execute, open_log,
-    read_options, serve, status, write_fault,
+    Fault, LogFileFault, LoggedInput, NoLog, OpenedLog, OpeningBook, Options, Teller, execute,
+    open_log, read_options, serve, status, write_fault,
 };
 use program_options::program_words;
 use std::alloc::Global;
@@ -35,14 +35,14 @@ where
 {
     let alloc = rt.alloc();
     let words = program_words(rt)?;
-    let Invocation { options, log } = read_options(alloc, words.as_slice())?;
-    if options.live == 0 && log.is_none() {
+    let options = read_options(alloc, words.as_slice())?;
+    if options.live == 0 && options.log.is_none() {
         return execute(rt, alloc, rt.reader(), &mut io::writer(rt), &options);
     }
     if options.report {
         return Err(Fault::Report);
     }
-    match log {
+    match &options.log {
         Some(path) => serve_logged(rt, errors, path.as_str(), &options),
         None => serve_unlogged(rt, &options),
     }
@@ -57,7 +57,7 @@ where
     // The reader is large, and what is left of the input moves from part to part.
     let mut reader = rt.reader();
     let source = LoggedInput {
-        logged: Vec::new(alloc),
+        logged: OpeningBook::empty(options.opening()),
         reader: &mut reader,
     };
     let mut teller = Teller {
@@ -67,6 +67,15 @@ where
     serve(rt, alloc, source, &mut teller, options)
 }
 
+// Files that are open to the end. If standard input, output or error is closed, the first have its
+// place, and the log cannot get it: a folder can be neither read nor written.
+fn held_places<R: Files<File = File>>(rt: &R) -> io::Result<(File, File, File)> {
+    let first = File::open(rt, "/")?;
+    let second = File::open(rt, "/")?;
+    let third = File::open(rt, "/")?;
+    Ok((first, second, third))
+}
+
 // Serves standard input after the rows of the log at a path, and logs those that are added.
 fn serve_logged<R, E>(rt: &R, errors: &mut E, path: &str, options: &Options) -> Result<(), Fault>
 where
@@ -74,12 +83,15 @@ where
     R: Files<File = File> + Input + Print + Alloc<A = Global> + Threads + Wait + Sync,
 {
     let alloc = rt.alloc();
+    let Ok(_places) = held_places(rt) else {
+        return Err(Fault::OpenLog(LogFileFault::Read));
+    };
     let OpenedLog { rows, log, cut } = open_log(rt, alloc, path, options)?;
     if cut > 0 {
         // A note that can't be written changes nothing.
         let _ = writeln!(
             errors,
-            "rubis_auction: {cut} bytes of a cut line taken off the log"
+            "rubis_auction: {cut} bytes of a cut line taken off the log, kept in {path}.cut"
         );
     }
     let mut reader = rt.reader();

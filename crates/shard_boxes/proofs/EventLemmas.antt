@@ -1,5 +1,5 @@
 -- The events of two acts in turn, and what their looks show.
-use Rattle.std.proofs.Common.{◌≡◌, ℕ, ◌<◌, List, [], ◌∷◌, length, refl, sym, ap, subst, ◌∙◌, arith}
+use Rattle.std.proofs.Common.{◌≡◌, ℕ, ◌<◌, List, [], ◌∷◌, length, Option, Some, None, option_map, refl, sym, ap, subst, ◌∙◌, arith}
 use Rattle.item_shards.specs.declared.shard.acts.Act.{Act}
 use Rattle.item_shards.specs.declared.shard.acts.Act.TheVariants.{AddItem, ListItem, Bid, Comment, Buy, Look}
 use Rattle.item_shards.specs.declared.shard.acts.Look.{Look as LookedAt}
@@ -8,7 +8,9 @@ use Rattle.item_shards.specs.declared.shard.Shard.{Shard}
 use Rattle.item_shards.specs.Contents.{Contents, after_act, after_acts}
 use Rattle.item_shards.specs.Looking.{IsTrueAct, IsTrueOf, event_at, events_of, shown_in}
 use Rattle.item_shards.specs.ShardContents.{contents, clock, IsSameShard}
-use Rattle.shard_boxes.specs.Lines.{Line, AreTrueOf, MayFollow, acts_in, first_two, line_of, after_line}
+use Rattle.shard_boxes.specs.declared.line.Line.{Line as MadeLine}
+use Rattle.shard_boxes.specs.Helds.{MayGoBack, MayPut}
+use Rattle.shard_boxes.specs.Lines.{Line, AreTrueOf, MayFollow, acts_in, first_two, line_of, seen_line, after_line}
 use Rattle.shard_boxes.specs.States.{ShardState, state_of}
 
 -- what a look shows of contents is true of them
@@ -40,6 +42,11 @@ two_events contents [] two = absurd (cc)
 two_events contents (act ∷ []) two = absurd (cc)
 two_events contents (act ∷ other ∷ []) two = refl
 two_events contents (act ∷ other ∷ more ∷ acts) two = absurd (omega arith)
+
+-- the line of a caller may be put as contracts see it: its looks are true
+pub may_put : (taken now : ShardState) (line : Option MadeLine) → MayGoBack taken now line → MayPut taken now (option_map (seen_line taken) line)
+may_put taken now None same = same
+may_put taken now (Some line) may = (record { found = may.0; later = may.1; looks = looks_true taken.contents line.acts }, may.2)
 
 -- the line of two acts on a shard may follow, and the shard after the acts is the one after the line
 module _ (old : Shard) (number index : ℕ) (acts : List Act) (line : Line) (is : line ≡ line_of number index acts old) where

@@ -1,10 +1,11 @@
 -- A shard that is held.
-use Rattle.std.specs.Prelude.{◌≡◌, ℕ, List, Option, Some, None, refl}
+use Rattle.std.specs.Prelude.{◌≡◌, ◌<◌, ℕ, List, Option, Some, None, refl}
 use Rattle.std.specs.Coded.{Coded, code_by, coded×, coded_ℕ}
 use Rattle.item_shards.specs.declared.shard.Shard.{Shard}
 use Rattle.item_shards.specs.contracts.shard.Shard.{the_row as shard_row}
 use Rattle.shard_boxes.specs.States.{ShardState, state_at}
-use Rattle.shard_boxes.specs.Lines.{Line, after_lines, after_line, MayFollow}
+use Rattle.shard_boxes.specs.declared.line.Line.{Line as MadeLine}
+use Rattle.shard_boxes.specs.Lines.{Line, after_lines, after_line, seen_line, MayFollow}
 use Rattle.shard_boxes.specs.Keys.{KeyState, seen_at}
 
 -- what a held shard shows
@@ -28,3 +29,10 @@ taken_at initial key s = after_lines (state_at initial s) (seen_at key s)
 abbrev pub MayPut : ShardState → ShardState → Option Line → Type 0
 MayPut taken now None = now ≡ taken
 MayPut taken now (Some line) = MayFollow taken line × (now ≡ after_line taken line)
+
+-- a shard may go back as it was taken, or after a line that the caller made: it tells the clock as taken, and a greater number
+abbrev pub MayGoBack : ShardState → ShardState → Option MadeLine → Type 0
+MayGoBack taken now None = now ≡ taken
+MayGoBack taken now (Some line) =
+    (line.before ≡ taken.clock) × (taken.clock < line.number)
+    × (now ≡ after_line taken (seen_line taken line))

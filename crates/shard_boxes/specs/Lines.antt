@@ -11,6 +11,7 @@ use Rattle.item_shards.specs.Looking.{IsTrueAct, events_of}
 use Rattle.item_shards.specs.Contents.{Contents, after_act, after_acts}
 use Rattle.item_shards.specs.ShardContents.{clock as clock_of, contents as contents_of}
 use Rattle.item_shards.specs.Writing.{first_act, second_act}
+use Rattle.shard_boxes.specs.declared.line.Line.{Line as MadeLine}
 use Rattle.shard_boxes.specs.States.{ShardState, state_at, IsWithin}
 
 -- the two acts of a line, as they were done: a place that is left has a look at nothing
@@ -46,6 +47,15 @@ line_of number index acts taken = record {
   before = clock_of taken;
   index = index;
   acts = first_two (events_of (contents_of taken) acts);
+}
+
+-- a line that a caller made, with what its looks showed of the shard as it was taken
+abbrev pub seen_line : ShardState → MadeLine → Line
+seen_line taken line = record {
+  number = line.number;
+  before = line.before;
+  index = line.index;
+  acts = first_two (events_of taken.contents line.acts);
 }
 
 -- the shard after a line: its acts are done, and its number is the clock

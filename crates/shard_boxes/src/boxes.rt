@@ -1,12 +1,12 @@
 //! The name of a phase and its boxes, and how a worker takes a shard and puts it back.
-ghost use Rattle.std.specs.Prelude.{◌≡◌, ◌<◌, length, true};
+ghost use Rattle.std.specs.Prelude.{◌≡◌, ◌<◌, length, true, Some, option_map};
 ghost use Rattle.shard_boxes.specs.States.{state_of};
-ghost use Rattle.shard_boxes.specs.Lines.{lines_of, StartsWith, IsShardHistory};
+ghost use Rattle.shard_boxes.specs.Lines.{lines_of, seen_line, StartsWith, IsShardHistory};
 ghost use Rattle.shard_boxes.specs.Keys.{taking, putting, lines_at, seen_at, holds_at, HoldsNoneFrom};
-ghost use Rattle.shard_boxes.specs.Helds.{taken_at, MayPut};
+ghost use Rattle.shard_boxes.specs.Helds.{taken_at, MayGoBack, MayPut};
 
 use crate::key::{Held, Key};
-use crate::line::Line;
+use crate::line::{Line, LineName, Trace};
 use crate::shard_box::ShardBox;
 use item_shards::Shard;
 use std::marker::{Brand, Model};
@@ -56,6 +56,15 @@ impl<N: PhaseName> Model for Boxes<N> {
 }
 
 impl<N: PhaseName> Boxes<N> {
+    /// How many shards there are, 1 to 64.
+    #[inline(always)]
+    pub fn shards(&self) -> u32
+        ensures count { result ≡ length N.initial }
+        ensures some { 0 < length N.initial }
+    {
+        self.boxes.len() as u32
+    }
+
     /// Takes a shard: it tries until the shard is in its box. A key that holds shards takes only greater ones: then
     /// workers don't wait for one another in a ring. It takes no memory.
     #[inline(always)]
@@ -76,16 +85,48 @@ impl<N: PhaseName> Boxes<N> {
         Held::new(s, shard)
     }
 
-    /// Puts a shard back: as it was taken, or after the line of what was done on it. It takes no memory.
+    /// Puts a shard back: as it was taken, or after a line that the caller made. It takes no memory.
     #[inline(always)]
     pub fn put<R: Wait>(&self, rt: &R, key: &mut Key<N>, held: Held<N>, line: Option<Line>)
         requires of { key.old.boxes ≡ self.now }
         requires holder { holds_at key.old held.number ≡ true }
-        requires may { MayPut (taken_at N.initial key.old held.number) (state_of held.shard) line }
-        ensures { key.new ≡ putting key.old held.number line }
+        requires may { MayGoBack (taken_at N.initial key.old held.number) (state_of held.shard)
+            line }
+        ensures { key.new ≡ putting key.old held.number
+            (option_map (seen_line (taken_at N.initial key.old held.number)) line) }
+    {
+        self.put_named::<Option<Line>, Brand, R>(rt, key, held, &line);
+    }
+
+    /// Puts a shard back after the line of what `Held::act` did on it. It takes no memory.
+    #[inline(always)]
+    pub fn put_acted<R: Wait>(&self, rt: &R, key: &mut Key<N>, held: Held<N>, trace: Trace)
+        requires of { key.old.boxes ≡ self.now }
+        requires holder { holds_at key.old held.number ≡ true }
+        requires may { MayPut (taken_at N.initial key.old held.number) (state_of held.shard)
+            (Some trace) }
+        ensures { key.new ≡ putting key.old held.number (Some trace) }
+    {
+        self.put_named::<Option<Trace>, Brand, R>(rt, key, held, &Some(trace));
+    }
+
+    // Puts a shard back, after the line that `L` names by what is lent, if there is one.
+    #[inline(always)]
+    fn put_named<T, L: LineName, R: Wait>(
+        &self,
+        rt: &R,
+        key: &mut Key<N>,
+        held: Held<N>,
+        _named_by: &T,
+    )
+        requires of { key.old.boxes ≡ self.now }
+        requires holder { holds_at key.old held.number ≡ true }
+        requires may { MayPut (taken_at N.initial key.old held.number) (state_of held.shard)
+            L.line }
+        ensures { key.new ≡ putting key.old held.number L.line }
     {
         let (number, shard) = held.open();
         let s = number as usize;
-        key.put(rt, &self.boxes[s], s, shard, &line);
+        key.put::<L, R>(rt, &self.boxes[s], s, shard);
     }
 }

@@ -23,12 +23,12 @@ ghost use Rattle.shard_boxes.specs.contracts.key.Held.{the_row};
 ghost use Rattle.shard_boxes.specs.Limits.{SumsFit};
 
 use crate::boxes::PhaseName;
-use crate::line::Line;
+use crate::line::{LineName, Trace};
 use crate::shard_box::{Grant, ShardBox};
 use auction_rows::{ItemId, ItemView, Refusal, Request};
 use ghost_log::Ghost;
 use item_shards::{Act, Shard, next_number};
-use std::marker::{Brand, Model, PhantomData};
+use std::marker::{Model, PhantomData};
 use std::sync::Wait;
 
 /// A worker's right to take the shards of a phase. Contracts see of each shard whether the key holds it, the lines that were
@@ -92,24 +92,23 @@ impl<N: PhaseName> Key<N> {
         shard_box.take(rt, grant)
     }
 
-    // Puts the shard back, after the line, if there is one.
+    // Puts the shard back, after the line that `L` names, if there is one.
     #[inline(always)]
-    pub(crate) fn put<R: Wait>(
+    pub(crate) fn put<L: LineName, R: Wait>(
         &mut self,
         rt: &R,
         shard_box: &ShardBox<N>,
         s: usize,
         shard: Shard,
-        line: &Option<Line>,
     )
         requires known { s < length N.initial }
         requires place { IsBoxAt self.old.boxes s shard_box.now }
         requires holds { holds_at self.old s ≡ true }
-        requires may { MayPut (taken_at N.initial self.old s) (state_of shard) line.now }
-        ensures { self.new ≡ putting self.old s line.now }
+        requires may { MayPut (taken_at N.initial self.old s) (state_of shard) L.line }
+        ensures { self.new ≡ putting self.old s L.line }
     {
         let grant = &mut self.grants[s];
-        shard_box.put::<Brand, R>(rt, grant, shard, line);
+        shard_box.put::<L, R>(rt, grant, shard);
     }
 
     // The grants, one for each box.
@@ -128,7 +127,8 @@ impl<N: PhaseName> Key<N> {
     }
 }
 
-/// A shard that was taken out of its box. It must be put back by `Boxes::put`: it can't be dropped.
+/// A shard that was taken out of its box. It must be put back by `Boxes::put` or
+/// `Boxes::put_acted`: it can't be dropped.
 pub struct Held<N: PhaseName> {
     number: u32,
     shard: Shard,
@@ -231,9 +231,9 @@ impl<N: PhaseName> Held<N> {
     }
 
     /// Does two acts on the shard, one after the other, at a number after its clock, and gives the
-    /// line that they leave, of the request of this index. It takes no memory.
+    /// trace of the line that they leave, of the request of this index. It takes no memory.
     #[inline(always)]
-    pub fn act(&mut self, number: u64, index: u32, acts: &[Act; 2]) -> Line
+    pub fn act(&mut self, number: u64, index: u32, acts: &[Act; 2]) -> Trace
         requires later { clock self.old.shard < number }
         requires within { number ≤ last_number }
         requires can { CanDo self.old.shard acts.now }
@@ -242,14 +242,14 @@ impl<N: PhaseName> Held<N> {
         ensures after { state_of self.new.shard ≡ after_line (state_of self.old.shard) result }
         ensures number { self.new.number ≡ self.old.number }
     {
-        let line = Line {
-            number,
-            index,
+        let trace = Trace {
+            number: Ghost::of(&number),
+            index: Ghost::of(&index),
             found: Ghost::of(&self.shard),
             acts: Ghost::of(acts),
         };
         self.shard.apply_acts(number, acts);
-        line
+        trace
     }
 
     /// The shard, to change it as its own methods do.

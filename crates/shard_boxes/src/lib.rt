@@ -12,4 +12,4 @@ mod shard_box;
 
 pub use boxes::{Boxes, PhaseName};
 pub use key::{Held, Key, sums_fit};
-pub use line::Line;
+pub use line::{Line, Trace};

@@ -8,7 +8,7 @@ ghost use Rattle.shard_boxes.specs.Grants.{CanOpen, CanUnite};
 ghost use Rattle.shard_boxes.specs.Rule.{Speaks, TakenBy, maker, opened, put, first_of, rest_of, joined};
 
 use crate::boxes::PhaseName;
-use crate::line::{Line, LineName};
+use crate::line::{LineName, Trace};
 use crossbeam_queue::protocol::{Join, Lesson, Outcome, Protocol, Split};
 use crossbeam_queue::{Pass, RuledArrayQueue};
 use crossbeam_utils::Backoff;
@@ -23,8 +23,8 @@ use std::sync::Wait;
 pub struct Knowledge {
     pub number: u64,
     pub first: u64,
-    pub own: LinkedList<LinkedList<Line>>,
-    pub seen: LinkedList<(u32, Line)>,
+    pub own: LinkedList<LinkedList<Trace>>,
+    pub seen: LinkedList<(u32, Trace)>,
     pub holds: bool,
 }
 
@@ -190,15 +190,8 @@ impl<N: PhaseName> ShardBox<N> {
 
     /// The holder puts the shard back, after the line that `L` names, if there is one.
     #[inline(always)]
-    pub fn put<L: LineName, R: Wait>(
-        &self,
-        rt: &R,
-        grant: &mut Grant,
-        shard: Shard,
-        _line: &Option<Line>,
-    )
+    pub fn put<L: LineName, R: Wait>(&self, rt: &R, grant: &mut Grant, shard: Shard)
         requires place { grant.old.box_id ≡ self.now }
-        requires line { _line.now ≡ L.line }
         requires holds { grant.old.knows.holds ≡ true }
         requires may { MayPut
             (after_lines (state_at N.initial grant.old.knows.number) grant.old.knows.seen)

@@ -4,11 +4,13 @@ use crate::runs::testing::{
     LOOK, Threaded, bid_stored, fault_of, given_back, own_scripts, policy_of, run_of,
 };
 use crate::testing::{FIRST, OPENING, bid, item_seen, purchase, put_up, vases};
-use auction_rows::{BuyId, Reply, Request};
-use auction_run::{FreeGate, Gate, Outcome, Policy, RunFault, run_on};
+use auction_rows::{BuyId, Reply, Request, Row};
+use auction_run::{
+    Board, FreeGate, Gate, Outcome, Policy, RunFault, Stopped, run_on, run_on_shown,
+};
 use item_shards::{Opened, OpeningBook};
 use phase_floor::Joined;
-use std::alloc::Global;
+use std::alloc::{AllocError, Global};
 use std::sync::Wait;
 use std::test::Fail;
 use std::thread::Threads;
@@ -107,10 +109,7 @@ fn a_run_goes_on_from_a_resumed_auction(rt: HostRuntime) -> Result<(), Fail> {
 
 // One script of so many views.
 fn views(alloc: Global, many: usize) -> Result<Vec<Vec<Request>>, Fail> {
-    let mut script = Vec::with_capacity(alloc, many)?;
-    for _view in 0..many {
-        script.push(LOOK)?;
-    }
+    let script = vec![in alloc; LOOK; many]?;
     Ok(vec![in alloc; script]?)
 }
 
@@ -167,21 +166,36 @@ fn what_is_refused_gives_the_state_back(rt: HostRuntime) -> Result<(), Fail> {
     Ok(())
 }
 
-// What a worker looks at is not counted from part to part: 600,000 views in each of two go through.
+// Takes no phase.
+#[derive(Drop)]
+struct Full;
+
+impl Board for Full {
+    ghost has = { λ board opening rows phases. Unit {0} };
+
+    ghost has_refused = { λ board opening rows phases. Unit {0} };
+
+    ghost can_be_watched = { ⊥ };
+
+    fn publish<R: Wait>(&mut self, _rt: &R, _last: Vec<Row>) -> Result<(), AllocError> {
+        Err(AllocError)
+    }
+}
+
+// What a worker looks at is not counted from part to part: after a view a part of 1,000,000 views
+// is begun. Its board refuses the first phase: so no more of them are performed.
 #[test]
 fn views_of_earlier_parts_are_not_counted(rt: HostRuntime) -> Result<(), Fail> {
     let alloc = rt.alloc();
-    let book = OpeningBook::empty(OPENING);
-    let mut state = Joined::resume(alloc, &book, 1, 4)?;
-    for _part in 0..2 {
-        let scripts = views(alloc, 600_000)?;
-        match run_on(&rt, alloc, state, scripts, policy_of(4096, 4096), &FreeGate) {
-            Ok(outcome) => {
-                assert_same(&rt, &outcome.history.len(), &600_000);
-                state = outcome.state;
-            }
-            Err(_stopped) => return Err(Fail::new("stopped")),
-        }
-    }
+    let state = Joined::new(alloc, OPENING, 1, 4)?;
+    let state = part_of(&rt, alloc, state, &[&[LOOK]], &FreeGate)?.state;
+    let long = views(alloc, 1_000_000)?;
+    let policy = policy_of(2, 2);
+    let stopped = run_on_shown(&rt, alloc, state, long, policy, &FreeGate, &mut Full);
+    let begun = stopped.err().map(|stopped| match stopped {
+        Stopped::Refused(_state, fault) => (false, fault),
+        Stopped::Failed(fault) => (true, fault),
+    });
+    assert_same(&rt, &begun, &Some((true, RunFault::Memory)));
     Ok(())
 }

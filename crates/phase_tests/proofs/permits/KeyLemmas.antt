@@ -1,7 +1,9 @@
--- The one key of boxes of one worker.
-use Rattle.std.proofs.Common.{◌≡◌, ℕ, ◌+◌, List, [], ◌∷◌, ◌++◌, length, ap, subst, arith}
+-- The keys of boxes of one worker and of two, as they are dealt and as they are given back.
+use Rattle.std.proofs.Common.{◌≡◌, ℕ, zero, suc, ◌+◌, ◌<◌, List, [], ◌∷◌, ◌++◌, length, sym, ap, subst, arith}
 use Rattle.std.proofs.lemmas.List.{length-append}
+use Rattle.shard_boxes.specs.Closed.{AreSpent, IsSpent}
 use Rattle.shard_boxes.specs.Keys.{BoxId, KeyState, key_at, IsNewKey, AreNewKeys}
+use Rattle.phase_permits.specs.Workers.{IsIdle}
 
 pub only_key : (boxes : List BoxId) (workers : ℕ) (keys rest : List KeyState) (key : KeyState) → keys ≡ rest ++ key ∷ [] → 1 ≡ workers → AreNewKeys boxes workers keys → IsNewKey boxes 0 key
 only_key boxes workers keys [] key is one new = subst (λ (k : List KeyState). IsNewKey boxes 0 (key_at k 0)) is (new.1 0 (omega (arith, one)))
@@ -9,3 +11,25 @@ only_key boxes workers keys (first ∷ rest) key is one new =
     let long : length (rest ++ key ∷ []) ≡ length rest + 1 = length-append rest (key ∷ []) in
     let same = ap length is in
     absurd (omega (arith, long, same, one, new.0))
+
+-- the keys of two workers
+pub two_keys : (boxes : List BoxId) (workers : ℕ) (keys : List KeyState) (one other : KeyState) → keys ≡ one ∷ other ∷ [] → 2 ≡ workers → AreNewKeys boxes workers keys
+    → IsNewKey boxes 0 one × IsNewKey boxes 1 other
+two_keys boxes workers keys one other is two new = let all = subst (AreNewKeys boxes workers) is new in (all.1 0 (omega (arith, two)), all.1 1 (omega (arith, two)))
+
+module _ (boxes : List BoxId) (workers : ℕ) (keys : List KeyState) where
+  pub one_spent : (key : KeyState) → keys ≡ key ∷ [] → 1 ≡ workers → key.boxes ≡ boxes → key.worker ≡ 0 → IsIdle key → AreSpent boxes workers keys
+  one_spent key is one of worker idle = subst (AreSpent boxes workers) (sym is) (one, λ w below. at w (subst (λ n. w < n) (sym one) below))
+    where
+      at : (w : ℕ) → w < 1 → IsSpent boxes w (key_at (key ∷ []) w)
+      at zero less = record { boxes_are = of; worker_is = worker; idle = idle }
+      at (suc w) less = absurd (omega (arith, less))
+
+  pub two_spent : (first second : KeyState) → keys ≡ first ∷ second ∷ [] → 2 ≡ workers → (first.boxes ≡ boxes) × (second.boxes ≡ boxes) → (first.worker ≡ 0) × (second.worker ≡ 1)
+      → IsIdle first × IsIdle second → AreSpent boxes workers keys
+  two_spent first second is two of number idle = subst (AreSpent boxes workers) (sym is) (two, λ w below. at w (subst (λ n. w < n) (sym two) below))
+    where
+      at : (w : ℕ) → w < 2 → IsSpent boxes w (key_at (first ∷ second ∷ []) w)
+      at zero less = record { boxes_are = of.0; worker_is = number.0; idle = idle.0 }
+      at (suc zero) less = record { boxes_are = of.1; worker_is = number.1; idle = idle.1 }
+      at (suc (suc w)) less = absurd (omega (arith, less))

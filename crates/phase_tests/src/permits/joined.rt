@@ -1,4 +1,4 @@
-//! A joined permit of worker 0, and how it performs.
+//! A joined permit, and how it performs.
 ghost use Rattle.std.specs.Prelude.{◌≡◌, ◌≤◌, length, IfOk};
 ghost use Rattle.phase_permits.specs.Workers.{IsUnused};
 ghost use Rattle.phase_permits.specs.Performing.{HaveOpening};
@@ -19,14 +19,13 @@ pub(crate) fn joined_permit<N: PhaseName>(
     stash: Stash,
     clock: u64,
 ) -> Result<JoinedPermit<N>, AllocError>
-    requires worker { key.worker ≡ 0 }
     requires unused { IsUnused key }
     requires few { length stash.requests ≤ 1 }
     ensures key { IfOk result (λ permit. permit.key ≡ key) }
     ensures users { IfOk result (λ permit.
         permit.opening ≡ record { users = 10; categories = 2 }) }
 {
-    let journal = Journal::with_room(alloc, 0, 0, 3)?;
+    let journal = Journal::with_room(alloc, 0, key.worker(), 3)?;
     let counters = Counters::default();
     Ok(JoinedPermit::new(key, OPENING, counters, journal, stash, 2, clock))
 }
@@ -42,6 +41,7 @@ pub(crate) fn perform<N: PhaseName, R: Wait + Abort>(
     requires of { permit.old.key.boxes ≡ boxes.now }
     requires users { HaveOpening N.initial permit.old.opening }
     ensures of { permit.new.key.boxes ≡ boxes.now }
+    ensures worker { permit.new.key.worker ≡ permit.old.key.worker }
     ensures users { HaveOpening N.initial permit.new.opening }
 {
     assert!(rt; permit.left() > 0 && permit.tries() < MOST_TRIES);

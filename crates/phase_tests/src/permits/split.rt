@@ -1,11 +1,12 @@
 //! A split permit of worker 0, who has stored the first item.
-ghost use Rattle.std.specs.Prelude.{◌≡◌, ℕ, ◌≤◌, ◌<◌, true, length, IfOk};
+ghost use Rattle.std.specs.Prelude.{◌≡◌, ℕ, ◌≤◌, ◌<◌, true, length, Ok, IfOk};
 ghost use Rattle.std.specs.List.{IsDistinct, AllByRecursion};
 ghost use Rattle.auction_rows.specs.declared.requests.ItemId.{ItemId as Id};
 ghost use Rattle.auction_rows.specs.declared.requests.Object.TheVariants.{Item};
 ghost use Rattle.auction_rows.specs.Footprint.{is_hot};
 ghost use Rattle.auction_rows.specs.Requests.{same_object};
 ghost use Rattle.phase_permits.specs.Slicing.{hot_objects, IsStocked};
+ghost use Rattle.phase_permits.specs.declared.transaction.Done.TheVariants.{Stashed};
 ghost use Rattle.phase_permits.specs.Workers.{IsUnused};
 ghost use Rattle.phase_permits.specs.Performing.{HaveOpening};
 
@@ -85,6 +86,7 @@ pub(crate) fn perform<N: PhaseName, R: Wait + Abort>(
 ) -> Result<Done, PermitFault>
     requires of { permit.old.key.boxes ≡ boxes.now }
     requires users { HaveOpening N.initial permit.old.opening }
+    ensures stashed { result ≡ Ok Stashed → permit.new.key ≡ permit.old.key }
 {
     assert!(rt; permit.left() > 0 && permit.tries() < MOST_TRIES);
     permit.perform(rt, boxes, request, index)

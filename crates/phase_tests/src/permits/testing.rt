@@ -1,6 +1,7 @@
-//! Four new shards, and their boxes with the key of one worker.
-ghost use Rattle.std.specs.Prelude.{◌≡◌, length, map, IfOk};
+//! Four new shards, and their boxes with the key of one worker or of two.
+ghost use Rattle.std.specs.Prelude.{◌≡◌, ◌∷◌, [], length, map, vec_len, IfOk};
 ghost use Rattle.shard_boxes.specs.States.{state_of, AreInitial};
+ghost use Rattle.shard_boxes.specs.Keys.{IsNewKey};
 ghost use Rattle.phase_permits.specs.Workers.{IsUnused};
 ghost use Rattle.phase_permits.specs.Performing.{HaveOpening};
 
@@ -44,4 +45,35 @@ pub(crate) fn boxes_of_one<N: PhaseName, R: Wait>(
     };
     let key = keys.pop().ok_or("a key")?;
     Ok((boxes, key))
+}
+
+/// The boxes of these shards, and the keys of their two workers.
+pub(crate) fn boxes_of_two<N: PhaseName, R: Wait>(
+    rt: &R,
+    alloc: Global,
+    shards: Vec<Shard>,
+) -> Result<(Boxes<N>, Key<N>, Key<N>), Fail>
+    requires opening { map state_of shards.items ≡ N.initial }
+    requires four { length N.initial ≡ 4 }
+    requires opened { AreInitial N.initial }
+    requires workers { 2 ≡ N.workers }
+    ensures first { IfOk result (λ made. IsNewKey made.0 0 made.1) }
+    ensures second { IfOk result (λ made. IsNewKey made.0 1 made.2) }
+{
+    let Ok((boxes, keys)) = Boxes::<N>::new(rt, alloc, shards, 2) else {
+        return Err(Fail::from(AllocError));
+    };
+    let (first, second) = both(keys);
+    Ok((boxes, first, second))
+}
+
+// The two items.
+fn both<T>(mut items: Vec<T>) -> (T, T)
+    requires { vec_len items ≡ 2 }
+    ensures { items.items ≡ result.0 ∷ result.1 ∷ [] }
+{
+    let first = items.remove(0);
+    let second = items.remove(0);
+    items.destroy_empty();
+    (first, second)
 }

@@ -37,10 +37,12 @@ fn a_shard_knows_an_item_once_it_is_added(rt: HostRuntime) -> Result<(), Fail> {
 }
 
 #[test]
-fn a_clock_is_set(rt: HostRuntime) -> Result<(), Fail> {
+fn a_clock_is_set_and_reset(rt: HostRuntime) -> Result<(), Fail> {
     let mut shard = Shard::new(rt.alloc(), 0, 1, OPENING)?;
     assert!(rt; shard.clock() < 7);
     shard.set_clock(7);
     assert_same(&rt, &shard.clock(), &7);
+    shard.reset_clock();
+    assert_same(&rt, &shard.clock(), &0);
     Ok(())
 }

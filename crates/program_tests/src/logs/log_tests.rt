@@ -1,73 +1,29 @@
 //! What a log has accepted, and what was told, after each call that fails.
+ghost use Rattle.std.specs.Prelude.{false, [], Some};
+
 use crate::comparing::assert_same;
-use part_log::{
-    AppendFile, FileLog, Log, LogFault, NoLog, TellFault, Teller, tell_part, whole_lines,
-};
+use crate::logs::mem_file::{MemFile, put_known};
+use part_log::{FileLog, Log, LogFault, NoLog, TellFault, Teller, tell_part};
 use std::alloc::Global;
 use std::io;
 use std::io::Write;
 use std::test::Fail;
 
-// A file in memory, of which one call fails: an append then adds half of its bytes.
-#[derive(Drop)]
-struct Lapse {
-    held: Vec<u8>,
-    fails_at: usize,
-    calls: usize,
-}
-
-impl Lapse {
-    // Whether this call is the one that fails.
-    fn fails(&mut self) -> bool {
-        let call = self.calls;
-        self.calls = call.saturating_add(1);
-        call == self.fails_at
-    }
-
-    fn answer(&mut self) -> io::Result<()> {
-        if self.fails() {
-            return Err(io::Error::from(io::ErrorKind::StorageFull));
-        }
-        Ok(())
-    }
-}
-
-impl AppendFile for Lapse {
-    fn append(&mut self, bytes: &[u8]) -> io::Result<()> {
-        if self.fails() {
-            self.held.extend_from_slice(&bytes[..bytes.len() / 2])?;
-            return Err(io::Error::from(io::ErrorKind::StorageFull));
-        }
-        self.held.extend_from_slice(bytes)?;
-        Ok(())
-    }
-
-    fn cut(&mut self, len: u64) -> io::Result<()> {
-        self.answer()?;
-        self.held.truncate(len as usize);
-        Ok(())
-    }
-
-    fn sync(&mut self) -> io::Result<()> {
-        self.answer()
-    }
-}
-
 // What a log answers to three parts, of which the call with this number fails: after those of
 // `open`, 2 is the append of the first part and 3 its sync.
 fn three_parts(alloc: Global, fails_at: usize) -> Result<[Result<(), LogFault>; 3], Fail> {
-    let file = Lapse {
-        held: Vec::new(alloc),
-        fails_at,
-        calls: 0,
-    };
-    let mut log = FileLog::open(file, 0)?;
-    Ok([log.put(b"one\n"), log.put(b"two\n"), log.put(b"three\n")])
+    let mut log = FileLog::open(MemFile::new(alloc, fails_at), 0)?;
+    Ok([
+        put_known(&mut log, b"one\n"),
+        put_known(&mut log, b"two\n"),
+        put_known(&mut log, b"three\n"),
+    ])
 }
 
 #[test]
 fn a_log_goes_on_after_a_write_that_failed_alone(rt: HostRuntime) -> Result<(), Fail> {
     let refused = Err(LogFault::Write);
+    let unsynced = Err(LogFault::Sync);
     let broken = Err(LogFault::Broken);
     assert_same(
         &rt,
@@ -79,13 +35,21 @@ fn a_log_goes_on_after_a_write_that_failed_alone(rt: HostRuntime) -> Result<(), 
         &three_parts(rt.alloc(), 2)?,
         &[refused, Ok(()), Ok(())],
     );
-    assert_same(&rt, &three_parts(rt.alloc(), 3)?, &[broken, broken, broken]);
+    assert_same(
+        &rt,
+        &three_parts(rt.alloc(), 3)?,
+        &[unsynced, broken, broken],
+    );
     assert_same(
         &rt,
         &three_parts(rt.alloc(), 4)?,
         &[Ok(()), refused, Ok(())],
     );
-    assert_same(&rt, &three_parts(rt.alloc(), 5)?, &[Ok(()), broken, broken]);
+    assert_same(
+        &rt,
+        &three_parts(rt.alloc(), 5)?,
+        &[Ok(()), unsynced, broken],
+    );
     Ok(())
 }
 
@@ -94,6 +58,12 @@ fn a_log_goes_on_after_a_write_that_failed_alone(rt: HostRuntime) -> Result<(), 
 struct Full;
 
 impl Log for Full {
+    ghost accepted = { λ _. Some [] };
+
+    ghost found = { λ _. Some [] };
+
+    ghost has_ended = { λ _. false };
+
     fn put(&mut self, _bytes: &[u8]) -> Result<(), LogFault> {
         Err(LogFault::Write)
     }
@@ -163,19 +133,4 @@ fn each_part_is_flushed(rt: HostRuntime) {
 #[test]
 fn only_a_log_that_keeps_rows_asks_for_them(rt: HostRuntime) {
     assert_same(&rt, &(NoLog.keeps(), Full.keeps()), &(false, true));
-}
-
-#[test]
-fn a_line_that_was_cut_is_not_whole(rt: HostRuntime) {
-    let texts: [(&[u8], usize); 6] = [
-        (b"", 0),
-        (b"a", 0),
-        (b"\n", 1),
-        (b"a\nb", 2),
-        (b"a\nb\n", 4),
-        (b"a\n\n", 3),
-    ];
-    for (text, whole) in texts {
-        assert_same(&rt, &whole_lines(text), &whole);
-    }
 }

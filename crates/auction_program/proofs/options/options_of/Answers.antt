@@ -1,25 +1,28 @@
-use Rattle.std.proofs.Common.{codes, refl}
+use Rattle.std.proofs.Common.{◌≡◌, codes, refl}
 use Rattle.auction_rows.specs.declared.limits.TheConstants.{MOST_HOT, MOST_SHARDS, MOST_WORKERS}
 use Rattle.clap.specs.Matches.{found_of, one_text}
 use Rattle.program_options.proofs.NumberOptions.{number_is}
 use Rattle.program_options.specs.declared.options.TheConstants.{MOST_ASKED}
+use Rattle.program_options.specs.declared.words.UsageFault.TheVariants.{Memory}
 use Rattle.auction_program.specs.Words.{program}
+use Rattle.auction_program.proofs.Answering.{error_is}
 use Rattle.auction_program.proofs.options.options_of.Goals as goal
 
 pub returns-clause-given : goal.returns-clause-given
-returns-clause-given c = λ numbers i. let text = one_text (found_of c.args.matches.now) in record {
-  workers = number_is program (codes "workers") 1 MOST_WORKERS (codes "1") 1 (λ e. absurd cc) refl refl text _ numbers c.number_of.ensures.said i;
-  shards = number_is program (codes "shards") 1 MOST_SHARDS (codes "4") 1 (λ e. absurd cc) refl refl text _ numbers c.number_of-2.ensures.said i;
-  joined = number_is program (codes "joined") 1 MOST_ASKED (codes "64") 1 (λ e. absurd cc) refl refl text _ numbers c.number_of-3.ensures.said i;
-  split = number_is program (codes "split") 1 MOST_ASKED (codes "64") 1 (λ e. absurd cc) refl refl text _ numbers c.number_of-4.ensures.said i;
-  threshold = number_is program (codes "threshold") 1 MOST_ASKED (codes "8") 1 (λ e. absurd cc) refl refl text _ numbers c.number_of-5.ensures.said i;
-  hot = number_is program (codes "hot") 0 MOST_HOT (codes "8") 1 (λ e. absurd cc) refl refl text _ numbers c.number_of-6.ensures.said i;
-  users = number_is program (codes "users") 0 MOST_ASKED (codes "100") 1 (λ e. absurd cc) refl refl text _ numbers c.number_of-7.ensures.said i;
-  categories = number_is program (codes "categories") 0 MOST_ASKED (codes "10") 1 (λ e. absurd cc) refl refl text _ numbers c.number_of-8.ensures.said i;
-  live = number_is program (codes "live") 0 MOST_ASKED (codes "0") 1 (λ e. absurd cc) refl refl text _ numbers c.number_of-9.ensures.said i;
-  history = c.flag_of.ensures i;
-  rows = c.flag_of-2.ensures i;
-  report = c.flag_of-3.ensures i;
+returns-clause-given c = λ numbers. let text = one_text (found_of c.args.matches.now) in record {
+  workers = number_is program (codes "workers") 1 MOST_WORKERS (codes "1") 1 (λ e. absurd cc) refl refl text _ numbers c.number_of.ensures.said;
+  shards = number_is program (codes "shards") 1 MOST_SHARDS (codes "4") 1 (λ e. absurd cc) refl refl text _ numbers c.number_of-2.ensures.said;
+  joined = number_is program (codes "joined") 1 MOST_ASKED (codes "64") 1 (λ e. absurd cc) refl refl text _ numbers c.number_of-3.ensures.said;
+  split = number_is program (codes "split") 1 MOST_ASKED (codes "64") 1 (λ e. absurd cc) refl refl text _ numbers c.number_of-4.ensures.said;
+  threshold = number_is program (codes "threshold") 1 MOST_ASKED (codes "8") 1 (λ e. absurd cc) refl refl text _ numbers c.number_of-5.ensures.said;
+  hot = number_is program (codes "hot") 0 MOST_HOT (codes "8") 1 (λ e. absurd cc) refl refl text _ numbers c.number_of-6.ensures.said;
+  users = number_is program (codes "users") 0 MOST_ASKED (codes "100") 1 (λ e. absurd cc) refl refl text _ numbers c.number_of-7.ensures.said;
+  categories = number_is program (codes "categories") 0 MOST_ASKED (codes "10") 1 (λ e. absurd cc) refl refl text _ numbers c.number_of-8.ensures.said;
+  live = number_is program (codes "live") 0 MOST_ASKED (codes "0") 1 (λ e. absurd cc) refl refl text _ numbers c.number_of-9.ensures.said;
+  log = c.in_ok-log.ensures.said;
+  history = c.flag_of.ensures;
+  rows = c.flag_of-2.ensures;
+  report = c.flag_of-3.ensures;
 }
 
 pub returns-clause-range : goal.returns-clause-range
@@ -39,3 +42,7 @@ returns-clause-range c = record {
   categories = c.number_of-8.ensures.greatest;
   live = c.number_of-9.ensures.greatest;
 }
+
+pub returns-in_err-log-clause-memory : goal.returns-in_err-log-clause-memory
+returns-in_err-log-clause-memory c =
+    error_is c.from_residual.result c.in_err-log.field-0.0 (λ fault. fault ≡ Memory) c.from_residual.ensures c.in_err-log.ensures.memory

@@ -8,7 +8,7 @@ use Rattle.item_shards.specs.OpeningRows.{opening_rows}
 use Rattle.item_shards.specs.declared.openings.Opened.{Opened}
 use Rattle.auction_program.specs.Options.{opening_asked}
 use Rattle.auction_program.specs.PartRuns.{Opens, StartsAt}
-use Rattle.auction_program.specs.Serving.{ArePartTold, AreTold, IsNothingTold, nothing_gone}
+use Rattle.auction_program.specs.Serving.{ArePartTold, AreTold, IsNothingTold, logged_rows, nothing_gone}
 use Rattle.auction_program.specs.declared.parts.RunStart.TheVariants.{Book}
 use Rattle.auction_program.proofs.FirstPart.{first_not_served, first_opened, first_served}
 use Rattle.auction_program.proofs.ToldLemmas.{same_gone}
@@ -17,7 +17,7 @@ use Rattle.auction_program.proofs.session.serve.Goals as goal
 pub returns-in_err-book-clause-logged : goal.returns-in_err-book-clause-logged
 returns-in_err-book-clause-logged g c =
     let options = c.args.options.now in
-    let logged = c.args.source.logged.items in
+    let logged = logged_rows c.args.source.logged in
     let accepted = g.L.Log.accepted in
     let contents = g.W.Write.contents in
     IfSome_then (g.I.Read.remaining c.args.source.reader) c.in_ok-left.ensures.reads (λ input can.
@@ -29,7 +29,7 @@ returns-in_err-book-clause-logged g c =
 pub returns-in_err-served-clause-logged : goal.returns-in_err-served-clause-logged
 returns-in_err-served-clause-logged g c =
     let options = c.args.options.now in
-    let logged = c.args.source.logged.items in
+    let logged = logged_rows c.args.source.logged in
     let accepted = g.L.Log.accepted in
     let contents = g.W.Write.contents in
     IfSome_then (g.I.Read.remaining c.args.source.reader) c.in_ok-left.ensures.reads (λ input can.
@@ -45,7 +45,7 @@ returns-in_err-served-clause-logged g c =
 pub returns-clause-all : goal.returns-clause-all
 returns-clause-all g c =
     let options = c.args.options.now in
-    let logged = c.args.source.logged.items in
+    let logged = logged_rows c.args.source.logged in
     let accepted = g.L.Log.accepted in
     let contents = g.W.Write.contents in
     on_ok_weaker c.serve_rest.result (λ ensures. IfSome_then (g.I.Read.remaining c.args.source.reader) c.in_ok-left.ensures.reads (λ input can.
@@ -62,7 +62,7 @@ returns-clause-all g c =
 pub returns-clause-fault : goal.returns-clause-fault
 returns-clause-fault g c = λ fault is of_input.
     let options = c.args.options.now in
-    let logged = c.args.source.logged.items in
+    let logged = logged_rows c.args.source.logged in
     let accepted = g.L.Log.accepted in
     let contents = g.W.Write.contents in
     IfSome_then (g.I.Read.remaining c.args.source.reader) c.in_ok-left.ensures.reads (λ input can.
@@ -79,7 +79,7 @@ returns-clause-fault g c = λ fault is of_input.
 pub returns-clause-logged : goal.returns-clause-logged
 returns-clause-logged g c =
     let options = c.args.options.now in
-    let logged = c.args.source.logged.items in
+    let logged = logged_rows c.args.source.logged in
     let accepted = g.L.Log.accepted in
     let contents = g.W.Write.contents in
     IfSome_then (g.I.Read.remaining c.args.source.reader) c.in_ok-left.ensures.reads (λ input can.

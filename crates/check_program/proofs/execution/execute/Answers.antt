@@ -1,17 +1,33 @@
-use Rattle.std.proofs.Common.{◌≡◌, sym, subst}
-use Rattle.std.specs.Prelude.{Ok, IfSome}
-use Rattle.auction_text.specs.Scripts.{input_of}
+use Rattle.std.proofs.Common.{◌≡◌, ap}
+use Rattle.std.specs.Io.KnownBytes.{Appends}
+use Rattle.std.specs.Prelude.{Err}
+use Rattle.auction_text.specs.Writing.{IsPartWritten}
 use Rattle.item_shards.specs.OpeningBooks as book
-use Rattle.check_program.proofs.FindingLemmas.{known}
+use Rattle.check_program.proofs.FaultLemmas.{unless_failed, write_is}
+use Rattle.check_program.proofs.FindingLemmas.{tells}
 use Rattle.check_program.proofs.execution.execute.Goals as goal
 
-pub returns-clause-found : goal.returns-clause-found
-returns-clause-found g c =
-    let options = c.args.options.now in
-    let rows = c.in_ok-input.input.rows.items in
-    let reads : IfSome (g.I.Read.remaining c.args.reader) (λ bytes. input_of options.workers bytes ≡ Ok (record { rows = rows; scripts = c.deref.result.now })) =
-    subst (λ seen. IfSome (g.I.Read.remaining c.args.reader) (λ bytes. input_of options.workers bytes ≡ Ok (record { rows = rows; scripts = seen })))
-    (sym c.deref.ensures.value) c.in_ok-input.ensures.input in
-    known options rows c.deref.result.now (book.opening_of c.in_ok-book.book) (book.rows_of_book c.in_ok-book.book) c.in_ok-verdict.verdict
-    c.in_ok-book.ensures.opening c.in_ok-book.ensures.rows c.in_ok-book.ensures.accepted
-    (g.I.Read.remaining c.args.reader) (g.H.Read.remaining c.args.history.now) reads c.in_ok-verdict.ensures.verdict c.in_ok-verdict.ensures.accepted
+pub returns-clause-tells : goal.returns-clause-tells
+returns-clause-tells g c =
+    tells c.args.options.now c.in_ok-input.input.rows.items c.deref.result.now (book.opening_of c.in_ok-book.book) (book.rows_of_book c.in_ok-book.book)
+    c.check_history.new.line.items c.in_ok-verdict.verdict c.in_ok-book.ensures.opening c.in_ok-book.ensures.rows c.in_ok-book.ensures.accepted
+    (g.I.Read.remaining c.args.reader) (g.H.Read.remaining c.args.history.now) _ c.deref.ensures.value c.in_ok-input.ensures.input
+    c.in_ok-verdict.ensures.verdict c.in_ok-verdict.ensures.accepted
+    c.deref-2.result.now (Appends (g.W.Write.contents c.args.writer.now) (g.W.Write.contents c.write_verdict.new.writer)) c.deref-2.ensures.value c.in_ok-write_verdict.ensures.whole
+
+pub returns-in_err-write_verdict-clause-part : goal.returns-in_err-write_verdict-clause-part
+returns-in_err-write_verdict-clause-part g c = λ is. record {
+  verdict = c.in_ok-verdict.verdict;
+  tells =
+      tells c.args.options.now c.in_ok-input.input.rows.items c.deref.result.now (book.opening_of c.in_ok-book.book) (book.rows_of_book c.in_ok-book.book)
+      c.check_history.new.line.items c.in_ok-verdict.verdict c.in_ok-book.ensures.opening c.in_ok-book.ensures.rows c.in_ok-book.ensures.accepted
+      (g.I.Read.remaining c.args.reader) (g.H.Read.remaining c.args.history.now) _ c.deref.ensures.value c.in_ok-input.ensures.input
+      c.in_ok-verdict.ensures.verdict c.in_ok-verdict.ensures.accepted
+      c.deref-2.result.now (IsPartWritten (g.W.Write.contents c.args.writer.now) (g.W.Write.contents c.write_verdict.new.writer)) c.deref-2.ensures.value
+      (c.in_err-write_verdict.ensures.part (ap Err (write_is c.from_residual-in_err-write_verdict.result _ _ c.from_residual-in_err-write_verdict.ensures is)));
+}
+
+pub returns-in_err-write_verdict-clause-unwritten : goal.returns-in_err-write_verdict-clause-unwritten
+returns-in_err-write_verdict-clause-unwritten g c =
+    unless_failed (c.write_verdict.new.writer ≡ c.args.writer.now) c.from_residual-in_err-write_verdict.result c.in_err-write_verdict.field-0.0 c.from_residual-in_err-write_verdict.ensures
+    (λ is. c.in_err-write_verdict.ensures.memory (ap Err is))

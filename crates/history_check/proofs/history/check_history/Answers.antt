@@ -28,7 +28,7 @@ returns-in-Some g c =
     let found = told (opening_of c.args.book.now) (rows_of_book c.args.book.now) c.args.order (g.R.Read.remaining c.args.reader.now) c.loop-number.invariant in
     record {
       verdict = found;
-      accepted = finds (opening_of c.args.book.now) (rows_of_book c.args.book.now) c.args.scripts.now c.args.order (g.R.Read.remaining c.args.reader.now) c.in-Some.verdict found;
+      accepted = finds (opening_of c.args.book.now) (rows_of_book c.args.book.now) c.args.scripts.now c.args.order (g.R.Read.remaining c.args.reader.now) c.find_next.new.line.items c.in-Some.verdict found;
       too_long = λ is. absurd cc;
     }
 

@@ -6,6 +6,7 @@ use Rattle.phase_permits.specs.Workers.{WorkerState, IsExplained}
 use Rattle.phase_permits.proofs.EmptyLemmas.{hot_commits}
 use Rattle.phase_permits.proofs.LastLemmas.{some_entry, as_read}
 use Rattle.phase_permits.proofs.PermitLemmas.{commit_explained}
+use Rattle.phase_permits.proofs.RightLemmas.{model_reply}
 use Rattle.phase_permits.proofs.kinds.Permit+N+SplitPhase.perform_hot.Goals as goal
 
 pub invariant_of-self : goal.invariant_of-self
@@ -33,3 +34,6 @@ returns-clause-committed g c =
     hot_commits g.N.PhaseName.initial old new c.args.request.now c.args.index c.self.invariant.1.idle
     (subst (λ (w : WorkerState). IsHotStore w.slices c.args.request.now) (sym c.self.view_is) c.requires.hot) c.perform_hot.result c.perform_hot.ensures.none (ap is_some c.in_ok-perform_hot.was) c.perform_hot.ensures.stored in
     subst (λ (w : WorkerState). HasCommitted g.N.PhaseName.initial w new c.args.request.now c.args.index c.last_reply.result) c.self.view_is (as_read g.N.PhaseName.initial old new c.args.request.now c.args.index some.0 some.1 c.last_reply.result c.last_reply.ensures)
+
+pub returns-clause-reply : goal.returns-clause-reply
+returns-clause-reply g c = model_reply _ _ _ _ _ _ (returns-clause-committed g c)

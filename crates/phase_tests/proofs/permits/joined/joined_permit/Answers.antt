@@ -1,4 +1,4 @@
-use Rattle.std.proofs.Common.{refl, sym, ap, ◌∙◌, arith}
+use Rattle.std.proofs.Common.{refl, ap, ◌∙◌, arith}
 use Rattle.std.proofs.lemmas.Bool.{false≢true}
 use Rattle.worker_journals.specs.Journals.{JournalView}
 use Rattle.phase_tests.proofs.permits.joined.joined_permit.Goals as goal
@@ -10,7 +10,7 @@ new-requires g c =
     let none = zero.1.1.1.1 in
     record {
       key = c.requires.unused;
-      worker = ap (λ (j : JournalView). j.worker) journal ∙ sym c.requires.worker;
+      worker = ap (λ (j : JournalView). j.worker) journal ∙ c.worker.ensures.value;
       empty = ap (λ (j : JournalView). j.entries) journal;
       identities = refl;
       room = omega (arith, c.requires.few, ap (λ (j : JournalView). j.room) journal);

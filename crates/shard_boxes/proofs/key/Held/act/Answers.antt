@@ -15,22 +15,22 @@ apply_acts-requires-clause-can g c = subst (λ (h : HeldState). CanDo h.shard c.
 
 pub returns-clause-line : goal.returns-clause-line
 returns-clause-line g c =
-    let found = c.of.ensures ∙ ap (λ (h : HeldState). h.shard) c.self.view_is in
-    λ i. line_of c.args.number c.args.index (c.of-2.ensures i) (found i)
+    let found = c.of-3.ensures ∙ ap (λ (h : HeldState). h.shard) c.self.view_is in
+    λ i. line_of (c.of.ensures i) (c.of-2.ensures i) (c.of-4.ensures i) (found i)
 
 pub returns-clause-follows : goal.returns-clause-follows
 returns-clause-follows g c =
-    let found = c.of.ensures ∙ ap (λ (h : HeldState). h.shard) c.self.view_is in
+    let found = c.of-3.ensures ∙ ap (λ (h : HeldState). h.shard) c.self.view_is in
     line_follows c.args.self.now.shard c.args.number c.args.index c.args.acts.now _
-    (λ i. line_of c.args.number c.args.index (c.of-2.ensures i) (found i)) c.requires.later
+    (λ i. line_of (c.of.ensures i) (c.of-2.ensures i) (c.of-4.ensures i) (found i)) c.requires.later
 
 pub returns-clause-after : goal.returns-clause-after
 returns-clause-after g c =
     let old = c.self.inside.shard in
     let new = c.apply_acts.new.self in
     let made = c.apply_acts.ensures in
-    let line = line_of c.args.number c.args.index c.of-2.result c.of.result in
+    let line = line_of c.of.result c.of-2.result c.of-4.result c.of-3.result in
     subst (λ (h : HeldState). state_of new ≡ after_line (state_of h.shard) line) c.self.view_is
     (line_done old c.args.number c.args.index c.args.acts.now line
-    (λ i. line_of c.args.number c.args.index (c.of-2.ensures i) (c.of.ensures i))
+    (λ i. line_of (c.of.ensures i) (c.of-2.ensures i) (c.of-4.ensures i) (c.of-3.ensures i))
     new c.type_inv.acts made.same made.contents made.clock)

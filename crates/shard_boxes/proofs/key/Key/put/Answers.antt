@@ -1,4 +1,4 @@
-use Rattle.std.proofs.Common.{ℕ, ◌<◌, List, refl, sym, ap, ◌∙◌, subst, arith, length}
+use Rattle.std.proofs.Common.{ℕ, ◌<◌, List, sym, ap, ◌∙◌, subst, arith, length}
 use Rattle.shard_boxes.specs.States.{state_of, state_at}
 use Rattle.shard_boxes.specs.Lines.{Line, after_lines}
 use Rattle.shard_boxes.specs.Keys.{SeatState, KeyState, seat_at, with_seat, put_seat}
@@ -18,9 +18,6 @@ put-requires-clause-place g c =
     let below : c.args.s < length grants = subst (λ n. c.args.s < n) (sym (sym inside.grants.ok.0 ∙ c.self.invariant.1)) c.requires.known in
     place_is grants c.args.self.now.boxes c.args.s c.index_mut-grant.result.now c.args.shard_box.now (ap (λ (x : KeyState). x.boxes) c.self.view_is) below c.index_mut-grant.ensures.value c.requires.place
 
-pub put-requires-clause-line : goal.put-requires-clause-line
-put-requires-clause-line g c = refl
-
 pub put-requires-clause-holds : goal.put-requires-clause-holds
 put-requires-clause-holds g c =
     let inside = c.self.inside in
@@ -38,7 +35,7 @@ put-requires-clause-may g c =
     let at = c.index_mut-grant.ensures.value in
     let number = ap (λ (l : GrantState). l.knows.number) at ∙ (c.self.invariant.2 c.args.s grant below).numbered in
     let seat = read inside.worker grants c.args.s grant c.args.self.now c.self.view_is below at in
-    subst (λ (y : ℕ × List (ℕ × Line)). MayPut (after_lines (state_at g.N.PhaseName.initial y.0) y.1) (state_of c.args.shard) c.args.line.now) (λ i. (sym number i, (seat i).seen)) c.requires.may
+    subst (λ (y : ℕ × List (ℕ × Line)). MayPut (after_lines (state_at g.N.PhaseName.initial y.0) y.1) (state_of c.args.shard) g.L.LineName.line) (λ i. (sym number i, (seat i).seen)) c.requires.may
 
 pub returns : goal.returns
 returns g c =
@@ -50,9 +47,9 @@ returns g c =
     let at = c.index_mut-grant.ensures.value in
     let first = ap (λ (l : GrantState). l.knows.first) at ∙ fit.from in
     let alone = ap (λ (l : GrantState). length l.knows.own) at ∙ fit.as_many in
-    key_after (λ t. put_seat inside.worker t c.args.line.now) inside.worker c.args.s inside.grants.items grant c.put.new.grant c.args.self.now is below at (ap (λ (l : GrantState). l.box_id) c.put.ensures)
-    (put_seat_is inside.worker grant c.put.new.grant c.args.line.now c.put.ensures first alone)
-    ∙ ap (λ (x : KeyState). with_seat c.args.self.now c.args.s (put_seat x.worker (seat_at c.args.self.now c.args.s) c.args.line.now)) is
+    key_after (λ t. put_seat inside.worker t g.L.LineName.line) inside.worker c.args.s inside.grants.items grant c.put.new.grant c.args.self.now is below at (ap (λ (l : GrantState). l.box_id) c.put.ensures)
+    (put_seat_is inside.worker grant c.put.new.grant g.L.LineName.line c.put.ensures first alone)
+    ∙ ap (λ (x : KeyState). with_seat c.args.self.now c.args.s (put_seat x.worker (seat_at c.args.self.now c.args.s) g.L.LineName.line)) is
 
 pub invariant_of-self : goal.invariant_of-self
 invariant_of-self g c =

@@ -1,0 +1,185 @@
+//! The file of a log: how it is opened and locked, and where what is cut off it is kept.
+use crate::options::Options;
+use item_shards::OpeningBook;
+use log_opening::{OpenFault, OpenedText, open_text};
+use part_log::FileLog;
+use std::alloc::Global;
+use std::fs::{File, OpenOptions, TryLockError};
+use std::io;
+use std::io::{ErrorKind, Read, Write};
+use std::rt::Files;
+use thiserror::Error;
+
+/// Why a log is not opened. Its bytes are as they were.
+#[derive(Debug, PartialEq, Eq, Drop, Error)]
+pub enum LogFileFault {
+    /// Its file could not be opened, read or cut.
+    #[error("log cannot be read")]
+    Read,
+    /// It is a pipe or a device.
+    #[error("log is not a regular file")]
+    NotAFile,
+    /// Another program has it.
+    #[error("log is in use")]
+    Locked,
+    /// It could not be locked, so another program may have it.
+    #[error("log cannot be locked")]
+    NoLock,
+    /// Its text, in the file of this name, opens no auction.
+    #[error("{0}: {1}")]
+    Text(String, OpenFault),
+    /// What is to be cut off it could not be kept.
+    #[error("cut bytes of the log cannot be kept")]
+    Tail,
+    /// No memory was left.
+    #[error("log: no memory")]
+    Memory,
+}
+
+/// A log that was opened.
+#[derive(Drop)]
+pub struct OpenedLog {
+    /// The rows that it has.
+    pub rows: OpeningBook,
+    /// The log.
+    pub log: FileLog<File>,
+    /// How many bytes were cut off: the beginning of a row that was being written.
+    pub cut: usize,
+}
+
+// The folder of a path.
+fn folder_of(path: &str) -> &str {
+    match path.rfind('/') {
+        Some(0) => "/",
+        Some(at) => &path[..at],
+        None => ".",
+    }
+}
+
+// Has the disk keep the name of a file that may be new, in the folder where it is: a link to it may
+// be in another.
+fn sync_folder<R: Files<File = File>>(rt: &R, alloc: Global, path: &str) -> io::Result<()> {
+    let path = rt.canonicalize(alloc, path)?;
+    let folder = File::open(rt, folder_of(path.as_str()))?;
+    folder.sync_all()
+}
+
+// Opens a file to read it and to add to its end, and makes it if it is missing. A read of what is
+// not a regular file might never end.
+fn open_regular<R: Files<File = File>>(rt: &R, path: &str) -> Result<File, LogFileFault> {
+    let mut how = OpenOptions::new();
+    let Ok(file) = how.read(true).append(true).create(true).open(rt, path) else {
+        return Err(LogFileFault::Read);
+    };
+    match file.metadata() {
+        Ok(metadata) if metadata.is_file() => Ok(file),
+        Ok(_) => Err(LogFileFault::NotAFile),
+        Err(_) => Err(LogFileFault::Read),
+    }
+}
+
+// Opens the file of a log, which no other program may have open.
+fn open_locked<R: Files<File = File>>(
+    rt: &R,
+    alloc: Global,
+    path: &str,
+) -> Result<File, LogFileFault> {
+    let file = open_regular(rt, path)?;
+    match file.try_lock() {
+        Ok(()) => {}
+        Err(TryLockError::WouldBlock) => return Err(LogFileFault::Locked),
+        Err(TryLockError::Error(_)) => return Err(LogFileFault::NoLock),
+    }
+    match sync_folder(rt, alloc, path) {
+        Ok(()) => Ok(file),
+        Err(_) => Err(LogFileFault::Read),
+    }
+}
+
+// The bytes of a file.
+fn bytes_of(alloc: Global, file: &mut File) -> Result<Vec<u8>, LogFileFault> {
+    let mut bytes = Vec::new(alloc);
+    match file.read_to_end(&mut bytes) {
+        Ok(_) => Ok(bytes),
+        Err(fault) if fault.kind() == ErrorKind::OutOfMemory => Err(LogFileFault::Memory),
+        Err(_) => Err(LogFileFault::Read),
+    }
+}
+
+// Adds what is to be cut off a log to the file beside it, on a line of its own.
+fn keep_tail<R: Files<File = File>>(
+    rt: &R,
+    alloc: Global,
+    path: &str,
+    tail: &[u8],
+) -> Result<(), LogFileFault> {
+    let Ok(mut name) = path.to_owned(alloc) else {
+        return Err(LogFileFault::Memory);
+    };
+    if name.push_str(".cut").is_err() {
+        return Err(LogFileFault::Memory);
+    }
+    match add_line(rt, alloc, name.as_str(), tail) {
+        Ok(()) => Ok(()),
+        Err(_) => Err(LogFileFault::Tail),
+    }
+}
+
+// Adds a line to a file, and has the disk keep it.
+fn add_line<R: Files<File = File>>(
+    rt: &R,
+    alloc: Global,
+    path: &str,
+    line: &[u8],
+) -> io::Result<()> {
+    let Ok(mut file) = open_regular(rt, path) else {
+        return Err(io::Error::from(ErrorKind::InvalidInput));
+    };
+    file.write_all(line)?;
+    file.write_all(b"\n")?;
+    file.sync_all()?;
+    sync_folder(rt, alloc, path)
+}
+
+// The fault of a log at this path.
+fn refused(alloc: Global, path: &str, fault: OpenFault) -> LogFileFault {
+    match path.to_owned(alloc) {
+        Ok(path) => LogFileFault::Text(path, fault),
+        Err(_) => LogFileFault::Memory,
+    }
+}
+
+/// Opens the log at a path, which no other program may have open. The beginning of a row that was
+/// being written is cut off its end, and kept in the file of that name with `.cut`. After a fault
+/// the log is as it was.
+pub fn open_log<R: Files<File = File>>(
+    rt: &R,
+    alloc: Global,
+    path: &str,
+    options: &Options,
+) -> Result<OpenedLog, LogFileFault> {
+    let mut file = open_locked(rt, alloc, path)?;
+    let bytes = bytes_of(alloc, &mut file)?;
+    let text = bytes.as_slice();
+    let OpenedText { book, kept } = match open_text(
+        alloc,
+        text,
+        options.workers,
+        options.opening(),
+    ) {
+        Ok(opened) => opened,
+        Err(fault) => return Err(refused(alloc, path, fault)),
+    };
+    let tail = &text[kept..];
+    if !tail.is_empty() {
+        keep_tail(rt, alloc, path, tail)?;
+    }
+    match FileLog::open(file, kept as u64) {
+        Ok(log) => Ok(OpenedLog {
+            rows: book,
+            log,
+            cut: tail.len(),
+        }),
+        Err(_) => Err(LogFileFault::Read),
+    }
+}

@@ -1,0 +1,10 @@
+pub mod AcceptedLemmas
+pub mod BookReadLemmas
+pub mod DifferenceLemmas
+pub mod NeverLemmas
+pub mod OpeningLemmas
+pub mod PrefixLemmas
+pub mod ReadBackLemmas
+pub mod RecoveryLemmas
+pub mod RowLineLemmas
+pub mod TailLemmas

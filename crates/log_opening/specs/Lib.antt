@@ -1,0 +1,7 @@
+pub mod Accepted
+pub mod CutRows
+pub mod Differences
+pub mod Lines
+pub mod Opening
+pub mod ReadBack
+pub mod Recovery

@@ -1,0 +1,69 @@
+//! Laws of the text of a log: what a crash leaves of it opens, and its bytes are an auction's rows.
+ghost use Rattle.std.specs.Prelude.{◌≡◌, ◌≤◌, ◌<◌, ◌^◌, ◌++◌, All, ℕ, List, [], Ok, Option, Some, drop, length, map, take, true};
+ghost use Rattle.std.specs.Io.KnownBytes.{Appends};
+ghost use Rattle.auction_rows.specs.declared.limits.TheConstants.{MOST_WORKERS};
+ghost use Rattle.auction_rows.specs.declared.values.Opening.{Opening};
+ghost use Rattle.auction_rows.specs.declared.rows.Entry.{Entry as Commit};
+ghost use Rattle.auction_rows.specs.Book.{Book};
+ghost use Rattle.auction_rows.specs.History.{IsBook};
+ghost use Rattle.item_shards.specs.Counting.{worker_of};
+ghost use Rattle.item_shards.specs.OpeningRows.{AreRows, IsTooLong, opened_of, opening_rows};
+ghost use Rattle.item_shards.specs.declared.openings.Opened.{Opened};
+ghost use Rattle.auction_text.specs.RowLines.{rows_text};
+ghost use Rattle.auction_text.specs.Scripts.{input_of};
+ghost use Rattle.auction_text.specs.declared.reading.TheConstants.{MOST_RECORDS};
+ghost use Rattle.log_opening.specs.Accepted.{GoOnFrom, added_rows, book_past_all};
+ghost use Rattle.log_opening.specs.CutRows.{is_cut_row};
+ghost use Rattle.log_opening.specs.Lines.{AreWholeLines};
+ghost use Rattle.log_opening.specs.Opening.{IsForMemory, IsRefused};
+ghost use Rattle.log_opening.specs.declared.opening.OpenFault.{OpenFault};
+ghost use Rattle.log_opening.specs.ReadBack.{IsWritten, book_asked};
+ghost use Rattle.log_opening.specs.Recovery.{OpensTo};
+
+/// Rows are read back as they were printed: the text of a book's rows asks for these rows, and for
+/// nothing else.
+pub fn rows_are_read_back()
+    ensures { (workers : ℕ) (book : Book) → workers ≤ 2 ^ 32 → All (IsWritten workers) book →
+        length book ≤ MOST_RECORDS →
+        input_of workers (rows_text book []) ≡ Ok (book_asked workers book) }
+{}
+
+/// A prefix of a log opens to the first rows of its book, and to all those whose lines are there.
+/// Whatever a crash leaves behind the bytes that were accepted, a start has all accepted rows.
+pub fn a_prefix_opens()
+    ensures { (opening : Opening) (workers : ℕ) (book : Book) (n whole : ℕ) → workers ≤ 2 ^ 32 →
+        IsBook opening book → All (λ row. worker_of row < MOST_WORKERS) book →
+        All (IsWritten workers) book → length book ≤ MOST_RECORDS →
+        AreWholeLines (take n (rows_text book [])) whole →
+        OpensTo opening workers book n whole }
+{}
+
+/// What a prefix of a log has behind its whole lines is a cut row, which a start takes off.
+pub fn a_tail_is_a_cut_row()
+    ensures { (workers : ℕ) (book : Book) (n whole : ℕ) → workers ≤ MOST_WORKERS →
+        All (IsWritten workers) book → AreWholeLines (take n (rows_text book [])) whole →
+        is_cut_row (drop whole (take n (rows_text book []))) ≡ true }
+{}
+
+/// Whatever prefix a crash leaves of a log, `open_text` refuses it only for want of memory.
+pub fn a_prefix_is_never_refused()
+    ensures { (opening : Opening) (workers : ℕ) (book : Book) (n : ℕ) (fault : OpenFault) →
+        workers ≤ MOST_WORKERS → IsBook opening book →
+        All (λ row. worker_of row < MOST_WORKERS) book →
+        All (IsWritten workers) book → length book ≤ MOST_RECORDS →
+        ¬ IsTooLong (map opened_of book) →
+        IsRefused fault workers opening (take n (rows_text book [])) → IsForMemory fault }
+{}
+
+/// A log that has the rows that an auction was opened with, and then accepted those of the opening
+/// that it had not and those that each part added, has the rows of the auction: of the book that
+/// the last part left, each once, in commit order, and nothing else.
+pub fn a_log_has_its_book()
+    ensures { (opening : Opening) (logged more : List Opened) (histories : List (List Commit))
+        (old new : Option (List ℕ)) → AreRows opening (logged ++ more) →
+        GoOnFrom opening (opening_rows opening (logged ++ more)) histories →
+        old ≡ Some (rows_text (opening_rows opening logged) []) →
+        Appends old new (added_rows opening logged more histories) →
+        new ≡ Some (rows_text
+        (book_past_all opening (opening_rows opening (logged ++ more)) histories) []) }
+{}

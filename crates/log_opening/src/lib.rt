@@ -1,0 +1,19 @@
+//! What the bytes of a log say: which of them are rows, which are the beginning of a row that was
+//! being written, and which are neither.
+#![tactic(auto)]
+
+mod laws;
+mod lines;
+mod opening;
+mod requests;
+mod row_texts;
+mod tails;
+
+pub use laws::{
+    a_log_has_its_book, a_prefix_is_never_refused, a_prefix_opens, a_tail_is_a_cut_row,
+    rows_are_read_back,
+};
+pub use lines::{LINE_END, whole_lines};
+pub use opening::{OpenFault, OpenedText, open_text};
+pub use requests::opened_rows;
+pub use tails::{MOST_OF_A_ROW, is_cut_row};

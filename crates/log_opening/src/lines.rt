@@ -1,0 +1,26 @@
+//! The lines of a text.
+ghost use Rattle.std.specs.Prelude.{◌≡◌, ◌≤◌, length};
+ghost use Rattle.log_opening.specs.Lines.{AreWholeLines, line_at};
+
+/// The byte that ends a line.
+pub const LINE_END: u8 = b'\n';
+
+/// How many bytes of a text are whole lines: those up to its last line end, and with it.
+pub fn whole_lines(text: &[u8]) -> usize
+    ensures { AreWholeLines text.now result }
+{
+    let mut whole = text.len();
+    while whole > 0 && text[whole - 1] != LINE_END {
+        whole -= 1;
+    }
+    whole
+}
+
+/// The number, from 1, of the line in which a place of a text is.
+pub(crate) fn line_at(text: &[u8], at: usize) -> u64
+    requires { at ≤ length text.now }
+    ensures { result ≡ line_at text.now at }
+{
+    let ends = text[..at].iter().filter(|byte| **byte == LINE_END).count();
+    ends as u64 + 1
+}

@@ -1,0 +1,12 @@
+use Rattle.std.proofs.Common.{ap, subst}
+use Rattle.std.specs.Prelude.{IfOk}
+use Rattle.phase_permits.specs.Performing.{HasDealtWith}
+use Rattle.phase_permits.specs.Workers.{WorkerState, with_try}
+use Rattle.phase_tests.proofs.permits.split.perform.Goals as goal
+
+pub returns : goal.returns
+returns g c =
+    let new = c.perform.new.self in record {
+      stashed = λ is. ap (λ (w : WorkerState). w.key)
+          (subst (λ answer. IfOk answer (HasDealtWith g.N.PhaseName.initial (with_try c.args.permit.now) new c.args.request.now c.args.index)) is c.perform.ensures.dealt).worker;
+    }

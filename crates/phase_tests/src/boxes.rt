@@ -1,0 +1,2 @@
+//! Tests of `shard_boxes`: shards that are taken and put by hand.
+mod line_tests;

@@ -1,0 +1,100 @@
+//! A caller that takes a shard, acts on it, and puts it back with a line that it makes itself.
+ghost use Rattle.std.specs.Prelude.{◌≡◌, ◌<◌, ◌≤◌, length, map};
+ghost use Rattle.auction_rows.specs.declared.requests.Object.TheVariants.{Category};
+ghost use Rattle.item_shards.specs.CommitNumbers.{last_number};
+ghost use Rattle.item_shards.specs.ShardContents.{clock, opening, LiesIn};
+ghost use Rattle.shard_boxes.specs.Lines.{after_line, seen_line};
+ghost use Rattle.shard_boxes.specs.States.{state_of, AreInitial};
+ghost use Rattle.phase_permits.specs.Performing.{HaveOpening};
+
+use crate::comparing::assert_same;
+use crate::permits::closing::{clocks_of, close_one};
+use crate::permits::testing::{boxes_of_one, four};
+use crate::testing::FIRST;
+use auction_rows::{ItemEntry, ItemShown, MOST_SHOWN, Reply, Ten};
+use item_shards::{Act, LAST_NUMBER, Look, Shard};
+use shard_boxes::{Line, PhaseName};
+use std::alloc::Global;
+use std::marker::Brand;
+use std::process::Abort;
+use std::sync::Wait;
+use std::test::Fail;
+
+const LISTED: ItemEntry = ItemEntry { time: 1, id: FIRST };
+
+// Lists an item in the first category and looks at that, at this number: the line of both acts.
+fn list(shard: &mut Shard, number: u64) -> Line
+    requires later { clock shard.old < number }
+    requires within { number ≤ last_number }
+    requires here { LiesIn shard.old (Category 0) }
+    requires known { 0 < (opening shard.old).categories }
+    ensures before { result.before ≡ clock shard.old }
+    ensures number { result.number ≡ number }
+    ensures after { let taken = state_of shard.old in
+        state_of shard.new ≡ after_line taken (seen_line taken result) }
+{
+    let before = shard.clock();
+    let acts = [Act::ListItem(0, LISTED), Act::Look(Look::Category(0))];
+    let [first, second] = &acts;
+    shard.act(first);
+    shard.act(second);
+    shard.set_clock(number);
+    Line {
+        number,
+        before,
+        index: 0,
+        acts,
+    }
+}
+
+// What the first category shows in its shard.
+fn category_seen(shard: &Shard) -> Reply
+    requires { LiesIn shard.now (Category 0) }
+{
+    shard.view_category(0)
+}
+
+// A view that shows the item that was listed.
+fn listed(rt: &impl Abort) -> Reply {
+    let mut items = Ten::new();
+    assert!(rt; items.len() < MOST_SHOWN);
+    items.push(ItemShown { time: 1, id: FIRST });
+    Reply::CategorySeen(items)
+}
+
+// One shard of four is taken, and has the line as it is put.
+fn put_by_hand<N: PhaseName, R: Wait + Abort>(
+    rt: &R,
+    alloc: Global,
+    shards: Vec<Shard>,
+) -> Result<(), Fail>
+    requires opening { map state_of shards.items ≡ N.initial }
+    requires four { length N.initial ≡ 4 }
+    requires opened { AreInitial N.initial }
+    requires users { HaveOpening N.initial (record { users = 10; categories = 2 }) }
+    requires workers { 1 ≡ N.workers }
+{
+    let (boxes, mut key) = boxes_of_one::<N, R>(rt, alloc, shards)?;
+    let room = Vec::with_capacity(alloc, 1)?;
+    assert_same(rt, &[boxes.shards(), key.shards()], &[4, 4]);
+    let mut held = boxes.take(rt, &mut key, 0);
+    let clock = held.clock();
+    assert!(rt; clock < LAST_NUMBER);
+    let line = list(held.shard_mut(), clock + 1);
+    assert_same(rt, &[line.before, line.number], &[0, 1]);
+    boxes.put(rt, &mut key, held, Some(line));
+    let shards = close_one(rt, boxes, key, room);
+    let Some(shard) = shards.first() else {
+        return Err(Fail::from("no shard"));
+    };
+    assert_same(rt, &category_seen(shard), &listed(rt));
+    let clocks = [Some(1), Some(0), Some(0), Some(0)];
+    assert_same(rt, &clocks_of(&shards), &clocks);
+    Ok(())
+}
+
+#[test]
+fn a_caller_makes_the_line_of_its_acts(rt: HostRuntime) -> Result<(), Fail> {
+    let shards = four(rt.alloc())?;
+    put_by_hand::<Brand, HostRuntime>(&rt, rt.alloc(), shards)
+}

@@ -1,0 +1,51 @@
+//! How a phase ends in which one worker has performed by hand, or two.
+ghost use Rattle.std.specs.Prelude.{◌≡◌, ◌≤◌, ◌∷◌, [], map, vec_capacity};
+ghost use Rattle.shard_boxes.specs.States.{state_of};
+ghost use Rattle.shard_boxes.specs.Closed.{AreClosed};
+ghost use Rattle.phase_permits.specs.Workers.{IsIdle};
+
+use item_shards::Shard;
+use shard_boxes::{Boxes, Key, PhaseName};
+use std::alloc::{AllocError, Global};
+use std::sync::Wait;
+
+/// Ends the phase of one worker: its shards. It takes no memory but this room for the key.
+pub(crate) fn close_one<N: PhaseName, R: Wait>(
+    rt: &R,
+    boxes: Boxes<N>,
+    key: Key<N>,
+    mut room: Vec<Key<N>>,
+) -> Vec<Shard>
+    requires one { 1 ≡ N.workers }
+    requires of { key.boxes ≡ boxes }
+    requires worker { key.worker ≡ 0 }
+    requires idle { IsIdle key }
+    requires empty { room.items ≡ [] }
+    requires room { 1 ≤ vec_capacity room }
+    ensures { AreClosed N.initial N.workers (key ∷ []) (map state_of result.items) }
+{
+    room.push_reserved(key);
+    boxes.close(rt, room)
+}
+
+/// Ends the phase of two workers.
+pub(crate) fn close_two<N: PhaseName, R: Wait>(
+    rt: &R,
+    alloc: Global,
+    boxes: Boxes<N>,
+    first: Key<N>,
+    second: Key<N>,
+) -> Result<Vec<Shard>, AllocError>
+    requires two { 2 ≡ N.workers }
+    requires of { (first.boxes ≡ boxes) × (second.boxes ≡ boxes) }
+    requires workers { (first.worker ≡ 0) × (second.worker ≡ 1) }
+    requires idle { IsIdle first × IsIdle second }
+{
+    let keys = vec![in alloc; first, second]?;
+    Ok(boxes.close(rt, keys))
+}
+
+/// The clocks of four shards.
+pub(crate) fn clocks_of(shards: &[Shard]) -> [Option<u64>; 4] {
+    [0, 1, 2, 3].map(|s| shards.get(s).map(|shard| shard.clock()))
+}

@@ -1,0 +1,98 @@
+//! Two workers who perform at one time, each on a thread of its own, over the same boxes.
+ghost use Rattle.std.specs.Prelude.{◌≡◌, length, map, IfOk};
+ghost use Rattle.shard_boxes.specs.States.{state_of, AreInitial};
+ghost use Rattle.phase_permits.specs.Performing.{HaveOpening};
+ghost use Rattle.phase_permits.specs.Workers.{IsIdle, IsUnused};
+
+use crate::comparing::assert_same;
+use crate::permits::closing::{clocks_of, close_two};
+use crate::permits::joined::{joined_permit, perform};
+use crate::permits::testing::{boxes_of_two, four};
+use auction_rows::{Reply, Request};
+use item_shards::Shard;
+use phase_permits::Stash;
+use shard_boxes::{Boxes, Key, PhaseName};
+use std::alloc::{AllocError, Global};
+use std::marker::Brand;
+use std::process::Abort;
+use std::sync::Wait;
+use std::test::Fail;
+use std::thread;
+use std::thread::Threads;
+use worker_journals::Journal;
+
+// A user of the first shard.
+const LOOK: Request = Request::ViewUser { user: 0 };
+
+const SEEN: Reply = Reply::UserSeen {
+    rating: 0,
+    comments: 0,
+};
+
+// A worker views the user twice: its journal and its key.
+fn views<N: PhaseName, R: Wait + Abort>(
+    rt: &R,
+    alloc: Global,
+    boxes: &Boxes<N>,
+    key: Key<N>,
+) -> Result<(Journal, Key<N>), AllocError>
+    requires of { key.boxes ≡ boxes.now }
+    requires unused { IsUnused key }
+    requires users { HaveOpening N.initial (record { users = 10; categories = 2 }) }
+    ensures of { IfOk result (λ left. left.1.boxes ≡ boxes.now) }
+    ensures worker { IfOk result (λ left. left.1.worker ≡ key.worker) }
+    ensures idle { IfOk result (λ left. IsIdle left.1) }
+{
+    let stash = Stash::with_room(alloc, 0)?;
+    let mut permit = joined_permit(alloc, key, stash, 0)?;
+    let first = perform(rt, boxes, &mut permit, &LOOK, 0);
+    let second = perform(rt, boxes, &mut permit, &LOOK, 1);
+    let (journal, _slices, _stash, key, _counters) = permit.finish().parts();
+    assert_same(rt, &[first, second], &[Ok(SEEN); 2]);
+    Ok((journal, key))
+}
+
+// The numbers of both journals, the least first.
+fn numbers_of(alloc: Global, journals: [&Journal; 2]) -> Result<Vec<u64>, AllocError> {
+    let mut numbers = Vec::new(alloc);
+    for journal in journals {
+        for entry in journal.entries() {
+            numbers.push(entry.number())?;
+        }
+    }
+    numbers.sort_unstable();
+    Ok(numbers)
+}
+
+// All four views find one shard, so each has a number of its own.
+fn two_threads<N, R>(rt: &R, alloc: Global, shards: Vec<Shard>) -> Result<(), Fail>
+where
+    N: PhaseName + Send + Sync,
+    R: Threads + Wait + Sync + Abort,
+    requires opening { map state_of shards.items ≡ N.initial }
+    requires four { length N.initial ≡ 4 }
+    requires opened { AreInitial N.initial }
+    requires users { HaveOpening N.initial (record { users = 10; categories = 2 }) }
+    requires workers { 2 ≡ N.workers }
+{
+    let (boxes, first, second) = boxes_of_two::<N, R>(rt, alloc, shards)?;
+    let (one, other) = thread::join(
+        rt,
+        || views(rt, alloc, &boxes, first),
+        || views(rt, alloc, &boxes, second),
+    );
+    let (one, first) = one?;
+    let (other, second) = other?;
+    let shards = close_two(rt, alloc, boxes, first, second)?;
+    let numbers = numbers_of(alloc, [&one, &other])?;
+    assert_same(rt, &numbers.as_slice(), &[1, 2, 3, 4].as_slice());
+    let clocks = [Some(4), Some(0), Some(0), Some(0)];
+    assert_same(rt, &clocks_of(&shards), &clocks);
+    Ok(())
+}
+
+#[test]
+fn two_threads_perform_over_the_same_boxes(rt: HostRuntime) -> Result<(), Fail> {
+    let shards = four(rt.alloc())?;
+    two_threads::<Brand, HostRuntime>(&rt, rt.alloc(), shards)
+}

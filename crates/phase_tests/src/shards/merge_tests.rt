@@ -1,0 +1,150 @@
+//! What a shard shows of objects, before and after slices are merged into it.
+ghost use Rattle.std.specs.Prelude.{◌≡◌, negsuc, IfOk};
+ghost use Rattle.item_shards.specs.ShardContents.{shard_count, shard_number};
+
+use crate::comparing::assert_same;
+use crate::testing::{FIRST, OPENING, vase};
+use auction_rows::{
+    BidEntry, BidId, BidShown, ItemEntry, ItemId, ItemShown, MOST_SHOWN, Refusal, Reply, Stars, Ten,
+};
+use item_shards::{Act, CategorySlice, ItemSlice, Shard, UserSlice};
+use split_records::Splittable;
+use std::process::Abort;
+use std::test::Fail;
+
+// The item, its bids, a user and a category, as a shard shows them in which all objects lie.
+fn views(shard: &Shard, user: u32, category: u32) -> [Reply; 4]
+    requires one { shard_count shard.now ≡ 1 }
+    requires first { shard_number shard.now ≡ 0 }
+{
+    [
+        shard.view_item(FIRST),
+        shard.view_bids(FIRST),
+        shard.view_user(user),
+        shard.view_category(category),
+    ]
+}
+
+const NO_ITEM: Reply = Reply::Refused(Refusal::NoSuchItem);
+
+const NO_USER: Reply = Reply::Refused(Refusal::NoSuchUser);
+
+const NO_CATEGORY: Reply = Reply::Refused(Refusal::NoSuchCategory);
+
+#[test]
+fn a_new_shard_shows_what_there_is(rt: HostRuntime) -> Result<(), Fail> {
+    let shard = Shard::new(rt.alloc(), 0, 1, OPENING)?;
+    let unseen = Reply::UserSeen {
+        rating: 0,
+        comments: 0,
+    };
+    let none = Reply::CategorySeen(Ten::new());
+    assert_same(&rt, &views(&shard, 9, 1), &[NO_ITEM, NO_ITEM, unseen, none]);
+    let unknown = [NO_ITEM, NO_ITEM, NO_USER, NO_CATEGORY];
+    assert_same(&rt, &views(&shard, 10, 2), &unknown);
+    Ok(())
+}
+
+// A bid of 50 at 7 by the user of its number.
+fn bid(serial: u32) -> BidEntry {
+    BidEntry {
+        amount: 50,
+        time: 7,
+        id: BidId { worker: 0, serial },
+        bidder: serial,
+    }
+}
+
+// The slice of two bids.
+fn two_bids() -> ItemSlice
+    ensures { result.bids ≡ 2 }
+{
+    let mut slice = ItemSlice::identity();
+    slice.apply(bid(1));
+    slice.apply(bid(2));
+    slice
+}
+
+// The slice of two comments.
+fn two_comments() -> Result<UserSlice, Fail>
+    ensures rating { IfOk result (λ slice. slice.rating ≡ negsuc 1) }
+    ensures count { IfOk result (λ slice. slice.comments ≡ 2) }
+{
+    let mut slice = UserSlice::identity();
+    slice.apply(Stars::new(-5).ok_or("stars")?);
+    slice.apply(Stars::new(3).ok_or("stars")?);
+    Ok(slice)
+}
+
+// An item of worker 0, with the time of its number.
+fn item(serial: u32) -> ItemEntry {
+    ItemEntry {
+        time: u64::from(serial),
+        id: ItemId { worker: 0, serial },
+    }
+}
+
+// The slice of two items.
+fn two_items() -> CategorySlice {
+    let mut slice = CategorySlice::identity();
+    slice.apply(item(0));
+    slice.apply(item(1));
+    slice
+}
+
+// What two bids show as, the greater first.
+fn bids_seen<R: Abort>(rt: &R) -> Reply {
+    let mut bids = Ten::new();
+    for serial in [2, 1] {
+        assert!(rt; bids.len() < MOST_SHOWN);
+        bids.push(BidShown {
+            amount: 50,
+            time: 7,
+            bidder: serial,
+            id: BidId { worker: 0, serial },
+        });
+    }
+    Reply::BidsSeen(bids)
+}
+
+// What two items show as, the later first.
+fn items_seen<R: Abort>(rt: &R) -> Reply {
+    let mut items = Ten::new();
+    for serial in [1, 0] {
+        assert!(rt; items.len() < MOST_SHOWN);
+        items.push(ItemShown {
+            time: u64::from(serial),
+            id: ItemId { worker: 0, serial },
+        });
+    }
+    Reply::CategorySeen(items)
+}
+
+// Of two equal bids the one with the greater number wins.
+#[test]
+fn a_shard_shows_the_slices_merged_into_it(rt: HostRuntime) -> Result<(), Fail> {
+    let mut shard = Shard::new(rt.alloc(), 0, 1, OPENING)?;
+    shard.merge_user(3, two_comments()?);
+    shard.merge_category(1, two_items());
+    shard.prepare_item(FIRST)?;
+    shard.merge_item(FIRST, two_bids());
+    shard.act(&Act::AddItem(FIRST, vase(10)?));
+    let seen = Reply::ItemSeen {
+        seller: 0,
+        category: 0,
+        name: vase(10)?.name,
+        start: 10,
+        closes: 100,
+        highest: Some(50),
+        bidder: Some(2),
+        bids: 2,
+        left: 1,
+    };
+    let rated = Reply::UserSeen {
+        rating: -2,
+        comments: 2,
+    };
+    let wanted = [seen, bids_seen(&rt), rated, items_seen(&rt)];
+    assert_same(&rt, &views(&shard, 3, 1), &wanted);
+    Ok(())
+}

@@ -1,0 +1,135 @@
+//! The program's library, from words and an input to what is written. Other inputs stand in
+//! `tests/worked`.
+use crate::comparing::assert_same;
+use auction_program::{Fault, Options, ReadFault, UsageFault, execute, read_options};
+use std::alloc::{AllocError, Global};
+use std::test::Fail;
+
+// The words of a program, the first of which is its name.
+fn words(alloc: Global, after: &[&str]) -> Result<Vec<String>, AllocError> {
+    let mut words = vec![in alloc; String::from_str(alloc, "rubis_auction")?]?;
+    for word in after {
+        words.push(String::from_str(alloc, word)?)?;
+    }
+    Ok(words)
+}
+
+fn options_of(alloc: Global, after: &[&str]) -> Result<Options, Fail> {
+    Ok(read_options(alloc, &words(alloc, after)?)?)
+}
+
+// The numbers of options, in the order of their names in docs/FORMATS.md.
+fn numbers_of(options: &Options) -> [u32; 8] {
+    [
+        options.workers,
+        options.shards,
+        options.joined,
+        options.split,
+        options.threshold,
+        options.hot,
+        options.users,
+        options.categories,
+    ]
+}
+
+fn flags_of(options: &Options) -> [bool; 3] {
+    [options.history, options.rows, options.report]
+}
+
+#[test]
+fn words_give_options(rt: HostRuntime) -> Result<(), Fail> {
+    let alloc = rt.alloc();
+    let options = options_of(alloc, &[])?;
+    let wanted = [1, 4, 64, 64, 8, 8, 100, 10];
+    assert_same(&rt, &numbers_of(&options), &wanted);
+    assert_same(&rt, &flags_of(&options), &[false; 3]);
+    assert_same(&rt, &(options.live, options.log.is_none()), &(0, true));
+    let given = [
+        "--workers",
+        "16",
+        "--users=0",
+        "--report",
+        "--log",
+        "rows.csv",
+    ];
+    let options = options_of(alloc, &given)?;
+    let wanted = [16, 4, 64, 64, 8, 8, 0, 10];
+    assert_same(&rt, &numbers_of(&options), &wanted);
+    assert_same(&rt, &flags_of(&options), &[false, false, true]);
+    let log = options.log.as_ref().map(String::as_str);
+    assert_same(&rt, &log, &Some("rows.csv"));
+    Ok(())
+}
+
+#[test]
+fn numbers_past_their_limits_are_refused(rt: HostRuntime) -> Result<(), Fail> {
+    for word in ["--workers=17", "--shards=0", "--hot=65", "--users=1000001"] {
+        let refused = read_options(rt.alloc(), &words(rt.alloc(), &[word])?).err();
+        let is_text = matches!(refused, Some(UsageFault::Text(_)));
+        assert_same(&rt, &(word, is_text), &(word, true));
+    }
+    Ok(())
+}
+
+const TWO_WORKERS: [&str; 11] = [
+    "--workers=2",
+    "--shards=4",
+    "--joined=2",
+    "--split=2",
+    "--threshold=1",
+    "--hot=8",
+    "--users",
+    "10",
+    "--categories",
+    "2",
+    "--report",
+];
+
+// In the second phase user 3 and category 0 are hot, and the view of the user is put off.
+const COMMENTS: &[u8] = b"\
+0,item,0,0,Vase,10,100,1
+0,comment,0,3,0.0,0
+0,comment,0,3,0.0,-5
+0,viewuser,3
+1,viewuser,1
+1,viewuser,1
+1,comment,1,3,0.0,5
+";
+
+const REPORTED: &[u8] = b"\
+0,0,item 0.0
+0,1,comment 0.0
+0,2,comment 0.1
+0,3,user rating=0 comments=3
+1,0,user rating=0 comments=0
+1,1,user rating=0 comments=0
+1,2,comment 1.0
+phases 3
+requests 7
+refused 0
+hot 1 u3 c0
+category 0 latest 1:0.0
+category 1 latest
+user 3 rating=0 comments=3
+";
+
+#[test]
+fn an_input_is_performed_and_reported(rt: HostRuntime) -> Result<(), Fail> {
+    let options = options_of(rt.alloc(), &TWO_WORKERS)?;
+    let mut text = Vec::new(rt.alloc());
+    let done = execute(&rt, rt.alloc(), COMMENTS, &mut text, &options);
+    assert_same(&rt, &done, &Ok(()));
+    assert_same(&rt, &text.as_slice(), &REPORTED);
+    Ok(())
+}
+
+#[test]
+fn an_input_with_a_fault_is_not_performed(rt: HostRuntime) -> Result<(), Fail> {
+    let options = options_of(rt.alloc(), &[])?;
+    let mut text = Vec::new(rt.alloc());
+    let input: &[u8] = b"0,item,0,0,Vase,10,100,1\n5,foo";
+    let done = execute(&rt, rt.alloc(), input, &mut text, &options);
+    assert_same(&rt, &done, &Err(Fault::Read(ReadFault::Worker(2))));
+    assert_same(&rt, &text.len(), &0);
+    Ok(())
+}

@@ -1,0 +1,106 @@
+//! What is written of a run that has ended: its rows, and its report.
+use crate::comparing::assert_same;
+use crate::testing::FIRST;
+use auction_rows::{
+    BidId, BidRow, Facts, ItemRow, ItemShown, MOST_SHOWN, Name, Quantity, Reply, Request, Row, Ten,
+};
+use auction_text::{ReportLines, write_report, write_rows};
+use std::alloc::Global;
+use std::process::Abort;
+use std::test::Fail;
+use worker_journals::{History, Journal};
+
+// Two vases, and a bid of 20 at 5 by user 1.
+fn opening_rows() -> Result<[Row; 2], Fail> {
+    let facts = Facts {
+        seller: 0,
+        category: 0,
+        name: Name::new(b"Vase").ok_or("a name")?,
+        start: 10,
+        closes: 100,
+        quantity: Quantity::new(2).ok_or("a quantity")?,
+    };
+    let item = Row::Item(ItemRow {
+        id: FIRST,
+        facts,
+        time: 1,
+    });
+    let bid = Row::Bid(BidRow {
+        id: BidId {
+            worker: 0,
+            serial: 0,
+        },
+        item: FIRST,
+        bidder: 1,
+        amount: 20,
+        time: 5,
+    });
+    Ok([item, bid])
+}
+
+// A bid of 50 at 6 by user 2, which is stored, and a view.
+fn bid_and_view(alloc: Global) -> Result<History, Fail> {
+    let mut journal = Journal::with_room(alloc, 0, 0, 2)?;
+    let bid = Request::StoreBid {
+        bidder: 2,
+        item: FIRST,
+        amount: 50,
+        time: 6,
+    };
+    let stored = Reply::BidStored(BidId {
+        worker: 0,
+        serial: 1,
+    });
+    journal.push(1, 0, bid, stored);
+    let seen = Reply::UserSeen {
+        rating: 0,
+        comments: 0,
+    };
+    journal.push(2, 1, Request::ViewUser { user: 1 }, seen);
+    let mut history = History::new(alloc);
+    history.add_phase(vec![in alloc; journal]?)?;
+    Ok(history)
+}
+
+#[test]
+fn rows_are_records_that_open_an_auction(rt: HostRuntime) -> Result<(), Fail> {
+    let alloc = rt.alloc();
+    let mut text = Vec::new(alloc);
+    let history = bid_and_view(alloc)?;
+    write_rows(alloc, &mut text, &opening_rows()?, &history)?;
+    let wanted = b"0,+item,0,0,\"Vase\",10,100,1,2\n0,+bid,1,0.0,20,5\n0,+bid,2,0.0,50,6\n";
+    assert_same(&rt, &text.as_slice(), &wanted.as_slice());
+    Ok(())
+}
+
+// A list of the first item, put up at time 1.
+fn one_item(rt: &impl Abort) -> Ten<ItemShown> {
+    let mut items = Ten::new();
+    assert!(rt; items.len() < MOST_SHOWN);
+    items.push(ItemShown { time: 1, id: FIRST });
+    items
+}
+
+#[test]
+fn a_report_has_a_line_for_each_category(rt: HostRuntime) -> Result<(), Fail> {
+    let alloc = rt.alloc();
+    let none = Reply::CategorySeen(Ten::new());
+    let mut lines = ReportLines {
+        categories: vec![in alloc; none]?,
+        users: Vec::new(alloc),
+    };
+    let mut text = Vec::new(alloc);
+    write_report(alloc, &mut text, &History::new(alloc), &[], &lines)?;
+    let wanted = b"phases 0\nrequests 0\nrefused 0\ncategory 0 latest\n";
+    assert_same(&rt, &text.as_slice(), &wanted.as_slice());
+    lines.categories.push(Reply::CategorySeen(one_item(&rt)))?;
+    for (rating, comments) in [(0, 0), (-5, 1)] {
+        lines.users.push(Reply::UserSeen { rating, comments })?;
+    }
+    text.clear();
+    write_report(alloc, &mut text, &bid_and_view(alloc)?, &[], &lines)?;
+    let wanted =
+        b"phases 0\nrequests 2\nrefused 0\ncategory 0 latest\ncategory 1 latest 1:0.0\nuser 1 rating=-5 comments=1\n";
+    assert_same(&rt, &text.as_slice(), &wanted.as_slice());
+    Ok(())
+}

@@ -1,0 +1,8 @@
+use Rattle.std.proofs.Common.{option_map}
+use Rattle.shard_boxes.specs.Helds.{taken_at}
+use Rattle.shard_boxes.specs.Lines.{seen_line}
+use Rattle.shard_boxes.proofs.boxes.Boxes.put.Given as goal
+
+-- the line that is put, with what its looks showed
+abbrev pub ghosts-put_named : goal.ghosts-put_named
+ghosts-put_named g a = record { line = option_map (seen_line (taken_at g.N.PhaseName.initial a.key.now a.held.number)) a._named_by.now }
