@@ -155,7 +155,7 @@ def histories(tester: Tester) -> None:
         workers = draw.choice((1, 2, 4))
         lines = [f"{draw.randrange(workers)},{request}" for request in (*FIRST, *requests(draw, draw.choice((3, 50, 300))))]
         data = "".join(line + "\n" for line in lines).encode()
-        rows = "".join(f"{draw.randrange(workers)},+{row}\n" for row in FIRST[: draw.choice((0, 5))]).encode()
+        rows = rows_of(FIRST[: draw.choice((0, 5))], (draw.randrange(workers) for _ in FIRST))
         log.write_bytes(rows)
         words = ["--workers", str(workers)]
         quotas = [f"--{name}={draw.randrange(1, 5)}" for name in ("joined", "split", "threshold")]
@@ -191,9 +191,10 @@ def told(program, log: Path, *words: str) -> tuple | None:
     return None
 
 
-def rows_of(requests: Iterable[str]) -> bytes:
-    """The rows of these requests, as a log has them."""
-    return expected("".join(f"0,{request}\n" for request in requests).encode(), Options(rows=True)).stdout
+def rows_of(requests: Iterable[str], workers: Iterable[int] = itertools.repeat(0)) -> bytes:
+    """The rows of these requests of these workers, as a log has them."""
+    rows = "".join(f"{worker},+{request}\n" for request, worker in zip(requests, workers))
+    return expected(rows.encode(), Options(rows=True, workers=16)).stdout
 
 
 def cut_logs(tester: Tester) -> None:
