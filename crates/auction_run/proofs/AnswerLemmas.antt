@@ -11,9 +11,10 @@ use Rattle.phase_floor.specs.States.{JoinedState, IsBookOf}
 use Rattle.auction_run.specs.declared.checks.RunFault.{RunFault}
 use Rattle.auction_run.specs.declared.checks.RunFault.TheVariants.{Workers, Shards, Quota, TooLong, Spawn, Memory, NumberFull}
 use Rattle.auction_run.specs.declared.checks.Stopped.{Stopped}
+use Rattle.auction_run.specs.declared.checks.Stopped.TheVariants.{Failed, Refused}
 use Rattle.auction_run.specs.declared.runs.Outcome.{Outcome}
-use Rattle.auction_run.specs.Beginning.{AreShort, HasQuotas, HasShards, HaveWorkers, IsFirstToFail, IsRefusedInOrder}
-use Rattle.auction_run.specs.GoingOn.{AnswersNextRun, IsStopped}
+use Rattle.auction_run.specs.Beginning.{AreShort, HasQuotas, HasShards, HaveWorkers, IsFirstToFail, IsFoundFirst, IsRefusedInOrder}
+use Rattle.auction_run.specs.GoingOn.{AnswersNextRun, GivesBack, IsCheckedOn, IsReadyFor, IsStopped}
 use Rattle.auction_run.specs.Outcomes.{AnswersRun, IsOutcome}
 use Rattle.auction_run.specs.Phases.{IsMet}
 use Rattle.auction_run.proofs.GoingOnLemmas.{left_book}
@@ -31,7 +32,7 @@ on_ok (Err fault) p = tt
 
 module _ (opening : Opening) (rows : Book) (policy : Policy) (scripts : List (List Request)) where
   -- the four hold that are checked
-  abbrev all : Type 0
+  abbrev pub all : Type 0
   all = HaveWorkers rows scripts × (HasShards policy × (HasQuotas policy × AreShort rows scripts))
 
   -- the fault is that of the first of the four that doesn't hold
@@ -110,8 +111,34 @@ module _ (opening : Opening) (rows : Book) (policy : Policy) (scripts : List (Li
         spawn = λ told. let same : other ≡ Spawn = cc told in absurd (subst first same own);
       }
 
+  -- a run of what was checked is not refused for it
+  pub not_first : all → (result : Result Outcome RunFault) → AnswersRun opening rows policy scripts result → (P : Type 0) → IfErr result (λ fault. IsFoundFirst fault → P)
+  not_first have (Ok outcome) answers P = tt
+  not_first have (Err Workers) answers P = λ is. absurd (answers.refused.workers.0 refl have.0)
+  not_first have (Err Shards) answers P = λ is. absurd ((answers.refused.shards.0 refl).1 have.1.0)
+  not_first have (Err Quota) answers P = λ is. absurd ((answers.refused.quota.0 refl).1.1 have.1.1.0)
+  not_first have (Err TooLong) answers P = λ is. absurd ((answers.refused.too_long.0 refl).1.1.1 have.1.1.1)
+  not_first have (Err Spawn) answers P = λ is. absurd is
+  not_first have (Err Memory) answers P = λ is. absurd is
+  not_first have (Err NumberFull) answers P = λ is. absurd is
+
 -- a run that goes on says why it stopped
 pub answered_stopped : (state : JoinedState) (policy : Policy) (scripts : List (List Request)) (result : Result Outcome Stopped) (why : Stopped) → IsErrAnd result (λ stopped. stopped ≡ why) →
     IsStopped state policy scripts why → AnswersNextRun state policy scripts result
 answered_stopped state policy scripts (Ok outcome) why is so = absurd is
 answered_stopped state policy scripts (Err stopped) why is so = record { ready = tt; outcome = tt; left = tt; stopped = subst (IsStopped state policy scripts) (sym is) so }
+
+-- a run that goes on from what was checked gives no state back
+pub not_given_back : (state : JoinedState) (policy : Policy) (scripts : List (List Request)) → IsReadyFor state policy scripts → (result : Result Outcome Stopped) →
+    AnswersNextRun state policy scripts result → (P : Type 0) → IfErr result (λ stopped. GivesBack stopped → P)
+not_given_back state policy scripts ready (Ok outcome) answers P = tt
+not_given_back state policy scripts ready (Err (Failed fault)) answers P = λ is. absurd is
+not_given_back state policy scripts ready (Err (Refused back fault)) answers P = λ is. absurd (at fault answers.stopped.1) where
+  at : (fault : RunFault) → IsCheckedOn {T = Unit {0}} (Err fault) state policy scripts → ⊥
+  at Workers bad = bad ready.0
+  at Shards bad = bad.1 ready.1.0
+  at Quota bad = bad.1.1 ready.1.1.0
+  at TooLong bad = bad.1.1.1 ready.1.1.1
+  at Spawn bad = bad
+  at Memory bad = bad
+  at NumberFull bad = bad

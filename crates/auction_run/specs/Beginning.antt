@@ -44,6 +44,16 @@ IsFirstToFail (Err Spawn) workers shards quotas short = ⊥
 IsFirstToFail (Err Memory) workers shards quotas short = ⊥
 IsFirstToFail (Err NumberFull) workers shards quotas short = ⊥
 
+-- the fault is one of those that are found before a run begins
+abbrev pub IsFoundFirst : RunFault → Type 0
+IsFoundFirst Workers = Unit {0}
+IsFoundFirst Shards = Unit {0}
+IsFoundFirst Quota = Unit {0}
+IsFoundFirst TooLong = Unit {0}
+IsFoundFirst Spawn = ⊥
+IsFoundFirst Memory = ⊥
+IsFoundFirst NumberFull = ⊥
+
 -- A run of such scripts is refused for the first of the four that doesn't hold, exactly then.
 pub record IsRefusedInOrder {T : Type 0} (result : Result T RunFault) (policy : Policy)
     (rows : Book) (scripts : List (List Request)) : Type 0 where

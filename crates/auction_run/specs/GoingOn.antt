@@ -54,6 +54,11 @@ IsStopped state policy scripts (Refused back fault) =
 IsStopped state policy scripts (Failed fault) =
     IsReadyFor state policy scripts × IsMet scripts fault
 
+-- the run did not begin, so its state is given back
+abbrev pub GivesBack : Stopped → Type 0
+GivesBack (Refused back fault) = Unit {0}
+GivesBack (Failed fault) = ⊥
+
 -- the fault of a run that stopped
 abbrev pub fault_of : Stopped → RunFault
 fault_of (Refused back fault) = fault

@@ -10,7 +10,7 @@ ghost use Rattle.auction_rows.specs.declared.limits.TheConstants.{MOST_WORKERS};
 ghost use Rattle.phase_floor.specs.States.{IsBookOf, JoinedState};
 ghost use Rattle.auction_window.specs.Published.{book_of};
 ghost use Rattle.auction_run.specs.Boards.{HasShownAfter, IsUpToDate};
-ghost use Rattle.auction_run.specs.GoingOn.{AnswersNextRun, IsReadyFor, fault_of};
+ghost use Rattle.auction_run.specs.GoingOn.{AnswersNextRun, GivesBack, IsReadyFor, fault_of};
 ghost use Rattle.auction_run.specs.Outcomes.{HasShownFirstAfter};
 ghost use Rattle.auction_run.specs.Phases.{lists};
 ghost use Rattle.auction_run.specs.Parts.{ArePartsFrom, HaveLeft, book_after_parts, history_of};
@@ -48,7 +48,8 @@ pub fn run_on<R: Threads + Wait + Sync, G: Gate + Sync>(
 /// The same, of which a board that is up to date with the state is given the rows of each phase,
 /// after all that it has. It is up to date with the state left, and so the next part can be shown
 /// to it too. A board that errs ends the run with `Memory`. After a fault it has the phases that it
-/// was given, which are the first ones of such a run; it may have refused one more.
+/// was given, which are the first ones of such a run; it may have refused one more. If the state is
+/// given back, the board is as it was, so it is up to date with it and can be shown another run.
 pub fn run_on_shown<R: Threads + Wait + Sync, G: Gate + Sync, B: Board>(
     rt: &R,
     alloc: Global,
@@ -71,6 +72,7 @@ pub fn run_on_shown<R: Threads + Wait + Sync, G: Gate + Sync, B: Board>(
         B.has board.old state.opening rows before → IsBookOf state (book_of rows before) →
         HasShownFirstAfter B.has B.has_refused state.opening rows before policy
         (lists scripts.items) board.new (fault_of stopped)) }
+    ensures untouched { IfErr result (λ stopped. GivesBack stopped → board.new ≡ board.old) }
 {
     if let Err(fault) = check_on(&state, scripts.as_slice(), policy) {
         return Err(Stopped::Refused(state, fault));
@@ -121,6 +123,7 @@ pub fn run_compact_on_shown<R: Threads + Wait + Sync, G: Gate + Sync, B: Board>(
         B.has board.old state.opening rows before → IsBookOf state (book_of rows before) →
         HasShownFirstAfter B.has B.has_refused state.opening rows before policy
         scripts.items board.new (fault_of stopped)) }
+    ensures untouched { IfErr result (λ stopped. GivesBack stopped → board.new ≡ board.old) }
 {
     let work = Workload {
         scripts: scripts.as_slice(),

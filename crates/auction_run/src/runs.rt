@@ -13,7 +13,7 @@ ghost use Rattle.item_shards.specs.OpeningBooks.{opening_of, rows_of_book};
 ghost use Rattle.worker_journals.specs.Merged.{merged};
 ghost use Rattle.auction_window.specs.Published.{book_of};
 ghost use Rattle.auction_run.specs.Boards.{CanShow, HasShownAfter, IsUpToDate};
-ghost use Rattle.auction_run.specs.Beginning.{AreShort, HasShards, HasQuotas, HaveWorkers};
+ghost use Rattle.auction_run.specs.Beginning.{AreShort, HasShards, HasQuotas, HaveWorkers, IsFoundFirst};
 ghost use Rattle.auction_run.specs.GoingOn.{BeginsWith, CannotBegin, CanShowRun};
 ghost use Rattle.auction_run.specs.Outcomes.{AnswersRun, HasShownAll, HasShownFirst, HasShownFirstAfter, IsOutcome};
 ghost use Rattle.auction_run.specs.Phases.{lists, waiting_in, IsPlanOf, IsMet};
@@ -80,7 +80,7 @@ pub fn run<R: Threads + Wait + Sync, G: Gate + Sync>(
 /// The same run, of which a board is given the rows of each phase once it has closed, in order. A
 /// board that errs ends it with `Memory`, after the faults of the phase itself. After a fault the
 /// board has the phases that it was given, which are the first ones of such a run; it may have
-/// refused one more.
+/// refused one more. After one of the first four it is as it was, and can be shown another run.
 pub fn run_shown<R: Threads + Wait + Sync, G: Gate + Sync, B: Board>(
     rt: &R,
     alloc: Global,
@@ -98,6 +98,7 @@ pub fn run_shown<R: Threads + Wait + Sync, G: Gate + Sync, B: Board>(
     ensures up_to_date { IfOk result (λ outcome. IsUpToDate B.has board.new outcome.state) }
     ensures board_after_fault { IfErr result (HasShownFirst B.has B.has_refused
         (opening_of book.now) (rows_of_book book.now) policy (lists scripts.items) board.new) }
+    ensures untouched { IfErr result (λ fault. IsFoundFirst fault → board.new ≡ board.old) }
 {
     check(book, scripts.as_slice(), policy)?;
     let compact = compact_scripts(alloc, scripts)?;
@@ -142,6 +143,7 @@ pub fn run_compact_shown<R: Threads + Wait + Sync, G: Gate + Sync, B: Board>(
     ensures up_to_date { IfOk result (λ outcome. IsUpToDate B.has board.new outcome.state) }
     ensures board_after_fault { IfErr result (HasShownFirst B.has B.has_refused
         (opening_of book.now) (rows_of_book book.now) policy scripts.items board.new) }
+    ensures untouched { IfErr result (λ fault. IsFoundFirst fault → board.new ≡ board.old) }
 {
     let work = Workload {
         scripts: scripts.as_slice(),

@@ -1,11 +1,12 @@
-use Rattle.std.proofs.Common.{List, refl, subst}
+use Rattle.std.proofs.Common.{◌≡◌, List, refl, subst}
 use Rattle.std.specs.Prelude.{Err, IfErr}
 use Rattle.auction_rows.specs.declared.rows.Row.{Row}
 use Rattle.auction_rows.specs.Book.{Book}
 use Rattle.auction_window.specs.Published.{book_of}
 use Rattle.phase_floor.specs.States.{IsBookOf}
-use Rattle.auction_run.specs.GoingOn.{AnswersNextRun, IsCheckedOn, fault_of}
+use Rattle.auction_run.specs.GoingOn.{AnswersNextRun, IsCheckedOn, IsReadyFor, fault_of}
 use Rattle.auction_run.specs.Outcomes.{HasShownFirstAfter}
+use Rattle.auction_run.proofs.AnswerLemmas.{not_given_back}
 use Rattle.auction_run.proofs.BoardLemmas.{none_shown}
 use Rattle.auction_run.proofs.ScriptLemmas.{checked_on, checked_on_first, few_on}
 use Rattle.auction_run.proofs.parts.run_compact_on_shown.Goals as goal
@@ -46,3 +47,12 @@ returns-in-Err-clause-answer g c = record {
 pub returns-in-Err-clause-board_after_fault : goal.returns-in-Err-clause-board_after_fault
 returns-in-Err-clause-board_after_fault g c = λ rows before has of.
     none_shown g.B.Board.has g.B.Board.has_refused c.args.state.opening rows before c.args.policy c.args.scripts.items c.args.board.now has c.in-Err.fault
+
+pub returns-clause-untouched : goal.returns-clause-untouched
+returns-clause-untouched g c =
+    let state = c.args.state in let policy = c.args.policy in
+    not_given_back state policy c.args.scripts.items (subst (IsReadyFor state policy) c.as_slice.ensures.value (checked_on state policy c.as_slice.result.now c.in_default.ensures.checked))
+    c.run_on_checked.result (returns-clause-answer g c) (c.run_on_checked.new.board ≡ c.args.board.now)
+
+pub returns-in-Err-clause-untouched : goal.returns-in-Err-clause-untouched
+returns-in-Err-clause-untouched g c = λ back. refl

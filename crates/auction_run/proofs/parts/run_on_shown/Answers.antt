@@ -1,4 +1,4 @@
-use Rattle.std.proofs.Common.{◌≤◌, ◌∙◌, List, ap, length, refl, subst, sym}
+use Rattle.std.proofs.Common.{◌≡◌, ◌≤◌, ◌∙◌, List, ap, length, refl, subst, sym}
 use Rattle.std.specs.Prelude.{Err, IfErr}
 use Rattle.auction_rows.specs.declared.limits.TheConstants.{MOST_WORKERS}
 use Rattle.auction_rows.specs.declared.rows.Row.{Row}
@@ -11,7 +11,7 @@ use Rattle.auction_run.specs.declared.checks.Stopped.TheVariants.{Failed}
 use Rattle.auction_run.specs.GoingOn.{AnswersNextRun, IsCheckedOn, IsReadyFor, fault_of}
 use Rattle.auction_run.specs.Outcomes.{HasShownFirstAfter}
 use Rattle.auction_run.specs.Phases.{lists}
-use Rattle.auction_run.proofs.AnswerLemmas.{answered_stopped}
+use Rattle.auction_run.proofs.AnswerLemmas.{answered_stopped, not_given_back}
 use Rattle.auction_run.proofs.BoardLemmas.{none_shown}
 use Rattle.auction_run.proofs.parts.run_on_shown.Goals as goal
 
@@ -68,3 +68,12 @@ returns-in-Err-clause-answer g c = record {
 pub returns-in-Err-clause-board_after_fault : goal.returns-in-Err-clause-board_after_fault
 returns-in-Err-clause-board_after_fault g c = λ rows before has of.
     none_shown g.B.Board.has g.B.Board.has_refused c.args.state.opening rows before c.args.policy (lists c.args.scripts.items) c.args.board.now has c.in-Err.fault
+
+pub returns-clause-untouched : goal.returns-clause-untouched
+returns-clause-untouched g c =
+    let state = c.args.state in let policy = c.args.policy in
+    not_given_back state policy (lists c.args.scripts.items) (subst (λ scripts. IsReadyFor state policy (lists scripts)) c.as_slice.ensures.value c.in_default.ensures.checked)
+    c.run_on_checked.result (returns-clause-answer g c) (c.run_on_checked.new.board ≡ c.args.board.now)
+
+pub returns-in-Err-clause-untouched : goal.returns-in-Err-clause-untouched
+returns-in-Err-clause-untouched g c = λ back. refl

@@ -1,9 +1,9 @@
-use Rattle.std.proofs.Common.{[], subst}
+use Rattle.std.proofs.Common.{◌≡◌, [], subst}
 use Rattle.std.specs.Prelude.{IfErr}
 use Rattle.phase_workers.proofs.WorkLemmas.{err_as}
 use Rattle.item_shards.specs.OpeningBooks.{opening_of, rows_of_book}
 use Rattle.auction_run.specs.Outcomes.{AnswersRun, HasShownFirst}
-use Rattle.auction_run.proofs.AnswerLemmas.{answered_first}
+use Rattle.auction_run.proofs.AnswerLemmas.{all, answered_first, not_first}
 use Rattle.auction_run.proofs.BoardLemmas.{none_shown}
 use Rattle.auction_run.proofs.ScriptLemmas.{checked, checked_first}
 use Rattle.auction_run.proofs.runs.run_compact_shown.Goals as goal
@@ -49,3 +49,9 @@ returns-in_err-check-clause-board_after_fault g c =
     let fault = c.in_err-check.field-0.0 in
     err_as c.from_residual.result fault (HasShownFirst B.has B.has_refused (opening_of book) (rows_of_book book) c.args.policy c.args.scripts.items c.args.board.now) c.from_residual.ensures.1
     (none_shown B.has B.has_refused (opening_of book) (rows_of_book book) [] c.args.policy c.args.scripts.items c.args.board.now c.requires fault)
+
+pub returns-clause-untouched : goal.returns-clause-untouched
+returns-clause-untouched g c =
+    let opening = opening_of c.args.book.now in let rows = rows_of_book c.args.book.now in let policy = c.args.policy in
+    not_first opening rows policy c.args.scripts.items (subst (all opening rows policy) c.as_slice.ensures.value (checked policy rows c.as_slice.result.now c.in_ok-check.ensures))
+    c.run_checked.result (returns-clause-answer g c) (c.run_checked.new.board ≡ c.args.board.now)

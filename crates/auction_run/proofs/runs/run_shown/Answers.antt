@@ -1,4 +1,4 @@
-use Rattle.std.proofs.Common.{◌∙◌, [], ap, subst, sym}
+use Rattle.std.proofs.Common.{◌≡◌, ◌∙◌, [], ap, subst, sym}
 use Rattle.std.specs.Prelude.{IfErr}
 use Rattle.item_shards.specs.OpeningBooks.{opening_of, rows_of_book}
 use Rattle.phase_workers.proofs.WorkLemmas.{err_as}
@@ -6,7 +6,7 @@ use Rattle.auction_run.specs.declared.checks.RunFault.TheVariants.{Memory}
 use Rattle.auction_run.specs.Beginning.{AreShort, HaveWorkers}
 use Rattle.auction_run.specs.Outcomes.{AnswersRun, HasShownFirst}
 use Rattle.auction_run.specs.Phases.{lists}
-use Rattle.auction_run.proofs.AnswerLemmas.{answered_first, answered_memory}
+use Rattle.auction_run.proofs.AnswerLemmas.{all, answered_first, answered_memory, not_first}
 use Rattle.auction_run.proofs.BoardLemmas.{none_shown}
 use Rattle.auction_run.proofs.runs.run_shown.Goals as goal
 
@@ -67,3 +67,9 @@ returns-in_err-compact-clause-board_after_fault g c =
     err_as c.from_residual-in_err-compact.result Memory (HasShownFirst B.has B.has_refused (opening_of book) (rows_of_book book) c.args.policy (lists c.args.scripts.items) c.args.board.now)
     c.from_residual-in_err-compact.ensures.1
     (none_shown B.has B.has_refused (opening_of book) (rows_of_book book) [] c.args.policy (lists c.args.scripts.items) c.args.board.now c.requires Memory)
+
+pub returns-clause-untouched : goal.returns-clause-untouched
+returns-clause-untouched g c =
+    let opening = opening_of c.args.book.now in let rows = rows_of_book c.args.book.now in let policy = c.args.policy in
+    not_first opening rows policy (lists c.args.scripts.items) (subst (λ scripts. all opening rows policy (lists scripts)) c.as_slice.ensures.value c.in_ok-check.ensures)
+    c.run_checked.result (returns-clause-answer g c) (c.run_checked.new.board ≡ c.args.board.now)
