@@ -6,7 +6,7 @@ ghost use Rattle.shard_boxes.specs.Keys.{taking, putting, lines_at, seen_at, hol
 ghost use Rattle.shard_boxes.specs.Helds.{taken_at, MayGoBack, MayPut};
 
 use crate::key::{Held, Key};
-use crate::line::{Line, LineName, Trace};
+use crate::line::{Line, Trace};
 use crate::shard_box::ShardBox;
 use item_shards::Shard;
 use std::marker::{Brand, Model};
@@ -95,7 +95,9 @@ impl<N: PhaseName> Boxes<N> {
         ensures { key.new ≡ putting key.old held.number
             (option_map (seen_line (taken_at N.initial key.old held.number)) line) }
     {
-        self.put_named::<Option<Line>, Brand, R>(rt, key, held, &line);
+        let (number, shard) = held.open();
+        let s = number as usize;
+        key.put::<Option<Line>, Brand, R>(rt, &self.boxes[s], s, shard, &line);
     }
 
     /// Puts a shard back after the line of what `Held::act` did on it. It takes no memory.
@@ -107,26 +109,8 @@ impl<N: PhaseName> Boxes<N> {
             (Some trace) }
         ensures { key.new ≡ putting key.old held.number (Some trace) }
     {
-        self.put_named::<Option<Trace>, Brand, R>(rt, key, held, &Some(trace));
-    }
-
-    // Puts a shard back, after the line that `L` names by what is lent, if there is one.
-    #[inline(always)]
-    fn put_named<T, L: LineName, R: Wait>(
-        &self,
-        rt: &R,
-        key: &mut Key<N>,
-        held: Held<N>,
-        _named_by: &T,
-    )
-        requires of { key.old.boxes ≡ self.now }
-        requires holder { holds_at key.old held.number ≡ true }
-        requires may { MayPut (taken_at N.initial key.old held.number) (state_of held.shard)
-            L.line }
-        ensures { key.new ≡ putting key.old held.number L.line }
-    {
         let (number, shard) = held.open();
         let s = number as usize;
-        key.put::<L, R>(rt, &self.boxes[s], s, shard);
+        key.put::<Trace, Brand, R>(rt, &self.boxes[s], s, shard, &trace);
     }
 }

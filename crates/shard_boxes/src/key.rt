@@ -92,14 +92,15 @@ impl<N: PhaseName> Key<N> {
         shard_box.take(rt, grant)
     }
 
-    // Puts the shard back, after the line that `L` names, if there is one.
+    // Puts the shard back, after the line that `L` names by what is lent, if there is one.
     #[inline(always)]
-    pub(crate) fn put<L: LineName, R: Wait>(
+    pub(crate) fn put<T, L: LineName, R: Wait>(
         &mut self,
         rt: &R,
         shard_box: &ShardBox<N>,
         s: usize,
         shard: Shard,
+        _named_by: &T,
     )
         requires known { s < length N.initial }
         requires place { IsBoxAt self.old.boxes s shard_box.now }

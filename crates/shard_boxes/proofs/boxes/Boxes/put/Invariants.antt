@@ -4,5 +4,5 @@ use Rattle.shard_boxes.specs.Lines.{seen_line}
 use Rattle.shard_boxes.proofs.boxes.Boxes.put.Given as goal
 
 -- the line that is put, with what its looks showed
-abbrev pub ghosts-put_named : goal.ghosts-put_named
-ghosts-put_named g a = record { line = option_map (seen_line (taken_at g.N.PhaseName.initial a.key.now a.held.number)) a._named_by.now }
+abbrev pub ghosts-put : goal.ghosts-put
+ghosts-put g a = record { line = option_map (seen_line (taken_at g.N.PhaseName.initial a.self.now a.s)) a._named_by.now }

@@ -1,5 +1,6 @@
+use Rattle.std.specs.Prelude.{Some}
 use Rattle.shard_boxes.proofs.boxes.Boxes.put_acted.Given as goal
 
 -- the line that acts left
-abbrev pub ghosts-put_named : goal.ghosts-put_named
-ghosts-put_named g a = record { line = a._named_by.now }
+abbrev pub ghosts-put : goal.ghosts-put
+ghosts-put g a = record { line = Some a._named_by.now }
