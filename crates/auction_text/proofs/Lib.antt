@@ -6,7 +6,11 @@ pub mod KindLemmas
 pub mod LineBufferLemmas
 pub mod LineLemmas
 pub mod ListedLemmas
+pub mod LiveLineLemmas
+pub mod LivePartLemmas
+pub mod LiveTakingLemmas
 pub mod MadeTexts
+pub mod MarkLemmas
 pub mod MovedLemmas
 pub mod NameLemmas
 pub mod NumberLemmas

@@ -1,5 +1,5 @@
 -- A part of an input, from what was taken for it.
-use Rattle.std.proofs.Common.{◌≡◌, ◌≤◌, ◌+◌, ◌++◌, ◌∙◌, ◌==◌, [], ℕ, Bool, true, List, Option, Some, Result, Err, refl, sym, ap, ap₂, subst}
+use Rattle.std.proofs.Common.{◌≡◌, ◌≤◌, ◌<◌, ◌+◌, ◌++◌, ◌∙◌, ◌==◌, [], ℕ, Bool, true, List, Option, Some, Result, Err, refl, sym, ap, ap₂, subst}
 use Rattle.std.specs.Fmt.{option_append}
 use Rattle.std.specs.Option.{option_map}
 use Rattle.csv.specs.Reading.{default_config, reader_state, records, source_of, strip_bom}
@@ -39,12 +39,13 @@ fault_first said r fault others is = ap (λ (x : Result Record ReadFault). after
 
 module _ {R : Type 0} (rem : R → Option (List ℕ)) (workers most : ℕ) (all : Readable) (taken : Taken) (few : taken.requests ≤ most) where
   -- the input goes on
-  pub part_more : (left : InputLeft R) (rest : List (List (List ℕ))) → taken.begun ≡ true → IsTaken workers all taken rest → CanRead rem left (readable workers (taken.count + 1) taken.begun rest)
+  pub part_more : (left : InputLeft R) (rest : List (List (List ℕ))) → taken.begun ≡ true → 0 < taken.requests → IsTaken workers all taken rest → CanRead rem left (readable workers (taken.count + 1) taken.begun rest)
       → IsPart rem workers most all (record { input = taken.input; end = end.More left })
-  part_more left rest begun is can = record {
+  part_more left rest begun some is can = record {
     said = is.said;
     asked = ask_is workers is.said (asked_of taken.input) is.asked;
     few = subst (λ (n : ℕ). n ≤ most) is.requests few;
+    some = subst (λ (n : ℕ). 1 ≤ n) is.requests some;
     goes_on = (readable workers (taken.count + 1) taken.begun rest, (is.front, (subst (λ (b : Bool). rows (readable workers (taken.count + 1) b rest).said ≡ []) (sym begun) (no_rows_after workers (taken.count + 1) rest), can)));
   }
 
@@ -55,6 +56,7 @@ module _ {R : Type 0} (rem : R → Option (List ℕ)) (workers most : ℕ) (all 
     said = is.said;
     asked = ask_is workers is.said (asked_of taken.input) is.asked;
     few = subst (λ (n : ℕ). n ≤ most) is.requests few;
+    some = tt;
     goes_on = is.front;
   }
 
@@ -67,6 +69,7 @@ module _ {R : Type 0} (rem : R → Option (List ℕ)) (workers most : ℕ) (all 
         said = is.said;
         asked = ask_is workers is.said (asked_of taken.input) is.asked;
         few = subst (λ (n : ℕ). n ≤ most) is.requests few;
+        some = tt;
         goes_on = is.front ∙ fault_first is.said (read_record workers (taken.count + 1) taken.begun at.fields) fault _ at.fails;
       }
 

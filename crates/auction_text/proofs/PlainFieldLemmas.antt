@@ -19,7 +19,7 @@ digit_not c d other digit = false_from_ne_true (c == d) (λ same. false≢true (
 digit_joins : (c : ℕ) → is_ascii_digit c ≡ true → joins c ≡ true
 digit_joins c digit = rw (digit_not c 44 refl digit, digit_not c 13 refl digit, digit_not c 10 refl digit) refl
 
-digits_join : (xs : List ℕ) → list_all is_ascii_digit xs ≡ true → list_all joins xs ≡ true
+pub digits_join : (xs : List ℕ) → list_all is_ascii_digit xs ≡ true → list_all joins xs ≡ true
 digits_join [] all = refl
 digits_join (x ∷ xs) all =
     let p = and_parts (is_ascii_digit x) (list_all is_ascii_digit xs) all in
@@ -43,7 +43,7 @@ digits_plain (x ∷ xs) all =
     rw (digit_not x 34 refl p.0) (digits_join (x ∷ xs) all)
 
 -- and so are digits, a point and digits
-parts_plain : (xs ys : List ℕ) → list_all is_ascii_digit xs ≡ true → list_all is_ascii_digit ys ≡ true → is_plain (xs ++ (46 ∷ ys)) ≡ true
+pub parts_plain : (xs ys : List ℕ) → list_all is_ascii_digit xs ≡ true → list_all is_ascii_digit ys ≡ true → is_plain (xs ++ (46 ∷ ys)) ≡ true
 parts_plain xs ys first second =
     let quote = digits_no_quote xs 46 ys first refl in
     let all : list_all joins (xs ++ (46 ∷ ys)) ≡ true = list_all-append joins xs (46 ∷ ys) ∙ and_from (list_all joins xs) (list_all joins ys) (digits_join xs first) (digits_join ys second) in
@@ -57,7 +57,7 @@ point_after (x ∷ xs) ys all =
     let more = point_after xs ys p.1 in
     rw (digit_not x 46 refl p.0) (rw more (omega arith))
 
-item_of_parts : (xs ys : List ℕ) (worker serial : ℕ) → list_all is_ascii_digit xs ≡ true → number 32 xs ≡ Some worker → number 32 ys ≡ Some serial
+pub item_of_parts : (xs ys : List ℕ) (worker serial : ℕ) → list_all is_ascii_digit xs ≡ true → number 32 xs ≡ Some worker → number 32 ys ≡ Some serial
     → item_id (xs ++ (46 ∷ ys)) ≡ Some (record { worker = worker; serial = serial })
 item_of_parts xs ys worker serial all first second =
     let field = xs ++ (46 ∷ ys) in

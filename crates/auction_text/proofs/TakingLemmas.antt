@@ -62,7 +62,7 @@ front_more all said first r others e is =
     let one : first_of r others ≡ after (first ∷ []) more = ap (λ (x : Result Record ReadFault). first_of x others) is in
     e ∙ ap (after said) one ∙ ap (λ (xs : List Record). record { said = xs; fault = more.fault }) (sym (append_assoc said (first ∷ []) more.said))
 
-requests_more : (said : List Record) (first : Record) → requests_in (said ++ (first ∷ [])) ≡ requests_in said + (if first.is_row then 0 else 1)
+pub requests_more : (said : List Record) (first : Record) → requests_in (said ++ (first ∷ [])) ≡ requests_in said + (if first.is_row then 0 else 1)
 requests_more said first = elim (cases_Bool first.is_row) [
   | inl row ↦ rw (sum_by-append, row) refl
   | inr request ↦ rw (sum_by-append, request) refl

@@ -1,7 +1,11 @@
+pub mod FaultLines
 pub mod Fields
 pub mod Kinds
 pub mod LineBuffers
 pub mod Lines
+pub mod LiveLines
+pub mod LiveParts
+pub mod LiveReading
 pub mod Moved
 pub mod Numerals
 pub mod Order
@@ -18,5 +22,6 @@ pub mod RowLines
 pub mod Scripts
 pub mod Taking
 pub mod Turns
+pub mod UntilEnd
 pub mod Workers
 pub mod Writing

@@ -67,6 +67,12 @@ GoesOn remaining all said (More left) = (others : Readable)
 GoesOn remaining all said All = all ≡ after said no_more
 GoesOn remaining all said (Fault fault) = all ≡ after said (faulty fault)
 
+-- a part that more may follow has a request
+abbrev pub HasRequestBefore : {R : Type 0} → List Record → PartEnd R → Type 0
+HasRequestBefore said (More left) = 1 ≤ requests_in said
+HasRequestBefore said All = Unit {0}
+HasRequestBefore said (Fault fault) = Unit {0}
+
 -- A part of an input: what it asks for is what the first records say, at most so many of them
 -- requests.
 pub record IsPart {R : Type 0} (remaining : R → Option (List ℕ)) (workers most : ℕ)
@@ -74,4 +80,5 @@ pub record IsPart {R : Type 0} (remaining : R → Option (List ℕ)) (workers mo
   pub said : List Record
   pub asked : asked_of part.input ≡ asked_in workers said
   pub few : requests_in said ≤ most
+  pub some : HasRequestBefore said part.end
   pub goes_on : GoesOn remaining all said part.end

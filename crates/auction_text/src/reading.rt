@@ -16,6 +16,9 @@ use worker_journals::Script;
 
 pub mod fields;
 pub mod line_buffer;
+pub mod line_taking;
+pub mod live_lines;
+pub mod live_parts;
 pub mod part_records;
 pub mod parts;
 pub mod plain_fields;
@@ -23,6 +26,7 @@ pub mod plain_lines;
 pub mod plain_text;
 pub mod record;
 pub mod scripts;
+pub mod until_end;
 
 /// The most records of an input: as many as a book has rows.
 pub const MOST_RECORDS: u32 = MOST_ROWS as u32;
@@ -72,6 +76,9 @@ pub enum Cause {
     /// A field is not a number from -5 to 5.
     #[error("not stars")]
     Stars,
+    /// A line has more bytes than are read at a time.
+    #[error("too long")]
+    Long,
 }
 
 /// Why an input gives no scripts. Records are counted from 1.

@@ -12,6 +12,7 @@ use thiserror::Error;
 use worker_journals::{EntryRef, Script};
 
 pub mod block;
+pub mod fault_lines;
 pub mod output;
 pub mod replies;
 pub mod reply_order;
@@ -89,7 +90,7 @@ impl Before {
     }
 
     /// How many requests of a worker.
-    pub(crate) fn requests_of(&self, worker: u32) -> u64
+    pub fn requests_of(&self, worker: u32) -> u64
         ensures { result ≡ slice_index self.now.requests worker }
     {
         match self.requests.get(worker as usize) {

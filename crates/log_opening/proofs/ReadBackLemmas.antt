@@ -1,20 +1,18 @@
 -- The rows of a log are read back as they were printed.
-use Rattle.std.proofs.Common.{arith, ◌%◌, ◌≡◌, ◌==◌, ◌≤◌, ◌<◌, ◌+◌, ◌^◌, ◌∷◌, ◌++◌, ◌∙◌, [], ℕ, List, Some, true, false, nat_lt, nat_le, take, drop, length, get_or, refl, sym, ap, ap₂, append_assoc, inl, inr}
-use Rattle.std.proofs.Math.Seq.{drop-append-add}
-use Rattle.std.proofs.lemmas.Grind.{common_steps}
-use Rattle.std.proofs.lemmas.Bool.{and_from, and_parts, cases_lt, eqb-true, false_from_ne_true, false≢true, lt-ltb, le-leb}
+use Rattle.std.proofs.Common.{arith, ◌%◌, ◌≡◌, ◌==◌, ◌≤◌, ◌<◌, ◌+◌, ◌^◌, ◌∷◌, ◌++◌, ◌∙◌, [], ℕ, List, Some, true, false, nat_le, get_or, refl, sym, ap, append_assoc, inl, inr}
+use Rattle.std.proofs.lemmas.Bool.{and_from, cases_lt, eqb-true, false_from_ne_true, le-leb}
 use Rattle.std.proofs.lemmas.List.Folds.{list_all-append}
 use Rattle.std.proofs.lemmas.Fmt.{decimal_digit, decimal_by_steps, first_decimal, decimal_is_IsNumeral}
 use Rattle.std.specs.Char.{is_ascii_digit}
 use Rattle.std.specs.Fmt.{decimal}
-use Rattle.std.specs.List.{list_all, position, position_or_len}
+use Rattle.std.specs.List.{list_all}
 use Rattle.std.specs.Str.Parse.{digits_value}
 use Rattle.auction_rows.specs.declared.limits.TheConstants.{MOST_QUANTITY}
-use Rattle.auction_text.specs.Fields.{id_of_parts, is_numeral, is_point, item_id, item_id_at, number, quantity}
-use Rattle.auction_text.specs.Lines.{is_plain, is_quoted, joins}
+use Rattle.auction_text.specs.Fields.{is_numeral, item_id, number, quantity}
+use Rattle.auction_text.specs.Lines.{is_plain}
 use Rattle.auction_text.specs.Replies.{id_text}
 use Rattle.auction_text.proofs.DigitLemmas.{number_is}
-use Rattle.auction_text.proofs.PlainFieldLemmas.{digits_plain}
+use Rattle.auction_text.proofs.PlainFieldLemmas.{digits_join, digits_plain, item_of_parts, parts_plain}
 
 digit_is : (d : ℕ) → d < 10 → is_ascii_digit (48 + d) ≡ true
 digit_is d few = and_from _ _ (le-leb 48 (48 + d) (omega arith)) (le-leb (48 + d) 57 (omega (arith, few)))
@@ -59,52 +57,10 @@ quantity_of n some few =
 pub plain_number : (n : ℕ) → n < 2 ^ 64 → is_plain (decimal n) ≡ true
 plain_number n fits = digits_plain (decimal n) (digits n fits)
 
--- a digit is no byte of another sort
-digit_not : (c d : ℕ) → is_ascii_digit d ≡ false → is_ascii_digit c ≡ true → (c == d) ≡ false
-digit_not c d other digit = false_from_ne_true (c == d) (λ same. false≢true (sym other ∙ ap is_ascii_digit (sym (eqb-true c d same)) ∙ digit))
-
--- the point after digits is the first
-point_after : (xs ys : List ℕ) → list_all is_ascii_digit xs ≡ true → position_or_len is_point (xs ++ (46 ∷ ys)) ≡ length xs
-point_after [] ys all = refl
-point_after (x ∷ xs) ys all =
-    let p = and_parts (is_ascii_digit x) (list_all is_ascii_digit xs) all in
-    let more = point_after xs ys p.1 in
-    rw (digit_not x 46 refl p.0) (rw more (omega arith))
-
-item_of_parts : (xs ys : List ℕ) (worker serial : ℕ) → list_all is_ascii_digit xs ≡ true → number 32 xs ≡ Some worker → number 32 ys ≡ Some serial
-    → item_id (xs ++ (46 ∷ ys)) ≡ Some (record { worker = worker; serial = serial })
-item_of_parts xs ys worker serial all first second =
-    let field = xs ++ (46 ∷ ys) in
-    let point = point_after xs ys all in
-    let inside : nat_lt (length xs) (length field) ≡ true = lt-ltb (length xs) (length field) (grind (arith, common_steps)) in
-    let place : position is_point field ≡ Some (length xs) = rw point (rw inside refl) in
-    let before : take (length xs) field ≡ xs = grind (arith, common_steps) in
-    let after : drop (length xs + 1) field ≡ ys = drop-append-add xs (46 ∷ ys) 1 in
-    ap (item_id_at field) place ∙ ap₂ id_of_parts (ap (number 32) before ∙ first) (ap (number 32) after ∙ second)
-
 pub item_of : (worker serial : ℕ) → worker < 2 ^ 32 → serial < 2 ^ 32 → item_id (id_text worker serial) ≡ Some (record { worker = worker; serial = serial })
 item_of worker serial w s =
     ap item_id (append_assoc (decimal worker) (46 ∷ []) (decimal serial))
     ∙ item_of_parts (decimal worker) (decimal serial) worker serial (digits worker (omega (arith, w))) (number_of 32 worker w (omega (arith, w))) (number_of 32 serial s (omega (arith, s)))
-
-digit_joins : (c : ℕ) → is_ascii_digit c ≡ true → joins c ≡ true
-digit_joins c digit = rw (digit_not c 44 refl digit, digit_not c 13 refl digit, digit_not c 10 refl digit) refl
-
-digits_join : (xs : List ℕ) → list_all is_ascii_digit xs ≡ true → list_all joins xs ≡ true
-digits_join [] all = refl
-digits_join (x ∷ xs) all =
-    let p = and_parts (is_ascii_digit x) (list_all is_ascii_digit xs) all in
-    and_from (joins x) (list_all joins xs) (digit_joins x p.0) (digits_join xs p.1)
-
-digits_no_quote : (xs : List ℕ) (c : ℕ) (ys : List ℕ) → list_all is_ascii_digit xs ≡ true → (c == 34) ≡ false → is_quoted (xs ++ (c ∷ ys)) ≡ false
-digits_no_quote [] c ys all other = other
-digits_no_quote (x ∷ xs) c ys all other = digit_not x 34 refl (and_parts (is_ascii_digit x) (list_all is_ascii_digit xs) all).0
-
-parts_plain : (xs ys : List ℕ) → list_all is_ascii_digit xs ≡ true → list_all is_ascii_digit ys ≡ true → is_plain (xs ++ (46 ∷ ys)) ≡ true
-parts_plain xs ys first second =
-    let quote = digits_no_quote xs 46 ys first refl in
-    let all : list_all joins (xs ++ (46 ∷ ys)) ≡ true = list_all-append joins xs (46 ∷ ys) ∙ and_from (list_all joins xs) (list_all joins ys) (digits_join xs first) (digits_join ys second) in
-    rw (quote, all) refl
 
 pub plain_item : (worker serial : ℕ) → worker < 2 ^ 32 → serial < 2 ^ 32 → is_plain (id_text worker serial) ≡ true
 plain_item worker serial w s = ap is_plain (append_assoc (decimal worker) (46 ∷ []) (decimal serial)) ∙ parts_plain (decimal worker) (decimal serial) (digits worker (omega (arith, w))) (digits serial (omega (arith, s)))

@@ -1,6 +1,7 @@
 //! What was read of an input and not taken yet.
-ghost use Rattle.std.specs.Prelude.{◌≡◌, ◌≤◌, ◌<◌, [], Some, ℕ, List, drop, length, take, vec_len, IfOk, IfErr, OnOk};
+ghost use Rattle.std.specs.Prelude.{◌≡◌, ◌≤◌, ◌<◌, [], Some, ℕ, List, drop, false, length, take, vec_len, IfOk, IfErr, OnOk};
 ghost use Rattle.auction_text.specs.Reading.{IsInputFault};
+ghost use Rattle.auction_text.specs.declared.reading.plain_text.TheConstants.{ROOM_TO_READ};
 
 use crate::reading::ReadFault;
 use crate::reading::plain_text::{ROOM_TO_READ, read_more};
@@ -18,7 +19,7 @@ pub struct LineBuffer<R> {
     filled: usize,
     ghost in_order: { at ≤ filled },
     ghost within: { filled ≤ vec_len buffer },
-    ghost some_room: { 0 < vec_len buffer },
+    ghost whole_room: { vec_len buffer ≡ ROOM_TO_READ },
 }
 
 // How many bytes the first line of a text has with its end: all, if none ends.
@@ -37,7 +38,8 @@ impl<R> LineBuffer<R> {
 
     /// What was read and not taken yet.
     pub fn held(&self) -> &[u8]
-        ensures { result.now ≡ held self.now }
+        ensures value { result.now ≡ held self.now }
+        ensures room { length (held self.now) ≤ ROOM_TO_READ }
     {
         &self.buffer[self.at..self.filled]
     }
@@ -49,6 +51,15 @@ impl<R> LineBuffer<R> {
         ensures underneath { underneath self.new ≡ underneath self.old }
     {
         self.at += count;
+    }
+
+    /// Takes all of what it holds.
+    pub fn clear(&mut self)
+        ensures held { held self.new ≡ [] }
+        ensures underneath { underneath self.new ≡ underneath self.old }
+    {
+        self.at = 0;
+        self.filled = 0;
     }
 
     // Moves what it holds to the front of the buffer.
@@ -98,13 +109,18 @@ impl<R: Read + Drop> LineBuffer<R> {
 }
 
 impl<R: Read> LineBuffer<R> {
-    ghost use Rattle.auction_text.specs.LineBuffers.{held, lines_left};
+    ghost use Rattle.std.specs.Io.KnownBytes.{IsAtEnd};
+    ghost use Rattle.auction_text.specs.LineBuffers.{held, lines_left, underneath};
 
     /// Reads more, and returns whether there was any, and room for it.
     pub fn read_on(&mut self) -> Result<bool, ReadFault>
         ensures reads { OnOk result ((bytes : List ℕ) →
             lines_left R.remaining self.old ≡ Some bytes →
             lines_left R.remaining self.new ≡ Some bytes) }
+        ensures none { IfOk result (λ is_more. is_more ≡ false → held self.new ≡ held self.old) }
+        ensures end { IfOk result (λ is_more. is_more ≡ false →
+            length (held self.new) < ROOM_TO_READ →
+            IsAtEnd (R.remaining (underneath self.new))) }
         ensures fails { IfErr result (λ fault. IsInputFault fault → ⊥) }
     {
         self.move_up();

@@ -38,9 +38,9 @@ pub enum Stop {
     Fault(ReadFault),
 }
 
-// Adds a record to what was taken. No input has 2^64 records.
+/// Adds a record to what was taken. No input has 2^64 records.
 #[inline(always)]
-fn add_taken(taken: &mut Taken, said: &Record) -> Result<(), ReadFault>
+pub fn add_taken(taken: &mut Taken, said: &Record) -> Result<(), ReadFault>
     requires worker { said.now.worker < vec_len taken.old.input.scripts }
     requires room { taken.old.requests < 2 ^ 32 - 1 }
     ensures adds { OnOk result (HasTaken taken.old said.now taken.new) }
@@ -56,10 +56,10 @@ fn add_taken(taken: &mut Taken, said: &Record) -> Result<(), ReadFault>
     Ok(())
 }
 
-// What the line at a place says, if it is plain, and the place after it; bids, of which there are
-// most, are read in place.
+/// What the line at a place says, if it is plain, and the place after it; bids, of which there are
+/// most, are read in place.
 #[inline(always)]
-fn said_at(text: &[u8], at: usize) -> Option<(Record, usize)>
+pub fn said_at(text: &[u8], at: usize) -> Option<(Record, usize)>
     requires ends { EndsLine text.now }
     requires within { at < length text.now }
     ensures { IfSome result (λ p. IsLine text.now at p.0 p.1) }

@@ -1,5 +1,5 @@
 //! An input that is read part by part, while it goes on.
-ghost use Rattle.std.specs.Prelude.{ℕ, ◌≡◌, ◌≤◌, Bool, List, Some, true, vec_len, IfOk, IfErr, IfSome, OnOk};
+ghost use Rattle.std.specs.Prelude.{ℕ, ◌≡◌, ◌≤◌, ◌<◌, Bool, List, Some, true, vec_len, IfOk, IfErr, IfSome, OnOk};
 ghost use Rattle.std.specs.Io.Chain.{chain_remaining};
 ghost use Rattle.auction_text.specs.LineBuffers.{lines_left};
 ghost use Rattle.auction_text.specs.Parts.{CanRead, HaveLines, IsPart, IsReadable, KeepsWorkers, workers_of};
@@ -106,6 +106,7 @@ fn take_records<R: Read>(
         records.new.reader taken.new stop) }
     ensures count { OnOk result (vec_len taken.new.input.scripts ≡ workers) }
     ensures begun { IfOk result (λ stop. stop ≡ Stop.Full → taken.new.begun ≡ true) }
+    ensures some { IfOk result (λ stop. stop ≡ Stop.Full → 0 < taken.new.requests) }
     ensures most { OnOk result (taken.new.requests ≤ most) }
     ensures fails { IfErr result (λ fault. IsInputFault fault → ⊥) }
 {

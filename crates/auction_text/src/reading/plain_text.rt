@@ -1,5 +1,6 @@
 //! The plain lines at the front of an input, read where they lie.
 ghost use Rattle.std.specs.Prelude.{ℕ, ◌≡◌, ◌<◌, ◌≤◌, ◌++◌, ◌⊎◌, drop, length, take, Some, vec_len, IfOk, IfErr, List, OnOk};
+ghost use Rattle.std.specs.Io.KnownBytes.{IsAtEnd};
 ghost use Rattle.auction_text.specs.Lines.{EndsLine, IsLine};
 ghost use Rattle.auction_text.specs.Progress.{HasAdded, ReadsOn};
 ghost use Rattle.auction_text.specs.Reading.{IsInputFault};
@@ -148,6 +149,9 @@ pub fn read_more<R: Read>(
     ensures reads { IfOk result (λ now. (all : List ℕ) → R.remaining reader.old ≡ Some all →
         (left : List ℕ) × (R.remaining reader.new ≡ Some left)
         × (take filled buffer.old ++ all ≡ take now buffer.new ++ left)) }
+    ensures keeps { OnOk result (take filled buffer.new ≡ take filled buffer.old) }
+    ensures end { IfOk result (λ now. now ≡ filled → filled < length buffer.old →
+        IsAtEnd (R.remaining reader.new)) }
     ensures fails { IfErr result (λ fault. IsInputFault fault → ⊥) }
 {
     match reader.read(&mut buffer[filled..]) {

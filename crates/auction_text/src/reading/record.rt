@@ -62,7 +62,8 @@ pub struct Record {
     pub request: Request,
 }
 
-fn field_of(fields: &ByteRecord, place: usize) -> &[u8]
+/// The field at a place, empty past the last.
+pub fn field_of(fields: &ByteRecord, place: usize) -> &[u8]
     ensures { result.now ≡ field (fields_of fields.now) place }
 {
     fields.get(place).unwrap_or(&[])

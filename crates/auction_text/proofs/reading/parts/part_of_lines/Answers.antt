@@ -16,9 +16,10 @@ returns-then-branch-clause-part g c = λ all bytes known up_to.
     let taken = c.take_lines.new.taken in
     let (to, now, on) = c.in_ok-take_lines.ensures.takes.takes bytes known in
     let is = takes_alone c.args.workers all c.args.taken taken bytes to on up_to in
-    let begun = c.in_ok-take_lines.ensures.takes.begun (λ some. absurd (omega (arith, some, c.requires.none))) (c.in_ok-take_lines.ensures.some c.if-branch.true) in
+    let some = c.in_ok-take_lines.ensures.some c.if-branch.true in
+    let begun = c.in_ok-take_lines.ensures.takes.begun (λ some. absurd (omega (arith, some, c.requires.none))) some in
     subst (λ p. IsPart rem c.args.workers c.args.most all p) (sym c.part_before.ensures)
-    (part_more rem c.args.workers c.args.most all taken c.in_ok-take_lines.ensures.room _ (records default_config (unmarked taken.count to)) begun is (record { bytes = to; known = now; all_is = refl }))
+    (part_more rem c.args.workers c.args.most all taken c.in_ok-take_lines.ensures.room _ (records default_config (unmarked taken.count to)) begun some is (record { bytes = to; known = now; all_is = refl }))
 
 pub returns-clause-part : goal.returns-clause-part
 returns-clause-part g c =

@@ -14,7 +14,7 @@ returns-in-Full-clause-part g c = λ all at.
     let here = subst (λ r. IsAt over c.args.workers all r.reader c.args.taken) (sym c.deref_mut.ensures.value) at in
     let stopped = rw c.in-Full.is at (c.in_ok-take_records.ensures.takes all here) in
     subst (λ p. IsPart rem c.args.workers c.args.most all p) (sym c.part_before.ensures)
-    (part_more rem c.args.workers c.args.most all taken c.in_ok-take_records.ensures.most _ stopped.rest (c.in_ok-take_records.ensures.begun c.in-Full.is) stopped.is_taken
+    (part_more rem c.args.workers c.args.most all taken c.in_ok-take_records.ensures.most _ stopped.rest (c.in_ok-take_records.ensures.begun c.in-Full.is) (c.in_ok-take_records.ensures.some c.in-Full.is) stopped.is_taken
     (record { plain = stopped.plain; source = stopped.source; known = stopped.known; rest = stopped.rest; left = stopped.left; all_is = refl }))
 
 pub returns-in-End-clause-part : goal.returns-in-End-clause-part

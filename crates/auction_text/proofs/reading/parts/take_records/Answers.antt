@@ -22,6 +22,7 @@ returns-in_default g c = record {
   takes = λ all at. c.in_ok-stop.ensures.takes all (c.loop.invariant.takes all at);
   count = c.in_ok-stop.ensures.count;
   begun = λ full. absurd (c.in_default.not-Full full);
+  some = λ full. absurd (c.in_default.not-Full full);
   most = omega (arith, c.in_ok-stop.ensures.requests, c.loop.invariant.room);
   fails = tt;
 }
@@ -36,4 +37,7 @@ pub returns-then-taken-most-clause-begun : goal.returns-then-taken-most-clause-b
 returns-then-taken-most-clause-begun g c = λ _. c.in_ok-stop.ensures.begun c.loop.invariant.begun (omega (arith, c.if-taken-most.true, c.requires.some))
 
 pub returns-then-is_read_up-clause-begun : goal.returns-then-is_read_up-clause-begun
-returns-then-is_read_up-clause-begun g c = λ _. c.in_ok-stop.ensures.begun c.loop.invariant.begun c.if-taken-gt0.true
+returns-then-is_read_up-clause-begun g c = λ _. c.in_ok-stop.ensures.begun c.loop.invariant.begun (omega arith)
+
+pub returns-then-is_read_up-clause-some : goal.returns-then-is_read_up-clause-some
+returns-then-is_read_up-clause-some g c = λ _. omega arith

@@ -1,0 +1,66 @@
+use Rattle.std.proofs.Common.{arith, ◌∙◌, subst}
+use Rattle.std.proofs.lemmas.Result.{IfOk-weaker}
+use Rattle.auction_text.specs.LineBuffers.{held}
+use Rattle.auction_text.specs.LiveReading.{TakesText, stop_at}
+use Rattle.auction_text.specs.declared.reading.line_taking.LineStop.TheVariants.{Fault, Full}
+use Rattle.auction_text.proofs.LiveTakingLemmas.{from_held, from_none, from_read, from_then}
+use Rattle.auction_text.proofs.reading.line_taking.take_lines.Goals as goal
+
+pub loop-init : goal.loop-init
+loop-init g c = record { takes = from_none g.R.Read.remaining c.args.workers c.args.lines.now c.args.taken.now; count = c.requires.count; none = c.requires.none }
+
+pub loop-preserved : goal.loop-preserved
+loop-preserved g c =
+    let rem = g.R.Read.remaining in
+    let workers = c.args.workers in
+    let lines = c.loop.lines in
+    let mid = c.take_held.new.lines in
+    let old = c.loop.taken in
+    let new = c.take_held.new.taken in
+    let text = subst (λ f. TakesText workers old (held lines) new (stop_at f) (held mid)) c.in_default.is c.in_ok-fault.ensures.takes in
+    let here = from_held rem workers lines mid old new Full c.in_ok-fault.ensures.underneath text in
+    let all = from_then rem workers c.args.lines.now lines mid c.args.taken.now old new Full c.loop.invariant.takes here in
+    record {
+      takes = from_read rem workers c.args.lines.now mid c.read_on.new.self c.args.taken.now new all c.in_ok-read_on.ensures.reads;
+      count = c.in_ok-fault.ensures.takes.count ∙ c.loop.invariant.count;
+      none = omega (arith, c.if-taken-gt0.false);
+    }
+
+pub returns-in-Some-clause-takes : goal.returns-in-Some-clause-takes
+returns-in-Some-clause-takes g c =
+    let rem = g.R.Read.remaining in
+    let workers = c.args.workers in
+    let lines = c.loop.lines in
+    let mid = c.take_held.new.lines in
+    let old = c.loop.taken in
+    let new = c.take_held.new.taken in
+    let how = Fault c.in-Some.fault in
+    let text = subst (λ f. TakesText workers old (held lines) new (stop_at f) (held mid)) c.in-Some.is c.in_ok-fault.ensures.takes in
+    from_then rem workers c.args.lines.now lines mid c.args.taken.now old new how c.loop.invariant.takes (from_held rem workers lines mid old new how c.in_ok-fault.ensures.underneath text)
+
+pub returns-then-taken-gt0-clause-takes : goal.returns-then-taken-gt0-clause-takes
+returns-then-taken-gt0-clause-takes g c =
+    let rem = g.R.Read.remaining in
+    let workers = c.args.workers in
+    let lines = c.loop.lines in
+    let mid = c.take_held.new.lines in
+    let old = c.loop.taken in
+    let new = c.take_held.new.taken in
+    let text = subst (λ f. TakesText workers old (held lines) new (stop_at f) (held mid)) c.in_default.is c.in_ok-fault.ensures.takes in
+    from_then rem workers c.args.lines.now lines mid c.args.taken.now old new Full c.loop.invariant.takes (from_held rem workers lines mid old new Full c.in_ok-fault.ensures.underneath text)
+
+pub returns-then-not-branch-clause-takes : goal.returns-then-not-branch-clause-takes
+returns-then-not-branch-clause-takes g c =
+    let rem = g.R.Read.remaining in
+    let workers = c.args.workers in
+    let lines = c.loop.lines in
+    let mid = c.take_held.new.lines in
+    let next = c.read_on.new.self in
+    let first = c.args.taken.now in
+    let old = c.loop.taken in
+    let new = c.take_held.new.taken in
+    let text = subst (λ f. TakesText workers old (held lines) new (stop_at f) (held mid)) c.in_default.is c.in_ok-fault.ensures.takes in
+    let here = from_held rem workers lines mid old new Full c.in_ok-fault.ensures.underneath text in
+    let all = from_then rem workers c.args.lines.now lines mid first old new Full c.loop.invariant.takes here in
+    let read = from_read rem workers c.args.lines.now mid next first new all c.in_ok-read_on.ensures.reads in
+    IfOk-weaker c.take_last.result _ _ (λ how last. from_then rem workers c.args.lines.now next c.take_last.new.lines first new c.take_last.new.taken how read last) c.take_last.ensures.takes

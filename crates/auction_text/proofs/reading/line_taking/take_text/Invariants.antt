@@ -1,0 +1,15 @@
+use Rattle.std.proofs.Common.{◌≡◌, ◌≤◌, ◌-◌, drop, length, vec_len}
+use Rattle.auction_text.specs.LiveReading.{TakesText}
+use Rattle.auction_text.specs.declared.reading.line_taking.LineStop.TheVariants.{Full}
+use Rattle.auction_text.proofs.reading.line_taking.take_text.Given as goal
+
+abbrev pub invariant-loop-taken : goal.invariant-loop-taken
+invariant-loop-taken l = record {
+  within : l.at ≤ length l.text;
+  takes : TakesText l.workers l.fn.taken l.text l.taken Full (drop l.at l.text);
+  count : vec_len l.taken.input.scripts ≡ l.workers;
+  room : l.taken.requests ≤ l.most;
+}
+
+abbrev pub decreases-loop-taken : goal.decreases-loop-taken
+decreases-loop-taken l = length l.text - l.at
