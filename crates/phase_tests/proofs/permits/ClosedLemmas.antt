@@ -1,5 +1,6 @@
 -- The shards of boxes that are closed.
-use Rattle.std.proofs.Common.{◌≡◌, ℕ, List, [], ◌∷◌, length, map, Some, slice_get, sym, ap, subst, ◌∙◌, arith}
+use Rattle.std.proofs.Common.{◌≡◌, ℕ, List, [], ◌∷◌, length, map, Some, slice_get, refl, sym, ap, subst, ◌∙◌, arith}
+use Rattle.std.specs.Prelude.{IfSome}
 use Rattle.std.proofs.lemmas.Option.{same_Some}
 use Rattle.auction_rows.specs.declared.requests.Object.{Object}
 use Rattle.auction_rows.specs.Requests.{shard_of}
@@ -16,3 +17,9 @@ first_lies object first initial workers keys [] shard four closed is = absurd (o
 first_lies object first initial workers keys (found ∷ shards) shard four closed is =
     let known = (closed.1 0 (omega (arith, four))).history in
     subst (λ s. LiesIn s object) (same_Some found shard is) (ap (shard_of object) (known.shards_is ∙ four) ∙ first ∙ sym known.number_is)
+
+-- if there is such a shard
+pub first_has : (object : Object) → shard_of object 4 ≡ 0 → (initial : List ShardState) (workers : ℕ) (keys : List KeyState) (shards : List Shard) → length initial ≡ 4
+    → AreClosed initial workers keys (map state_of shards) → IfSome (slice_get shards 0) (λ shard. LiesIn shard object)
+first_has object first initial workers keys [] four closed = tt
+first_has object first initial workers keys (found ∷ shards) four closed = first_lies object first initial workers keys (found ∷ shards) found four closed refl

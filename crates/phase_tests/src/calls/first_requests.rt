@@ -1,26 +1,84 @@
 //! A store, asked once more where it is refused memory, and a view that needs none.
-ghost use Rattle.std.specs.Prelude.{◌≡◌, length, map};
+ghost use Rattle.std.specs.Prelude.{◌≡◌, ◌≤◌, [], length, map, vec_capacity, IfOk};
 ghost use Rattle.shard_boxes.specs.States.{state_of, AreInitial};
 ghost use Rattle.phase_permits.specs.Performing.{HaveOpening};
+ghost use Rattle.phase_permits.specs.Workers.{IsIdle};
 
 use crate::calls::printing::{look_for_memory, print_journal};
+use crate::comparing::assert_same;
+use crate::permits::closing::{clocks_of, close_one, first_facts};
 use crate::permits::joined::{joined_permit, perform};
 use crate::permits::testing::boxes_of_one;
-use auction_rows::{Reply, Request};
+use crate::testing::{put_up, vase};
+use auction_rows::{Facts, Reply, Request};
 use item_shards::Shard;
-use phase_permits::Stash;
-use shard_boxes::PhaseName;
-use std::alloc::Global;
+use phase_permits::{JoinedPermit, PermitFault, Stash};
+use shard_boxes::{Boxes, Key, PhaseName};
+use std::alloc::{AllocError, Global};
 use std::process::Abort;
 use std::sync::Wait;
 use std::test::Fail;
 
-/// The reply to a store, and how many commits there are.
+// A stash in which a view waits.
+fn waiting(alloc: Global) -> Result<Stash, AllocError>
+    ensures { IfOk result (λ stash. length stash.requests ≡ 1) }
+{
+    let mut stash = Stash::with_room(alloc, 1)?;
+    stash.push(7, Request::ViewUser { user: 0 });
+    Ok(stash)
+}
+
+// Performs a store, and once more if it is refused memory: then the permit is as before, but for
+// the call that it counts.
+fn perform_twice<N: PhaseName, R: Wait + Print + Abort>(
+    rt: &R,
+    boxes: &Boxes<N>,
+    permit: &mut JoinedPermit<N>,
+    store: &Request,
+) -> Result<Reply, PermitFault>
+    requires of { permit.old.key.boxes ≡ boxes.now }
+    requires users { HaveOpening N.initial permit.old.opening }
+    ensures of { permit.new.key.boxes ≡ boxes.now }
+    ensures worker { permit.new.key.worker ≡ permit.old.key.worker }
+{
+    let answer = perform(rt, boxes, permit, store, 0);
+    let Err(fault) = answer else {
+        return answer;
+    };
+    let _ = println!(rt; "first store, {} left: {fault}", permit.left());
+    let counts = (permit.left(), permit.stashed(), permit.tries());
+    assert_same(rt, &counts, &(2, 1, 1));
+    perform(rt, boxes, permit, store, 0)
+}
+
+// Ends the phase: the vase is in its shard, at number 1, or all shards are as they were.
+fn close_after<N: PhaseName, R: Wait + Abort>(
+    rt: &R,
+    boxes: Boxes<N>,
+    key: Key<N>,
+    room: Vec<Key<N>>,
+    stored: Option<Facts>,
+)
+    requires one { 1 ≡ N.workers }
+    requires four { length N.initial ≡ 4 }
+    requires of { key.boxes ≡ boxes }
+    requires worker { key.worker ≡ 0 }
+    requires idle { IsIdle key }
+    requires empty { room.items ≡ [] }
+    requires room { 1 ≤ vec_capacity room }
+{
+    let shards = close_one(rt, boxes, key, room);
+    let clock = u64::from(stored.is_some());
+    let clocks = [Some(clock), Some(0), Some(0), Some(0)];
+    assert_same(rt, &clocks_of(&shards), &clocks);
+    assert_same(rt, &first_facts(&shards), &stored);
+}
+
+/// The reply to a store of a vase, and how many commits there are.
 pub(crate) fn store<N: PhaseName, R: Wait + Print + Abort>(
     rt: &R,
     alloc: Global,
     shards: Vec<Shard>,
-    request: &Request,
 ) -> Result<(Reply, usize), Fail>
     requires opening { map state_of shards.items ≡ N.initial }
     requires four { length N.initial ≡ 4 }
@@ -28,16 +86,16 @@ pub(crate) fn store<N: PhaseName, R: Wait + Print + Abort>(
     requires users { HaveOpening N.initial (record { users = 10; categories = 2 }) }
     requires workers { 1 ≡ N.workers }
 {
+    let facts = vase(10)?;
+    let request = put_up(10)?;
     let (boxes, key) = boxes_of_one::<N, R>(rt, alloc, shards)?;
-    let stash = Stash::with_room(alloc, 0)?;
+    let room = Vec::with_capacity(alloc, 1)?;
+    let stash = waiting(alloc)?;
     let mut permit = joined_permit(alloc, key, stash, 0)?;
     let _ = println!(rt; "first store permit: {} left", permit.left());
-    let mut answer = perform(rt, &boxes, &mut permit, request, 0);
-    if let Err(fault) = answer {
-        let _ = println!(rt; "first store, {} left: {fault}", permit.left());
-        answer = perform(rt, &boxes, &mut permit, request, 0);
-    }
-    let (journal, _slices, _stash, _key, _counters) = permit.finish().parts();
+    let answer = perform_twice(rt, &boxes, &mut permit, &request);
+    let (journal, _slices, _stash, key, _counters) = permit.finish().parts();
+    close_after(rt, boxes, key, room, answer.is_ok().then_some(facts));
     let reply = answer.map_err(Fail::new)?;
     let _ = println!(rt; "first store, 2 left: {reply:?}");
     print_journal(rt, &journal);

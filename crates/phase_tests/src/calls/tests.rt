@@ -3,7 +3,7 @@
 use crate::calls::first_requests::{store, view};
 use crate::comparing::assert_same;
 use crate::permits::testing::four;
-use crate::testing::{FIRST, put_up};
+use crate::testing::FIRST;
 use auction_rows::{Refusal, Reply};
 use std::marker::Brand;
 use std::test::Fail;
@@ -11,9 +11,8 @@ use std::test::Fail;
 #[test]
 fn first_store(rt: HostRuntime) -> Result<(), Fail> {
     let shards = four(rt.alloc())?;
-    let request = put_up(10)?;
     let _ = println!(rt; "first_store ready: {} shards", shards.len());
-    let answer = store::<Brand, HostRuntime>(&rt, rt.alloc(), shards, &request)?;
+    let answer = store::<Brand, HostRuntime>(&rt, rt.alloc(), shards)?;
     assert_same(&rt, &answer, &(Reply::ItemStored(FIRST), 1));
     Ok(())
 }

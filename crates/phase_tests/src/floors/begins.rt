@@ -1,5 +1,5 @@
 //! Phases of one worker that are begun, or are not, and in which nothing is done.
-ghost use Rattle.std.specs.Prelude.{◌≡◌, length, vec_len, IfErr};
+ghost use Rattle.std.specs.Prelude.{◌≡◌, ◌≤◌, length, vec_len, IfErr};
 ghost use Rattle.phase_floor.specs.States.{states_of};
 
 use crate::floors::one_permit::only;
@@ -23,7 +23,7 @@ pub(crate) fn begin_joined<N: PhaseName, R: Wait>(
     requires workers { length state.counters ≡ N.workers }
     requires one { N.workers ≡ 1 }
     requires stashes { vec_len stashes ≡ 1 }
-    requires phase { state.phase ≡ 0 }
+    requires phase { state.phase ≤ 1 }
     ensures state { IfErr result (λ refused. refused.0 ≡ state) }
     ensures stashes { IfErr result (λ refused. refused.1 ≡ stashes) }
 {

@@ -1,11 +1,12 @@
 //! What begins, and what is too long or unknown.
-ghost use Rattle.std.specs.Prelude.{◌≡◌, ◌<◌, ◌↔◌, All, IsTrue, length, vec_len, IfOk};
+ghost use Rattle.std.specs.Prelude.{◌≡◌, ◌<◌, ◌≤◌, ◌↔◌, All, IsTrue, length, vec_len, IfOk};
 ghost use Rattle.auction_rows.specs.Book.{worker_of};
 
 use crate::comparing::assert_same;
 use crate::floors::begins::{begin_joined, begin_split};
+use crate::floors::joined::joined_phase;
 use crate::testing::{OPENING, put_up};
-use auction_rows::{ItemId, Object, Row};
+use auction_rows::{ItemId, Object, Request, Row};
 use indexmap::IndexSet;
 use item_shards::{Opened, OpeningBook};
 use phase_floor::{BeginFault, Joined};
@@ -15,11 +16,14 @@ use std::marker::Brand;
 use std::process::Abort;
 use std::sync::Wait;
 use std::test::Fail;
+use worker_journals::History;
 
 const EIGHTH: ItemId = ItemId {
     worker: 7,
     serial: 0,
 };
+
+const LOOK: Request = Request::ViewUser { user: 0 };
 
 fn only_hot(alloc: Global, object: Object) -> Result<IndexSet<Object>, AllocError> {
     let mut hot = IndexSet::new(alloc);
@@ -44,6 +48,27 @@ fn are_of_the_first(rows: &[Row]) -> bool
     rows.iter().all(|row| row.worker() < 1)
 }
 
+// A joined phase that is too long: the state and the stashes come back.
+fn refuses_joined<R: Wait + Abort>(
+    rt: &R,
+    alloc: Global,
+    state: Joined,
+    quota: u32,
+) -> Result<(Joined, Vec<Stash>), Fail>
+    requires one { length state.counters ≡ 1 }
+    requires phase { state.phase ≤ 1 }
+    ensures state { IfOk result (λ back. back.0 ≡ state) }
+    ensures stashes { IfOk result (λ back. vec_len back.1 ≡ 1) }
+{
+    let stashes = nothing_waits(alloc)?;
+    let refused = begin_joined::<Brand, R>(rt, alloc, state, quota, stashes);
+    let Err((state, stashes, fault)) = refused else {
+        return Err(Fail::from("it began"));
+    };
+    assert_same(rt, &(fault, stashes.len()), &(BeginFault::TooLong, 1));
+    Ok((state, stashes))
+}
+
 // A joined phase that is too long by one, and one that is not.
 fn begins_joined<R: Wait + Abort>(
     rt: &R,
@@ -54,17 +79,7 @@ fn begins_joined<R: Wait + Abort>(
     requires one { length state.counters ≡ 1 }
     requires phase { state.phase ≡ 0 }
 {
-    let stashes = nothing_waits(alloc)?;
-    let Err((state, stashes, fault)) = begin_joined::<Brand, R>(
-        rt,
-        alloc,
-        state,
-        most.saturating_add(1),
-        stashes,
-    ) else {
-        return Err(Fail::from("it began"));
-    };
-    assert_same(rt, &(fault, stashes.len()), &(BeginFault::TooLong, 1));
+    let (state, stashes) = refuses_joined(rt, alloc, state, most.saturating_add(1))?;
     let begun = begin_joined::<Brand, R>(rt, alloc, state, most, stashes);
     assert_same(rt, &begun.ok(), &Some(most));
     Ok(())
@@ -112,6 +127,24 @@ fn rows_count_as_requests(rt: HostRuntime) -> Result<(), Fail> {
     assert!(rt; are_of_the_first(book.rows()));
     let state = Joined::resume(alloc, &book, 1, 4)?;
     begins_joined(&rt, alloc, state, 999_997)
+}
+
+// A look at a user is one of the requests of its run, and of no later run.
+fn begins_anew<R: Wait + Abort>(rt: &R, alloc: Global, state: Joined) -> Result<(), Fail>
+    requires one { length state.counters ≡ 1 }
+    requires phase { state.phase ≡ 0 }
+{
+    let mut history = History::new(alloc);
+    let stashes = nothing_waits(alloc)?;
+    let state = joined_phase::<Brand, R>(rt, alloc, state, stashes, &LOOK, &mut history)?;
+    let (state, _stashes) = refuses_joined(rt, alloc, state, 1_000_000)?;
+    begins_joined(rt, alloc, state.for_next_run(), 1_000_000)
+}
+
+#[test]
+fn a_view_counts_in_its_own_run_alone(rt: HostRuntime) -> Result<(), Fail> {
+    let state = Joined::new(rt.alloc(), OPENING, 1, 4)?;
+    begins_anew(&rt, rt.alloc(), state)
 }
 
 #[test]

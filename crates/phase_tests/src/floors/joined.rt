@@ -1,53 +1,57 @@
-//! A joined phase in which the first worker makes a store.
-ghost use Rattle.std.specs.Prelude.{◌≡◌, ◌≤◌, [], length, vec_capacity};
+//! A joined phase in which the first worker performs a request.
+ghost use Rattle.std.specs.Prelude.{◌≡◌, ◌≤◌, [], length, vec_capacity, vec_len, IfOk};
 ghost use Rattle.phase_floor.specs.Closings.{IsReceipt, AreReceiptsOf};
+ghost use Rattle.phase_floor.specs.States.{states_of};
 
 use auction_rows::{MOST_TRIES, Request};
-use phase_floor::JoinedFloor;
-use phase_permits::{JoinedPermit, JoinedReceipt};
+use phase_floor::{Joined, JoinedFloor};
+use phase_permits::{JoinedPermit, JoinedReceipt, Stash};
 use shard_boxes::PhaseName;
+use std::alloc::Global;
 use std::process::Abort;
 use std::sync::Wait;
+use std::test::Fail;
+use worker_journals::History;
 
-// Performs the store.
+// Performs the request.
 fn perform<N: PhaseName, R: Wait + Abort>(
     rt: &R,
     floor: &JoinedFloor<N>,
     permit: &mut JoinedPermit<N>,
-    store: &Request,
+    request: &Request,
 )
     requires { IsReceipt floor.now 0 permit.old }
     ensures { IsReceipt floor.now 0 permit.new }
 {
     assert!(rt; permit.left() > 0 && permit.tries() < MOST_TRIES);
-    let answer = permit.perform(rt, floor.boxes(), store, 0);
+    let answer = permit.perform(rt, floor.boxes(), request, 0);
     assert!(rt; answer.is_ok());
 }
 
-// The receipt of a worker, of whom the first makes the store.
+// The receipt of a worker, of whom the first performs the request.
 fn receipt<N: PhaseName, R: Wait + Abort>(
     rt: &R,
     floor: &JoinedFloor<N>,
     mut permit: JoinedPermit<N>,
-    store: &Request,
+    request: &Request,
     worker: usize,
 ) -> JoinedReceipt<N>
     requires { IsReceipt floor.now worker permit }
     ensures { IsReceipt floor.now worker result }
 {
     if worker == 0 {
-        perform(rt, floor, &mut permit, store);
+        perform(rt, floor, &mut permit, request);
     }
     permit.finish()
 }
 
-/// The receipts of all workers, in order.
-pub(crate) fn store_first<N: PhaseName, R: Wait + Abort>(
+// The receipts of all workers, in order.
+fn perform_first<N: PhaseName, R: Wait + Abort>(
     rt: &R,
     floor: &JoinedFloor<N>,
     permits: Vec<JoinedPermit<N>>,
     mut receipts: Vec<JoinedReceipt<N>>,
-    store: &Request,
+    request: &Request,
 ) -> Vec<JoinedReceipt<N>>
     requires permits { AreReceiptsOf floor.now permits.items }
     requires empty { receipts.items ≡ [] }
@@ -57,8 +61,37 @@ pub(crate) fn store_first<N: PhaseName, R: Wait + Abort>(
     let mut permits = permits.into_iter();
     while let Some(permit) = permits.next() {
         let worker = receipts.len();
-        receipts.push_reserved(receipt(rt, floor, permit, store, worker));
+        receipts.push_reserved(receipt(rt, floor, permit, request, worker));
     }
     permits.destroy_empty();
     receipts
+}
+
+/// The state after such a phase, in which each worker has a quota of 1.
+pub(crate) fn joined_phase<N: PhaseName, R: Wait + Abort>(
+    rt: &R,
+    alloc: Global,
+    state: Joined,
+    stashes: Vec<Stash>,
+    request: &Request,
+    history: &mut History,
+) -> Result<Joined, Fail>
+    requires shards { states_of state ≡ N.initial }
+    requires workers { length state.counters ≡ N.workers }
+    requires stashes { vec_len stashes ≡ N.workers }
+    requires phase { state.phase ≡ 0 }
+    ensures workers { IfOk result (λ after. length after.counters ≡ N.workers) }
+    ensures phase { IfOk result (λ after. after.phase ≡ 1) }
+{
+    let workers = stashes.len();
+    let quotas = vec![in alloc; 1u32; workers]?;
+    let room = Vec::with_capacity(alloc, workers)?;
+    let Ok((floor, permits)) = state.begin_joined::<N, R>(rt, alloc, &quotas, stashes) else {
+        return Err(Fail::from("the joined phase did not begin"));
+    };
+    let receipts = perform_first(rt, &floor, permits, room, request);
+    match floor.close(rt, alloc, history, receipts) {
+        Ok((state, _stashes)) => Ok(state),
+        Err(fault) => Err(Fail::new(fault)),
+    }
 }

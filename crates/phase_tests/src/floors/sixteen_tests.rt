@@ -3,7 +3,7 @@ ghost use Rattle.std.specs.Prelude.{◌≡◌, ◌∷◌, [], length, vec_len, I
 ghost use Rattle.phase_floor.specs.States.{states_of};
 
 use crate::comparing::assert_same;
-use crate::floors::joined::store_first;
+use crate::floors::joined::joined_phase;
 use crate::floors::split::{BIDS, bid_often};
 use crate::testing::{FIRST, VIEW, put_up, vase};
 use auction_rows::{BidId, BidShown, MOST_SHOWN, Object, Opening, Reply, Request, Ten};
@@ -29,33 +29,6 @@ fn nothing_waits(alloc: Global) -> Result<Vec<Stash>, AllocError>
         stashes.push(Stash::with_room(alloc, 0)?)?;
     }
     Ok(stashes)
-}
-
-// The state after a joined phase in which worker 0 makes the store.
-fn joined_phase<N: PhaseName, R: Wait + Abort>(
-    rt: &R,
-    alloc: Global,
-    state: Joined,
-    store: &Request,
-    history: &mut History,
-) -> Result<Joined, Fail>
-    requires shards { states_of state ≡ N.initial }
-    requires workers { length state.counters ≡ N.workers }
-    requires sixteen { N.workers ≡ 16 }
-    requires phase { state.phase ≡ 0 }
-    ensures workers { IfOk result (λ after. length after.counters ≡ 16) }
-    ensures phase { IfOk result (λ after. after.phase ≡ 1) }
-{
-    let stashes = nothing_waits(alloc)?;
-    let room = Vec::with_capacity(alloc, 16)?;
-    let Ok((floor, permits)) = state.begin_joined::<N, R>(rt, alloc, &[1; 16], stashes) else {
-        return Err(Fail::from("the joined phase did not begin"));
-    };
-    let receipts = store_first(rt, &floor, permits, room, store);
-    match floor.close(rt, alloc, history, receipts) {
-        Ok((state, _stashes)) => Ok(state),
-        Err(fault) => Err(Fail::new(fault)),
-    }
 }
 
 // The state after a split phase in which the item is hot and all workers bid on it.
@@ -94,7 +67,8 @@ fn two_phases<R: Wait + Abort>(
     requires sixteen { length state.counters ≡ 16 }
     requires phase { state.phase ≡ 0 }
 {
-    let state = joined_phase::<Brand, R>(rt, alloc, state, store, history)?;
+    let stashes = nothing_waits(alloc)?;
+    let state = joined_phase::<Brand, R>(rt, alloc, state, stashes, store, history)?;
     split_phase::<Brand, R>(rt, alloc, state, hot, history)
 }
 

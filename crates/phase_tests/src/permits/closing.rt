@@ -1,9 +1,13 @@
 //! How a phase ends in which one worker has performed by hand, or two.
-ghost use Rattle.std.specs.Prelude.{◌≡◌, ◌≤◌, ◌∷◌, [], map, vec_capacity};
+ghost use Rattle.std.specs.Prelude.{◌≡◌, ◌≤◌, ◌∷◌, [], map, slice_get, vec_capacity, IfSome};
+ghost use Rattle.auction_rows.specs.declared.requests.Object.TheVariants.{Item};
+ghost use Rattle.item_shards.specs.ShardContents.{LiesIn};
 ghost use Rattle.shard_boxes.specs.States.{state_of};
 ghost use Rattle.shard_boxes.specs.Closed.{AreClosed};
 ghost use Rattle.phase_permits.specs.Workers.{IsIdle};
 
+use crate::testing::FIRST;
+use auction_rows::Facts;
 use item_shards::Shard;
 use shard_boxes::{Boxes, Key, PhaseName};
 use std::alloc::{AllocError, Global};
@@ -48,4 +52,12 @@ pub(crate) fn close_two<N: PhaseName, R: Wait>(
 /// The clocks of four shards.
 pub(crate) fn clocks_of(shards: &[Shard]) -> [Option<u64>; 4] {
     [0, 1, 2, 3].map(|s| shards.get(s).map(|shard| shard.clock()))
+}
+
+/// What is fixed of the first item, where the first shard has it.
+pub(crate) fn first_facts(shards: &[Shard]) -> Option<Facts>
+    requires { IfSome (slice_get shards.now 0) (λ shard.
+        LiesIn shard (Item (record { worker = 0; serial = 0 }))) }
+{
+    shards.first()?.facts(FIRST)
 }

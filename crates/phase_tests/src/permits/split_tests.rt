@@ -1,16 +1,18 @@
 //! Stores on hot objects alone.
-ghost use Rattle.std.specs.Prelude.{◌≡◌, length, map};
+ghost use Rattle.std.specs.Prelude.{◌≡◌, ◌≤◌, [], length, map, vec_capacity};
 ghost use Rattle.shard_boxes.specs.States.{state_of, AreInitial};
 ghost use Rattle.phase_permits.specs.Performing.{HaveOpening};
+ghost use Rattle.phase_permits.specs.Workers.{IsUnused};
 
 use crate::comparing::assert_same;
+use crate::permits::closing::{clocks_of, close_one};
 use crate::permits::split::{bid, comment, perform, split_permit};
 use crate::permits::testing::{boxes_of_one, four};
 use crate::testing::{FIRST, VIEW, vase};
 use auction_rows::{BidId, CommentId, Object, Refusal, Reply, Stars};
 use item_shards::Shard;
-use phase_permits::Done;
-use shard_boxes::PhaseName;
+use phase_permits::{Done, SplitPermit};
+use shard_boxes::{Boxes, Key, PhaseName};
 use std::alloc::Global;
 use std::marker::Brand;
 use std::process::Abort;
@@ -31,7 +33,46 @@ fn numbers_of(alloc: Global, journal: &Journal) -> Result<Vec<u64>, Fail> {
     Ok(numbers)
 }
 
-// Bids on a hot item, and a view of it, which waits.
+// Bids on a hot item, and a view of it, which waits: the key is as it was.
+fn bid_and_view<N: PhaseName, R: Wait + Abort>(
+    rt: &R,
+    boxes: &Boxes<N>,
+    permit: &mut SplitPermit<N>,
+)
+    requires of { permit.old.key.boxes ≡ boxes.now }
+    requires users { HaveOpening N.initial permit.old.opening }
+    ensures { permit.new.key ≡ permit.old.key }
+{
+    let below = bid(rt, permit, 9, 5, 0);
+    let late = bid(rt, permit, 10, 100, 1);
+    let stored = bid(rt, permit, 10, 99, 2);
+    let view = perform(rt, boxes, permit, &VIEW, 3);
+    assert!(rt; matches!(view, Ok(Done::Stashed)));
+    assert_same(rt, &below, &Some(Reply::Refused(Refusal::BelowStart)));
+    assert_same(rt, &late, &Some(Reply::Refused(Refusal::Closed)));
+    assert_same(rt, &stored, &Some(FIRST_BID));
+    assert_same(rt, &permit.left(), &0);
+}
+
+// Ends a phase in which no line was put: the lists of the key are empty.
+fn close_unused<N: PhaseName, R: Wait + Abort>(
+    rt: &R,
+    boxes: Boxes<N>,
+    key: Key<N>,
+    room: Vec<Key<N>>,
+)
+    requires one { 1 ≡ N.workers }
+    requires of { key.boxes ≡ boxes }
+    requires worker { key.worker ≡ 0 }
+    requires unused { IsUnused key }
+    requires empty { room.items ≡ [] }
+    requires room { 1 ≤ vec_capacity room }
+{
+    let shards = close_one(rt, boxes, key, room);
+    assert_same(rt, &clocks_of(&shards), &[Some(0); 4]);
+}
+
+// What the bids and the view leave.
 fn bids_on_a_hot_item<N: PhaseName, R: Wait + Abort>(
     rt: &R,
     alloc: Global,
@@ -44,18 +85,12 @@ fn bids_on_a_hot_item<N: PhaseName, R: Wait + Abort>(
     requires workers { 1 ≡ N.workers }
 {
     let (boxes, key) = boxes_of_one::<N, R>(rt, alloc, shards)?;
+    let room = Vec::with_capacity(alloc, 1)?;
     let hot = [(Object::Item(FIRST), Some((vase(10)?, 1)))];
     let mut permit = split_permit(alloc, key, &hot, 0)?;
-    let below = bid(rt, &mut permit, 9, 5, 0);
-    let late = bid(rt, &mut permit, 10, 100, 1);
-    let stored = bid(rt, &mut permit, 10, 99, 2);
-    let view = perform(rt, &boxes, &mut permit, &VIEW, 3);
-    assert_same(rt, &below, &Some(Reply::Refused(Refusal::BelowStart)));
-    assert_same(rt, &late, &Some(Reply::Refused(Refusal::Closed)));
-    assert_same(rt, &stored, &Some(FIRST_BID));
-    assert_same(rt, &view, &Ok(Done::Stashed));
-    assert_same(rt, &permit.left(), &0);
-    let (journal, mut slices, stash, _key, _counters) = permit.finish().parts();
+    bid_and_view(rt, &boxes, &mut permit);
+    let (journal, mut slices, stash, key, _counters) = permit.finish().parts();
+    close_unused(rt, boxes, key, room);
     assert_same(
         rt,
         &numbers_of(alloc, &journal)?.as_slice(),

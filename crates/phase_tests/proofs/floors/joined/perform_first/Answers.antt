@@ -2,7 +2,7 @@ use Rattle.std.proofs.Common.{◌≡◌, ℕ, suc, ◌+◌, length, add-one, sym
 use Rattle.std.specs.Vec.Iter.{into_iter_items}
 use Rattle.phase_floor.specs.Closings.{IsReceipt}
 use Rattle.phase_tests.proofs.floors.ReceiptLemmas.{AreFrom, one_more, all_of, of_all}
-use Rattle.phase_tests.proofs.floors.joined.store_first.Goals as goal
+use Rattle.phase_tests.proofs.floors.joined.perform_first.Goals as goal
 
 pub loop-permit-init : goal.loop-permit-init
 loop-permit-init g c =

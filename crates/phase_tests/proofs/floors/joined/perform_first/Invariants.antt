@@ -1,7 +1,7 @@
 use Rattle.std.proofs.Common.{◌≡◌, ◌+◌, ◌≤◌, length, vec_len, vec_capacity}
 use Rattle.std.specs.Vec.Iter.{into_iter_items, into_iter_len}
 use Rattle.phase_tests.proofs.floors.ReceiptLemmas.{AreFrom}
-use Rattle.phase_tests.proofs.floors.joined.store_first.Given as goal
+use Rattle.phase_tests.proofs.floors.joined.perform_first.Given as goal
 
 -- the receipts so far and the permits that are left are the workers', in order
 abbrev pub invariant-loop-permit : goal.invariant-loop-permit
