@@ -1,15 +1,16 @@
 //! What windows show before a phase is published, of one phase and of two, and of the rows that
 //! their auction was opened with.
-ghost use Rattle.std.specs.Prelude.{◌≡◌, ◌<◌, ◌++◌, ◌∷◌, [], length, vec_len, IfOk, false};
+ghost use Rattle.std.specs.Prelude.{◌≡◌, ◌++◌, ◌∷◌, [], length, vec_len, IfOk, false};
+ghost use Rattle.auction_rows.specs.History.{rows_of as stored_rows};
 ghost use Rattle.item_shards.specs.OpeningBooks.{opening_of, rows_of_book};
 ghost use Rattle.item_shards.specs.Serial.{CanFollow};
 ghost use Rattle.auction_window.specs.Published.{book_of};
 
 use crate::comparing::assert_same;
-use crate::runs::testing::run_of;
+use crate::runs::testing::{own_scripts, policy_of};
 use crate::testing::{FIRST, OPENING, bid, item_seen, put_up, vases};
-use auction_rows::{Refusal, Reply, Request, Row};
-use auction_run::FreeGate;
+use auction_rows::{BidId, BidRow, Entry, ItemRow, Refusal, Reply, Request, Row};
+use auction_run::{FreeGate, run};
 use auction_window::{PhaseLog, Publisher, Seen, Told, Window, WindowName, rows_of};
 use item_shards::{Opened, OpeningBook};
 use std::alloc::Global;
@@ -29,25 +30,17 @@ const NO_USER: Reply = Reply::Refused(Refusal::NoSuchUser);
 
 const MANY: u32 = 1_000;
 
-// The book of so many vases, and of a bid on one.
-fn vases_and_bid(
-    alloc: Global,
-    quantity: u64,
-    bidder: u32,
-    amount: u64,
-    time: u64,
-) -> Result<OpeningBook, Fail> {
-    let vases = Opened {
+// The row of a bid of 50 by user 1, at 7.
+const BID_ROW: Row = Row::Bid(BidRow {
+    id: BidId {
         worker: 0,
-        request: put_up(vases(quantity)?),
-    };
-    let bid = Opened {
-        worker: 0,
-        request: bid(bidder, amount, time),
-    };
-    let opened = Vec::from_array(alloc, [vases, bid])?;
-    Ok(OpeningBook::new(alloc, OPENING, opened)?)
-}
+        serial: 0,
+    },
+    item: FIRST,
+    bidder: 1,
+    amount: 50,
+    time: 7,
+});
 
 // Asserts that a view shows this, of so many phases.
 fn assert_seen<J: WindowName>(
@@ -87,53 +80,60 @@ fn assert_onward<J: WindowName>(rt: &impl Abort, window: &mut Window<J>, item: &
     }
 }
 
-// Publishes the rows of a phase.
-fn publish<J: WindowName, R: Wait>(
+// Publishes the rows of a commit, of which there is one.
+fn publish<J: WindowName, R: Wait + Abort>(
     rt: &R,
     alloc: Global,
     publisher: &mut Publisher<J>,
-    rows: &[Row],
+    commit: &[Entry],
+    row: Row,
 ) -> Result<Told<J>, Fail>
-    requires rows { CanFollow J.opening (book_of J.rows publisher.old.phases) rows.now }
-    ensures { IfOk result (λ _.
-        publisher.new ≡ record { phases = publisher.old.phases ++ rows.now ∷ []; failed = false }) }
+    requires { CanFollow J.opening (book_of J.rows publisher.old.phases) (stored_rows commit.now) }
+    ensures { IfOk result (λ _. publisher.new ≡ record {
+      phases = publisher.old.phases ++ stored_rows commit.now ∷ [];
+      failed = false;
+    }) }
 {
-    match publisher.publish(rt, Vec::from_slice(alloc, rows)?) {
+    let rows = rows_of(alloc, commit)?;
+    assert_same(rt, &rows.as_slice(), &[row].as_slice());
+    match publisher.publish(rt, rows) {
         Ok(told) => Ok(told),
         Err(refused) => Err(Fail::new(refused)),
     }
 }
 
-// Publishes the vase, tells one of two windows of it, and then publishes the bid and tells the same
-// window.
+// Publishes the row of the vase, tells one of two windows of it, and then publishes that of the bid
+// and tells the same window.
 fn show_two_phases<J: WindowName, R: Wait + Abort>(
     rt: &R,
     alloc: Global,
     publisher: &mut Publisher<J>,
     mut windows: Vec<Window<J>>,
-    book: &OpeningBook,
+    commits: &[Entry],
 ) -> Result<(), Fail>
     requires nothing { publisher.old ≡ record { phases = []; failed = false } }
     requires empty { J.rows ≡ [] }
-    requires opening { opening_of book.now ≡ J.opening }
+    requires two { length commits.now ≡ 2 }
+    requires rows { CanFollow J.opening [] (stored_rows commits.now) }
     requires windows { vec_len windows ≡ 2 }
 {
-    let rows = book.rows();
-    if rows.is_empty() {
-        return Err(Fail::new("no rows"));
-    }
-    let (first, last) = rows.split_at(1);
+    let (first, last) = commits.split_at(1);
     let facts = vases(1)?;
     let mut one = windows.remove(0);
     let mut other = windows.remove(0);
     assert_empty(rt, &mut one);
     assert_empty(rt, &mut other);
-    let told = publish(rt, alloc, publisher, first)?;
+    let row = Row::Item(ItemRow {
+        id: FIRST,
+        facts,
+        time: 1,
+    });
+    let told = publish(rt, alloc, publisher, first, row)?;
     one.learn(told);
     let item = item_seen(&facts, None, 0, 1);
     assert_seen(rt, &mut one, VIEW, 1, item);
     assert_onward(rt, &mut other, &item);
-    let told = publish(rt, alloc, publisher, last)?;
+    let told = publish(rt, alloc, publisher, last, BID_ROW)?;
     one.learn(told);
     let with_bid = item_seen(&facts, Some((50, 1)), 1, 1);
     assert_seen(rt, &mut one, VIEW, 2, with_bid);
@@ -142,20 +142,22 @@ fn show_two_phases<J: WindowName, R: Wait + Abort>(
 }
 
 // The same with a publisher of its own.
-fn show_rows<J: WindowName, R: Wait + Abort>(
+fn show_commits<J: WindowName, R: Wait + Abort>(
     rt: &R,
     alloc: Global,
     log: PhaseLog,
-    book: &OpeningBook,
+    commits: &[Entry],
 ) -> Result<(), Fail>
     requires log { log ≡ J.log }
     requires empty { J.rows ≡ [] }
-    requires opening { opening_of book.now ≡ J.opening }
+    requires opening { J.opening ≡ record { users = 10; categories = 2 } }
+    requires two { length commits.now ≡ 2 }
+    requires rows { CanFollow J.opening [] (stored_rows commits.now) }
 {
-    let empty = OpeningBook::empty(book.opening());
+    let empty = OpeningBook::empty(OPENING);
     match Publisher::<J>::new(rt, alloc, log, &empty, 2) {
         Ok((mut publisher, windows)) => {
-            let shown = show_two_phases(rt, alloc, &mut publisher, windows, book);
+            let shown = show_two_phases(rt, alloc, &mut publisher, windows, commits);
             publisher.end(rt);
             shown
         }
@@ -163,21 +165,40 @@ fn show_rows<J: WindowName, R: Wait + Abort>(
     }
 }
 
-// The rows of the first commit of the first example.
-fn first_rows<R: Threads + Wait + Sync>(rt: &R, alloc: Global) -> Result<Vec<Row>, Fail> {
-    let script = [put_up(vases(1)?), bid(1, 10, 5), VIEW];
-    let outcome = run_of(rt, alloc, &[&script], 64, 64, &FreeGate)?;
-    let first = outcome.history.iter().next().ok_or("no commit")?;
-    Ok(rows_of(alloc, &[first.to_entry()])?)
+// The commits of a run of one worker, who puts up a vase and bids on it.
+fn two_commits<R: Threads + Wait + Sync>(rt: &R, alloc: Global) -> Result<Vec<Entry>, Fail>
+    ensures two { IfOk result (λ commits. vec_len commits ≡ 2) }
+    ensures rows { IfOk result (λ commits.
+        CanFollow (record { users = 10; categories = 2 }) [] (stored_rows commits.items)) }
+{
+    let scripts = own_scripts(alloc, &[&[put_up(vases(1)?), bid(1, 50, 7)]])?;
+    let book = OpeningBook::empty(OPENING);
+    let outcome = run(rt, alloc, &book, scripts, policy_of(64, 64), &FreeGate)?;
+    let commits = outcome.history.to_entries(alloc)?;
+    if commits.len() != 2 {
+        return Err(Fail::new("not two commits"));
+    }
+    Ok(commits)
 }
 
 #[test]
 fn windows_show_whole_phases_and_never_go_back(rt: HostRuntime) -> Result<(), Fail> {
-    let book = vases_and_bid(rt.alloc(), 1, 1, 50, 7)?;
-    let rows = first_rows(&rt, rt.alloc())?;
-    let wanted = (1, book.rows().first());
-    assert_same(&rt, &(rows.len(), rows.first()), &wanted);
-    show_rows::<Brand, HostRuntime>(&rt, rt.alloc(), PhaseLog::new(), &book)
+    let commits = two_commits(&rt, rt.alloc())?;
+    show_commits::<Brand, HostRuntime>(&rt, rt.alloc(), PhaseLog::new(), &commits)
+}
+
+// The book of two vases, and of a bid of 20 on them.
+fn vases_and_bid(alloc: Global) -> Result<OpeningBook, Fail> {
+    let vases = Opened {
+        worker: 0,
+        request: put_up(vases(2)?),
+    };
+    let bid = Opened {
+        worker: 0,
+        request: bid(1, 20, 5),
+    };
+    let opened = Vec::from_array(alloc, [vases, bid])?;
+    Ok(OpeningBook::new(alloc, OPENING, opened)?)
 }
 
 // Asserts what the window of an auction shows that was opened with this book, before anything is
@@ -207,6 +228,6 @@ fn show_opening<J: WindowName, R: Wait + Abort>(
 
 #[test]
 fn a_window_shows_the_opening_rows_before_any_publish(rt: HostRuntime) -> Result<(), Fail> {
-    let book = vases_and_bid(rt.alloc(), 2, 1, 20, 5)?;
+    let book = vases_and_bid(rt.alloc())?;
     show_opening::<Brand, HostRuntime>(&rt, rt.alloc(), PhaseLog::new(), &book)
 }
