@@ -9,3 +9,4 @@ pub mod ToldLemmas
 pub mod OneHistory
 pub mod FirstPart
 pub mod OpenedLemmas
+pub mod LoggedBook

@@ -24,8 +24,8 @@ use Rattle.item_shards.specs.declared.openings.Opened.{Opened}
 use Rattle.part_log.specs.declared.log.Teller.{Teller}
 use Rattle.auction_program.specs.Execution.{commits_text}
 use Rattle.auction_program.specs.Options.{opening_asked}
-use Rattle.auction_program.specs.PartRuns.{HasServed, IsSession, Opens, RunsPart, ServesPart, StartsAt, book_past, gone_with}
-use Rattle.auction_program.specs.Serving.{ArePartRuns, ArePartTold, AreTold, IsLoggedBefore, IsNothingTold, IsPartRun, IsServed, PartRun, ServesAll, ServesFirst, book_in, gone_past, nothing_gone, opening_text, part_texts, scripts_in, served_rows, served_text, unlogged_rows}
+use Rattle.auction_program.specs.PartRuns.{HasServed, IsSession, Opens, RunsPart, ServesPart, StartsAt, gone_with}
+use Rattle.auction_program.specs.Serving.{ArePartRuns, ArePartTold, AreTold, IsLoggedBefore, IsNothingTold, IsPartRun, IsServed, PartRun, ServesAll, ServesFirst, book_in, book_past, gone_past, nothing_gone, opening_text, part_texts, scripts_in, served_rows, served_text, unlogged_rows}
 use Rattle.auction_program.specs.declared.options.Options.{Options}
 use Rattle.auction_program.specs.declared.parts.Served.{Served}
 use Rattle.auction_program.specs.declared.parts.RunStart.{RunStart}

@@ -20,7 +20,7 @@ use Rattle.item_shards.specs.declared.openings.OpeningBook.{OpeningBook}
 use Rattle.phase_floor.specs.States.{IsBookOf}
 use Rattle.run_laws.specs.Answers.{IsAnswer}
 use Rattle.auction_program.specs.Options.{opening_asked, policy_of}
-use Rattle.auction_program.specs.Serving.{ArePartRuns, OfPart, PartRun, book_in, gone_past, nothing_gone, opening_text, served_rows, served_text, unlogged_rows}
+use Rattle.auction_program.specs.Serving.{ArePartRuns, OfPart, PartRun, book_in, book_left, gone_past, nothing_gone, opening_text, served_rows, served_text, unlogged_rows}
 use Rattle.auction_program.specs.declared.faults.Fault.{Fault}
 use Rattle.auction_program.specs.declared.faults.Fault.TheVariants.{Read}
 use Rattle.auction_program.specs.declared.options.Options.{Options}
@@ -79,10 +79,6 @@ pub record Opens (options : Options) (logged rows : List Opened)
       (unlogged_rows (length logged) (opening_rows (opening_asked options) (logged ++ rows)))
       (opening_text options (opening_rows (opening_asked options) (logged ++ rows)))
 
--- the book that a part leaves
-abbrev pub book_past : Options → Book → PartRun → Book
-book_past options book part = book_after (opening_asked options) book part.history
-
 -- These first records of all are served in parts, this holds of the rows and of the text, and the
 -- next part begins here.
 pub record HasServed (options : Options) (logged : List Opened) (all said : List Record)
@@ -92,8 +88,7 @@ pub record HasServed (options : Options) (logged : List Opened) (all said : List
   pub parts : List PartRun
   pub said_is : said ≡ flat_map (λ part. part.said) parts
   pub runs : ArePartRuns options (book_in options logged all) parts
-  pub starts : StartsAt options served.start
-      (fold (book_past options) (book_in options logged all) parts)
+  pub starts : StartsAt options served.start (book_left options logged all parts)
   pub before : gone_by served.before ≡ fold (gone_past options) nothing_gone parts
   pub holds : Holds (served_rows options logged all parts) (served_text options logged all parts)
 

@@ -1,5 +1,5 @@
 -- What the program answers while requests come.
-use Rattle.std.specs.Prelude.{ℕ, ◌≡◌, ◌≤◌, ◌+◌, ◌++◌, ◌⊎◌, List, [], ◌∷◌, Option, drop, flat_map, length, map, slice_index_or, if◌then◌else◌}
+use Rattle.std.specs.Prelude.{ℕ, ◌≡◌, ◌≤◌, ◌+◌, ◌++◌, ◌⊎◌, List, [], ◌∷◌, Option, Some, drop, flat_map, fold, length, map, slice_index_or, if◌then◌else◌}
 use Rattle.std.specs.Io.KnownBytes.{Appends, Keeps}
 use Rattle.auction_rows.specs.declared.requests.Object.{Object}
 use Rattle.auction_rows.specs.declared.requests.Request.{Request}
@@ -48,11 +48,19 @@ pub record IsPartRun (options : Options) (book : Book) (part : PartRun) : Type 0
   pub answer : IsAnswer (opening_asked options) book (policy_of options)
       (scripts_in options part.said) part.hot part.history
 
+-- the book that a part leaves
+abbrev pub book_past : Options → Book → PartRun → Book
+book_past options book part = book_after (opening_asked options) book part.history
+
 -- each part is run from the book that those before it leave
 unfoldable pub ArePartRuns : Options → Book → List PartRun → Type 0
 ArePartRuns options book [] = Unit {0}
 ArePartRuns options book (part ∷ more) = IsPartRun options book part
-    × ArePartRuns options (book_after (opening_asked options) book part.history) more
+    × ArePartRuns options (book_past options book part) more
+
+-- the book that parts leave, from the one that rows of a log and those among records open with
+abbrev pub book_left : Options → List Opened → List Record → List PartRun → Book
+book_left options logged all parts = fold (book_past options) (book_in options logged all) parts
 
 -- Of these records some are served in parts, which are the first of them one after the other, and
 -- the rest are left.
@@ -167,3 +175,20 @@ abbrev pub IsLoggedBefore : {L W : Type 0} → (L → Option (List ℕ)) → (W 
 IsLoggedBefore accepted contents old new options logged all =
     IsNothingTold accepted contents old new
     ⊎ ServesFirst options logged all (ArePartTold accepted contents old new)
+
+-- a log has the rows of a book, and nothing else
+abbrev pub HasBook : Option (List ℕ) → Book → Type 0
+HasBook accepted book = accepted ≡ Some (rows_text book [])
+
+-- Some parts of these records are served, and a log has the book that they leave.
+pub record HasBookOfParts (options : Options) (logged : List Opened) (all : List Record)
+    (accepted : Option (List ℕ)) : Type 0 where
+  pub parts : List PartRun
+  pub rest : List Record
+  pub served : IsServed options logged all parts rest
+  pub has : HasBook accepted (book_left options logged all parts)
+
+-- a log has its own rows yet, or the book that the served parts leave
+abbrev pub HasServedBook : Option (List ℕ) → Options → OpeningBook → List Record → Type 0
+HasServedBook accepted options logged all = HasBook accepted (rows_of_book logged)
+    ⊎ HasBookOfParts options (logged_rows logged) all accepted

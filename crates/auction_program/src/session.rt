@@ -3,6 +3,7 @@
 ghost use Rattle.std.specs.Prelude.{◌≡◌, ◌≤◌, List, None, Some, IfSome, OnOk, true, false};
 ghost use Rattle.auction_rows.specs.Book.{Book};
 ghost use Rattle.auction_rows.specs.History.{ReplaysFrom};
+ghost use Rattle.item_shards.specs.OpeningBooks.{opening_of, rows_of_book};
 ghost use Rattle.item_shards.specs.declared.openings.Opened.{Opened as Row};
 ghost use Rattle.auction_text.specs.Readable.{Readable, readable_of};
 ghost use Rattle.auction_text.specs.Reading.{IsInputFault};
@@ -11,7 +12,7 @@ ghost use Rattle.auction_text.specs.Moved.{Gone};
 ghost use Rattle.auction_text.specs.Replies.{history_text};
 ghost use Rattle.part_log.specs.declared.log.Teller.{Teller as Told};
 ghost use Rattle.auction_program.specs.PartRuns.{IsSession};
-ghost use Rattle.auction_program.specs.Serving.{ArePartTold, AreTold, IsLoggedBefore, ServesAll, ServesFirst, ArePartRuns, PartRun, logged_rows, part_texts, served_history};
+ghost use Rattle.auction_program.specs.Serving.{ArePartTold, AreTold, HasBook, HasServedBook, IsLoggedBefore, ServesAll, ServesFirst, ArePartRuns, PartRun, logged_rows, part_texts, served_history};
 ghost use Rattle.auction_program.specs.Options.{opening_asked};
 ghost use Rattle.auction_program.specs.declared.options.Options.{Options as Asked};
 
@@ -56,7 +57,8 @@ fn most_of_a_part(options: &Options) -> u32
 
 /// Opens an auction with the rows that a log has and those that the reader gives, and performs its
 /// scripts part by part: what is asked for of a part is written and flushed before more is read,
-/// and after its rows are logged. The first record with a fault ends it, after the parts before.
+/// and after its rows are logged. The first record with a fault ends it, after the parts before. A
+/// log that had the rows that are handed in has the book of the served parts, also after a fault.
 pub fn serve<R: Threads + Wait + Sync, I: Read + Drop, L: Log, W: Write>(
     rt: &R,
     alloc: Global,
@@ -76,6 +78,10 @@ pub fn serve<R: Threads + Wait + Sync, I: Read + Drop, L: Log, W: Write>(
     ensures logged { IfSome (I.remaining source.reader) (λ input.
         IsLoggedBefore L.accepted W.contents teller.old teller.new options.now
         (logged_rows source.logged) (readable_of options.now.workers input)) }
+    ensures book { opening_of source.logged ≡ opening_asked options.now →
+        HasBook (L.accepted teller.old.log) (rows_of_book source.logged) →
+        IfSome (I.remaining source.reader) (λ input. HasServedBook (L.accepted teller.new.log)
+        options.now source.logged (readable_of options.now.workers input).said) }
 {
     let LoggedInput { logged, reader } = source;
     let left = InputLeft::of(alloc, reader, options.workers)?;

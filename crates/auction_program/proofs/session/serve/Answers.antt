@@ -1,4 +1,4 @@
-use Rattle.std.proofs.Common.{◌++◌, ◌⊎◌, List, inr, subst}
+use Rattle.std.proofs.Common.{◌++◌, ◌⊎◌, List, inl, inr, subst}
 use Rattle.std.proofs.lemmas.Option.{IfSome_then}
 use Rattle.std.proofs.lemmas.Result.{on_ok_weaker}
 use Rattle.auction_text.specs.Moved.{gone_by}
@@ -8,9 +8,10 @@ use Rattle.item_shards.specs.OpeningRows.{opening_rows}
 use Rattle.item_shards.specs.declared.openings.Opened.{Opened}
 use Rattle.auction_program.specs.Options.{opening_asked}
 use Rattle.auction_program.specs.PartRuns.{Opens, StartsAt}
-use Rattle.auction_program.specs.Serving.{ArePartTold, AreTold, IsNothingTold, logged_rows, nothing_gone}
+use Rattle.auction_program.specs.Serving.{ArePartTold, AreTold, HasServedBook, IsNothingTold, logged_rows, nothing_gone}
 use Rattle.auction_program.specs.declared.parts.RunStart.TheVariants.{Book}
-use Rattle.auction_program.proofs.FirstPart.{first_not_served, first_opened, first_served}
+use Rattle.auction_program.proofs.FirstPart.{first_not_served, first_opened, first_served, if_any}
+use Rattle.auction_program.proofs.LoggedBook.{served_book}
 use Rattle.auction_program.proofs.ToldLemmas.{same_gone}
 use Rattle.auction_program.proofs.session.serve.Goals as goal
 
@@ -92,3 +93,33 @@ returns-clause-logged g c =
     (same_gone (gone_by c.none.result) nothing_gone c.none.ensures.phases c.none.ensures.requests)
     (subst (λ (rs : List Opened). Opens options logged rs (AreTold accepted contents c.args.teller.now c.open.new.teller)) c.as_slice.ensures.value c.in_ok-book.ensures.opens)
     c.in_ok-served.served c.in_ok-input.ensures.workers c.in_ok-served.ensures.serves)))
+
+pub returns-in_err-left-clause-book : goal.returns-in_err-left-clause-book
+returns-in_err-left-clause-book g c = λ same had.
+    let options = c.args.options.now in
+    if_any (g.I.Read.remaining c.args.source.reader)
+    (λ input. HasServedBook (g.L.Log.accepted c.args.teller.now.log) options c.args.source.logged (readable_of options.workers input).said) (λ input. inl had)
+
+pub returns-in_err-input-clause-book : goal.returns-in_err-input-clause-book
+returns-in_err-input-clause-book g c = λ same had.
+    let options = c.args.options.now in
+    if_any (g.I.Read.remaining c.args.source.reader)
+    (λ input. HasServedBook (g.L.Log.accepted c.args.teller.now.log) options c.args.source.logged (readable_of options.workers input).said) (λ input. inl had)
+
+pub returns-in_err-book-clause-book : goal.returns-in_err-book-clause-book
+returns-in_err-book-clause-book g c = λ same had.
+    let options = c.args.options.now in
+    IfSome_then (g.I.Read.remaining c.args.source.reader) (returns-in_err-book-clause-logged g c) (λ input first.
+    served_book g.L.Log.accepted g.W.Write.contents c.args.teller.now c.open.new.teller options c.args.source.logged (readable_of options.workers input) same had first)
+
+pub returns-in_err-served-clause-book : goal.returns-in_err-served-clause-book
+returns-in_err-served-clause-book g c = λ same had.
+    let options = c.args.options.now in
+    IfSome_then (g.I.Read.remaining c.args.source.reader) (returns-in_err-served-clause-logged g c) (λ input first.
+    served_book g.L.Log.accepted g.W.Write.contents c.args.teller.now c.serve_part.new.teller options c.args.source.logged (readable_of options.workers input) same had first)
+
+pub returns-clause-book : goal.returns-clause-book
+returns-clause-book g c = λ same had.
+    let options = c.args.options.now in
+    IfSome_then (g.I.Read.remaining c.args.source.reader) (returns-clause-logged g c) (λ input first.
+    served_book g.L.Log.accepted g.W.Write.contents c.args.teller.now c.serve_rest.new.teller options c.args.source.logged (readable_of options.workers input) same had first)
