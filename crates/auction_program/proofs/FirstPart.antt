@@ -1,6 +1,5 @@
 -- The first part of an input, with whose rows the auction is opened.
 use Rattle.std.proofs.Common.{◌≡◌, ◌≤◌, ◌++◌, ◌∙◌, ◌⊎◌, ℕ, List, [], Option, None, Some, IfSome, Result, Err, ap, inl, inr, length, refl, subst, sym}
-use Rattle.std.proofs.KnownBytes.{Keeps-refl}
 use Rattle.std.specs.Result.{IsErr, IsErrAnd}
 use Rattle.auction_rows.specs.Book.{Book}
 use Rattle.auction_rows.specs.declared.requests.Request.{Request}
@@ -15,15 +14,17 @@ use Rattle.item_shards.specs.OpeningRows.{AreRows, IsTooLong, opening_rows}
 use Rattle.item_shards.specs.declared.openings.Opened.{Opened}
 use Rattle.part_log.specs.declared.log.Teller.{Teller}
 use Rattle.auction_program.specs.Options.{opening_asked}
-use Rattle.auction_program.specs.PartRuns.{HasServed, IsPastReading, IsSession, Opens, RunsPart, ServesPart, StartsAt}
+use Rattle.auction_program.specs.PartRuns.{BeginsAt, FitsAt, HasServed, IsPastReading, IsSession, Opens, RunsPart, ServesPart, StartsAt}
+use Rattle.auction_program.specs.ServeFaults.{IsOpeningFault, IsPartFault, IsServeFault}
 use Rattle.auction_program.specs.Serving.{ArePartTold, AreTold, IsLoggedBefore, IsNothingTold, nothing_gone, opening_text, unlogged_rows}
 use Rattle.auction_program.specs.declared.faults.Fault.{Fault}
 use Rattle.auction_program.specs.declared.faults.Fault.TheVariants.{Read}
 use Rattle.auction_program.specs.declared.options.Options.{Options}
 use Rattle.auction_program.specs.declared.parts.Served.{Served}
 use Rattle.auction_program.proofs.Answering.{is_error}
+use Rattle.auction_program.proofs.FaultLemmas.{open_holds, opening_stops, part_stops}
 use Rattle.auction_program.proofs.ServingLemmas.{first_rows, opened_first, opened_served}
-use Rattle.auction_program.proofs.SessionLemmas.{session_first, session_more}
+use Rattle.auction_program.proofs.SessionLemmas.{session_first, session_more, session_stops}
 
 -- a fault that was found is the one that is told
 told_is : (found fault : ReadFault) → Read fault ≡ Read found → fault ≡ found
@@ -42,13 +43,15 @@ pub if_any : {T : Type 0} (known : Option T) (P : T → Type 0) → ((x : T) →
 if_any None P holds = tt
 if_any (Some x) P holds = holds x
 
-pub nothing_told : {L W : Type 0} (accepted : L → Option (List ℕ)) (contents : W → Option (List ℕ)) (teller : Teller L W) → IsNothingTold accepted contents teller teller
-nothing_told accepted contents teller = (Keeps-refl (accepted teller.log), Keeps-refl (contents teller.writer))
-
 module _ {R L W : Type 0} (remaining : R → Option (List ℕ)) (accepted : L → Option (List ℕ)) (contents : W → Option (List ℕ)) (options : Options) (logged : List Opened) (all : Readable)
     (old opened new : Teller L W) (workers most : ℕ) (part : Part R) (read : IsPart remaining workers most all part) where
   rows_are : part.input.rows.items ≡ rows all.said
   rows_are = ap (λ (a : Asked). a.rows) read.asked ∙ first_rows remaining all read.said part.end read.goes_on
+
+  -- why the auction is not opened
+  pub not_opened : (fault : Fault) → IsOpeningFault accepted contents old opened options logged part.input.rows.items fault → IsServeFault accepted contents old opened options logged all fault
+  not_opened fault why =
+      opening_stops accepted contents old opened options logged all fault (subst (λ (rs : List Opened). IsOpeningFault accepted contents old opened options logged rs fault) rows_are why)
 
   -- the auction may not be opened, or its rows not be told whole
   pub first_opened : Opens options logged part.input.rows.items (ArePartTold accepted contents old opened) ⊎ IsNothingTold accepted contents old opened
@@ -62,11 +65,20 @@ module _ {R L W : Type 0} (remaining : R → Option (List ℕ)) (accepted : L �
     begun = opened_served options logged part.input.rows.items all.said start (AreTold accepted contents old opened) rows_are opens starts none
 
     -- the first part is served
-    pub first_served : (next : Served) → KeepsWorkers workers part.end
+    pub first_served : (next : Served) → FitsAt options start.start → ((book : Book) → BeginsAt options start.start part.input.scripts.items book → FitsAt options next.start)
+        → KeepsWorkers workers part.end
         → ((book : Book) → StartsAt options start.start book → ServesPart options book (gone_by start.before) part.input.scripts.items next (AreTold accepted contents opened new))
         → IsSession remaining options logged all next part.end (AreTold accepted contents old new)
-    first_served next keeps serves =
-        session_more remaining accepted contents options logged all old opened new start all [] begun refl workers most asked part same read next keeps serves
+    first_served next fits fits_next keeps serves =
+        session_more remaining accepted contents options logged all old opened new start all [] begun refl workers most asked part same read fits next fits_next keeps serves
+
+    -- why it is not served
+    pub not_served : (fault : Fault) → FitsAt options start.start
+        → ((book : Book) → BeginsAt options start.start part.input.scripts.items book
+        → IsPartFault accepted contents opened new options book (gone_by start.before) part.input.scripts.items fault)
+        → IsServeFault accepted contents old new options logged all fault
+    not_served fault fits why = part_stops accepted contents old new options logged all fault
+        (session_stops remaining accepted contents options logged all old opened new start all [] begun refl workers most asked part same read fits fault why)
 
     -- it may not be told whole
     pub first_not_served : ((book : Book) → StartsAt options start.start book
@@ -79,10 +91,6 @@ pub open_told : {L W : Type 0} (accepted : L → Option (List ℕ)) (contents : 
     → known ≡ length logged → book ≡ opening_rows (opening_asked options) (logged ++ read) → AreRows (opening_asked options) (logged ++ read) → ¬ IsTooLong (logged ++ read)
     → ArePartTold accepted contents old new (unlogged_rows known book) (opening_text options book) ⊎ IsNothingTold accepted contents old new
     → Opens options logged read (ArePartTold accepted contents old new) ⊎ IsNothingTold accepted contents old new
-open_told accepted contents old new options logged read known book counted is are few (inl part) = inl (record {
-  are_rows = are;
-  few = few;
-  holds = subst (λ (b : Book). ArePartTold accepted contents old new (unlogged_rows (length logged) b) (opening_text options b)) is
-      (subst (λ (n : ℕ). ArePartTold accepted contents old new (unlogged_rows n book) (opening_text options book)) counted part);
-})
+open_told accepted contents old new options logged read known book counted is are few (inl part) =
+    inl (open_holds options logged read known book (ArePartTold accepted contents old new) counted is are few part)
 open_told accepted contents old new options logged read known book counted is are few (inr kept) = inr kept

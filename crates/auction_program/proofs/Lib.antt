@@ -10,3 +10,5 @@ pub mod OneHistory
 pub mod FirstPart
 pub mod OpenedLemmas
 pub mod LoggedBook
+pub mod StoppedRuns
+pub mod FaultLemmas

@@ -1,11 +1,13 @@
 -- What is known between two parts of an input.
-use Rattle.std.specs.Prelude.{ℕ, ◌≡◌, ◌+◌, ◌++◌, List, [], Option, flat_map, fold, length, slice_index_or}
+use Rattle.std.specs.Prelude.{ℕ, ◌≡◌, ◌<◌, ◌≤◌, ◌+◌, ◌++◌, List, [], Option, flat_map, fold, length, slice_index_or}
+use Rattle.auction_rows.specs.declared.limits.TheConstants.{MOST_WORKERS}
 use Rattle.auction_rows.specs.declared.requests.Object.{Object}
 use Rattle.auction_rows.specs.declared.requests.Request.{Request}
 use Rattle.auction_rows.specs.declared.rows.Entry.{Entry}
 use Rattle.auction_rows.specs.declared.values.Opening.{Opening}
 use Rattle.auction_rows.specs.Book.{Book}
 use Rattle.auction_rows.specs.History.{book_after}
+use Rattle.auction_run.specs.Beginning.{HasShards}
 use Rattle.auction_text.specs.Moved.{Gone, gone_by}
 use Rattle.auction_text.specs.Parts.{GoesOn, KeepsWorkers}
 use Rattle.auction_text.specs.Readable.{Readable}
@@ -17,7 +19,7 @@ use Rattle.item_shards.specs.OpeningBooks as opened
 use Rattle.item_shards.specs.OpeningRows.{AreRows, IsTooLong, opening_rows}
 use Rattle.item_shards.specs.declared.openings.Opened.{Opened}
 use Rattle.item_shards.specs.declared.openings.OpeningBook.{OpeningBook}
-use Rattle.phase_floor.specs.States.{IsBookOf}
+use Rattle.phase_floor.specs.States.{IsBookOf, JoinedState}
 use Rattle.run_laws.specs.Answers.{IsAnswer}
 use Rattle.auction_program.specs.Options.{opening_asked, policy_of}
 use Rattle.auction_program.specs.Serving.{ArePartRuns, OfPart, PartRun, book_in, book_left, gone_past, nothing_gone, opening_text, served_rows, served_text, unlogged_rows}
@@ -34,6 +36,26 @@ StartsAt options (AtBook book) rows =
     (opened.opening_of book ≡ opening_asked options) × (opened.rows_of_book book ≡ rows)
 StartsAt options (State state) rows =
     (state.opening ≡ opening_asked options) × IsBookOf state rows
+
+-- A state has the options' workers and shards, so many as a run may have.
+pub record FitsOptions (options : Options) (state : JoinedState) : Type 0 where
+  pub workers : length state.counters ≡ options.workers
+  pub shards : length state.shards ≡ options.shards
+  pub some_workers : 0 < options.workers
+  pub few_workers : options.workers ≤ MOST_WORKERS
+  pub allowed : HasShards (policy_of options)
+
+-- what a run goes on from fits the options
+abbrev pub FitsAt : Options → RunStart → Type 0
+FitsAt options (AtBook book) = Unit {0}
+FitsAt options (State state) = FitsOptions options state
+
+-- Scripts of the options' workers begin here, at this book.
+pub record BeginsAt (options : Options) (start : RunStart) (scripts : List (List Request))
+    (book : Book) : Type 0 where
+  pub starts : StartsAt options start book
+  pub fits : FitsAt options start
+  pub workers : length scripts ≡ options.workers
 
 -- a fault that comes after what it is about was read
 abbrev pub IsPastReading : Fault → Type 0
@@ -98,5 +120,6 @@ pub record IsSession {R : Type 0} (remaining : R → Option (List ℕ)) (options
     (Holds : List ℕ → List ℕ → Type 0) : Type 0 where
   pub said : List Record
   pub so_far : HasServed options logged all.said said served Holds
+  pub fits : FitsAt options served.start
   pub goes_on : GoesOn remaining all said end
   pub workers : KeepsWorkers options.workers end

@@ -3,6 +3,7 @@ ghost use Rattle.std.specs.Prelude.{◌≡◌, ◌⊎◌, ◌++◌, IfErr, IfOk,
 ghost use Rattle.item_shards.specs.OpeningRows.{opening_rows};
 ghost use Rattle.auction_program.specs.Options.{opening_asked};
 ghost use Rattle.auction_program.specs.PartRuns.{IsOpenedBy, IsPastReading, Opens, StartsAt};
+ghost use Rattle.auction_program.specs.ServeFaults.{IsNotOpened, IsOpeningFault};
 ghost use Rattle.auction_program.specs.Serving.{ArePartTold, AreTold, IsNothingTold, logged_rows};
 ghost use Rattle.auction_program.specs.declared.parts.RunStart.{RunStart};
 
@@ -19,7 +20,8 @@ use std::io::Write;
 
 // Rows, and then others.
 fn joined_rows(rows: Vec<Opened>, others: &[Opened]) -> Result<Vec<Opened>, RunFault>
-    ensures { IfOk result (λ all. all.items ≡ rows.items ++ others.now) }
+    ensures joined { IfOk result (λ all. all.items ≡ rows.items ++ others.now) }
+    ensures memory { IfErr result (λ fault. fault ≡ RunFault.Memory) }
 {
     let mut all = rows;
     match all.extend_from_slice(others) {
@@ -37,6 +39,7 @@ fn with_rows(
 ) -> Result<OpeningBook, Fault>
     ensures opens { IfOk result (λ book. IsOpenedBy opening (logged_rows logged ++ rows.now) book) }
     ensures fault { IfErr result IsPastReading }
+    ensures cause { IfErr result (IsNotOpened opening (logged_rows logged ++ rows.now)) }
 {
     if rows.is_empty() && logged.opening() == opening {
         return Ok(logged);
@@ -66,6 +69,8 @@ pub fn open<L: Log, W: Write>(
         (ArePartTold L.accepted W.contents teller.old teller.new)
         ⊎ IsNothingTold L.accepted W.contents teller.old teller.new }
     ensures fault { IfErr result IsPastReading }
+    ensures cause { IfErr result (IsOpeningFault L.accepted W.contents teller.old teller.new
+        options.now (logged_rows logged) rows.now) }
 {
     let known = logged.rows().len();
     let book = with_rows(alloc, logged, rows, options.opening())?;

@@ -5,9 +5,11 @@ ghost use Rattle.auction_rows.specs.History.{book_after};
 ghost use Rattle.auction_text.specs.Moved.{gone_by};
 ghost use Rattle.auction_text.specs.RowLines.{rows_text};
 ghost use Rattle.auction_text.specs.Writing.{WritesText};
-ghost use Rattle.auction_program.specs.Execution.{AnswersScripts};
-ghost use Rattle.auction_program.specs.Options.{opening_asked};
-ghost use Rattle.auction_program.specs.PartRuns.{IsPastReading, RunsPart, ServesPart, StartsAt};
+ghost use Rattle.auction_run.specs.GoingOn.{fault_of};
+ghost use Rattle.auction_program.specs.Execution.{AnswersScripts, IsNotRun};
+ghost use Rattle.auction_program.specs.Options.{opening_asked, policy_of};
+ghost use Rattle.auction_program.specs.PartRuns.{BeginsAt, FitsAt, FitsOptions, IsPastReading, RunsPart, ServesPart, StartsAt};
+ghost use Rattle.auction_program.specs.ServeFaults.{AreToldAt, IsPartFault};
 ghost use Rattle.auction_program.specs.Serving.{ArePartTold, AreTold, IsNothingTold, OfPart, opening_text, part_text, unlogged_rows};
 ghost use Rattle.auction_program.specs.declared.parts.RunStart.{RunStart};
 
@@ -46,6 +48,15 @@ pub struct NextPart {
     pub scripts: Vec<Script>,
 }
 
+// The fault of a run that stopped.
+fn fault_of(stopped: Stopped) -> RunFault
+    ensures { result ≡ fault_of stopped }
+{
+    match stopped {
+        Stopped::Refused(_, fault) | Stopped::Failed(fault) => fault,
+    }
+}
+
 // Performs the scripts of a part.
 fn run_part<R: Threads + Wait + Sync>(
     rt: &R,
@@ -59,6 +70,11 @@ fn run_part<R: Threads + Wait + Sync>(
     ensures left { IfOk result (λ outcome. (book : Book) → StartsAt options.now start book →
         StartsAt options.now (RunStart.State outcome.state)
         (book_after (opening_asked options.now) book outcome.history.entries)) }
+    ensures fits { IfOk result (λ outcome. (book : Book) →
+        BeginsAt options.now start scripts.items book → FitsOptions options.now outcome.state) }
+    ensures refused { IfErr result (λ fault. (book : Book) →
+        BeginsAt options.now start scripts.items book →
+        IsNotRun (policy_of options.now) fault book scripts.items) }
 {
     let policy = options.policy();
     match start {
@@ -67,7 +83,7 @@ fn run_part<R: Threads + Wait + Sync>(
             rt, alloc, state, scripts, policy, &FreeGate,
         ) {
             Ok(outcome) => Ok(outcome),
-            Err(Stopped::Refused(_, fault) | Stopped::Failed(fault)) => Err(fault),
+            Err(stopped) => Err(fault_of(stopped)),
         },
     }
 }
@@ -88,7 +104,14 @@ pub fn serve_part<R: Threads + Wait + Sync, L: Log, W: Write>(
         RunsPart options.now book (gone_by part.served.before) part.scripts.items
         (ArePartTold L.accepted W.contents teller.old teller.new)
         ⊎ IsNothingTold L.accepted W.contents teller.old teller.new }
+    ensures fits { IfOk result (λ served. (book : Book) →
+        BeginsAt options.now part.served.start part.scripts.items book →
+        FitsAt options.now served.start) }
     ensures fault { IfErr result IsPastReading }
+    ensures cause { IfErr result (λ fault. (book : Book) →
+        BeginsAt options.now part.served.start part.scripts.items book →
+        IsPartFault L.accepted W.contents teller.old teller.new options.now book
+        (gone_by part.served.before) part.scripts.items fault) }
 {
     let NextPart { served, scripts } = part;
     let Served { start, before } = served;
@@ -110,6 +133,7 @@ pub fn serve_part<R: Threads + Wait + Sync, L: Log, W: Write>(
 fn text_of_rows(alloc: Global, rows: &[Row], history: &History) -> Result<Vec<u8>, Fault>
     ensures text { IfOk result (λ text. text.items ≡ rows_text rows.now history.now.entries) }
     ensures fault { IfErr result IsPastReading }
+    ensures memory { IfErr result (λ fault. fault ≡ Fault.Write WriteFault.Memory) }
 {
     let mut text = Vec::new(alloc);
     let Ok(()) = write_rows(alloc, &mut text, rows, history) else {
@@ -128,6 +152,7 @@ fn logged_text<L: Log>(
     ensures text { IfOk result (λ text. IfSome (L.accepted log.now) (λ _.
         text.items ≡ rows_text rows.now history.now.entries)) }
     ensures fault { IfErr result IsPastReading }
+    ensures memory { IfErr result (λ fault. fault ≡ Fault.Write WriteFault.Memory) }
 {
     if !log.keeps() {
         return Ok(Vec::new(alloc));
@@ -139,6 +164,7 @@ fn logged_text<L: Log>(
 fn opening_text(alloc: Global, rows: &[Row], options: &Options) -> Result<Vec<u8>, Fault>
     ensures text { IfOk result (λ text. text.items ≡ opening_text options.now rows.now) }
     ensures fault { IfErr result IsPastReading }
+    ensures memory { IfErr result (λ fault. fault ≡ Fault.Write WriteFault.Memory) }
 {
     if !options.rows {
         return Ok(Vec::new(alloc));
@@ -176,6 +202,7 @@ fn part_text(
     ensures text { IfOk result (λ text.
         text.items ≡ part_text options.now (gone_by before.now) history.now.entries) }
     ensures fault { IfErr result IsPastReading }
+    ensures memory { IfErr result (λ fault. fault ≡ Fault.Write WriteFault.Memory) }
 {
     let mut text = Vec::new(alloc);
     let Ok(()) = write_part(alloc, &mut text, options, before, history) else {
@@ -199,6 +226,8 @@ pub fn tell_opening<L: Log, W: Write>(
         (unlogged_rows known rows.now) (opening_text options.now rows.now)
         ⊎ IsNothingTold L.accepted W.contents teller.old teller.new }
     ensures fault { IfErr result IsPastReading }
+    ensures so_far { IfErr result (λ fault. AreToldAt L.accepted W.contents teller.old teller.new
+        fault (unlogged_rows known rows.now) (opening_text options.now rows.now)) }
 {
     let added = &rows[known.min(rows.len())..];
     let logged = logged_text(alloc, &teller.log, added, &History::new(alloc))?;
@@ -221,6 +250,9 @@ pub fn tell_part<L: Log, W: Write>(
         (ArePartTold L.accepted W.contents teller.old teller.new)
         ⊎ IsNothingTold L.accepted W.contents teller.old teller.new }
     ensures fault { IfErr result IsPastReading }
+    ensures so_far { IfErr result (λ fault.
+        OfPart options.now (gone_by before.now) history.now.entries
+        (AreToldAt L.accepted W.contents teller.old teller.new fault)) }
 {
     let rows = logged_text(alloc, &teller.log, &[], history)?;
     let text = part_text(alloc, options, before, history)?;

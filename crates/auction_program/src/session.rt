@@ -1,6 +1,6 @@
 //! Replies while requests come: the input is performed part by part; and what holds of an input
 //! that is served so.
-ghost use Rattle.std.specs.Prelude.{◌≡◌, ◌≤◌, List, None, Some, IfSome, OnOk, true, false};
+ghost use Rattle.std.specs.Prelude.{◌≡◌, ◌≤◌, List, None, Some, IfErr, IfSome, OnOk, true, false};
 ghost use Rattle.auction_rows.specs.Book.{Book};
 ghost use Rattle.auction_rows.specs.History.{ReplaysFrom};
 ghost use Rattle.item_shards.specs.OpeningBooks.{opening_of, rows_of_book};
@@ -12,6 +12,7 @@ ghost use Rattle.auction_text.specs.Moved.{Gone};
 ghost use Rattle.auction_text.specs.Replies.{history_text};
 ghost use Rattle.part_log.specs.declared.log.Teller.{Teller as Told};
 ghost use Rattle.auction_program.specs.PartRuns.{IsSession};
+ghost use Rattle.auction_program.specs.ServeFaults.{IsServeFault};
 ghost use Rattle.auction_program.specs.Serving.{ArePartTold, AreTold, HasBook, HasServedBook, IsLoggedBefore, ServesAll, ServesFirst, ArePartRuns, PartRun, logged_rows, part_texts, served_history};
 ghost use Rattle.auction_program.specs.Options.{opening_asked};
 ghost use Rattle.auction_program.specs.declared.options.Options.{Options as Asked};
@@ -58,7 +59,8 @@ fn most_of_a_part(options: &Options) -> u32
 /// Opens an auction with the rows that a log has and those that the reader gives, and performs its
 /// scripts part by part: what is asked for of a part is written and flushed before more is read,
 /// and after its rows are logged. The first record with a fault ends it, after the parts before. A
-/// log that had the rows that are handed in has the book of the served parts, also after a fault.
+/// log that had the rows that are handed in has the book of the served parts, also after a fault. A
+/// fault has its cause, and the parts before it were told whole.
 pub fn serve<R: Threads + Wait + Sync, I: Read + Drop, L: Log, W: Write>(
     rt: &R,
     alloc: Global,
@@ -82,6 +84,9 @@ pub fn serve<R: Threads + Wait + Sync, I: Read + Drop, L: Log, W: Write>(
         HasBook (L.accepted teller.old.log) (rows_of_book source.logged) →
         IfSome (I.remaining source.reader) (λ input. HasServedBook (L.accepted teller.new.log)
         options.now source.logged (readable_of options.now.workers input).said) }
+    ensures cause { IfErr result (λ fault. IfSome (I.remaining source.reader) (λ input.
+        IsServeFault L.accepted W.contents teller.old teller.new options.now
+        (logged_rows source.logged) (readable_of options.now.workers input) fault)) }
 {
     let LoggedInput { logged, reader } = source;
     let left = InputLeft::of(alloc, reader, options.workers)?;
@@ -118,6 +123,10 @@ fn serve_rest<R: Threads + Wait + Sync, I: Read + Drop, L: Log, W: Write>(
         IsSession I.remaining options.now logged all session.served session.end
         (AreTold L.accepted W.contents start teller.old) →
         ServesFirst options.now logged all (ArePartTold L.accepted W.contents start teller.new) }
+    ensures cause { IfErr result (λ fault. (logged : List Row) (all : Readable) (start : Told L W) →
+        IsSession I.remaining options.now logged all session.served session.end
+        (AreTold L.accepted W.contents start teller.old) →
+        IsServeFault L.accepted W.contents start teller.new options.now logged all fault) }
 {
     let Session {
         mut served,

@@ -1,7 +1,8 @@
 -- What is put by before it is told.
-use Rattle.std.specs.Prelude.{◌⊎◌, ℕ, List, Option}
+use Rattle.std.specs.Prelude.{◌≡◌, ◌⊎◌, ℕ, List, Option}
 use Rattle.std.specs.Io.KnownBytes.{Appends, Keeps}
 use Rattle.auction_text.specs.Writing.{IsPartWritten}
+use Rattle.auction_text.specs.declared.writing.WriteFault.TheVariants as write
 use Rattle.part_log.specs.declared.log.TellFault.{TellFault}
 use Rattle.part_log.specs.declared.log.TellFault.TheVariants.{Log, Write}
 
@@ -15,11 +16,12 @@ abbrev pub IsUnlogged : TellFault → Type 0
 IsUnlogged (Log fault) = Unit {0}
 IsUnlogged (Write fault) = ⊥
 
--- how far a part was told at a fault: at one of the log neither has changed; at one of the writer
--- the log has accepted its rows, and a prefix of its text was written
+-- how far a part was told at a fault: at one of the log neither has changed; at one of the writer,
+-- which is no want of memory, the log has accepted its rows, and a prefix of its text was written
 abbrev pub IsToldSoFar : TellFault → Option (List ℕ) → Option (List ℕ) → List ℕ
     → Option (List ℕ) → Option (List ℕ) → List ℕ → Type 0
 IsToldSoFar (Log fault) log next_log rows writer next_writer text =
     Keeps log next_log × Keeps writer next_writer
 IsToldSoFar (Write fault) log next_log rows writer next_writer text =
-    Appends log next_log rows × IsPartWritten writer next_writer text
+    (fault ≡ write.Write)
+    × (Appends log next_log rows × IsPartWritten writer next_writer text)
