@@ -9,11 +9,13 @@ use std::io::Read;
 use std::process::Abort;
 use std::test::Fail;
 
-// Gives a piece at each read.
+/// Gives a piece at each read.
 #[derive(Drop)]
-struct Pieces {
-    pieces: &'static [&'static [u8]],
-    at: usize,
+pub struct Pieces {
+    /// The pieces. An empty one is an end, behind which it reads on, as a terminal does.
+    pub pieces: &'static [&'static [u8]],
+    /// Which of them is the next.
+    pub at: usize,
 }
 
 impl Read for Pieces {

@@ -1,0 +1,192 @@
+//! What an input says that is read line by line, by what its reader gives at a time.
+ghost use Rattle.std.specs.Prelude.{◌≤◌};
+
+use crate::comparing::assert_same;
+use crate::text::part_tests::Pieces;
+use auction_text::{
+    Cause, LineFault, LiveEnd, LiveInput, LivePart, ReadFault, UntilEnd, push_fault_line,
+};
+use std::alloc::Global;
+use std::io;
+use std::io::Read;
+use std::process::Abort;
+use std::test::Fail;
+
+// Gives at most so many bytes at each read.
+#[derive(Drop)]
+struct Slowly<'a> {
+    text: &'a [u8],
+    most: usize,
+}
+
+impl<'a> Read for Slowly<'a> {
+    fn read(&mut self, buf: &mut [u8]) -> io::Result<usize> {
+        let room = self.most.min(buf.len());
+        self.text.read(&mut buf[..room])
+    }
+}
+
+// What a text says of two workers: for each part how many rows and requests it has, how many
+// requests of each, and its fault.
+fn told(alloc: Global, text: &[u8], at_a_time: usize, most: u32) -> Result<String, Fail>
+    requires { 1 ≤ most }
+{
+    let mut words = String::new(alloc);
+    let reader = Slowly {
+        text,
+        most: at_a_time,
+    };
+    let mut left = LiveInput::of(alloc, reader, 2)?;
+    for _ in 0..u64::MAX {
+        let LivePart {
+            input,
+            requests,
+            end,
+        } = left.next_part(alloc, most)?;
+        let rows = input.rows.len();
+        let first = input.scripts.first().map_or(0, |script| script.len());
+        let second = input.scripts.get(1).map_or(0, |script| script.len());
+        words.push_str(format!(in alloc; "{rows} {requests}: {first} {second}\n")?.as_str())?;
+        left = match end {
+            LiveEnd::More(left) => left,
+            LiveEnd::All => return Ok(words),
+            LiveEnd::Fault(LineFault { worker, fault }, left) => {
+                words.push_str(format!(in alloc; "{worker:?} {fault}\n")?.as_str())?;
+                left
+            }
+        };
+    }
+    Err(Fail::new("an input without end"))
+}
+
+// Asserts what a text says that is given at once.
+fn assert_told(rt: &impl Abort, alloc: Global, text: &[u8], wanted: &str) -> Result<(), Fail> {
+    let found = told(alloc, text, 100_000, 9)?;
+    assert_same(rt, &found.as_str(), &wanted);
+    Ok(())
+}
+
+// The lines of a text that tell a fault.
+fn faults_in(alloc: Global, text: &str) -> Result<String, Fail> {
+    let mut faults = String::new(alloc);
+    for line in text.lines() {
+        if line.contains("record") {
+            faults.push_str(line)?;
+            faults.push_str("\n")?;
+        }
+    }
+    Ok(faults)
+}
+
+// Asserts which faults a text has, if it is given so many bytes at a time.
+fn assert_faults(
+    rt: &impl Abort,
+    alloc: Global,
+    text: &[u8],
+    sizes: &[usize],
+    wanted: &str,
+) -> Result<(), Fail> {
+    for at_a_time in sizes {
+        let found = told(alloc, text, *at_a_time, 9)?;
+        let faults = faults_in(alloc, found.as_str())?;
+        assert_same(rt, &faults.as_str(), &wanted);
+    }
+    Ok(())
+}
+
+#[test]
+fn a_fault_ends_a_part_and_not_the_input(rt: HostRuntime) -> Result<(), Fail> {
+    let alloc = rt.alloc();
+    assert_told(
+        &rt,
+        alloc,
+        b"0,viewuser,0\n1,nonsense\n1,viewuser,0\n",
+        "0 1: 1 0\nSome(1) record 2: unknown kind\n0 1: 0 1\n0 0: 0 0\n",
+    )
+}
+
+#[test]
+fn an_open_quote_ends_with_its_line(rt: HostRuntime) -> Result<(), Fail> {
+    let alloc = rt.alloc();
+    assert_faults(
+        &rt,
+        alloc,
+        b"1,item,0,0,\"\n0,viewuser,1\n0,viewuser,\"\n",
+        &[1, 2, 7, 100_000],
+        "Some(1) record 1: wrong number of fields\nSome(0) record 3: not a number\n",
+    )
+}
+
+#[test]
+fn a_carriage_return_forges_no_line(rt: HostRuntime) -> Result<(), Fail> {
+    let alloc = rt.alloc();
+    assert_faults(
+        &rt,
+        alloc,
+        b"1,viewuser,0\r0,bid,5,0.0,999,1\n0,viewuser,1\r\n\r\n\n\r\r\n2,viewuser,0\nx\n7",
+        &[1, 2, 3, 7, 100_000],
+        "Some(1) record 1: wrong number of fields\nNone record 3: no such worker\nNone record 4: not a number\nNone record 5: no such worker\n",
+    )
+}
+
+#[test]
+fn a_line_that_is_too_long_is_passed_over(rt: HostRuntime) -> Result<(), Fail> {
+    let alloc = rt.alloc();
+    let mut text = Vec::new(alloc);
+    text.extend_from_slice(b"\xEF\xBB\xBF0,viewuser,0\n1,item,0,0,\"")?;
+    for _ in 0..70_000 {
+        text.push(b'"')?;
+    }
+    text.extend_from_slice(b"\n1,viewuser,0\n+")?;
+    assert_faults(
+        &rt,
+        alloc,
+        text.as_slice(),
+        &[999, 100_000],
+        "Some(1) record 2: too long\nNone record 4: not a number\n",
+    )
+}
+
+#[test]
+fn rows_may_come_around_a_fault(rt: HostRuntime) -> Result<(), Fail> {
+    let alloc = rt.alloc();
+    assert_told(
+        &rt,
+        alloc,
+        b"0,+comment,0,1,0.0,1\n0,+comment\n1,+comment,0,1,0.0,1\n0,viewuser,0\n0,+comment,0,1,0.0,1\n",
+        "1 0: 0 0\nSome(0) record 2: wrong number of fields\n1 1: 1 0\nSome(0) record 5: row after a request\n0 0: 0 0\n",
+    )
+}
+
+#[test]
+fn an_input_ends_once(rt: HostRuntime) -> Result<(), Fail> {
+    let alloc = rt.alloc();
+    let pieces: &[&[u8]] = &[b"", b"0,view", b"", b"user"];
+    let mut reader = UntilEnd::of(Pieces { pieces, at: 0 });
+    let mut buf = [0; 20];
+    let mut given = Vec::new(alloc);
+    given.push(reader.read(&mut buf[..0])?)?;
+    for _ in 0..4 {
+        given.push(reader.read(&mut buf)?)?;
+    }
+    assert_same(&rt, &given.as_slice(), &[0, 6, 0, 0, 0].as_slice());
+    Ok(())
+}
+
+#[test]
+fn a_fault_is_answered_with_the_index_of_the_next_request(rt: HostRuntime) -> Result<(), Fail> {
+    let alloc = rt.alloc();
+    let mut text = Vec::new(alloc);
+    for (worker, index, fault) in [
+        (0, 0, ReadFault::Line(1, Cause::Kind)),
+        (15, 7, ReadFault::Line(1_000_000_000_000, Cause::Long)),
+        (3, 1, ReadFault::Worker(2)),
+        (1, 2, ReadFault::Long),
+    ] {
+        push_fault_line(&mut text, worker, index, fault)?;
+    }
+    let wanted =
+        b"0,0,fault record 1: unknown kind\n15,7,fault record 1000000000000: too long\n3,1,fault record 2: no such worker\n1,2,fault more than 16000000 records\n";
+    assert_same(&rt, &text.as_slice(), &wanted.as_slice());
+    Ok(())
+}
