@@ -30,6 +30,21 @@ from refusing import UNREACHED_IN_A_ROW, Refusing
 from sessions import FIRST, ITEMS, PLAIN, Auction, Era, Refused, is_stored, requests, whole_lines
 
 SEEN = "user rating=0 comments=0"
+ENDS = ("--end-at-fault",)
+# A line with a fault between two requests of worker 0, what is wrong with it, and whether it names that worker.
+FAULTY = (
+    ("0,bid", "wrong number of fields", True),
+    ("0,jump,1", "unknown kind", True),
+    ("0,viewuser,01", "not a number", True),
+    ('0,viewuser,"0', "not a number", True),
+    ("0,viewuser,0\r0,viewuser,0", "wrong number of fields", True),
+    ("0,viewuser," + "9" * 70_000, "too long", True),
+    ("0,viewitem,0", "not an item id", True),
+    ("0,+bid,1,0.0,5,5", "row after a request", True),
+    ("x,viewuser,0", "not a number", False),
+    ("1,viewuser,0", "no such worker", False),
+    ("9" * 70_000, "too long", False),
+)
 LINE_ENDS = ("\n", "\r\n", "\r", "\n\n", "\r\n\r\n", "\r\r")
 IN_USE, UNREAD, UNWRITTEN, NO_FILE, UNKEPT = (("rubis_auction: " + words, 5) for words in (
     "log is in use", "log cannot be read", "log cannot be written", "log is not a regular file", "cut bytes of the log cannot be kept"))
@@ -40,9 +55,9 @@ SECONDS = 60
 
 
 def line_ends(tester: Tester) -> None:
-    """replies before the input ends, for each end of a line, blank lines, and a line and a half"""
-    for end in LINE_ENDS:
-        auction = Auction(tester.program, most=10)
+    """replies before the input ends, for each end of a line, blank lines, and a line and a half; lines that end with CR by themselves only with --end-at-fault"""
+    for end, words in [(end, ENDS) for end in LINE_ENDS] + [(end, ()) for end in LINE_ENDS if "\n" in end]:
+        auction = Auction(tester.program, *words, most=10)
         for turn in range(3):
             auction.write(f"0,viewuser,0{end}")
             tester.tally.check(auction.reply() == ((0, turn), SEEN), f"a reply after {end!r}")
@@ -53,8 +68,25 @@ def line_ends(tester: Tester) -> None:
         tester.tally.check(auction.reply() == ((0, 4), SEEN) and auction.process.wait() == 0, f"the reply to a last line without an end, {end!r}")
 
 
+def terminals(tester: Tester) -> None:
+    """an input from a terminal: one Ctrl-D at the start of a line ends it, and two behind half a line"""
+    for words in ((), ("--live", "1"), ("--live", "1", *ENDS)):
+        for typed in (b"0,viewuser,0\n\x04", b"0,viewuser,0\x04\x04"):
+            keyboard, terminal = os.openpty()
+            with subprocess.Popen([tester.program, *words], stdin=terminal, stdout=subprocess.PIPE) as process:
+                os.write(keyboard, typed)
+                try:
+                    got, _ = process.communicate(timeout=SECONDS)
+                except subprocess.TimeoutExpired:
+                    process.kill()
+                    got = b"nothing"
+            os.close(terminal)
+            os.close(keyboard)
+            tester.tally.check((process.returncode, got.decode()) == (0, f"0,0,{SEEN}\n"), f"{typed!r} on a terminal, {words}: {got!r}")
+
+
 def clients(tester: Tester) -> None:
-    """the client of examples/ by itself, one request and many by several workers, a fault that ends the program"""
+    """the client of examples/ by itself, one request and many by several workers, a line with a fault, and one that ends the program"""
     got = run([sys.executable, "-B", EXAMPLES / "client.py", tester.program])
     seen = "viewitem seller=0 category=0 start=10 closes=100 highest=700 bidder=2 bids=2 left=1 name=Vase"
     tester.tally.check(got.stdout.decode().splitlines() == ["item 0.0", "bid 0.0", "bid 0.1", seen], f"examples/client.py: {described(got)}")
@@ -62,10 +94,66 @@ def clients(tester: Tester) -> None:
     tester.tally.check(auction.one("item,0,0,Vase,10,1000,1,5000", 2) == "item 2.0", "the first reply of worker 2")
     told = auction.many([(at % 3, f"bid,1,2.0,{at + 10},1") for at in range(3000)])
     tester.tally.check(told == [f"bid {at % 3}.{at // 3}" for at in range(3000)], "3,000 replies in the order of their requests")
+    auction.write("0,bid\n")
+    tester.tally.check(auction.reply() == ((0, 1000), "fault record 3002: wrong number of fields"), "the answer to a line with a fault")
+    tester.tally.check(auction.one("viewuser,0") == "user rating=0 comments=0", "the request behind it")
+    auction.close()
+    auction = Auction(tester.program, *ENDS)
     with suppress(Refused):
         auction.one("bid")
-        tester.tally.check(False, "a record with a fault is answered")
+        tester.tally.check(False, "a record with a fault is answered with --end-at-fault")
     tester.tally.check(auction.process.returncode == 2, "the status of a record with a fault")
+
+
+def faulty_lines(tester: Tester) -> None:
+    """a line with a fault between requests: answered in its place, or told on standard error if it names no worker, or none asks for replies; with --end-at-fault it ends the input"""
+    for line, words, is_named in FAULTY:
+        data = f"0,viewuser,0\n{line}\n0,viewuser,0\n".encode()
+        first, answer, last = f"0,0,{SEEN}\n", f"0,1,fault record 2: {words}\n", f"0,1,{SEEN}\n"
+        told = f"rubis_auction: record 2: {words}\n"
+        for most in ("1", "1000"):
+            got = run([tester.program, "--live", most], data)
+            wanted = (first + answer + last, "") if is_named else (first + last, told)
+            tester.tally.check((got.status, got.stdout.decode(), got.stderr.decode()) == (0, *wanted), f"{line[:40]!r} with --live {most}: {described(got)}")
+        got = run([tester.program, "--live", "1000", "--history"], data)
+        tester.tally.check((got.status, got.stdout.count(b"\n"), got.stderr.decode()) == (0, 2, told), f"{line[:40]!r} with --history: {described(got)}")
+        # A record may also end with CR by itself, if not each line is read as a text of its own.
+        if "\r" in line:
+            continue
+        got = run([tester.program, "--live", "1000", *ENDS], f"0,viewuser,0\n{line}\n".encode())
+        tester.tally.check(got.status == 2 and got.stdout.decode() == first, f"{line[:40]!r} with --end-at-fault: {described(got)}")
+
+
+def faulty_rows(tester: Tester) -> None:
+    """lines with a fault among the rows, and before anything else: the rows behind them open the auction, and the log has each once"""
+    log = tester.folder / "faulty"
+    data = b"0,bid\n0,+item,0,0,Vase,10,100,1\n0,+bid,1,0.0,x,5\n0,+bid,1,0.0,50,5\n1,viewuser,0\n0,viewbids,0.0\n0,+bid,1,0.0,60,5\n0,bid,2,0.0,70,6\n"
+    got = run([tester.program, "--live", "10", "--log", log], data)
+    wanted = b"0,0,fault record 1: wrong number of fields\n0,0,fault record 3: not a number\n0,0,bids 50:5:1:0.0\n0,1,fault record 7: row after a request\n0,1,bid 0.1\n"
+    tester.tally.check((got.status, got.stdout, got.stderr) == (0, wanted, b"rubis_auction: record 5: no such worker\n"), f"faults among rows: {described(got)}")
+    wanted = b'0,+item,0,0,"Vase",10,100,1,1\n0,+bid,1,0.0,50,5\n0,+bid,2,0.0,70,6\n'
+    tester.tally.check(log.read_bytes() == wanted, f"the log after faults among rows: {log.read_bytes()!r}")
+
+
+def answered_faults(tester: Tester) -> None:
+    """lines with a fault anywhere among rows and requests: each is answered where it stands, and changes no reply"""
+    for seed in range(40):
+        draw = random.Random(seed)
+        lines = [f"0,+{row}" for row in FIRST] + [f"0,{request}" for request in requests(draw, 60)]
+        plain = iter(run([tester.program, *PLAIN], "".join(line + "\n" for line in lines).encode()).stdout.decode().splitlines())
+        given, wanted, index = [], [], 0
+        for line in lines:
+            while draw.random() < 0.3:
+                given.append("0,bid,1")
+                wanted.append(f"0,{index},fault record {len(given)}: wrong number of fields")
+            given.append(line)
+            if not line.startswith("0,+"):
+                wanted.append(next(plain))
+                index += 1
+        data = "".join(line + "\n" for line in given).encode()
+        for most in (1, 7, 1_000_000):
+            got = run([tester.program, *PLAIN, "--live", str(most)], data)
+            tester.tally.check(got.status == 0 and got.stdout.decode().splitlines() == wanted, f"seed {seed}, --live {most}: {described(got)}")
 
 
 def sockets(tester: Tester) -> None:
@@ -133,7 +221,7 @@ def same_bytes(tester: Tester) -> None:
         for how in ((), ("--history",), ("--rows",)):
             wanted = run([tester.program, *PLAIN, *how], "".join(line + "\n" for line in lines[:fault]).encode())
             for most in (1, 7, 1_000_000):
-                words = [tester.program, *PLAIN, *how, "--live", str(most)]
+                words = [tester.program, *PLAIN, *how, *ENDS, "--live", str(most)]
                 got = run(words, (end.join(given) + last).encode())
                 status = 0 if fault is None else 2
                 tester.tally.check(got.status == status and printed(got.stdout, how) == printed(wanted.stdout, how), f"seed {seed}, {words[1:]}: {described(got)}")
@@ -410,7 +498,7 @@ def kills(tester: Tester) -> None:
             print(f"{number + 1} kills", flush=True)
 
 
-CHECKS = (line_ends, clients, sockets, no_report, same_bytes, histories, locked_log, cut_logs, foreign_files, special_files, closed_places, bad_logs, read_back, failing_logs, full_disks, refused_memory, kills)
+CHECKS = (line_ends, terminals, clients, faulty_lines, faulty_rows, answered_faults, sockets, no_report, same_bytes, histories, locked_log, cut_logs, foreign_files, special_files, closed_places, bad_logs, read_back, failing_logs, full_disks, refused_memory, kills)
 
 
 def main() -> None:

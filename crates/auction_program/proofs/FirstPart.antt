@@ -2,10 +2,9 @@
 use Rattle.std.proofs.Common.{◌≡◌, ◌≤◌, ◌++◌, ◌∙◌, ◌⊎◌, ℕ, List, [], Option, None, Some, IfSome, Result, Err, ap, inl, inr, length, refl, subst, sym}
 use Rattle.std.specs.Result.{IsErr, IsErrAnd}
 use Rattle.auction_rows.specs.Book.{Book}
-use Rattle.auction_rows.specs.declared.requests.Request.{Request}
 use Rattle.auction_text.specs.Moved.{gone_by}
 use Rattle.auction_text.specs.Parts.{IsPart, KeepsWorkers}
-use Rattle.auction_text.specs.Readable.{Readable, requests_in}
+use Rattle.auction_text.specs.Readable.{Readable}
 use Rattle.auction_text.specs.Reading.{IsInputFault}
 use Rattle.auction_text.specs.Scripts.{Asked, rows}
 use Rattle.auction_text.specs.declared.reading.ReadFault.{ReadFault}

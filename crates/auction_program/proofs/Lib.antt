@@ -12,3 +12,7 @@ pub mod OpenedLemmas
 pub mod LoggedBook
 pub mod StoppedRuns
 pub mod FaultLemmas
+pub mod LiveLemmas
+pub mod LiveSessions
+pub mod LiveFaultLemmas
+pub mod LiveBook

@@ -1,21 +1,18 @@
 -- One part more is served.
-use Rattle.std.proofs.Common.{◌≡◌, ◌≤◌, ◌++◌, ◌∷◌, ◌∙◌, ◌⊎◌, ℕ, List, [], Option, None, Some, flat_map, fold, inl, inr, length, refl, sym, ap, subst, append_assoc, append-nil}
+use Rattle.std.proofs.Common.{◌≡◌, ◌≤◌, ◌++◌, ◌∷◌, ◌∙◌, ◌⊎◌, ℕ, List, [], Option, flat_map, fold, inl, inr, length, refl, sym, ap, subst, append_assoc, append-nil}
 use Rattle.std.proofs.KnownBytes.{Appends-kept, Appends-trans}
 use Rattle.std.proofs.Math.Seq.{take-length}
 use Rattle.std.proofs.lemmas.List.Elements.{filter_map-append}
 use Rattle.std.proofs.lemmas.List.Sums.{fold-append}
-use Rattle.std.specs.Io.KnownBytes.{Appends, Keeps}
+use Rattle.std.specs.Io.KnownBytes.{Appends}
 use Rattle.auction_rows.specs.Book.{Book}
-use Rattle.auction_rows.specs.declared.requests.Request.{Request}
 use Rattle.auction_text.specs.Moved.{Gone, all_moved, gone_by}
-use Rattle.auction_text.specs.Parts.{CanRead, GoesOn, IsPart, KeepsWorkers, workers_of}
+use Rattle.auction_text.specs.Parts.{GoesOn}
 use Rattle.auction_text.specs.Readable.{Readable, after, faulty, no_more, requests_in}
 use Rattle.auction_text.specs.RowLines.{rows_text}
-use Rattle.auction_text.specs.Scripts.{asked_in, row_in, rows}
+use Rattle.auction_text.specs.Scripts.{row_in, rows}
 use Rattle.auction_text.specs.Writing.{IsPartWritten}
 use Rattle.auction_text.specs.declared.reading.ReadFault.{ReadFault}
-use Rattle.auction_text.specs.declared.reading.parts.InputLeft.{InputLeft}
-use Rattle.auction_text.specs.declared.reading.parts.Part.{Part}
 use Rattle.auction_text.specs.declared.reading.parts.PartEnd.{PartEnd}
 use Rattle.auction_text.specs.declared.reading.parts.PartEnd.TheVariants.{More, All, Fault}
 use Rattle.auction_text.specs.declared.reading.record.Record.{Record}
@@ -24,11 +21,10 @@ use Rattle.item_shards.specs.declared.openings.Opened.{Opened}
 use Rattle.part_log.specs.declared.log.Teller.{Teller}
 use Rattle.auction_program.specs.Execution.{commits_text}
 use Rattle.auction_program.specs.Options.{opening_asked}
-use Rattle.auction_program.specs.PartRuns.{HasServed, IsSession, Opens, RunsPart, ServesPart, StartsAt, gone_with}
-use Rattle.auction_program.specs.Serving.{ArePartRuns, ArePartTold, AreTold, IsLoggedBefore, IsNothingTold, IsPartRun, IsServed, PartRun, ServesAll, ServesFirst, book_in, book_past, gone_past, nothing_gone, opening_text, part_texts, scripts_in, served_rows, served_text, unlogged_rows}
+use Rattle.auction_program.specs.PartRuns.{HasServed, Opens, RunsPart, ServesPart, StartsAt, gone_with}
+use Rattle.auction_program.specs.Serving.{ArePartRuns, ArePartTold, AreTold, IsLoggedBefore, IsNothingTold, IsPartRun, PartRun, ServesAll, ServesFirst, book_in, book_past, gone_past, nothing_gone, opening_text, part_texts, scripts_in, served_rows, served_text, unlogged_rows}
 use Rattle.auction_program.specs.declared.options.Options.{Options}
 use Rattle.auction_program.specs.declared.parts.Served.{Served}
-use Rattle.auction_program.specs.declared.parts.RunStart.{RunStart}
 use Rattle.auction_program.proofs.WrittenLemmas.{part_of_added}
 
 -- what each part gives, with one part more
@@ -66,7 +62,7 @@ text_more options logged all parts part gone is =
     ∙ append_assoc opening (part_texts options nothing_gone parts) (commits_text options [] (all_moved (fold (gone_past options) nothing_gone parts) part.history))
     ∙ ap (λ (xs : List ℕ). opening ++ xs) (sym (texts_more options nothing_gone parts part))
 
-whole_part : (old new : Option (List ℕ)) (text : List ℕ) → Appends old new text → IsPartWritten old new text
+pub whole_part : (old new : Option (List ℕ)) (text : List ℕ) → Appends old new text → IsPartWritten old new text
 whole_part old new text whole = (length text, subst (Appends old new) (sym (take-length text)) whole)
 
 after_twice : (said next : List Record) (others : Readable) → after said (after next others) ≡ after (said ++ next) others
@@ -94,21 +90,21 @@ first_rows remaining all said All on = sym (ap (λ (r : Readable). rows r.said) 
 first_rows remaining all said (Fault fault) on = sym (ap (λ (r : Readable). rows r.said) on ∙ ap rows (append-nil said))
 
 module _ {L W : Type 0} (accepted : L → Option (List ℕ)) (contents : W → Option (List ℕ)) (start old new : Teller L W) where
-  told_more : (logs more_logs all_logs text more_text all_text : List ℕ) → logs ++ more_logs ≡ all_logs → text ++ more_text ≡ all_text
+  pub told_more : (logs more_logs all_logs text more_text all_text : List ℕ) → logs ++ more_logs ≡ all_logs → text ++ more_text ≡ all_text
       → AreTold accepted contents start old logs text → AreTold accepted contents old new more_logs more_text → AreTold accepted contents start new all_logs all_text
   told_more logs more_logs all_logs text more_text all_text logs_are text_is first second = (
     subst (Appends (accepted start.log) (accepted new.log)) logs_are (Appends-trans (accepted start.log) (accepted old.log) (accepted new.log) logs more_logs first.0 second.0),
     subst (Appends (contents start.writer) (contents new.writer)) text_is (Appends-trans (contents start.writer) (contents old.writer) (contents new.writer) text more_text first.1 second.1),
   )
 
-  part_more : (logs more_logs all_logs text more_text all_text : List ℕ) → logs ++ more_logs ≡ all_logs → text ++ more_text ≡ all_text
+  pub part_more : (logs more_logs all_logs text more_text all_text : List ℕ) → logs ++ more_logs ≡ all_logs → text ++ more_text ≡ all_text
       → AreTold accepted contents start old logs text → ArePartTold accepted contents old new more_logs more_text → ArePartTold accepted contents start new all_logs all_text
   part_more logs more_logs all_logs text more_text all_text logs_are text_is first second = (
     subst (Appends (accepted start.log) (accepted new.log)) logs_are (Appends-trans (accepted start.log) (accepted old.log) (accepted new.log) logs more_logs first.0 second.0),
     subst (IsPartWritten (contents start.writer) (contents new.writer)) text_is (part_of_added (contents start.writer) (contents old.writer) (contents new.writer) text more_text first.1 second.1),
   )
 
-  part_kept : (logs text : List ℕ) → AreTold accepted contents start old logs text → IsNothingTold accepted contents old new → ArePartTold accepted contents start new logs text
+  pub part_kept : (logs text : List ℕ) → AreTold accepted contents start old logs text → IsNothingTold accepted contents old new → ArePartTold accepted contents start new logs text
   part_kept logs text first kept = (
     Appends-kept (accepted start.log) (accepted old.log) (accepted new.log) logs first.0 kept.0,
     whole_part (contents start.writer) (contents new.writer) text (Appends-kept (contents start.writer) (contents old.writer) (contents new.writer) text first.1 kept.1),

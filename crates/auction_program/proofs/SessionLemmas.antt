@@ -1,10 +1,10 @@
 -- An input that is served so far, and one part more of it.
-use Rattle.std.proofs.Common.{◌≡◌, ◌≤◌, ◌++◌, ◌∙◌, ◌⊎◌, ℕ, List, [], Option, None, Some, ap, append-nil, inr, length, sym, subst}
+use Rattle.std.proofs.Common.{◌≡◌, ◌≤◌, ◌++◌, ◌∙◌, ◌⊎◌, ℕ, List, [], Option, None, Some, ap, inr, length, subst}
 use Rattle.std.proofs.lemmas.List.FromFn.{length-map-range_with_len}
 use Rattle.auction_rows.specs.Book.{Book}
 use Rattle.auction_rows.specs.declared.requests.Request.{Request}
 use Rattle.auction_text.specs.Moved.{Gone, gone_by}
-use Rattle.auction_text.specs.Parts.{CanRead, GoesOn, IsPart, KeepsWorkers, workers_of}
+use Rattle.auction_text.specs.Parts.{CanRead, IsPart, KeepsWorkers, workers_of}
 use Rattle.auction_text.specs.Readable.{Readable, after, requests_in}
 use Rattle.auction_text.specs.Scripts.{Asked, asked_in, script}
 use Rattle.auction_text.specs.declared.reading.ReadFault.{ReadFault}

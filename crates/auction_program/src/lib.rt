@@ -4,6 +4,7 @@
 
 mod execution;
 mod faults;
+mod live;
 mod log_file;
 mod opening;
 mod options;
@@ -12,14 +13,15 @@ mod session;
 mod texts;
 
 pub use auction_run::RunFault;
-pub use auction_text::{Cause, ReadFault, WriteFault};
+pub use auction_text::{Cause, ReadFault, UntilEnd, WriteFault};
 pub use auction_window::MakeFault;
 pub use execution::{execute, one_worker_has_one_answer};
 pub use faults::{Fault, status, write_fault};
 pub use item_shards::{OpeningBook, ResumeFault};
+pub use live::{LiveTeller, serve_live};
 pub use log_file::{LogFileFault, OpenedLog, open_log};
 pub use log_opening::OpenFault;
 pub use options::{Options, read_options};
-pub use part_log::{FileLog, LogFault, NoLog, Teller};
+pub use part_log::{FileLog, Log, LogFault, NoLog, Teller};
 pub use program_options::UsageFault;
 pub use session::{LoggedInput, parts_are_one_history, serve};

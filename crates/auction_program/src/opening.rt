@@ -18,8 +18,8 @@ use part_log::{Log, Teller};
 use std::alloc::Global;
 use std::io::Write;
 
-// Rows, and then others.
-fn joined_rows(rows: Vec<Opened>, others: &[Opened]) -> Result<Vec<Opened>, RunFault>
+/// Rows, and then others.
+pub fn joined_rows(rows: Vec<Opened>, others: &[Opened]) -> Result<Vec<Opened>, RunFault>
     ensures joined { IfOk result (λ all. all.items ≡ rows.items ++ others.now) }
     ensures memory { IfErr result (λ fault. fault ≡ RunFault.Memory) }
 {

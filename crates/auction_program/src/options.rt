@@ -38,6 +38,8 @@ pub struct Options {
     /// How many requests are answered at a time at most, while more are to come: at most 1,000,000,
     /// and 0 if all are read first.
     pub live: u32,
+    /// Whether a line with a fault ends the input also then, and is not answered.
+    pub ends_at_fault: bool,
     /// The name of the log's file, if there is to be a log.
     pub log: Option<String>,
     /// Whether the history is written in place of the replies.
@@ -103,6 +105,7 @@ fn command<'a>(alloc: Global) -> Result<Command<'a>, AllocError>
         described_number(alloc, "users", FROM_ZERO, "100", USERS_HELP),
         described_number(alloc, "categories", FROM_ZERO, "10", CATEGORIES_HELP),
         described_number(alloc, "live", FROM_ZERO, "0", LIVE_HELP),
+        described_flag(alloc, "end-at-fault", END_HELP),
         described_file(alloc, "log", LOG_HELP),
         described_flag(alloc, "history", HISTORY_HELP),
         described_flag(alloc, "rows", ROWS_HELP),
@@ -128,6 +131,7 @@ fn options_of(alloc: Global, matches: &ArgMatches<'_>) -> Result<Options, UsageF
         users: number_of(matches, "users", FROM_ZERO),
         categories: number_of(matches, "categories", FROM_ZERO),
         live: number_of(matches, "live", FROM_ZERO),
+        ends_at_fault: flag_of(matches, "end-at-fault"),
         log,
         history: flag_of(matches, "history"),
         rows: flag_of(matches, "rows"),
@@ -181,6 +185,9 @@ const CATEGORIES_HELP: &str = "Categories of the auction, 0 to 1000000";
 
 const LIVE_HELP: &str =
     "Reply while requests come, to at most N at a time, 0 to 1000000; 0 reads all first";
+
+const END_HELP: &str =
+    "With --live, end the input at a line with a fault, instead of an answer to it";
 
 const LOG_HELP: &str =
     "File that keeps the rows, each before its reply is written; the auction opens with them";

@@ -45,8 +45,8 @@ struct Session<I> {
     end: PartEnd<I>,
 }
 
-// How many requests a part has at most: what is asked for, or as many as can be counted.
-fn most_of_a_part(options: &Options) -> u32
+/// How many requests a part has at most: what is asked for, or as many as can be counted.
+pub fn most_of_a_part(options: &Options) -> u32
     ensures some { 1 ≤ result }
     ensures asked { 1 ≤ options.now.live → result ≡ options.now.live }
 {

@@ -3,14 +3,14 @@
 #![tactic(auto)]
 
 use auction_program::{
-    Fault, LogFileFault, LoggedInput, NoLog, OpenedLog, OpeningBook, Options, Teller, execute,
-    open_log, read_options, serve, status, write_fault,
+    Fault, LiveTeller, Log, LogFileFault, LoggedInput, NoLog, OpenedLog, OpeningBook, Options,
+    Teller, UntilEnd, execute, open_log, read_options, serve, serve_live, status, write_fault,
 };
 use program_options::program_words;
 use std::alloc::Global;
 use std::fs::File;
 use std::io;
-use std::io::Write;
+use std::io::{Read, Write};
 use std::process::ExitCode;
 use std::rt::{Env, Files};
 use std::sync::Wait;
@@ -37,34 +37,56 @@ where
     let words = program_words(rt)?;
     let options = read_options(alloc, words.as_slice())?;
     if options.live == 0 && options.log.is_none() {
-        return execute(rt, alloc, rt.reader(), &mut io::writer(rt), &options);
+        let reader = UntilEnd::of(rt.reader());
+        return execute(rt, alloc, reader, &mut io::writer(rt), &options);
     }
     if options.report {
         return Err(Fault::Report);
     }
     match &options.log {
         Some(path) => serve_logged(rt, errors, path.as_str(), &options),
-        None => serve_unlogged(rt, &options),
+        None => serve_unlogged(rt, errors, &options),
     }
 }
 
-// Serves standard input, and keeps no log.
-fn serve_unlogged<R>(rt: &R, options: &Options) -> Result<(), Fault>
+// Serves an input: a line with a fault is answered, or ends it, as the options say.
+fn serve_input<R, E, I, L>(
+    rt: &R,
+    errors: &mut E,
+    source: LoggedInput<I>,
+    log: L,
+    options: &Options,
+) -> Result<(), Fault>
 where
+    E: Write,
+    I: Read + Drop,
+    L: Log + Drop,
+    R: Print + Alloc<A = Global> + Threads + Wait + Sync,
+{
+    let mut teller = Teller {
+        log,
+        writer: io::writer(rt),
+    };
+    if options.live == 0 || options.ends_at_fault {
+        return serve(rt, rt.alloc(), source, &mut teller, options);
+    }
+    let mut teller = LiveTeller { teller, errors };
+    serve_live(rt, rt.alloc(), source, &mut teller, options)
+}
+
+// Serves standard input, and keeps no log.
+fn serve_unlogged<R, E>(rt: &R, errors: &mut E, options: &Options) -> Result<(), Fault>
+where
+    E: Write,
     R: Input + Print + Alloc<A = Global> + Threads + Wait + Sync,
 {
-    let alloc = rt.alloc();
     // The reader is large, and what is left of the input moves from part to part.
-    let mut reader = rt.reader();
+    let mut reader = UntilEnd::of(rt.reader());
     let source = LoggedInput {
         logged: OpeningBook::empty(options.opening()),
         reader: &mut reader,
     };
-    let mut teller = Teller {
-        log: NoLog,
-        writer: io::writer(rt),
-    };
-    serve(rt, alloc, source, &mut teller, options)
+    serve_input(rt, errors, source, NoLog, options)
 }
 
 // Files that are open to the end. If standard input, output or error is closed, the first have its
@@ -94,14 +116,10 @@ where
             "rubis_auction: {cut} bytes of a cut line taken off the log, kept in {path}.cut"
         );
     }
-    let mut reader = rt.reader();
+    let mut reader = UntilEnd::of(rt.reader());
     let source = LoggedInput {
         logged: rows,
         reader: &mut reader,
     };
-    let mut teller = Teller {
-        log,
-        writer: io::writer(rt),
-    };
-    serve(rt, alloc, source, &mut teller, options)
+    serve_input(rt, errors, source, log, options)
 }

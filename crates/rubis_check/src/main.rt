@@ -1,7 +1,7 @@
 //! A history of any engine is replayed on an auction of one thread, and what is found of it written as a line.
 #![tactic(auto)]
 
-use check_program::{Fault, execute, read_options, status, verdict_status, write_fault};
+use check_program::{Fault, UntilEnd, execute, read_options, status, verdict_status, write_fault};
 use history_check::{CheckFault, Verdict};
 use program_options::program_words;
 use std::alloc::Global;
@@ -41,7 +41,7 @@ where
     };
     execute(
         alloc,
-        rt.reader(),
+        UntilEnd::of(rt.reader()),
         &mut history,
         &mut io::writer(rt),
         &options,

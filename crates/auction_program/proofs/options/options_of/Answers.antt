@@ -19,10 +19,11 @@ returns-clause-given c = λ numbers. let text = one_text (found_of c.args.matche
   users = number_is program (codes "users") 0 MOST_ASKED (codes "100") 1 (λ e. absurd cc) refl refl text _ numbers c.number_of-7.ensures.said;
   categories = number_is program (codes "categories") 0 MOST_ASKED (codes "10") 1 (λ e. absurd cc) refl refl text _ numbers c.number_of-8.ensures.said;
   live = number_is program (codes "live") 0 MOST_ASKED (codes "0") 1 (λ e. absurd cc) refl refl text _ numbers c.number_of-9.ensures.said;
+  ends_at_fault = c.flag_of.ensures;
   log = c.in_ok-log.ensures.said;
-  history = c.flag_of.ensures;
-  rows = c.flag_of-2.ensures;
-  report = c.flag_of-3.ensures;
+  history = c.flag_of-2.ensures;
+  rows = c.flag_of-3.ensures;
+  report = c.flag_of-4.ensures;
 }
 
 pub returns-clause-range : goal.returns-clause-range

@@ -1,4 +1,4 @@
-use Rattle.std.proofs.Common.{◌≡◌, ◌∙◌, ◌+◌, ℕ, List, [], ap, ap₂, inl, inr, length, sym, slice_index, slice_index_or}
+use Rattle.std.proofs.Common.{◌∙◌, ◌+◌, ℕ, [], ap, ap₂, inl, inr, length, sym, slice_index, slice_index_or}
 use Rattle.std.proofs.lemmas.List.{length-map}
 use Rattle.auction_rows.specs.Book.{Book}
 use Rattle.auction_run.specs.Phases.{hot_sets}
