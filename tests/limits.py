@@ -279,7 +279,7 @@ def help_and_version(tester: Tester) -> None:
     wanted = {option: (*limits, getattr(Options(), option)) for option, limits in OPTION_LIMITS.items()} | {"live": (0, MILLION, 0)}
     tester.tally.check(numbers == wanted, f"what --help says of numbers: {numbers}")
     flags = {option.name for option in fields(Options)} - set(OPTION_LIMITS)
-    tester.tally.check(set(helps.OPTION.findall(said)) == {*wanted, *flags, "log", "help", "version"}, "what --help has a line of")
+    tester.tally.check(set(helps.OPTION.findall(said)) == {*wanted, *flags, "end-at-fault", "log", "help", "version"}, "what --help has a line of")
     for name in ("first.csv", "load.csv"):
         (tester.folder / name).write_bytes(tester.example)
     helps.examples(tester.tally, said, "rubis_auction", tester.folder, {"rubis_auction": tester.program})

@@ -37,8 +37,8 @@ where
     let words = program_words(rt)?;
     let options = read_options(alloc, words.as_slice())?;
     if options.live == 0 && options.log.is_none() {
-        let reader = UntilEnd::of(rt.reader());
-        return execute(rt, alloc, reader, &mut io::writer(rt), &options);
+        let mut reader = UntilEnd::of(rt.reader());
+        return execute(rt, alloc, &mut reader, &mut io::writer(rt), &options);
     }
     if options.report {
         return Err(Fault::Report);
