@@ -34,9 +34,13 @@ class Tester:
     def run(self, data=b"", options=Options(), **how) -> Outcome:
         return run([self.program, *options.words()], data, **how)
 
-    def run_cut(self, limit: str, number: int, data=b"", options=Options()) -> Outcome:
-        """A run in which the shim sets a limit."""
-        return self.run(data, options, env=os.environ | {"LD_PRELOAD": str(self.shim), limit: str(number)})
+    def run_cut(self, limit: str, number: int, data=b"", options=Options(), **limits: int) -> Outcome:
+        """A run in which the shim sets a limit, or more."""
+        return self.run(data, options, env=self.limited({limit: number} | limits))
+
+    def limited(self, limits: dict[str, int]) -> dict[str, str]:
+        """The environment of a run in which the shim sets limits."""
+        return os.environ | {"LD_PRELOAD": str(self.shim)} | {limit: str(number) for limit, number in limits.items()}
 
     def same(self, what: str, got: Outcome, wanted: Outcome) -> None:
         self.tally.same(what, got, wanted)

@@ -128,6 +128,15 @@ def cut_reads(tester: Tester) -> None:
         tester.same(f"{most} bytes a read", got, Outcome(0, tester.replies, b""))
 
 
+@with_shim
+def interrupted_calls(tester: Tester) -> None:
+    """reads and writes that a signal interrupts, each second, third or fifth: they are tried again"""
+    for options, every, most in product(each_output(), (2, 3, 5), (1, 7)):
+        wanted = expected(tester.example, options)
+        got = tester.run_cut("INTERRUPTED", every, tester.example, options, READ_AT_MOST=most, WRITE_AT_MOST=most)
+        tester.same(f"each {every}th call is interrupted, with {options.words()}", got, wanted)
+
+
 # Threads.
 
 LONG_PHASES = Options(workers=4, joined=1000, split=1000)
@@ -197,6 +206,7 @@ CHECKS = (
     cut_writes,
     unreadable_inputs,
     cut_reads,
+    interrupted_calls,
     refused_threads,
     users_without_threads,
 )

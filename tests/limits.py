@@ -260,6 +260,12 @@ def reasons_of_options(tester: Tester) -> None:
     options_are_refused(tester, "--hot=65", why=b"invalid value '65' for '--hot")
     options_are_refused(tester, "--split=x", why=b"invalid value 'x' for '--split")
     options_are_refused(tester, "--windows=1", why=b"unexpected argument '--windows' found")
+    for how in ("stop", "answers", "End", "", "en", "end "):
+        options_are_refused(tester, "--live=1", f"--faults={how}", why=f"invalid value '{how}' for '--faults <HOW>'\n  [possible values: answer, end]\n".encode())
+    for words in (["--faults=answer"], ["--faults", "answer", "--live=0"], ["--faults=answer", "--log=unmade"]):
+        options_are_refused(tester, *words, why=b"'--faults answer' needs '--live <N>' of at least 1")
+    options_are_refused(tester, "--live=1", "--faults", why=b"'--faults <HOW>'")
+    options_are_refused(tester, "--live=1", "--faults=end", "--faults=end", why=b"'--faults <HOW>'")
 
 
 def odd_words(tester: Tester) -> None:
@@ -279,7 +285,7 @@ def help_and_version(tester: Tester) -> None:
     wanted = {option: (*limits, getattr(Options(), option)) for option, limits in OPTION_LIMITS.items()} | {"live": (0, MILLION, 0)}
     tester.tally.check(numbers == wanted, f"what --help says of numbers: {numbers}")
     flags = {option.name for option in fields(Options)} - set(OPTION_LIMITS)
-    tester.tally.check(set(helps.OPTION.findall(said)) == {*wanted, *flags, "end-at-fault", "log", "help", "version"}, "what --help has a line of")
+    tester.tally.check(set(helps.OPTION.findall(said)) == {*wanted, *flags, "faults", "log", "help", "version"}, "what --help has a line of")
     for name in ("first.csv", "load.csv"):
         (tester.folder / name).write_bytes(tester.example)
     helps.examples(tester.tally, said, "rubis_auction", tester.folder, {"rubis_auction": tester.program})

@@ -17,6 +17,7 @@ import socket
 import subprocess
 import sys
 import tempfile
+import threading
 import time
 from contextlib import contextmanager, suppress
 from functools import partial
@@ -30,7 +31,7 @@ from refusing import UNREACHED_IN_A_ROW, Refusing
 from sessions import FIRST, ITEMS, PLAIN, Auction, Era, Refused, is_stored, requests, whole_lines
 
 SEEN = "user rating=0 comments=0"
-ENDS = ("--end-at-fault",)
+ENDS = ("--faults", "end")
 # A line with a fault between two requests of worker 0, what is wrong with it, and whether it names that worker.
 FAULTY = (
     ("0,bid", "wrong number of fields", True),
@@ -45,18 +46,20 @@ FAULTY = (
     ("1,viewuser,0", "no such worker", False),
     ("9" * 70_000, "too long", False),
 )
-LINE_ENDS = ("\n", "\r\n", "\r", "\n\n", "\r\n\r\n", "\r\r")
-IN_USE, UNREAD, UNWRITTEN, NO_FILE, UNKEPT = (("rubis_auction: " + words, 5) for words in (
-    "log is in use", "log cannot be read", "log cannot be written", "log is not a regular file", "cut bytes of the log cannot be kept"))
+LINE_ENDS = ("\n", "\r\n", "\n\n", "\r\n\r\n")
+IN_USE, UNLOCKED, UNREAD, UNWRITTEN, NO_FILE, UNKEPT = (("rubis_auction: " + words, 5) for words in (
+    "log is in use", "log cannot be locked", "log cannot be read", "log cannot be written", "log is not a regular file", "cut bytes of the log cannot be kept"))
 SECONDS = 60
+# What a program may map whose memory does not grow with its input.
+LITTLE_MEMORY = 64 << 20
 
 
 # While the input is open.
 
 
 def line_ends(tester: Tester) -> None:
-    """replies before the input ends, for each end of a line, blank lines, and a line and a half; lines that end with CR by themselves only with --end-at-fault"""
-    for end, words in [(end, ENDS) for end in LINE_ENDS] + [(end, ()) for end in LINE_ENDS if "\n" in end]:
+    """replies before the input ends, for each end of a line, blank lines, and a line and a half"""
+    for end, words in itertools.product(LINE_ENDS, ((), ENDS)):
         auction = Auction(tester.program, *words, most=10)
         for turn in range(3):
             auction.write(f"0,viewuser,0{end}")
@@ -101,27 +104,35 @@ def clients(tester: Tester) -> None:
     auction = Auction(tester.program, *ENDS)
     with suppress(Refused):
         auction.one("bid")
-        tester.tally.check(False, "a record with a fault is answered with --end-at-fault")
+        tester.tally.check(False, "a record with a fault is answered with --faults end")
     tester.tally.check(auction.process.returncode == 2, "the status of a record with a fault")
 
 
 def faulty_lines(tester: Tester) -> None:
-    """a line with a fault between requests: answered in its place, or told on standard error if it names no worker, or none asks for replies; with --end-at-fault it ends the input"""
+    """a line with a fault between requests: answered in its place, or told on standard error if it names no worker, or none asks for replies; with --faults end it ends the input"""
     for line, words, is_named in FAULTY:
         data = f"0,viewuser,0\n{line}\n0,viewuser,0\n".encode()
         first, answer, last = f"0,0,{SEEN}\n", f"0,1,fault record 2: {words}\n", f"0,1,{SEEN}\n"
         told = f"rubis_auction: record 2: {words}\n"
-        for most in ("1", "1000"):
-            got = run([tester.program, "--live", most], data)
+        for options in (("--live", "1"), ("--live", "1000"), ("--live", "1000", "--faults", "answer")):
+            got = run([tester.program, *options], data)
             wanted = (first + answer + last, "") if is_named else (first + last, told)
-            tester.tally.check((got.status, got.stdout.decode(), got.stderr.decode()) == (0, *wanted), f"{line[:40]!r} with --live {most}: {described(got)}")
+            tester.tally.check((got.status, got.stdout.decode(), got.stderr.decode()) == (0, *wanted), f"{line[:40]!r} with {options}: {described(got)}")
         got = run([tester.program, "--live", "1000", "--history"], data)
         tester.tally.check((got.status, got.stdout.count(b"\n"), got.stderr.decode()) == (0, 2, told), f"{line[:40]!r} with --history: {described(got)}")
-        # A record may also end with CR by itself, if not each line is read as a text of its own.
-        if "\r" in line:
-            continue
-        got = run([tester.program, "--live", "1000", *ENDS], f"0,viewuser,0\n{line}\n".encode())
-        tester.tally.check(got.status == 2 and got.stdout.decode() == first, f"{line[:40]!r} with --end-at-fault: {described(got)}")
+        log = tester.folder / "ended"
+        for ends in (["--live", "1000", *ENDS], ["--log", log], ["--log", log, *ENDS]):
+            log.unlink(missing_ok=True)
+            got = run([tester.program, *ends], data)
+            tester.tally.check((got.status, got.stdout.decode(), got.stderr.decode()) == (2, first, told), f"{line[:40]!r} with {ends}: {described(got)}")
+
+
+def ends_without_live(tester: Tester) -> None:
+    """--faults end without --live changes nothing: a line with a fault ends the input anyway"""
+    for data in (b"", b"0,viewuser,0\n", b"0,viewuser,0\n0,bid\n0,viewuser,0\n"):
+        for words in ((), ("--live", "0"), ("--log", str(tester.folder / "unended"))):
+            got, wanted = (run([tester.program, *words, *how], data) for how in (ENDS, ()))
+            tester.tally.check(got == wanted and got.status == (2 if b"bid" in data else 0), f"{data!r}, {words}: {described(got)}")
 
 
 def faulty_rows(tester: Tester) -> None:
@@ -154,6 +165,58 @@ def answered_faults(tester: Tester) -> None:
         for most in (1, 7, 1_000_000):
             got = run([tester.program, *PLAIN, "--live", str(most)], data)
             tester.tally.check(got.status == 0 and got.stdout.decode().splitlines() == wanted, f"seed {seed}, --live {most}: {described(got)}")
+
+
+def open_quotes(tester: Tester) -> None:
+    """lines with quotes, and then one with a quote that stays open: each is answered before more comes"""
+    auction = Auction(tester.program, most=1000)
+    auction.write('"0",viewuser,0\n0,viewuser,1\n0,item,0,0,"a\n')
+    wanted = [((0, 0), SEEN), ((0, 1), SEEN), ((0, 2), "fault record 3: wrong number of fields")]
+    tester.tally.check([auction.reply() for _ in wanted] == wanted, "replies while a quote is open")
+    auction.write("0,viewuser,2\n")
+    tester.tally.check(auction.reply() == ((0, 2), SEEN), "a request behind an open quote")
+    auction.close()
+
+
+def endless_lines(tester: Tester) -> None:
+    """lines of 70 MB in little memory: a fault, and the request behind each is answered"""
+    for byte in (b",", b'"'):
+        given = tester.folder / "endless"
+        given.write_bytes(b"0,viewuser,0" + byte * 70_000_000 + b"\n" + b"0,viewuser,0\n")
+        with given.open("rb") as lines:
+            got = run([tester.program, "--live", "10"], lines, preexec_fn=in_little_memory)
+        wanted = f"0,0,fault record 1: too long\n0,0,{SEEN}\n"
+        tester.tally.check((got.status, got.stdout.decode(), got.stderr) == (0, wanted, b""), f"a line of {byte!r}: {described(got)}")
+
+
+def in_little_memory() -> None:
+    resource.setrlimit(resource.RLIMIT_AS, (LITTLE_MEMORY, LITTLE_MEMORY))
+
+
+def signals(tester: Tester) -> None:
+    """signals that end no program, among them one that stops it, while it reads, replies and logs: all is answered and logged"""
+    log = tester.folder / "signalled"
+    auction = Auction(tester.program, *PLAIN, "--log", str(log), most=100)
+    harmless = (signal.SIGSTOP, signal.SIGCONT, signal.SIGWINCH, signal.SIGCHLD, signal.SIGURG, signal.SIGPIPE, signal.SIGCONT)
+    sending = threading.Event()
+    thread = threading.Thread(target=send_each, args=(auction.process, harmless, sending), daemon=True)
+    auction.one(FIRST[0])
+    thread.start()
+    told = auction.many([(0, "comment,1,2,0.0,1")] * 30_000)
+    seen = auction.one("viewuser,2")
+    sending.set()
+    thread.join()
+    auction.close()
+    tester.tally.check(told == [f"comment 0.{at}" for at in range(30_000)] and seen == "user rating=30000 comments=30000", "replies under signals")
+    tester.tally.check(log.read_bytes().count(b"\n") == 30_001, "the log under signals")
+
+
+def send_each(process: subprocess.Popen, all_signals: tuple, ended: threading.Event) -> None:
+    for one in itertools.cycle(all_signals):
+        process.send_signal(one)
+        if one == signal.SIGCONT and ended.is_set():
+            return
+        time.sleep(0.0005)
 
 
 def sockets(tester: Tester) -> None:
@@ -268,10 +331,20 @@ def locked_log(tester: Tester) -> None:
     tester.tally.check(told(tester.program, log) is None, "a program on a log that is free again")
 
 
-def told(program, log: Path, *words: str) -> tuple | None:
+@with_shim
+def without_locks(tester: Tester) -> None:
+    """a log where the file system has no locks: a fault that says so, and the log is as it was"""
+    log = tester.folder / "unlocked"
+    log.write_bytes(rows_of(FIRST) + b"0,+bi")
+    text = log.read_bytes()
+    refused = told(tester.program, log, env=os.environ | {"LD_PRELOAD": str(tester.shim), "LOCK_FAILS": "1"})
+    tester.tally.check(refused == UNLOCKED and log.read_bytes() == text, f"a log without locks: {refused}")
+
+
+def told(program, log: Path, *words: str, **how) -> tuple | None:
     """The fault and status of a program with this log that has one request, or nothing if it is answered."""
     try:
-        auction = Auction(program, *words, "--log", str(log))
+        auction = Auction(program, *words, "--log", str(log), **how)
         auction.one("viewuser,0")
         auction.close()
     except Refused as refused:
@@ -309,21 +382,22 @@ def cut_logs(tester: Tester) -> None:
 def foreign_files(tester: Tester) -> None:
     """a file that is no log, and a log with an end that no crash leaves: a fault that names file and line, and each byte is as it was"""
     file, rows = tester.folder / "foreign", rows_of(FIRST)
-    last, tail = rows.count(b"\n"), "no line end, and not the beginning of a row"
+    last, tail, long = rows.count(b"\n"), "no line end, and not the beginning of a row", "longer than a row"
     other = "not as rows are written"
     for text, line, words in (
         (b'{"accounts": [1, 2, 3]}', 1, tail),
         (b"Dear Sir,\r\nI write to", 1, None),
-        (rows.replace(b"\n", b"\r"), 1, tail),
+        (rows.replace(b"\n", b"\r"), 1, long),
         (rows.replace(b"\n", b"\r\n"), 1, other),
-        (rows + bytes(5000), last + 1, tail),
+        (rows + bytes(5000), last + 1, long),
+        (rows + bytes(100), last + 1, tail),
         (rows + b"0,+bid,1,0.0,5" + bytes(2), last + 1, tail),
-        (rows + b"0,+" + b"9" * 187, last + 1, tail),
+        (rows + b"0,+" + b"9" * 187, last + 1, long),
         (rows + b"0,bid,1,0.0,5", last + 1, tail),
         (rows + b"\n", last + 1, other),
         (rows + b"0,viewuser,0\n", last + 1, other),
         (b"0,+item,0,0,Vase,10,100,1,1\n", 1, other),
-        (random.Random(5).randbytes(2995).replace(b"\n", b" "), 1, tail),
+        (random.Random(5).randbytes(2995).replace(b"\n", b" "), 1, long),
     ):
         file.write_bytes(text)
         refused = told(tester.program, file)
@@ -401,6 +475,18 @@ def failing_logs(tester: Tester) -> None:
             what = f"{cause} {number} fails"
             tester.tally.check(fault == (UNREAD if (cause, number) == ("sync", 1) else UNWRITTEN), f"{what}: {fault}")
             lost_nothing(tester, what, log, answered, at_most=len(answered) + (cause == "write and cut"))
+
+
+@with_shim
+def interrupted_logs(tester: Tester) -> None:
+    """reads, writes, syncs and cuts that a signal interrupts, each second, third or seventh: they are tried again, and all is answered and logged"""
+    for every in (2, 3, 7):
+        log = tester.folder / f"interrupted-{every}"
+        log.write_bytes(rows_of(FIRST) + b"0,+bi")
+        auction = Auction(tester.program, "--log", str(log), env=tester.limited({"INTERRUPTED": every}))
+        answered, fault = until_refused(auction, [f"comment,{at},{at},0.0,1" for at in range(40)])
+        tester.tally.check(answered == [f"comment 0.{at}" for at in range(40)] and fault is None, f"each {every}th call is interrupted: {fault}")
+        tester.tally.check(log.read_bytes() == rows_of([*FIRST, *(f"comment,{at},{at},0.0,1" for at in range(40))]), f"the log, each {every}th call interrupted")
 
 
 def until_refused(auction: Auction, asked: Iterable[str]) -> tuple[list[str], tuple | None]:
@@ -498,7 +584,7 @@ def kills(tester: Tester) -> None:
             print(f"{number + 1} kills", flush=True)
 
 
-CHECKS = (line_ends, terminals, clients, faulty_lines, faulty_rows, answered_faults, sockets, no_report, same_bytes, histories, locked_log, cut_logs, foreign_files, special_files, closed_places, bad_logs, read_back, failing_logs, full_disks, refused_memory, kills)
+CHECKS = (line_ends, terminals, clients, faulty_lines, ends_without_live, faulty_rows, answered_faults, open_quotes, endless_lines, signals, sockets, no_report, same_bytes, histories, locked_log, without_locks, cut_logs, foreign_files, special_files, closed_places, bad_logs, read_back, failing_logs, interrupted_logs, full_disks, refused_memory, kills)
 
 
 def main() -> None:

@@ -1,4 +1,4 @@
-/* A shim for LD_PRELOAD that cuts or refuses reads, writes and threads.
+/* A shim for LD_PRELOAD that cuts, interrupts or refuses reads, writes and threads.
 
    READ_AT_MOST=n      a read of standard input gives n bytes at most
    READ_FAILS_AT=k     reads of standard input fail after k bytes in all
@@ -8,7 +8,9 @@
    THREADS_AT_MOST=n   no more than n threads are started
    LOG_WRITE_FAILS=n   the nth write to another file takes half, and the next one fails
    LOG_SYNC_FAILS=n    the nth fdatasync fails
-   LOG_CUT_FAILS=n     the nth ftruncate fails  */
+   LOG_CUT_FAILS=n     the nth ftruncate fails
+   LOCK_FAILS=1        the file system has no locks
+   INTERRUPTED=n       each nth read, write, fdatasync and ftruncate of any file is interrupted before it does anything  */
 
 #define _GNU_SOURCE
 #include <dlfcn.h>
@@ -16,6 +18,7 @@
 #include <pthread.h>
 #include <stdatomic.h>
 #include <stdlib.h>
+#include <sys/file.h>
 #include <unistd.h>
 
 static long limit(const char *name) {
@@ -31,9 +34,18 @@ static long left_of(long all, long done) {
     return all < 0 ? -1 : all - done;
 }
 
+static int is_interrupted(void) {
+    static long calls;
+    long every = limit("INTERRUPTED");
+    if (every <= 0 || ++calls % every != 0) return 0;
+    errno = EINTR;
+    return 1;
+}
+
 ssize_t read(int file, void *place, size_t size) {
     static long done;
     ssize_t (*original)(int, void *, size_t) = dlsym(RTLD_NEXT, "read");
+    if (is_interrupted()) return -1;
     if (file != STDIN_FILENO) return original(file, place, size);
     long left = left_of(limit("READ_FAILS_AT"), done);
     if (left == 0) {
@@ -48,6 +60,7 @@ ssize_t read(int file, void *place, size_t size) {
 ssize_t write(int file, const void *place, size_t size) {
     static long done;
     ssize_t (*original)(int, const void *, size_t) = dlsym(RTLD_NEXT, "write");
+    if (is_interrupted()) return -1;
     if (file > STDERR_FILENO) {
         static long written;
         written += 1;
@@ -74,6 +87,7 @@ ssize_t write(int file, const void *place, size_t size) {
 int fdatasync(int file) {
     static long done;
     int (*original)(int) = dlsym(RTLD_NEXT, "fdatasync");
+    if (is_interrupted()) return -1;
     if (++done == limit("LOG_SYNC_FAILS")) {
         errno = EIO;
         return -1;
@@ -84,11 +98,21 @@ int fdatasync(int file) {
 int ftruncate(int file, off_t size) {
     static long done;
     int (*original)(int, off_t) = dlsym(RTLD_NEXT, "ftruncate");
+    if (is_interrupted()) return -1;
     if (++done == limit("LOG_CUT_FAILS")) {
         errno = EIO;
         return -1;
     }
     return original(file, size);
+}
+
+int flock(int file, int how) {
+    int (*original)(int, int) = dlsym(RTLD_NEXT, "flock");
+    if (limit("LOCK_FAILS") > 0) {
+        errno = ENOLCK;
+        return -1;
+    }
+    return original(file, how);
 }
 
 int pthread_create(pthread_t *thread, const pthread_attr_t *attributes, void *(*start)(void *), void *argument) {

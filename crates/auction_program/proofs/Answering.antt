@@ -1,5 +1,5 @@
 -- What is said of an input, from what its parts answered.
-use Rattle.std.proofs.Common.{◌≡◌, ℕ, ◌<◌, List, length, Option, IfSome, Result, Ok, Err, IfErr, sym, ap, subst, ◌∙◌}
+use Rattle.std.proofs.Common.{◌≡◌, ℕ, ◌<◌, List, length, Option, IfSome, Result, Ok, Err, IfErr, OnOk, sym, ap, subst, ◌∙◌}
 use Rattle.std.specs.Prelude.{◌↔◌}
 use Rattle.std.specs.Result.{IsErr, IsErrAnd}
 use Rattle.std.proofs.lemmas.Option.{IfSome_then}
@@ -21,7 +21,7 @@ use Rattle.auction_run.specs.Phases.{hot_sets}
 use Rattle.auction_run.specs.declared.checks.RunFault.{RunFault}
 use Rattle.auction_run.specs.declared.checks.RunFault.TheVariants as run
 use Rattle.auction_program.specs.declared.faults.Fault.{Fault}
-use Rattle.auction_program.specs.declared.faults.Fault.TheVariants.{Usage, Read, Resume, Make, Run, Write, Report, OpenLog, Log}
+use Rattle.auction_program.specs.declared.faults.Fault.TheVariants.{Usage, Read, Resume, Row, Make, Run, Write, Report, OpenLog, Log}
 use Rattle.auction_program.specs.declared.options.Options.{Options}
 use Rattle.auction_program.specs.declared.execution.Performed.{Performed}
 
@@ -29,6 +29,11 @@ use Rattle.auction_program.specs.declared.execution.Performed.{Performed}
 pub error_is : {T E : Type 0} (r : Result T E) (e : E) (Q : E → Type 0) → IsErr r × IsErrAnd r (λ x. x ≡ e) → Q e → IfErr r Q
 error_is (Ok x) e Q is holds = tt
 error_is (Err x) e Q is holds = subst Q (sym is.1) holds
+
+-- nothing is said of a success that there is not
+pub no_success : {T E : Type 0} (r : Result T E) (e : E) (P : Type 0) → IsErr r × IsErrAnd r (λ x. x ≡ e) → OnOk r P
+no_success (Ok x) e P is = absurd (let no = is.0 in cc)
+no_success (Err x) e P is = tt
 
 pub is_error : {T E : Type 0} (r : Result T E) (e x : E) → IsErr r × IsErrAnd r (λ y. y ≡ e) → r ≡ Err x → x ≡ e
 is_error (Ok t) e x is same = absurd (let no = same in cc)
@@ -78,6 +83,7 @@ module _ (options : Options) (rows : List Opened) (scripts : List (List Request)
   not_performed (Usage fault) are why = absurd why
   not_performed (Read fault) are why = absurd why
   not_performed (Resume fault) are why = absurd why
+  not_performed (Row number fault) are why = absurd why
   not_performed (Make fault) are why =
       IfSome_then remaining (of_input (λ rs ss. AreRows (opening_asked options) rs) are) (λ input holds. (why, holds))
   not_performed (Run fault) are why = of_input (λ rs ss. AreRows (opening_asked options) rs × IsNotRun (policy_of options) fault (opening_rows (opening_asked options) rs) ss) (are, why)

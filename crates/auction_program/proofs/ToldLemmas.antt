@@ -1,10 +1,10 @@
--- What is told of a part.
-use Rattle.std.proofs.Common.{◌≡◌, ◌∙◌, ◌⊎◌, true, if◌then◌else◌, ℕ, List, [], ◌∷◌, Option, None, Some, IfErr, IfSome, Result, ap, inl, inr, refl, subst, sym}
-use Rattle.std.specs.Io.KnownBytes.{Appends, Keeps}
+-- What is told of a part, and how far at a fault.
+use Rattle.std.proofs.Common.{◌≡◌, ◌∙◌, ◌⊎◌, ◌++◌, true, if◌then◌else◌, ℕ, List, [], ◌∷◌, Option, None, Some, IfErr, IfSome, Result, ap, inl, inr, length, refl, subst, sym}
+use Rattle.std.proofs.KnownBytes.{Appends-kept, Appends-nil, Appends-trans, Keeps-refl}
+use Rattle.std.proofs.Math.Seq.{take-length}
+use Rattle.std.specs.Io.KnownBytes.{Appends}
 use Rattle.std.specs.List.{cons_option}
 use Rattle.std.specs.Result.{IsErr, IsErrAnd}
-use Rattle.auction_rows.specs.declared.requests.Object.{Object}
-use Rattle.auction_rows.specs.declared.requests.Request.{Request}
 use Rattle.auction_rows.specs.declared.rows.Entry.{Entry}
 use Rattle.auction_rows.specs.Book.{Book}
 use Rattle.auction_rows.specs.History.{row_of_entry, rows_of}
@@ -12,50 +12,36 @@ use Rattle.auction_text.specs.Moved.{Gone, all_moved}
 use Rattle.auction_text.specs.RowLines.{row_line, rows_text}
 use Rattle.auction_text.specs.Replies.{history_text, lines, replies_text}
 use Rattle.auction_text.specs.Writing.{IsPartWritten}
-use Rattle.auction_run.specs.declared.checks.RunFault.{RunFault}
 use Rattle.auction_text.specs.declared.writing.WriteFault.{WriteFault}
-use Rattle.item_shards.specs.declared.openings.ResumeFault.{ResumeFault}
-use Rattle.part_log.specs.Telling.{IsLoggedFirst}
-use Rattle.part_log.specs.declared.log.LogFault.{LogFault}
+use Rattle.auction_text.specs.declared.writing.WriteFault.TheVariants as write
+use Rattle.part_log.specs.Telling.{IsToldSoFar}
 use Rattle.part_log.specs.declared.log.TellFault.{TellFault}
-use Rattle.part_log.specs.declared.log.Teller.{Teller}
-use Rattle.run_laws.specs.Answers.{IsAnswer}
 use Rattle.part_log.specs.declared.log.TellFault.TheVariants as telling
+use Rattle.part_log.specs.declared.log.Teller.{Teller}
 use Rattle.auction_program.specs.Execution.{commits_text}
 use Rattle.auction_program.specs.Faults.{of_telling}
-use Rattle.auction_program.specs.declared.options.Options.{Options}
-use Rattle.auction_program.specs.PartRuns.{IsPastReading, RunsPart}
-use Rattle.auction_program.specs.Serving.{ArePartTold, IsNothingTold}
-use Rattle.auction_program.specs.Options.{opening_asked, policy_of}
+use Rattle.auction_program.specs.ServeFaults.{AreToldAt}
+use Rattle.auction_program.specs.Serving.{ArePartTold, AreTold, IsNothingTold}
 use Rattle.auction_program.specs.declared.faults.Fault.{Fault}
-use Rattle.auction_program.specs.declared.faults.Fault.TheVariants.{Log, Resume, Run, Write}
+use Rattle.auction_program.specs.declared.faults.Fault.TheVariants.{Usage, Read, Resume, Row, Make, Run, Write, Report, OpenLog, Log}
+use Rattle.auction_program.specs.declared.options.Options.{Options}
 use Rattle.auction_program.proofs.Answering.{error_is}
+use Rattle.auction_program.proofs.WrittenLemmas.{part_of_added}
 
 -- what is appended to known bytes
 pub appends_known : (old new : Option (List ℕ)) (bytes others : List ℕ) → IfSome old (λ _. bytes ≡ others) → Appends old new bytes → Appends old new others
 appends_known None new bytes others are appends = tt
 appends_known (Some known) new bytes others are appends = subst (Appends (Some known) new) are appends
 
-pub told_part : (log next_log writer next_writer : Option (List ℕ)) (rows all_rows text all_text : List ℕ) → IfSome log (λ _. rows ≡ all_rows) → text ≡ all_text
-    → IsLoggedFirst log next_log rows writer next_writer text
-    → (Appends log next_log all_rows × IsPartWritten writer next_writer all_text) ⊎ (Keeps log next_log × Keeps writer next_writer)
-told_part log next_log writer next_writer rows all_rows text all_text are same (inl part) =
-    inl (appends_known log next_log rows all_rows are part.0, subst (IsPartWritten writer next_writer) same part.1)
-told_part log next_log writer next_writer rows all_rows text all_text are same (inr kept) = inr kept
-
 rows_moved : (gone : Gone) (entries : List Entry) → rows_of (all_moved gone entries) ≡ rows_of entries
 rows_moved gone [] = refl
 rows_moved gone (entry ∷ entries) = ap (cons_option (row_of_entry entry)) (rows_moved gone entries)
 
--- the rows of a part are the same in the whole
-pub rows_text-moved : (gone : Gone) (entries : List Entry) → rows_text [] entries ≡ rows_text [] (all_moved gone entries)
-rows_text-moved gone entries = ap (lines row_line) (sym (rows_moved gone entries))
-
--- if the options ask for rows, they are what is asked for of a part
-pub rows_asked : (options : Options) (gone : Gone) (entries : List Entry) → options.rows ≡ true → rows_text [] entries ≡ commits_text options [] (all_moved gone entries)
-rows_asked options gone entries asked =
-    rows_text-moved gone entries
-    ∙ sym (ap (λ b. if b then rows_text [] (all_moved gone entries) else if options.history then history_text (all_moved gone entries) else replies_text (all_moved gone entries)) asked)
+-- if the options ask for rows, those that a part adds are what is asked for of it
+pub rows_asked : (options : Options) (gone : Gone) (added : Book) (entries : List Entry) → options.rows ≡ true → rows_text added entries ≡ commits_text options added (all_moved gone entries)
+rows_asked options gone added entries asked =
+    ap (λ rows. lines row_line (added ++ rows)) (sym (rows_moved gone entries))
+    ∙ sym (ap (λ b. if b then rows_text added (all_moved gone entries) else if options.history then history_text (all_moved gone entries) else replies_text (all_moved gone entries)) asked)
 
 pub same_gone : (gone other : Gone) → gone.phases ≡ other.phases → ((worker : ℕ) → gone.requests worker ≡ other.requests worker) → gone ≡ other
 same_gone gone other phases requests = λ i. record { phases = phases i; requests = λ worker. requests worker i }
@@ -69,31 +55,63 @@ if_known (Some bytes) P holds = holds
 pub if_unknown : (known : Option (List ℕ)) (P : Type 0) → known ≡ None → IfSome known (λ _. P)
 if_unknown known P none = subst (λ o. IfSome o (λ _. P)) (sym none) tt
 
--- faults that come after what they are about was read
-pub past_write : (fault : WriteFault) → IsPastReading (Write fault)
-past_write fault = λ unread is. let no = is in cc
+pub whole_part : (old new : Option (List ℕ)) (text : List ℕ) → Appends old new text → IsPartWritten old new text
+whole_part old new text whole = (length text, subst (Appends old new) (sym (take-length text)) whole)
 
-pub past_run : (fault : RunFault) → IsPastReading (Run fault)
-past_run fault = λ unread is. let no = is in cc
+module _ {L W : Type 0} (accepted : L → Option (List ℕ)) (contents : W → Option (List ℕ)) where
+  pub nothing_told : (teller : Teller L W) → IsNothingTold accepted contents teller teller
+  nothing_told teller = (Keeps-refl (accepted teller.log), Keeps-refl (contents teller.writer))
 
-pub past_resume : (fault : ResumeFault) → IsPastReading (Resume fault)
-past_resume fault = λ unread is. let no = is in cc
+  pub told_none : (teller : Teller L W) → AreTold accepted contents teller teller [] []
+  told_none teller = (Appends-nil (accepted teller.log), Appends-nil (contents teller.writer))
 
-past_log : (fault : LogFault) → IsPastReading (Log fault)
-past_log fault = λ unread is. let no = is in cc
+  module _ (start old new : Teller L W) where
+    pub told_more : (logs more_logs all_logs text more_text all_text : List ℕ) → logs ++ more_logs ≡ all_logs → text ++ more_text ≡ all_text
+        → AreTold accepted contents start old logs text → AreTold accepted contents old new more_logs more_text → AreTold accepted contents start new all_logs all_text
+    told_more logs more_logs all_logs text more_text all_text logs_are text_is first second = (
+      subst (Appends (accepted start.log) (accepted new.log)) logs_are (Appends-trans (accepted start.log) (accepted old.log) (accepted new.log) logs more_logs first.0 second.0),
+      subst (Appends (contents start.writer) (contents new.writer)) text_is (Appends-trans (contents start.writer) (contents old.writer) (contents new.writer) text more_text first.1 second.1),
+    )
 
-pub past_telling : (fault : TellFault) → IsPastReading (of_telling fault)
-past_telling (telling.Log fault) = past_log fault
-past_telling (telling.Write fault) = past_write fault
+    pub part_more : (logs more_logs all_logs text more_text all_text : List ℕ) → logs ++ more_logs ≡ all_logs → text ++ more_text ≡ all_text
+        → AreTold accepted contents start old logs text → ArePartTold accepted contents old new more_logs more_text → ArePartTold accepted contents start new all_logs all_text
+    part_more logs more_logs all_logs text more_text all_text logs_are text_is first second = (
+      subst (Appends (accepted start.log) (accepted new.log)) logs_are (Appends-trans (accepted start.log) (accepted old.log) (accepted new.log) logs more_logs first.0 second.0),
+      subst (IsPartWritten (contents start.writer) (contents new.writer)) text_is (part_of_added (contents start.writer) (contents old.writer) (contents new.writer) text more_text first.1 second.1),
+    )
 
--- the fault that a `?` hands on
-pub handed_on : {T : Type 0} (result : Result T Fault) (fault : Fault) → IsErr result × IsErrAnd result (λ e. e ≡ fault) → IsPastReading fault → IfErr result IsPastReading
-handed_on result fault is past = error_is result fault IsPastReading is past
+    pub part_kept : (logs text : List ℕ) → AreTold accepted contents start old logs text → IsNothingTold accepted contents old new → ArePartTold accepted contents start new logs text
+    part_kept logs text first kept = (
+      Appends-kept (accepted start.log) (accepted old.log) (accepted new.log) logs first.0 kept.0,
+      whole_part (contents start.writer) (contents new.writer) text (Appends-kept (contents start.writer) (contents old.writer) (contents new.writer) text first.1 kept.1),
+    )
 
--- a part that was run may not be told whole
-pub run_told : {L W : Type 0} (accepted : L → Option (List ℕ)) (contents : W → Option (List ℕ)) (old new : Teller L W) (options : Options) (book : Book) (gone : Gone) (scripts : List (List Request))
-    (hot : List (List Object)) (history : List Entry) → IsAnswer (opening_asked options) book (policy_of options) scripts hot history
-    → ArePartTold accepted contents old new (rows_text [] history) (commits_text options [] (all_moved gone history)) ⊎ IsNothingTold accepted contents old new
-    → RunsPart options book gone scripts (ArePartTold accepted contents old new) ⊎ IsNothingTold accepted contents old new
-run_told accepted contents old new options book gone scripts hot history answer (inl part) = inl (record { hot = hot; history = history; answer = answer; holds = part })
-run_told accepted contents old new options book gone scripts hot history answer (inr kept) = inr kept
+  -- a teller's fault says how far it told
+  pub told_so_far : (old new : Teller L W) (fault : TellFault) (rows all_rows text all_text : List ℕ) → IfSome (accepted old.log) (λ _. rows ≡ all_rows) → text ≡ all_text
+      → IsToldSoFar fault (accepted old.log) (accepted new.log) rows (contents old.writer) (contents new.writer) text → AreToldAt accepted contents old new (of_telling fault) all_rows all_text
+  told_so_far old new (telling.Log fault) rows all_rows text all_text are same far = far
+  told_so_far old new (telling.Write fault) rows all_rows text all_text are same far =
+      subst (λ (f : WriteFault). AreToldAt accepted contents old new (Write f) all_rows all_text) (sym far.0)
+      (appends_known (accepted old.log) (accepted new.log) rows all_rows are far.1.0, subst (IsPartWritten (contents old.writer) (contents new.writer)) same far.1.1)
+
+  -- without memory for a text nothing is told
+  pub not_told : {T : Type 0} (result : Result T Fault) (fault : Fault) (teller : Teller L W) (rows text : List ℕ) → IsErr result × IsErrAnd result (λ f. f ≡ fault) → fault ≡ Write write.Memory
+      → IfErr result (λ f. AreToldAt accepted contents teller teller f rows text)
+  not_told result fault teller rows text is memory =
+      error_is result fault (λ f. AreToldAt accepted contents teller teller f rows text) is
+      (subst (λ (f : Fault). AreToldAt accepted contents teller teller f rows text) (sym memory) (nothing_told teller))
+
+  -- of what is told at a fault the rows are logged before a byte is written
+  pub told_at : (old new : Teller L W) (fault : Fault) (rows text : List ℕ) → AreToldAt accepted contents old new fault rows text
+      → ArePartTold accepted contents old new rows text ⊎ IsNothingTold accepted contents old new
+  told_at old new (Log fault) rows text at = inr at
+  told_at old new (Write write.Memory) rows text at = inr at
+  told_at old new (Write write.Write) rows text at = inl at
+  told_at old new (Usage fault) rows text at = absurd at
+  told_at old new (Read fault) rows text at = absurd at
+  told_at old new (Resume fault) rows text at = absurd at
+  told_at old new (Row number fault) rows text at = absurd at
+  told_at old new (Make fault) rows text at = absurd at
+  told_at old new (Run fault) rows text at = absurd at
+  told_at old new Report rows text at = absurd at
+  told_at old new (OpenLog fault) rows text at = absurd at

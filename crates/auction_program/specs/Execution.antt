@@ -27,7 +27,7 @@ use Rattle.auction_run.specs.declared.checks.RunFault.{RunFault}
 use Rattle.auction_run.specs.declared.checks.RunFault.TheVariants as run
 use Rattle.auction_run.specs.declared.runs.Outcome.{Outcome}
 use Rattle.auction_program.specs.declared.faults.Fault.{Fault}
-use Rattle.auction_program.specs.declared.faults.Fault.TheVariants.{Usage, Read, Resume, Make, Run, Write, Report, OpenLog, Log}
+use Rattle.auction_program.specs.declared.faults.Fault.TheVariants.{Usage, Read, Resume, Row, Make, Run, Write, Report, OpenLog, Log}
 use Rattle.auction_program.specs.declared.options.Options.{Options}
 use Rattle.auction_program.specs.declared.execution.Performed.{Performed}
 
@@ -159,6 +159,7 @@ abbrev pub IsNotPerformed : Options → Fault → Book → List (List Request) �
 IsNotPerformed options (Usage fault) book scripts = ⊥
 IsNotPerformed options (Read fault) book scripts = ⊥
 IsNotPerformed options (Resume fault) book scripts = ⊥
+IsNotPerformed options (Row number fault) book scripts = ⊥
 IsNotPerformed options (Make fault) book scripts = IsTrue options.report
 IsNotPerformed options (Run fault) book scripts = IsNotRun (policy_of options) fault book scripts
 IsNotPerformed options (Write fault) book scripts = ⊥
@@ -172,6 +173,7 @@ IsUnwritten (Write fault) = ⊥
 IsUnwritten (Usage fault) = Unit {0}
 IsUnwritten (Read fault) = Unit {0}
 IsUnwritten (Resume fault) = Unit {0}
+IsUnwritten (Row number fault) = Unit {0}
 IsUnwritten (Make fault) = Unit {0}
 IsUnwritten (Run fault) = Unit {0}
 IsUnwritten Report = Unit {0}
@@ -186,6 +188,7 @@ IsCausedBy options input (Read fault) =
     IsInputFault fault → input_of options.workers input ≡ Err fault
 IsCausedBy options input (Resume fault) =
     OfInput options input (λ rows scripts. IsRefused (opening_asked options) fault rows)
+IsCausedBy options input (Row number fault) = ⊥
 IsCausedBy options input (Make fault) = IsTrue options.report
     × OfInput options input (λ rows scripts. AreRows (opening_asked options) rows)
 IsCausedBy options input (Run fault) = OfInput options input (λ rows scripts.

@@ -4,12 +4,13 @@ use Rattle.part_log.specs.declared.log.TellFault.{TellFault}
 use Rattle.part_log.specs.declared.log.TellFault.TheVariants as telling
 use Rattle.program_options.specs.Words.{usage_words}
 use Rattle.auction_program.specs.declared.faults.Fault.{Fault}
-use Rattle.auction_program.specs.declared.faults.Fault.TheVariants.{Usage, Read, Resume, Make, Run, Write, Report, OpenLog, Log}
+use Rattle.auction_program.specs.declared.faults.Fault.TheVariants.{Usage, Read, Resume, Row, Make, Run, Write, Report, OpenLog, Log}
 
 abbrev pub status : Fault → ℕ
 status (Usage fault) = 1
 status (Read fault) = 2
 status (Resume fault) = 3
+status (Row number fault) = 3
 status (Make fault) = 3
 status (Run fault) = 3
 status (Write fault) = 4
@@ -22,6 +23,7 @@ abbrev pub parser_words : Fault → Option (List ℕ)
 parser_words (Usage fault) = usage_words fault
 parser_words (Read fault) = None
 parser_words (Resume fault) = None
+parser_words (Row number fault) = None
 parser_words (Make fault) = None
 parser_words (Run fault) = None
 parser_words (Write fault) = None

@@ -1,65 +1,44 @@
 -- What is known between two parts of an input.
-use Rattle.std.specs.Prelude.{ℕ, ◌≡◌, ◌<◌, ◌≤◌, ◌+◌, ◌++◌, List, [], Option, flat_map, fold, length, slice_index_or}
-use Rattle.auction_rows.specs.declared.limits.TheConstants.{MOST_WORKERS}
+use Rattle.std.specs.Prelude.{ℕ, ◌≡◌, ◌+◌, ◌++◌, List, [], ◌∷◌, Option, None, Some, IfSome, false, flat_map, length, slice_index_or}
 use Rattle.auction_rows.specs.declared.requests.Object.{Object}
 use Rattle.auction_rows.specs.declared.requests.Request.{Request}
 use Rattle.auction_rows.specs.declared.rows.Entry.{Entry}
-use Rattle.auction_rows.specs.declared.values.Opening.{Opening}
 use Rattle.auction_rows.specs.Book.{Book}
 use Rattle.auction_rows.specs.History.{book_after}
-use Rattle.auction_run.specs.Beginning.{HasShards}
+use Rattle.auction_text.specs.LiveParts.{HasToSay, live_workers, rows_said}
 use Rattle.auction_text.specs.Moved.{Gone, gone_by}
-use Rattle.auction_text.specs.Parts.{GoesOn, KeepsWorkers}
-use Rattle.auction_text.specs.Readable.{Readable}
-use Rattle.auction_text.specs.Scripts.{rows}
-use Rattle.auction_text.specs.declared.reading.ReadFault.{ReadFault}
-use Rattle.auction_text.specs.declared.reading.parts.PartEnd.{PartEnd}
-use Rattle.auction_text.specs.declared.reading.record.Record.{Record}
-use Rattle.item_shards.specs.OpeningBooks as opened
-use Rattle.item_shards.specs.OpeningRows.{AreRows, IsTooLong, opening_rows}
-use Rattle.item_shards.specs.declared.openings.Opened.{Opened}
-use Rattle.item_shards.specs.declared.openings.OpeningBook.{OpeningBook}
+use Rattle.auction_text.specs.Scripts.{Asked}
+use Rattle.auction_text.specs.declared.reading.live_lines.LineFault.{LineFault}
+use Rattle.auction_text.specs.declared.reading.live_lines.Said.{Said}
+use Rattle.auction_text.specs.declared.reading.live_lines.Said.TheVariants as says
+use Rattle.auction_text.specs.declared.reading.live_parts.LiveEnd.{LiveEnd}
+use Rattle.auction_text.specs.declared.reading.live_parts.LiveEnd.TheVariants.{More, Fault, All}
+use Rattle.auction_text.specs.declared.reading.live_parts.LiveInput.{LiveInput}
 use Rattle.phase_floor.specs.States.{IsBookOf, JoinedState}
 use Rattle.run_laws.specs.Answers.{IsAnswer}
+use Rattle.shard_boxes.specs.declared.limits.TheConstants.{MOST_COMMITS}
 use Rattle.auction_program.specs.Options.{opening_asked, policy_of}
-use Rattle.auction_program.specs.Serving.{ArePartRuns, OfPart, PartRun, book_in, book_left, gone_past, nothing_gone, opening_text, served_rows, served_text, unlogged_rows}
-use Rattle.auction_program.specs.declared.faults.Fault.{Fault}
-use Rattle.auction_program.specs.declared.faults.Fault.TheVariants.{Read}
+use Rattle.auction_program.specs.Serving.{AddsRows, IsServed, OfPart, Step, book_left, fault_answer, ends_at_fault, gone_after, nothing_gone, served_rows, served_text, step_said}
 use Rattle.auction_program.specs.declared.options.Options.{Options}
 use Rattle.auction_program.specs.declared.parts.Served.{Served}
-use Rattle.auction_program.specs.declared.parts.RunStart.{RunStart}
-use Rattle.auction_program.specs.declared.parts.RunStart.TheVariants.{Book as AtBook, State}
 
--- a run begins at this book
-abbrev pub StartsAt : Options → RunStart → Book → Type 0
-StartsAt options (AtBook book) rows =
-    (opened.opening_of book ≡ opening_asked options) × (opened.rows_of_book book ≡ rows)
-StartsAt options (State state) rows =
-    (state.opening ≡ opening_asked options) × IsBookOf state rows
+-- An auction is of the options' users and categories, workers and shards, and lasts.
+pub record FitsOptions (options : Options) (auction : JoinedState) : Type 0 where
+  pub opening : auction.opening ≡ opening_asked options
+  pub limit : auction.limit ≡ MOST_COMMITS
+  pub workers : length auction.counters ≡ options.workers
+  pub shards : length auction.shards ≡ options.shards
 
--- A state has the options' workers and shards, so many as a run may have.
-pub record FitsOptions (options : Options) (state : JoinedState) : Type 0 where
-  pub workers : length state.counters ≡ options.workers
-  pub shards : length state.shards ≡ options.shards
-  pub some_workers : 0 < options.workers
-  pub few_workers : options.workers ≤ MOST_WORKERS
-  pub allowed : HasShards (policy_of options)
+-- The options' auction has the rows of this book.
+pub record IsStart (options : Options) (auction : JoinedState) (book : Book) : Type 0 where
+  pub fits : FitsOptions options auction
+  pub of : IsBookOf auction book
 
--- what a run goes on from fits the options
-abbrev pub FitsAt : Options → RunStart → Type 0
-FitsAt options (AtBook book) = Unit {0}
-FitsAt options (State state) = FitsOptions options state
-
--- Scripts of the options' workers begin here, at this book.
-pub record BeginsAt (options : Options) (start : RunStart) (scripts : List (List Request))
+-- Scripts of the options' workers begin with the options' auction, at this book.
+pub record BeginsAt (options : Options) (auction : JoinedState) (scripts : List (List Request))
     (book : Book) : Type 0 where
-  pub starts : StartsAt options start book
-  pub fits : FitsAt options start
+  pub start : IsStart options auction book
   pub workers : length scripts ≡ options.workers
-
--- a fault that comes after what it is about was read
-abbrev pub IsPastReading : Fault → Type 0
-IsPastReading fault = (unread : ReadFault) → fault ≡ Read unread → ⊥
 
 -- what went before what follows a part: so many phases, and the requests of scripts
 abbrev pub gone_with : Gone → ℕ → List (List Request) → Gone
@@ -68,58 +47,78 @@ gone_with gone phases scripts = record {
   requests = λ worker. gone.requests worker + length (slice_index_or scripts worker []);
 }
 
--- Scripts are run from a book, and this holds of the rows that this adds and of the text.
-pub record RunsPart (options : Options) (book : Book) (gone : Gone) (scripts : List (List Request))
+-- What is asked for is done from a book: rows are added and scripts run from there, and this holds
+-- of the rows that this adds and of the text.
+pub record RunsPart (options : Options) (book : Book) (gone : Gone) (asked : Asked)
     (Holds : List ℕ → List ℕ → Type 0) : Type 0 where
+  pub added : Book
   pub hot : List (List Object)
   pub history : List Entry
-  pub answer : IsAnswer (opening_asked options) book (policy_of options) scripts hot history
-  pub holds : OfPart options gone history Holds
+  pub adds : AddsRows (opening_asked options) book asked.rows added
+  pub answer : IsAnswer (opening_asked options) (book ++ added) (policy_of options) asked.scripts
+      hot history
+  pub holds : OfPart options gone added history Holds
 
 -- The same, and the next part begins here.
-pub record ServesPart (options : Options) (book : Book) (gone : Gone)
-    (scripts : List (List Request)) (served : Served)
-    (Holds : List ℕ → List ℕ → Type 0) : Type 0 where
-  pub runs : RunsPart options book gone scripts Holds
-  pub starts : StartsAt options served.start (book_after (opening_asked options) book runs.history)
-  pub before : gone_by served.before ≡ gone_with gone (length runs.hot) scripts
-
--- Rows that are handed in open an auction with this book.
-pub record IsOpenedBy (opening : Opening) (rows : List Opened) (book : OpeningBook) : Type 0 where
-  pub are_rows : AreRows opening rows
-  pub few : ¬ IsTooLong rows
-  pub opening_is : opened.opening_of book ≡ opening
-  pub rows_are : opened.rows_of_book book ≡ opening_rows opening rows
-
--- Rows of a log, and then those of an input, open an auction, and this holds of those that the log
--- has not and of the text.
-pub record Opens (options : Options) (logged rows : List Opened)
-    (Holds : List ℕ → List ℕ → Type 0) : Type 0 where
-  pub are_rows : AreRows (opening_asked options) (logged ++ rows)
-  pub few : ¬ IsTooLong (logged ++ rows)
-  pub holds : Holds
-      (unlogged_rows (length logged) (opening_rows (opening_asked options) (logged ++ rows)))
-      (opening_text options (opening_rows (opening_asked options) (logged ++ rows)))
-
--- These first records of all are served in parts, this holds of the rows and of the text, and the
--- next part begins here.
-pub record HasServed (options : Options) (logged : List Opened) (all said : List Record)
+pub record ServesPart (options : Options) (book : Book) (gone : Gone) (asked : Asked)
     (served : Served) (Holds : List ℕ → List ℕ → Type 0) : Type 0 where
-  pub are_rows : AreRows (opening_asked options) (logged ++ rows all)
-  pub few : ¬ IsTooLong (logged ++ rows all)
-  pub parts : List PartRun
-  pub said_is : said ≡ flat_map (λ part. part.said) parts
-  pub runs : ArePartRuns options (book_in options logged all) parts
-  pub starts : StartsAt options served.start (book_left options logged all parts)
-  pub before : gone_by served.before ≡ fold (gone_past options) nothing_gone parts
-  pub holds : Holds (served_rows options logged all parts) (served_text options logged all parts)
+  pub runs : RunsPart options book gone asked Holds
+  pub start : IsStart options served.auction
+      (book_after (opening_asked options) (book ++ runs.added) runs.history)
+  pub before : gone_by served.before ≡ gone_with gone (length runs.hot) asked.scripts
 
--- An input is served so far, and goes on so.
-pub record IsSession {R : Type 0} (remaining : R → Option (List ℕ)) (options : Options)
-    (logged : List Opened) (all : Readable) (served : Served) (end : PartEnd R)
+-- how many rows lines say that are served in these steps
+abbrev pub rows_before : List Step → ℕ
+rows_before steps = length (rows_said (flat_map step_said steps))
+
+-- an input of so many workers has yet to say this
+abbrev pub YetToSay : {R : Type 0} → (R → Option (List ℕ)) → ℕ → LiveInput R → List Said → Type 0
+YetToSay remaining workers left rest =
+    (live_workers left ≡ workers) × HasToSay remaining left rest
+
+-- an input that goes on so has yet to say this
+abbrev pub GoesOnTo : {R : Type 0} → (R → Option (List ℕ)) → ℕ → LiveEnd R → List Said → Type 0
+GoesOnTo remaining workers (More left) rest = YetToSay remaining workers left rest
+GoesOnTo remaining workers (Fault met left) rest = (behind : List Said)
+    × ((rest ≡ says.Fault met ∷ behind) × YetToSay remaining workers left behind)
+GoesOnTo remaining workers All rest = rest ≡ []
+
+-- what may be left of an input has yet to say this
+abbrev pub MayHaveToSay : {R : Type 0} → (R → Option (List ℕ)) → ℕ → Option (LiveInput R) →
+    List Said → Type 0
+MayHaveToSay remaining workers None rest = rest ≡ []
+MayHaveToSay remaining workers (Some left) rest = YetToSay remaining workers left rest
+
+-- what a line says, if it has a fault
+abbrev pub fault_said : Option LineFault → List Said
+fault_said None = []
+fault_said (Some met) = says.Fault met ∷ []
+
+-- the answer to a line, if it has a fault
+abbrev pub answer_to : Options → Gone → Option LineFault → List ℕ
+answer_to options gone None = []
+answer_to options gone (Some met) = fault_answer options gone met
+
+-- The next line is passed if it has a fault, which does not end the input, this holds of its
+-- answer, and that is left.
+pub record PassesFault {R : Type 0} (remaining : R → Option (List ℕ)) (workers : ℕ)
+    (options : Options) (gone : Gone) (left : Option (LiveInput R)) (rest : List Said)
     (Holds : List ℕ → List ℕ → Type 0) : Type 0 where
-  pub said : List Record
-  pub so_far : HasServed options logged all.said said served Holds
-  pub fits : FitsAt options served.start
-  pub goes_on : GoesOn remaining all said end
-  pub workers : KeepsWorkers options.workers end
+  pub met : Option LineFault
+  pub goes_on : IfSome met (λ _. ends_at_fault options ≡ false)
+  pub behind : List Said
+  pub rest_is : rest ≡ fault_said met ++ behind
+  pub left_is : MayHaveToSay remaining workers left behind
+  pub holds : Holds [] (answer_to options gone met)
+
+-- An input is served so far from a book, this holds of the rows and of the text, and that is left.
+pub record IsSession (options : Options) (book : Book) (all : List Said) (served : Served)
+    (Left : List Said → Type 0) (Holds : List ℕ → List ℕ → Type 0) : Type 0 where
+  pub steps : List Step
+  pub rest : List Said
+  pub so_far : IsServed options book all steps rest
+  pub start : IsStart options served.auction (book_left options book steps)
+  pub rows : served.rows ≡ rows_before steps
+  pub before : gone_by served.before ≡ gone_after options steps
+  pub left : Left rest
+  pub holds : Holds (served_rows steps) (served_text options nothing_gone steps)

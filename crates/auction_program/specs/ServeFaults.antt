@@ -1,23 +1,32 @@
 -- Why serving ends with a fault, and how far was told by then.
-use Rattle.std.specs.Prelude.{ℕ, ◌≡◌, ◌≤◌, ◌++◌, ◌⊎◌, List, Option, Some, fold}
+use Rattle.std.specs.Prelude.{ℕ, ◌≡◌, ◌<◌, ◌≤◌, ◌+◌, ◌++◌, ◌∷◌, ◌⊎◌, List, [], Option, false, true, length}
 use Rattle.auction_rows.specs.declared.requests.Request.{Request}
 use Rattle.auction_rows.specs.declared.values.Opening.{Opening}
 use Rattle.auction_rows.specs.Book.{Book}
+use Rattle.auction_run.specs.Beginning.{AreShortFor, HasQuotas}
+use Rattle.auction_run.specs.declared.checks.RunFault.{RunFault}
 use Rattle.auction_run.specs.declared.checks.RunFault.TheVariants as run
+use Rattle.auction_text.specs.LiveReading.{records_said}
 use Rattle.auction_text.specs.Moved.{Gone}
-use Rattle.auction_text.specs.Readable.{Readable, requests_in}
 use Rattle.auction_text.specs.Reading.{IsInputFault}
-use Rattle.auction_text.specs.Scripts.{rows}
+use Rattle.auction_text.specs.Scripts.{Asked, asked_in, requests_in}
+use Rattle.auction_text.specs.declared.reading.ReadFault.{ReadFault}
+use Rattle.auction_text.specs.declared.reading.live_lines.LineFault.{LineFault}
+use Rattle.auction_text.specs.declared.reading.live_lines.Said.{Said}
+use Rattle.auction_text.specs.declared.reading.live_lines.Said.TheVariants as says
 use Rattle.auction_text.specs.declared.reading.record.Record.{Record}
 use Rattle.auction_text.specs.declared.writing.WriteFault.TheVariants as write
 use Rattle.item_shards.specs.declared.openings.Opened.{Opened}
+use Rattle.log_opening.specs.Parts.{IsFirstRefused, rows_from}
 use Rattle.part_log.specs.declared.log.Teller.{Teller}
-use Rattle.auction_program.specs.Execution.{IsNotRun, IsRefused}
+use Rattle.phase_floor.specs.States.{JoinedState}
+use Rattle.phase_floor.specs.declared.adding.AddFault.{AddFault}
+use Rattle.shard_boxes.specs.declared.limits.TheConstants.{MOST_COMMITS}
 use Rattle.auction_program.specs.Options.{opening_asked, policy_of}
-use Rattle.auction_program.specs.PartRuns.{Opens, RunsPart}
-use Rattle.auction_program.specs.Serving.{ArePartTold, AreTold, IsNothingTold, IsServed, OfParts, PartRun, ServesFirst, book_left, gone_past, nothing_gone, scripts_in}
+use Rattle.auction_program.specs.PartRuns.{RunsPart, rows_before}
+use Rattle.auction_program.specs.Serving.{ArePartTold, AreTold, IsNothingTold, ServesFirst, book_left, ends_at_fault, fault_answer, gone_after}
 use Rattle.auction_program.specs.declared.faults.Fault.{Fault}
-use Rattle.auction_program.specs.declared.faults.Fault.TheVariants.{Read, Resume, Run, Write, Log}
+use Rattle.auction_program.specs.declared.faults.Fault.TheVariants.{Read, Row, Run, Write, Log}
 use Rattle.auction_program.specs.declared.options.Options.{Options}
 
 -- how far rows and a text are told at a fault: not at all, or if the writer fails, the rows are
@@ -32,64 +41,98 @@ AreToldAt accepted contents old new (Write write.Write) rows text =
     ArePartTold accepted contents old new rows text
 AreToldAt accepted contents old new _ rows text = ⊥
 
--- why rows open no auction: they are refused, or there is no memory for them
-abbrev pub IsNotOpened : Opening → List Opened → Fault → Type 0
-IsNotOpened opening rows (Resume fault) = IsRefused opening fault rows
-IsNotOpened opening rows (Run fault) = fault ≡ run.Memory
-IsNotOpened opening rows _ = ⊥
+-- ---- why a part is not served
 
--- why an auction is not opened with rows of a log and those of an input: they open none, or they
--- do and are not told
-abbrev pub IsOpeningFault : {L W : Type 0} → (L → Option (List ℕ)) → (W → Option (List ℕ)) →
-    Teller L W → Teller L W → Options → List Opened → List Opened → Fault → Type 0
-IsOpeningFault accepted contents old new options logged rows fault =
-    (IsNothingTold accepted contents old new
-    × IsNotOpened (opening_asked options) (logged ++ rows) fault)
-    ⊎ Opens options logged rows (AreToldAt accepted contents old new fault)
+-- Of requests behind a book, so many of which were read before them, the one with this number is
+-- the first that is not taken by an auction of so many workers with this limit, for this fault.
+pub record IsFirstBadRow (workers limit : ℕ) (opening : Opening) (book : Book)
+    (asked : List Opened) (before number : ℕ) (fault : AddFault) : Type 0 where
+  pub place : ℕ
+  pub first : IsFirstRefused limit fault workers opening book asked place
+  pub number_is : number ≡ before + place + 1
 
--- why scripts are not run from a book: for the first cause that there is
-abbrev pub IsPartRefused : Options → Book → List (List Request) → Fault → Type 0
-IsPartRefused options book scripts (Run fault) = IsNotRun (policy_of options) fault book scripts
-IsPartRefused options book scripts _ = ⊥
+-- why requests are not added to an auction of a book, so many of which were read before them
+abbrev pub IsFirstNotAdded : JoinedState → Book → List Opened → ℕ → Fault → Type 0
+IsFirstNotAdded auction book asked before (Row number fault) =
+    IsFirstBadRow (length auction.counters) auction.limit auction.opening book asked before number
+    fault
+IsFirstNotAdded auction book asked before _ = ⊥
 
--- why a part is not served from a book: its scripts are not run, or they are and it is not told
+-- why scripts are not run from a book; of the last two faults no clause says when
+abbrev pub IsNotRunOn : Options → RunFault → Book → List (List Request) → Type 0
+IsNotRunOn options run.Workers book scripts = ⊥
+IsNotRunOn options run.Shards book scripts = ⊥
+IsNotRunOn options run.Quota book scripts = ¬ HasQuotas (policy_of options)
+IsNotRunOn options run.TooLong book scripts =
+    HasQuotas (policy_of options) × ¬ AreShortFor MOST_COMMITS book scripts
+IsNotRunOn options run.Spawn book scripts = 1 < length scripts
+IsNotRunOn options run.Memory book scripts = Unit {0}
+IsNotRunOn options run.NumberFull book scripts = Unit {0}
+
+-- why what is asked for is not done from a book: a row is not added, for the first that is not, or
+-- the scripts are not run behind the rows; so many rows were read before
+abbrev pub IsPartRefused : Options → Book → ℕ → Asked → Fault → Type 0
+IsPartRefused options book before asked (Row number fault) =
+    IsFirstBadRow options.workers MOST_COMMITS (opening_asked options) book asked.rows before number
+    fault
+IsPartRefused options book before asked (Run fault) =
+    IsNotRunOn options fault (rows_from (opening_asked options) book asked.rows) asked.scripts
+IsPartRefused options book before asked _ = ⊥
+
+-- why a part is not served from a book: it is not done, or it is and is not told
 abbrev pub IsPartFault : {L W : Type 0} → (L → Option (List ℕ)) → (W → Option (List ℕ)) →
-    Teller L W → Teller L W → Options → Book → Gone → List (List Request) → Fault → Type 0
-IsPartFault accepted contents old new options book gone scripts fault =
-    (IsNothingTold accepted contents old new × IsPartRefused options book scripts fault)
-    ⊎ RunsPart options book gone scripts (AreToldAt accepted contents old new fault)
+    Teller L W → Teller L W → Options → Book → Gone → ℕ → Asked → Fault → Type 0
+IsPartFault accepted contents old new options book gone before asked fault =
+    (IsNothingTold accepted contents old new × IsPartRefused options book before asked fault)
+    ⊎ RunsPart options book gone asked (AreToldAt accepted contents old new fault)
 
--- Parts are told whole, and the next one is not served.
+-- ---- why serving ends
+
+-- Of what lines have yet to say, the next part is not served.
 pub record StopsAtPart {L W : Type 0} (accepted : L → Option (List ℕ))
-    (contents : W → Option (List ℕ)) (old new : Teller L W) (options : Options)
-    (logged : List Opened) (all : Readable) (fault : Fault) : Type 0 where
-  pub parts : List PartRun
-  -- the records of the next part, and those behind it
+    (contents : W → Option (List ℕ)) (old new : Teller L W) (options : Options) (book : Book)
+    (gone : Gone) (before : ℕ) (rest : List Said) (fault : Fault) : Type 0 where
   pub next : List Record
-  pub rest : List Record
+  pub behind : List Said
+  pub rest_is : rest ≡ records_said next ++ behind
   pub few : 1 ≤ options.live → requests_in next ≤ options.live
-  pub served : IsServed options logged all.said parts (next ++ rest)
-  -- what is told after the parts, and then the fault of the next
-  pub between : Teller L W
-  pub told : OfParts options logged all.said parts (AreTold accepted contents old between)
-  pub stops : IsPartFault accepted contents between new options
-      (book_left options logged all.said parts) (fold (gone_past options) nothing_gone parts)
-      (scripts_in options next) fault
+  pub stops : IsPartFault accepted contents old new options book gone before
+      (asked_in options.workers next) fault
 
--- nothing is told, or parts are, each whole
-abbrev pub AreWholeTold : {L W : Type 0} → (L → Option (List ℕ)) → (W → Option (List ℕ)) →
-    Teller L W → Teller L W → Options → List Opened → Readable → Type 0
-AreWholeTold accepted contents old new options logged all =
+-- The next line has a fault that does not end the input, and this holds of its answer.
+pub record StopsAtAnswer (options : Options) (gone : Gone) (rest : List Said)
+    (Holds : List ℕ → List ℕ → Type 0) : Type 0 where
+  pub met : LineFault
+  pub behind : List Said
+  pub rest_is : rest ≡ says.Fault met ∷ behind
+  pub goes_on : ends_at_fault options ≡ false
+  pub holds : Holds [] (fault_answer options gone met)
+
+-- The next line has this fault, which ends the input.
+pub record EndsAtFault (options : Options) (rest : List Said) (fault : ReadFault) : Type 0 where
+  pub met : LineFault
+  pub behind : List Said
+  pub rest_is : rest ≡ says.Fault met ∷ behind
+  pub fault_is : fault ≡ met.fault
+  pub ends : ends_at_fault options ≡ true
+
+-- why serving goes no further than to a book: the next line ends the input or is not answered, the
+-- next part is not served, or the input cannot be read on
+abbrev pub IsStop : {L W : Type 0} → (L → Option (List ℕ)) → (W → Option (List ℕ)) →
+    Teller L W → Teller L W → Options → Book → Gone → ℕ → List Said → Fault → Type 0
+IsStop accepted contents old new options book gone before rest (Read fault) =
     IsNothingTold accepted contents old new
-    ⊎ ServesFirst options logged all (AreTold accepted contents old new)
+    × (IsInputFault fault → EndsAtFault options rest fault)
+IsStop accepted contents old new options book gone before rest fault =
+    StopsAtAnswer options gone rest (AreToldAt accepted contents old new fault)
+    ⊎ StopsAtPart accepted contents old new options book gone before rest fault
 
--- why serving ends: the input cannot be read on, at its first fault if it has one; or the auction is
--- not opened, or a part is not served
-abbrev pub IsServeFault : {L W : Type 0} → (L → Option (List ℕ)) → (W → Option (List ℕ)) →
-    Teller L W → Teller L W → Options → List Opened → Readable → Fault → Type 0
-IsServeFault accepted contents old new options logged all (Read fault) =
-    (IsInputFault fault → all.fault ≡ Some fault)
-    × AreWholeTold accepted contents old new options logged all
-IsServeFault accepted contents old new options logged all fault =
-    IsOpeningFault accepted contents old new options logged (rows all.said) fault
-    ⊎ StopsAtPart accepted contents old new options logged all fault
+-- Why serving ends: the first of what lines say is served from a book and told whole, and then it
+-- goes no further.
+pub record IsServeFault {L W : Type 0} (accepted : L → Option (List ℕ))
+    (contents : W → Option (List ℕ)) (old new : Teller L W) (options : Options) (book : Book)
+    (all : List Said) (fault : Fault) : Type 0 where
+  pub between : Teller L W
+  pub told : ServesFirst options book all (AreTold accepted contents old between)
+  pub stops : IsStop accepted contents between new options (book_left options book told.steps)
+      (gone_after options told.steps) (rows_before told.steps) told.rest fault

@@ -1,154 +1,173 @@
 -- What the program answers while requests come.
-use Rattle.std.specs.Prelude.{ℕ, ◌≡◌, ◌≤◌, ◌+◌, ◌++◌, ◌⊎◌, List, [], ◌∷◌, Option, Some, drop, flat_map, fold, length, map, slice_index_or, if◌then◌else◌}
+use Rattle.std.specs.Prelude.{ℕ, ◌≡◌, ◌==◌, ◌≤◌, ◌+◌, ◌++◌, ◌⊎◌, ◌||◌, Bool, false, List, [], ◌∷◌, Option, None, Some, flat_map, fold, length, slice_index_or, if◌then◌else◌}
 use Rattle.std.specs.Io.KnownBytes.{Appends, Keeps}
 use Rattle.auction_rows.specs.declared.requests.Object.{Object}
 use Rattle.auction_rows.specs.declared.requests.Request.{Request}
 use Rattle.auction_rows.specs.declared.rows.Entry.{Entry}
+use Rattle.auction_rows.specs.declared.values.Opening.{Opening}
 use Rattle.auction_rows.specs.Book.{Book}
 use Rattle.auction_rows.specs.History.{book_after}
+use Rattle.auction_text.specs.FaultLines.{fault_line}
+use Rattle.auction_text.specs.LiveReading.{records_said}
 use Rattle.auction_text.specs.Moved.{Gone, all_moved}
-use Rattle.auction_text.specs.Readable.{Readable, requests_in}
 use Rattle.auction_text.specs.RowLines.{rows_text}
-use Rattle.auction_text.specs.Scripts.{asked_in, rows}
+use Rattle.auction_text.specs.Scripts.{asked_in, requests_in, rows}
 use Rattle.auction_text.specs.Writing.{IsPartWritten}
 use Rattle.auction_text.specs.declared.reading.ReadFault.{ReadFault}
+use Rattle.auction_text.specs.declared.reading.live_lines.LineFault.{LineFault}
+use Rattle.auction_text.specs.declared.reading.live_lines.Said.{Said}
+use Rattle.auction_text.specs.declared.reading.live_lines.Said.TheVariants as says
 use Rattle.auction_text.specs.declared.reading.record.Record.{Record}
-use Rattle.item_shards.specs.OpeningBooks.{rows_of_book}
-use Rattle.item_shards.specs.OpeningRows.{AreRows, IsTooLong, opened_of, opening_rows}
 use Rattle.item_shards.specs.declared.openings.Opened.{Opened}
-use Rattle.item_shards.specs.declared.openings.OpeningBook.{OpeningBook}
+use Rattle.log_opening.specs.Parts.{AreRowsFrom, rows_from}
 use Rattle.part_log.specs.declared.log.Teller.{Teller}
 use Rattle.run_laws.specs.Answers.{IsAnswer}
 use Rattle.auction_program.specs.Execution.{commits_text}
 use Rattle.auction_program.specs.Options.{opening_asked, policy_of}
 use Rattle.auction_program.specs.declared.options.Options.{Options}
 
--- A part: what its records say, and the hot sets and the history of a run of them.
+-- A part: what its records say, the rows that it adds to the auction, and then the hot sets and the
+-- history of a run of its requests.
 pub record PartRun : Type 0 where
   pub said : List Record
+  pub added : Book
   pub hot : List (List Object)
   pub history : List Entry
 
--- the rows of a log, as they were handed in
-abbrev pub logged_rows : OpeningBook → List Opened
-logged_rows logged = map opened_of (rows_of_book logged)
+-- A part of an input is run, or a line with a fault is answered.
+pub data Step : Type 0 where
+  Part : PartRun → Step
+  Answer : LineFault → Step
+
+-- what the lines say that are served so
+abbrev pub step_said : Step → List Said
+step_said (Part part) = records_said part.said
+step_said (Answer met) = says.Fault met ∷ []
+
+-- ---- what is run
+
+-- Requests are rows from a book on, each at its place, and this is what they add to it.
+pub record AddsRows (opening : Opening) (book : Book) (asked : List Opened) (added : Book)
+    : Type 0 where
+  pub are_rows : AreRowsFrom opening book asked
+  pub adds : rows_from opening book asked ≡ book ++ added
 
 -- the scripts of records
 abbrev pub scripts_in : Options → List Record → List (List Request)
 scripts_in options said = (asked_in options.workers said).scripts
 
--- the book that rows of a log, and then those among records, open an auction with
-abbrev pub book_in : Options → List Opened → List Record → Book
-book_in options logged said = opening_rows (opening_asked options) (logged ++ rows said)
-
--- A part is run from a book: its history and hot sets answer its scripts, and it has no more
--- requests than are answered at a time.
+-- A part is run from a book: it adds its rows, its history and hot sets answer its scripts from
+-- there, and it has no more requests than are answered at a time.
 pub record IsPartRun (options : Options) (book : Book) (part : PartRun) : Type 0 where
   pub few : 1 ≤ options.live → requests_in part.said ≤ options.live
-  pub answer : IsAnswer (opening_asked options) book (policy_of options)
+  pub adds : AddsRows (opening_asked options) book (rows part.said) part.added
+  pub answer : IsAnswer (opening_asked options) (book ++ part.added) (policy_of options)
       (scripts_in options part.said) part.hot part.history
 
--- the book that a part leaves
-abbrev pub book_past : Options → Book → PartRun → Book
-book_past options book part = book_after (opening_asked options) book part.history
+-- whether a line with a fault ends the input
+abbrev pub ends_at_fault : Options → Bool
+ends_at_fault options = options.ends_at_fault || (options.live == 0)
 
--- each part is run from the book that those before it leave
-unfoldable pub ArePartRuns : Options → Book → List PartRun → Type 0
-ArePartRuns options book [] = Unit {0}
-ArePartRuns options book (part ∷ more) = IsPartRun options book part
-    × ArePartRuns options (book_past options book part) more
+-- a step is taken from this book: a line with a fault is answered only if it does not end the input
+abbrev pub IsStepRun : Options → Book → Step → Type 0
+IsStepRun options book (Part part) = IsPartRun options book part
+IsStepRun options book (Answer met) = ends_at_fault options ≡ false
 
--- the book that parts leave, from the one that rows of a log and those among records open with
-abbrev pub book_left : Options → List Opened → List Record → List PartRun → Book
-book_left options logged all parts = fold (book_past options) (book_in options logged all) parts
+-- the book that a step leaves: an answer changes nothing
+abbrev pub book_past : Options → Book → Step → Book
+book_past options book (Part part) =
+    book_after (opening_asked options) (book ++ part.added) part.history
+book_past options book (Answer met) = book
 
--- Of these records some are served in parts, which are the first of them one after the other, and
--- the rest are left.
-pub record IsServed (options : Options) (logged : List Opened) (all : List Record)
-    (parts : List PartRun) (rest : List Record) : Type 0 where
-  -- the rows open the auction
-  pub are_rows : AreRows (opening_asked options) (logged ++ rows all)
-  pub few : ¬ IsTooLong (logged ++ rows all)
-  -- the parts are run one after the other
-  pub parts_are : all ≡ flat_map (λ part. part.said) parts ++ rest
-  pub runs : ArePartRuns options (book_in options logged all) parts
+-- each step is taken from the book that those before it leave
+unfoldable pub AreStepRuns : Options → Book → List Step → Type 0
+AreStepRuns options book [] = Unit {0}
+AreStepRuns options book (step ∷ more) = IsStepRun options book step
+    × AreStepRuns options (book_past options book step) more
+
+-- the book that steps leave
+abbrev pub book_left : Options → Book → List Step → Book
+book_left options = fold (book_past options)
+
+-- Of what lines say, some is served in steps from a book, and the rest is left.
+pub record IsServed (options : Options) (book : Book) (all : List Said) (steps : List Step)
+    (rest : List Said) : Type 0 where
+  pub all_is : all ≡ flat_map step_said steps ++ rest
+  pub runs : AreStepRuns options book steps
+
+-- ---- what is logged and written
 
 -- nothing went before
 abbrev pub nothing_gone : Gone
 nothing_gone = record { phases = 0; requests = λ worker. 0 }
 
--- what went before the part after this one
-abbrev pub gone_past : Options → Gone → PartRun → Gone
-gone_past options gone part = record {
+-- what went before what follows a step: an answer is no request
+abbrev pub gone_past : Options → Gone → Step → Gone
+gone_past options gone (Part part) = record {
   phases = gone.phases + length part.hot;
   requests = λ worker. gone.requests worker
       + length (slice_index_or (scripts_in options part.said) worker []);
 }
+gone_past options gone (Answer met) = gone
 
--- what the options ask for of a part with this history, after what went before it
-abbrev pub part_text : Options → Gone → List Entry → List ℕ
-part_text options gone history = commits_text options [] (all_moved gone history)
+-- what went before what follows steps
+abbrev pub gone_after : Options → List Step → Gone
+gone_after options steps = fold (gone_past options) nothing_gone steps
 
--- this holds of the rows that a part with this history adds, and of its text
-abbrev pub OfPart : Options → Gone → List Entry → (List ℕ → List ℕ → Type 0) → Type 0
-OfPart options gone history Holds =
-    Holds (rows_text [] history) (part_text options gone history)
+-- what the options ask for of a part that adds these rows and has this history, after what went
+-- before it
+abbrev pub part_text : Options → Gone → Book → List Entry → List ℕ
+part_text options gone added history = commits_text options added (all_moved gone history)
 
--- what the options ask for of each part, one after the other: phases and indexes go on counting
--- from part to part
-unfoldable pub part_texts : Options → Gone → List PartRun → List ℕ
-part_texts options gone [] = []
-part_texts options gone (part ∷ more) =
-    part_text options gone part.history ++ part_texts options (gone_past options gone part) more
+-- this holds of the rows of such a part, and of its text
+abbrev pub OfPart : Options → Gone → Book → List Entry → (List ℕ → List ℕ → Type 0) → Type 0
+OfPart options gone added history Holds =
+    Holds (rows_text added history) (part_text options gone added history)
 
--- the history of all parts, one after the other: phases and indexes go on counting
-unfoldable pub served_history : Options → Gone → List PartRun → List Entry
-served_history options gone [] = []
-served_history options gone (part ∷ more) =
-    all_moved gone part.history ++ served_history options (gone_past options gone part) more
+-- the answer to a fault, if its line names a worker: with the index of the worker's next request
+abbrev pub named_answer : Gone → Option ℕ → ReadFault → List ℕ
+named_answer gone None fault = []
+named_answer gone (Some worker) fault = fault_line worker (gone.requests worker) fault
 
--- the rows that the auction is opened with, if the options ask for rows
-abbrev pub opening_text : Options → Book → List ℕ
-opening_text options book = if options.rows then rows_text book [] else []
+-- the answer to a line with a fault, after what went before it, if the options ask for replies
+abbrev pub fault_answer : Options → Gone → LineFault → List ℕ
+fault_answer options gone met =
+    if options.rows || options.history then [] else named_answer gone met.worker met.fault
 
--- the text that is written of all that
-abbrev pub served_text : Options → List Opened → List Record → List PartRun → List ℕ
-served_text options logged all parts =
-    opening_text options (book_in options logged all) ++ part_texts options nothing_gone parts
+-- what is written of a step
+abbrev pub step_text : Options → Gone → Step → List ℕ
+step_text options gone (Part part) = part_text options gone part.added part.history
+step_text options gone (Answer met) = fault_answer options gone met
 
--- the opening rows that a log of so many has not
-abbrev pub unlogged_rows : ℕ → Book → List ℕ
-unlogged_rows known book = rows_text (drop known book) []
+-- what is written of steps: phases and indexes go on counting
+unfoldable pub served_text : Options → Gone → List Step → List ℕ
+served_text options gone [] = []
+served_text options gone (step ∷ more) =
+    step_text options gone step ++ served_text options (gone_past options gone step) more
 
--- the rows that are logged of all that: the opening rows that the log has not, and those that each
--- part adds
-abbrev pub served_rows : Options → List Opened → List Record → List PartRun → List ℕ
-served_rows options logged all parts =
-    unlogged_rows (length logged) (book_in options logged all)
-    ++ flat_map (λ part. rows_text [] part.history) parts
+-- the rows that are logged of a step
+abbrev pub step_rows : Step → List ℕ
+step_rows (Part part) = rows_text part.added part.history
+step_rows (Answer met) = []
 
--- this holds of the rows and of the text of parts
-abbrev pub OfParts : Options → List Opened → List Record → List PartRun →
-    (List ℕ → List ℕ → Type 0) → Type 0
-OfParts options logged all parts Holds =
-    Holds (served_rows options logged all parts) (served_text options logged all parts)
+-- the rows that are logged of steps
+abbrev pub served_rows : List Step → List ℕ
+served_rows steps = flat_map step_rows steps
 
--- All that can be read of an input is served, it ends so, and this holds of the rows and of the
--- text.
-pub record ServesAll (options : Options) (logged : List Opened) (all : Readable)
-    (end : Option ReadFault) (Holds : List ℕ → List ℕ → Type 0) : Type 0 where
-  pub parts : List PartRun
-  pub served : IsServed options logged all.said parts []
-  pub ends : all.fault ≡ end
-  pub holds : OfParts options logged all.said parts Holds
-
--- The first of what can be read of an input is served, and this holds of the rows and of the text.
-pub record ServesFirst (options : Options) (logged : List Opened) (all : Readable)
+-- All that lines say is served, and this holds of the rows and of the text.
+pub record ServesAll (options : Options) (book : Book) (all : List Said)
     (Holds : List ℕ → List ℕ → Type 0) : Type 0 where
-  pub parts : List PartRun
-  pub rest : List Record
-  pub served : IsServed options logged all.said parts rest
-  pub holds : OfParts options logged all.said parts Holds
+  pub steps : List Step
+  pub served : IsServed options book all steps []
+  pub holds : Holds (served_rows steps) (served_text options nothing_gone steps)
+
+-- The first of what lines say is served, and this holds of the rows and of the text.
+pub record ServesFirst (options : Options) (book : Book) (all : List Said)
+    (Holds : List ℕ → List ℕ → Type 0) : Type 0 where
+  pub steps : List Step
+  pub rest : List Said
+  pub served : IsServed options book all steps rest
+  pub holds : Holds (served_rows steps) (served_text options nothing_gone steps)
 
 -- rows are logged, and a text is written whole
 abbrev pub AreTold : {L W : Type 0} → (L → Option (List ℕ)) → (W → Option (List ℕ)) →
@@ -171,24 +190,46 @@ IsNothingTold accepted contents old new = Keeps (accepted old.log) (accepted new
 -- no byte is written of a part whose rows are not logged: those of the parts that are written, to
 -- the last one's, are
 abbrev pub IsLoggedBefore : {L W : Type 0} → (L → Option (List ℕ)) → (W → Option (List ℕ)) →
-    Teller L W → Teller L W → Options → List Opened → Readable → Type 0
-IsLoggedBefore accepted contents old new options logged all =
-    IsNothingTold accepted contents old new
-    ⊎ ServesFirst options logged all (ArePartTold accepted contents old new)
+    Teller L W → Teller L W → Options → Book → List Said → Type 0
+IsLoggedBefore accepted contents old new options book all =
+    ServesFirst options book all (ArePartTold accepted contents old new)
 
 -- a log has the rows of a book, and nothing else
-abbrev pub HasBook : Option (List ℕ) → Book → Type 0
-HasBook accepted book = accepted ≡ Some (rows_text book [])
+abbrev pub LogHasBook : Option (List ℕ) → Book → Type 0
+LogHasBook accepted book = accepted ≡ Some (rows_text book [])
 
--- Some parts of these records are served, and a log has the book that they leave.
-pub record HasBookOfParts (options : Options) (logged : List Opened) (all : List Record)
-    (accepted : Option (List ℕ)) : Type 0 where
-  pub parts : List PartRun
-  pub rest : List Record
-  pub served : IsServed options logged all parts rest
-  pub has : HasBook accepted (book_left options logged all parts)
+-- The first of what lines say is served from a book, and a log has the book that this leaves.
+pub record HasServedBook (accepted : Option (List ℕ)) (options : Options) (book : Book)
+    (all : List Said) : Type 0 where
+  pub steps : List Step
+  pub rest : List Said
+  pub served : IsServed options book all steps rest
+  pub has : LogHasBook accepted (book_left options book steps)
 
--- a log has its own rows yet, or the book that the served parts leave
-abbrev pub HasServedBook : Option (List ℕ) → Options → OpeningBook → List Record → Type 0
-HasServedBook accepted options logged all = HasBook accepted (rows_of_book logged)
-    ⊎ HasBookOfParts options (logged_rows logged) all accepted
+-- ---- the history of all parts
+
+-- the history of a step: an answer is none
+abbrev pub step_history : Step → List Entry
+step_history (Part part) = part.history
+step_history (Answer met) = []
+
+-- the rows that a step adds
+abbrev pub step_added : Step → Book
+step_added (Part part) = part.added
+step_added (Answer met) = []
+
+-- the rows that steps add
+abbrev pub added_rows : List Step → Book
+added_rows steps = flat_map step_added steps
+
+-- no rows are added behind a history
+unfoldable pub RowsComeFirst : List Step → Type 0
+RowsComeFirst [] = Unit {0}
+RowsComeFirst (step ∷ more) =
+    ((step_history step ≡ []) ⊎ (added_rows more ≡ [])) × RowsComeFirst more
+
+-- the history of all steps, one after the other: phases and indexes go on counting
+unfoldable pub served_history : Options → Gone → List Step → List Entry
+served_history options gone [] = []
+served_history options gone (step ∷ more) =
+    all_moved gone (step_history step) ++ served_history options (gone_past options gone step) more

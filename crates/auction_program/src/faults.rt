@@ -10,6 +10,7 @@ use auction_text::{ReadFault, WriteFault};
 use auction_window::MakeFault;
 use item_shards::ResumeFault;
 use part_log::{LogFault, TellFault};
+use phase_floor::AddFault;
 use program_options::UsageFault;
 use std::io::Write;
 use thiserror::Error;
@@ -26,6 +27,9 @@ pub enum Fault {
     /// The rows could not be opened.
     #[error("{0}")]
     Resume(ResumeFault),
+    /// The row of the input with this number, from 1, could not be added.
+    #[error("row {0}: {1}")]
+    Row(u64, AddFault),
     /// No window could be made to report through.
     #[error("{0}")]
     Make(MakeFault),
@@ -137,7 +141,7 @@ pub fn status(fault: &Fault) -> u8
     match fault {
         Fault::Usage(_) | Fault::Report => 1,
         Fault::Read(_) => 2,
-        Fault::Resume(_) | Fault::Make(_) | Fault::Run(_) => 3,
+        Fault::Resume(_) | Fault::Row(_, _) | Fault::Make(_) | Fault::Run(_) => 3,
         Fault::Write(_) => 4,
         Fault::OpenLog(_) | Fault::Log(_) => 5,
     }

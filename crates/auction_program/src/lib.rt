@@ -4,7 +4,6 @@
 
 mod execution;
 mod faults;
-mod live;
 mod log_file;
 mod opening;
 mod options;
@@ -17,11 +16,12 @@ pub use auction_text::{Cause, ReadFault, UntilEnd, WriteFault};
 pub use auction_window::MakeFault;
 pub use execution::{execute, one_worker_has_one_answer};
 pub use faults::{Fault, status, write_fault};
-pub use item_shards::{OpeningBook, ResumeFault};
-pub use live::{LiveTeller, serve_live};
+pub use item_shards::ResumeFault;
 pub use log_file::{LogFileFault, OpenedLog, open_log};
 pub use log_opening::OpenFault;
+pub use opening::new_auction;
 pub use options::{Options, read_options};
 pub use part_log::{FileLog, Log, LogFault, NoLog, Teller};
+pub use phase_floor::{AddFault, Joined};
 pub use program_options::UsageFault;
-pub use session::{LoggedInput, parts_are_one_history, serve};
+pub use session::{LiveTeller, LoggedInput, parts_are_one_history, serve};

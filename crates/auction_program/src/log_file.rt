@@ -1,12 +1,16 @@
 //! The file of a log: how it is opened and locked, and where what is cut off it is kept.
-use crate::options::Options;
-use item_shards::OpeningBook;
-use log_opening::{OpenFault, OpenedText, open_text};
+ghost use Rattle.std.specs.Prelude.{[], IfOk};
+ghost use Rattle.phase_floor.specs.Adding.{HasBook, IsStartOf};
+
+use crate::faults::Fault;
+use auction_text::WriteFault;
+use log_opening::{OpenFault, cut_log, read_log};
 use part_log::FileLog;
+use phase_floor::Joined;
 use std::alloc::Global;
 use std::fs::{File, OpenOptions, TryLockError};
 use std::io;
-use std::io::{ErrorKind, Read, Write};
+use std::io::{ErrorKind, Write};
 use std::rt::Files;
 use thiserror::Error;
 
@@ -39,8 +43,8 @@ pub enum LogFileFault {
 /// A log that was opened.
 #[derive(Drop)]
 pub struct OpenedLog {
-    /// The rows that it has.
-    pub rows: OpeningBook,
+    /// The auction with the rows that it has.
+    pub auction: Joined,
     /// The log.
     pub log: FileLog<File>,
     /// How many bytes were cut off: the beginning of a row that was being written.
@@ -96,16 +100,6 @@ fn open_locked<R: Files<File = File>>(
     }
 }
 
-// The bytes of a file.
-fn bytes_of(alloc: Global, file: &mut File) -> Result<Vec<u8>, LogFileFault> {
-    let mut bytes = Vec::new(alloc);
-    match file.read_to_end(&mut bytes) {
-        Ok(_) => Ok(bytes),
-        Err(fault) if fault.kind() == ErrorKind::OutOfMemory => Err(LogFileFault::Memory),
-        Err(_) => Err(LogFileFault::Read),
-    }
-}
-
 // Adds what is to be cut off a log to the file beside it, on a line of its own.
 fn keep_tail<R: Files<File = File>>(
     rt: &R,
@@ -142,44 +136,44 @@ fn add_line<R: Files<File = File>>(
 }
 
 // The fault of a log at this path.
-fn refused(alloc: Global, path: &str, fault: OpenFault) -> LogFileFault {
+fn refused(alloc: Global, path: &str, fault: OpenFault) -> Fault {
+    if fault == OpenFault::Write {
+        return Fault::Write(WriteFault::Write);
+    }
     match path.to_owned(alloc) {
-        Ok(path) => LogFileFault::Text(path, fault),
-        Err(_) => LogFileFault::Memory,
+        Ok(path) => Fault::OpenLog(LogFileFault::Text(path, fault)),
+        Err(_) => Fault::OpenLog(LogFileFault::Memory),
     }
 }
 
-/// Opens the log at a path, which no other program may have open. The beginning of a row that was
-/// being written is cut off its end, and kept in the file of that name with `.cut`. After a fault
-/// the log is as it was.
-pub fn open_log<R: Files<File = File>>(
+/// Opens the log at a path, which no other program may have open, and adds its rows to an auction.
+/// Their text is told meanwhile. The beginning of a row that was being written is cut off its end,
+/// and kept in the file of that name with `.cut`. After a fault the log is as it was.
+pub fn open_log<R: Files<File = File>, W: Write>(
     rt: &R,
     alloc: Global,
     path: &str,
-    options: &Options,
-) -> Result<OpenedLog, LogFileFault> {
-    let mut file = open_locked(rt, alloc, path)?;
-    let bytes = bytes_of(alloc, &mut file)?;
-    let text = bytes.as_slice();
-    let OpenedText { book, kept } = match open_text(
-        alloc,
-        text,
-        options.workers,
-        options.opening(),
-    ) {
-        Ok(opened) => opened,
+    auction: Joined,
+    told: &mut W,
+) -> Result<OpenedLog, Fault>
+    requires { IsStartOf auction [] }
+    ensures has { IfOk result (λ opened. HasBook opened.auction) }
+{
+    let file = open_locked(rt, alloc, path)?;
+    let logged = match read_log(alloc, &file, auction, told) {
+        Ok(logged) => logged,
         Err(fault) => return Err(refused(alloc, path, fault)),
     };
-    let tail = &text[kept..];
-    if !tail.is_empty() {
-        keep_tail(rt, alloc, path, tail)?;
+    let cut = logged.tail.len();
+    if cut > 0 {
+        keep_tail(rt, alloc, path, logged.tail.as_slice())?;
     }
-    match FileLog::open(file, kept as u64) {
+    match cut_log(file, &logged) {
         Ok(log) => Ok(OpenedLog {
-            rows: book,
+            auction: logged.auction,
             log,
-            cut: tail.len(),
+            cut,
         }),
-        Err(_) => Err(LogFileFault::Read),
+        Err(_) => Err(Fault::OpenLog(LogFileFault::Read)),
     }
 }

@@ -1,17 +1,18 @@
 //! The options of the program.
-ghost use Rattle.std.specs.Prelude.{◌≡◌, IfOk, IfErr, OnOk, map, string_bytes};
-ghost use Rattle.clap.specs.Words.{app_of, first_value, found_of, one_text};
+ghost use Rattle.std.specs.Prelude.{◌≡◌, Bool, IfOk, IfErr, OnOk, codes, false, map, string_bytes};
+ghost use Rattle.clap.specs.Words.{app_of, first_value, found_of, one_text, rule_of};
+ghost use Rattle.program_options.specs.Options.{file_rule, number_of};
 ghost use Rattle.program_options.specs.Words.{AreTaken, HaveNumbers, text_in, value_in};
 ghost use Rattle.program_options.specs.declared.words.UsageFault.{UsageFault};
 ghost use Rattle.auction_program.specs.Options.{AreInRange};
-ghost use Rattle.auction_program.specs.Words.{SayOptions, program};
+ghost use Rattle.auction_program.specs.Words.{SayOptions, SaysEnd, program};
 
 use auction_rows::{MOST_HOT, MOST_SHARDS, MOST_WORKERS, Opening};
 use auction_run::Policy;
-use clap::{ArgMatches, Command};
+use clap::{Arg, ArgMatches, Command};
 use program_options::{
     Description, FROM_ONE, FROM_ZERO, NumberRange, UsageFault, described_file, described_flag,
-    described_number, described_program, flag_of, number_of, parse_words, text_of,
+    described_number, described_program, flag_of, number_of, parse_words, text_of, text_option,
 };
 use std::alloc::{AllocError, Global};
 
@@ -38,7 +39,7 @@ pub struct Options {
     /// How many requests are answered at a time at most, while more are to come: at most 1,000,000,
     /// and 0 if all are read first.
     pub live: u32,
-    /// Whether a line with a fault ends the input also then, and is not answered.
+    /// Whether a line with a fault ends the input also then, in place of an answer to it.
     pub ends_at_fault: bool,
     /// The name of the log's file, if there is to be a log.
     pub log: Option<String>,
@@ -92,6 +93,16 @@ const HOT: NumberRange = NumberRange {
     greatest: MOST_HOT as u32,
 };
 
+// `--faults HOW`.
+fn described_faults<'a>(alloc: Global) -> Arg<'a>
+    ensures rule { rule_of result ≡ file_rule (codes "faults") }
+    ensures local { result.global ≡ false }
+{
+    text_option(alloc, "faults")
+        .value_name("HOW")
+        .help(FAULTS_HELP)
+}
+
 fn command<'a>(alloc: Global) -> Result<Command<'a>, AllocError>
     ensures { IfOk result (λ command. app_of command ≡ program) }
 {
@@ -105,7 +116,7 @@ fn command<'a>(alloc: Global) -> Result<Command<'a>, AllocError>
         described_number(alloc, "users", FROM_ZERO, "100", USERS_HELP),
         described_number(alloc, "categories", FROM_ZERO, "10", CATEGORIES_HELP),
         described_number(alloc, "live", FROM_ZERO, "0", LIVE_HELP),
-        described_flag(alloc, "end-at-fault", END_HELP),
+        described_faults(alloc),
         described_file(alloc, "log", LOG_HELP),
         described_flag(alloc, "history", HISTORY_HELP),
         described_flag(alloc, "rows", ROWS_HELP),
@@ -114,13 +125,47 @@ fn command<'a>(alloc: Global) -> Result<Command<'a>, AllocError>
     described_program(alloc, "rubis_auction", DESCRIPTION).args(options)
 }
 
+// Why a word for what a line with a fault does is refused.
+fn refused_how(alloc: Global, how: &str) -> UsageFault {
+    let text = if how == "answer" {
+        format!(in alloc; "error: '--faults answer' needs '--live <N>' of at least 1\n{SEE_HELP}")
+    } else {
+        format!(in alloc; "error: invalid value '{how}' for '--faults <HOW>'\n{HOWS}{SEE_HELP}")
+    };
+    text.map_or(UsageFault::Memory, UsageFault::Text)
+}
+
+// Whether a line with a fault ends the input. It can be answered only while requests come.
+fn is_end(alloc: Global, matches: &ArgMatches<'_>, live: u32) -> Result<bool, UsageFault>
+    ensures said { IfOk result (SaysEnd (first_value (found_of matches.now) (codes "faults")) live) }
+    ensures refused { IfErr result (λ fault. (ends : Bool) →
+        SaysEnd (first_value (found_of matches.now) (codes "faults")) live ends →
+        fault ≡ UsageFault.Memory) }
+{
+    let Some(how) = matches.get_str("faults") else {
+        return Ok(false);
+    };
+    if how == "end" {
+        return Ok(true);
+    }
+    if how == "answer" && live > 0 {
+        return Ok(false);
+    }
+    Err(refused_how(alloc, how))
+}
+
 fn options_of(alloc: Global, matches: &ArgMatches<'_>) -> Result<Options, UsageFault>
     ensures given { IfOk result (λ options. HaveNumbers program (one_text (found_of matches.now)) →
         SayOptions (one_text (found_of matches.now)) (first_value (found_of matches.now)) options) }
     ensures range { IfOk result AreInRange }
-    ensures memory { IfErr result (λ fault. fault ≡ UsageFault.Memory) }
+    ensures memory { IfErr result (λ fault. HaveNumbers program (one_text (found_of matches.now)) →
+        (ends : Bool) → SaysEnd (first_value (found_of matches.now) (codes "faults"))
+        (number_of (one_text (found_of matches.now) (codes "live"))) ends →
+        fault ≡ UsageFault.Memory) }
 {
     let log = text_of(alloc, matches, "log")?;
+    let live = number_of(matches, "live", FROM_ZERO);
+    let ends_at_fault = is_end(alloc, matches, live)?;
     Ok(Options {
         workers: number_of(matches, "workers", WORKERS),
         shards: number_of(matches, "shards", SHARDS),
@@ -130,8 +175,8 @@ fn options_of(alloc: Global, matches: &ArgMatches<'_>) -> Result<Options, UsageF
         hot: number_of(matches, "hot", HOT),
         users: number_of(matches, "users", FROM_ZERO),
         categories: number_of(matches, "categories", FROM_ZERO),
-        live: number_of(matches, "live", FROM_ZERO),
-        ends_at_fault: flag_of(matches, "end-at-fault"),
+        live,
+        ends_at_fault,
         log,
         history: flag_of(matches, "history"),
         rows: flag_of(matches, "rows"),
@@ -149,6 +194,8 @@ pub fn read_options(alloc: Global, words: &[String]) -> Result<Options, UsageFau
     ensures range { IfOk result AreInRange }
     ensures taken { OnOk result (AreTaken program (map string_bytes words.now)) }
     ensures memory { IfErr result (λ fault. AreTaken program (map string_bytes words.now) →
+        (ends : Bool) → SaysEnd (value_in program (map string_bytes words.now) (codes "faults"))
+        (number_of (text_in program (map string_bytes words.now) (codes "live"))) ends →
         fault ≡ UsageFault.Memory) }
 {
     let Ok(command) = command(alloc) else {
@@ -186,8 +233,13 @@ const CATEGORIES_HELP: &str = "Categories of the auction, 0 to 1000000";
 const LIVE_HELP: &str =
     "Reply while requests come, to at most N at a time, 0 to 1000000; 0 reads all first";
 
-const END_HELP: &str =
-    "With --live, end the input at a line with a fault, instead of an answer to it";
+const FAULTS_HELP: &str =
+    "With --live, 'answer' each line with a fault (the default), or 'end' the input there";
+
+// What stands behind a word that is refused, as the parser of words has it.
+const HOWS: &str = "  [possible values: answer, end]\n";
+
+const SEE_HELP: &str = "\nFor more information, try '--help'.\n";
 
 const LOG_HELP: &str =
     "File that keeps the rows, each before its reply is written; the auction opens with them";

@@ -1,24 +1,30 @@
 //! The run of one part, and what is logged and written of it.
-ghost use Rattle.std.specs.Prelude.{◌⊎◌, IfErr, IfOk, ◌≡◌, [], IfSome, OnOk, drop};
+ghost use Rattle.std.specs.Prelude.{◌<◌, ◌+◌, ◌^◌, IfErr, IfOk, ◌≡◌, IfSome, OnOk, length};
 ghost use Rattle.auction_rows.specs.Book.{Book};
 ghost use Rattle.auction_rows.specs.History.{book_after};
 ghost use Rattle.auction_text.specs.Moved.{gone_by};
 ghost use Rattle.auction_text.specs.RowLines.{rows_text};
+ghost use Rattle.auction_text.specs.Scripts.{asked_of};
 ghost use Rattle.auction_text.specs.Writing.{WritesText};
 ghost use Rattle.auction_run.specs.GoingOn.{fault_of};
-ghost use Rattle.auction_program.specs.Execution.{AnswersScripts, IsNotRun};
-ghost use Rattle.auction_program.specs.Options.{opening_asked, policy_of};
-ghost use Rattle.auction_program.specs.PartRuns.{BeginsAt, FitsAt, FitsOptions, IsPastReading, RunsPart, ServesPart, StartsAt};
-ghost use Rattle.auction_program.specs.ServeFaults.{AreToldAt, IsPartFault};
-ghost use Rattle.auction_program.specs.Serving.{ArePartTold, AreTold, IsNothingTold, OfPart, opening_text, part_text, unlogged_rows};
-ghost use Rattle.auction_program.specs.declared.parts.RunStart.{RunStart};
+ghost use Rattle.log_opening.specs.Parts.{HasAdded};
+ghost use Rattle.phase_floor.specs.Adding.{HasBook, IsSameAuction, IsStartOf};
+ghost use Rattle.phase_floor.specs.States.{IsBookOf};
+ghost use Rattle.auction_program.specs.Execution.{AnswersScripts};
+ghost use Rattle.auction_program.specs.Options.{opening_asked};
+ghost use Rattle.auction_program.specs.PartRuns.{BeginsAt, FitsOptions, ServesPart};
+ghost use Rattle.auction_program.specs.ServeFaults.{AreToldAt, IsFirstNotAdded, IsNotRunOn, IsPartFault};
+ghost use Rattle.auction_program.specs.Serving.{AreTold, OfPart, part_text};
 
 use crate::faults::Fault;
 use crate::options::Options;
 use auction_rows::Row;
-use auction_run::{FreeGate, Outcome, RunFault, Stopped, run_compact, run_compact_on};
-use auction_text::{Before, WriteFault, write_history_on, write_replies_on, write_rows};
-use item_shards::OpeningBook;
+use auction_run::{FreeGate, Outcome, RunFault, Stopped, run_compact_on};
+use auction_text::{
+    Before, CompactInput, WriteFault, write_history_on, write_replies_on, write_rows,
+};
+use item_shards::Opened;
+use log_opening::{Refused, add_rows};
 use part_log::{Log, Teller};
 use phase_floor::Joined;
 use std::alloc::Global;
@@ -27,17 +33,12 @@ use std::sync::Wait;
 use std::thread::Threads;
 use worker_journals::{History, Script};
 
-/// Where the run of a part begins: at the opening book, or at what the part before left.
-#[derive(Drop)]
-pub enum RunStart {
-    Book(OpeningBook),
-    State(Joined),
-}
-
-/// How far an input is served: where its next part begins, and what went before.
+/// How far an input is served: the auction, how many rows were added to it, and what went before
+/// its next part.
 #[derive(Drop)]
 pub struct Served {
-    pub start: RunStart,
+    pub auction: Joined,
+    pub rows: u64,
     pub before: Before,
 }
 
@@ -45,7 +46,35 @@ pub struct Served {
 #[derive(Drop)]
 pub struct NextPart {
     pub served: Served,
-    pub scripts: Vec<Script>,
+    pub input: CompactInput,
+}
+
+/// What a part commits: the rows that it adds, and then the history of its requests.
+#[derive(Drop)]
+pub struct Committed {
+    pub rows: Vec<Row>,
+    pub history: History,
+}
+
+// Adds rows to an auction, behind so many others of its input, and gives them.
+fn add_part(
+    alloc: Global,
+    auction: &mut Joined,
+    asked: &[Opened],
+    before: u64,
+) -> Result<Vec<Row>, Fault>
+    requires start { (book : Book) × IsStartOf auction.old book }
+    requires counted { before + length asked.now < 2 ^ 64 }
+    ensures adds { IfOk result (λ added. (book : Book) → IsStartOf auction.old book →
+        HasAdded auction.old auction.new book asked.now added.items) }
+    ensures same { IsSameAuction auction.old auction.new }
+    ensures refused { IfErr result (λ fault. (book : Book) → IsStartOf auction.old book →
+        IsFirstNotAdded auction.old book asked.now before fault) }
+{
+    match add_rows(alloc, auction, asked) {
+        Ok(added) => Ok(added),
+        Err(Refused { place, fault }) => Err(Fault::Row(before + place as u64 + 1, fault)),
+    }
 }
 
 // The fault of a run that stopped.
@@ -61,34 +90,31 @@ fn fault_of(stopped: Stopped) -> RunFault
 fn run_part<R: Threads + Wait + Sync>(
     rt: &R,
     alloc: Global,
-    start: RunStart,
+    auction: Joined,
     scripts: Vec<Script>,
     options: &Options,
 ) -> Result<Outcome, RunFault>
-    ensures answers { IfOk result (λ outcome. (book : Book) → StartsAt options.now start book →
+    ensures answers { IfOk result (λ outcome. (book : Book) →
+        BeginsAt options.now auction scripts.items book →
         AnswersScripts options.now book scripts.items outcome) }
-    ensures left { IfOk result (λ outcome. (book : Book) → StartsAt options.now start book →
-        StartsAt options.now (RunStart.State outcome.state)
+    ensures left { IfOk result (λ outcome. (book : Book) →
+        BeginsAt options.now auction scripts.items book → IsBookOf outcome.state
         (book_after (opening_asked options.now) book outcome.history.entries)) }
     ensures fits { IfOk result (λ outcome. (book : Book) →
-        BeginsAt options.now start scripts.items book → FitsOptions options.now outcome.state) }
+        BeginsAt options.now auction scripts.items book → FitsOptions options.now outcome.state) }
+    ensures has { IfOk result (λ outcome. HasBook auction → HasBook outcome.state) }
     ensures refused { IfErr result (λ fault. (book : Book) →
-        BeginsAt options.now start scripts.items book →
-        IsNotRun (policy_of options.now) fault book scripts.items) }
+        BeginsAt options.now auction scripts.items book →
+        IsNotRunOn options.now fault book scripts.items) }
 {
-    let policy = options.policy();
-    match start {
-        RunStart::Book(book) => run_compact(rt, alloc, &book, scripts, policy, &FreeGate),
-        RunStart::State(state) => match run_compact_on(
-            rt, alloc, state, scripts, policy, &FreeGate,
-        ) {
-            Ok(outcome) => Ok(outcome),
-            Err(stopped) => Err(fault_of(stopped)),
-        },
+    match run_compact_on(rt, alloc, auction, scripts, options.policy(), &FreeGate) {
+        Ok(outcome) => Ok(outcome),
+        Err(stopped) => Err(fault_of(stopped)),
     }
 }
 
-/// Performs a part, logs its rows, and then writes what is asked for of it.
+/// Adds the rows of a part, performs its scripts, logs all rows that this adds, and then writes
+/// what is asked for of it.
 pub fn serve_part<R: Threads + Wait + Sync, L: Log, W: Write>(
     rt: &R,
     alloc: Global,
@@ -96,80 +122,70 @@ pub fn serve_part<R: Threads + Wait + Sync, L: Log, W: Write>(
     part: NextPart,
     options: &Options,
 ) -> Result<Served, Fault>
-    ensures serves { IfOk result (λ served.
-        (book : Book) → StartsAt options.now part.served.start book →
-        ServesPart options.now book (gone_by part.served.before) part.scripts.items served
+    requires { HasBook part.served.auction }
+    ensures serves { IfOk result (λ served. (book : Book) →
+        BeginsAt options.now part.served.auction part.input.scripts.items book →
+        ServesPart options.now book (gone_by part.served.before) (asked_of part.input) served
         (AreTold L.accepted W.contents teller.old teller.new)) }
-    ensures first { (book : Book) → StartsAt options.now part.served.start book →
-        RunsPart options.now book (gone_by part.served.before) part.scripts.items
-        (ArePartTold L.accepted W.contents teller.old teller.new)
-        ⊎ IsNothingTold L.accepted W.contents teller.old teller.new }
-    ensures fits { IfOk result (λ served. (book : Book) →
-        BeginsAt options.now part.served.start part.scripts.items book →
-        FitsAt options.now served.start) }
-    ensures fault { IfErr result IsPastReading }
+    ensures rows { IfOk result (λ served.
+        served.rows ≡ part.served.rows + length part.input.rows.items) }
+    ensures has { IfOk result (λ served. HasBook served.auction) }
     ensures cause { IfErr result (λ fault. (book : Book) →
-        BeginsAt options.now part.served.start part.scripts.items book →
+        BeginsAt options.now part.served.auction part.input.scripts.items book →
         IsPartFault L.accepted W.contents teller.old teller.new options.now book
-        (gone_by part.served.before) part.scripts.items fault) }
+        (gone_by part.served.before) part.served.rows (asked_of part.input) fault) }
 {
-    let NextPart { served, scripts } = part;
-    let Served { start, before } = served;
-    let Some(next) = before.with_scripts(scripts.as_slice()) else {
+    let NextPart { served, input } = part;
+    let Served {
+        auction,
+        rows,
+        before,
+    } = served;
+    let Some(rows_read) = rows.checked_add(input.rows.len() as u64) else {
         return Err(Fault::Run(RunFault::NumberFull));
     };
-    let outcome = run_part(rt, alloc, start, scripts, options)?;
+    let Some(next) = before.with_scripts(input.scripts.as_slice()) else {
+        return Err(Fault::Run(RunFault::NumberFull));
+    };
+    // Rows are counted among the rows of their workers, not among their requests.
+    let mut auction = auction.for_next_run();
+    let added = add_part(alloc, &mut auction, input.rows.as_slice(), rows)?;
+    let outcome = run_part(rt, alloc, auction, input.scripts, options)?;
     let Some(next) = next.with_phases(outcome.hot.len()) else {
         return Err(Fault::Run(RunFault::NumberFull));
     };
-    tell_part(alloc, teller, options, &before, &outcome.history)?;
+    let committed = Committed {
+        rows: added,
+        history: outcome.history,
+    };
+    tell_part(alloc, teller, options, &before, &committed)?;
     Ok(Served {
-        start: RunStart::State(outcome.state),
+        auction: outcome.state,
+        rows: rows_read,
         before: next,
     })
 }
 
-// The text of rows, and of those that a history adds.
-fn text_of_rows(alloc: Global, rows: &[Row], history: &History) -> Result<Vec<u8>, Fault>
-    ensures text { IfOk result (λ text. text.items ≡ rows_text rows.now history.now.entries) }
-    ensures fault { IfErr result IsPastReading }
+// The text of the rows that a part adds, for a log that keeps it: of one that keeps nothing no
+// bytes are known.
+fn logged_text<L: Log>(alloc: Global, log: &L, committed: &Committed) -> Result<Vec<u8>, Fault>
+    ensures text { IfOk result (λ text. IfSome (L.accepted log.now) (λ _.
+        text.items ≡ rows_text committed.now.rows.items committed.now.history.entries)) }
     ensures memory { IfErr result (λ fault. fault ≡ Fault.Write WriteFault.Memory) }
 {
     let mut text = Vec::new(alloc);
-    let Ok(()) = write_rows(alloc, &mut text, rows, history) else {
-        return Err(Fault::Write(WriteFault::Memory));
-    };
-    Ok(text)
-}
-
-// The same, for a log that keeps it: of one that keeps nothing no bytes are known.
-fn logged_text<L: Log>(
-    alloc: Global,
-    log: &L,
-    rows: &[Row],
-    history: &History,
-) -> Result<Vec<u8>, Fault>
-    ensures text { IfOk result (λ text. IfSome (L.accepted log.now) (λ _.
-        text.items ≡ rows_text rows.now history.now.entries)) }
-    ensures fault { IfErr result IsPastReading }
-    ensures memory { IfErr result (λ fault. fault ≡ Fault.Write WriteFault.Memory) }
-{
     if !log.keeps() {
-        return Ok(Vec::new(alloc));
+        return Ok(text);
     }
-    text_of_rows(alloc, rows, history)
-}
-
-// The opening rows, if the options ask for rows.
-fn opening_text(alloc: Global, rows: &[Row], options: &Options) -> Result<Vec<u8>, Fault>
-    ensures text { IfOk result (λ text. text.items ≡ opening_text options.now rows.now) }
-    ensures fault { IfErr result IsPastReading }
-    ensures memory { IfErr result (λ fault. fault ≡ Fault.Write WriteFault.Memory) }
-{
-    if !options.rows {
-        return Ok(Vec::new(alloc));
+    match write_rows(
+        alloc,
+        &mut text,
+        committed.rows.as_slice(),
+        &committed.history,
+    ) {
+        Ok(()) => Ok(text),
+        Err(_) => Err(Fault::Write(WriteFault::Memory)),
     }
-    text_of_rows(alloc, rows, &History::new(alloc))
 }
 
 // Writes what the options ask for of a part.
@@ -178,13 +194,14 @@ fn write_part<W: Write>(
     writer: &mut W,
     options: &Options,
     before: &Before,
-    history: &History,
+    committed: &Committed,
 ) -> Result<(), WriteFault>
-    ensures { WritesText W.contents writer.old writer.new
-        (part_text options.now (gone_by before.now) history.now.entries) result }
+    ensures { WritesText W.contents writer.old writer.new (part_text options.now
+        (gone_by before.now) committed.now.rows.items committed.now.history.entries) result }
 {
+    let Committed { rows, history } = committed;
     if options.rows {
-        write_rows(alloc, writer, &[], history)
+        write_rows(alloc, writer, rows.as_slice(), history)
     } else if options.history {
         write_history_on(writer, history, before)
     } else {
@@ -197,65 +214,35 @@ fn part_text(
     alloc: Global,
     options: &Options,
     before: &Before,
-    history: &History,
+    committed: &Committed,
 ) -> Result<Vec<u8>, Fault>
-    ensures text { IfOk result (λ text.
-        text.items ≡ part_text options.now (gone_by before.now) history.now.entries) }
-    ensures fault { IfErr result IsPastReading }
+    ensures text { IfOk result (λ text. text.items ≡ part_text options.now (gone_by before.now)
+        committed.now.rows.items committed.now.history.entries) }
     ensures memory { IfErr result (λ fault. fault ≡ Fault.Write WriteFault.Memory) }
 {
     let mut text = Vec::new(alloc);
-    let Ok(()) = write_part(alloc, &mut text, options, before, history) else {
-        return Err(Fault::Write(WriteFault::Memory));
-    };
-    Ok(text)
+    match write_part(alloc, &mut text, options, before, committed) {
+        Ok(()) => Ok(text),
+        Err(_) => Err(Fault::Write(WriteFault::Memory)),
+    }
 }
 
-/// Logs the opening rows that the log has not, which are all but the first so many, and then writes
-/// all, if the options ask for rows.
-pub fn tell_opening<L: Log, W: Write>(
-    alloc: Global,
-    teller: &mut Teller<L, W>,
-    rows: &[Row],
-    known: usize,
-    options: &Options,
-) -> Result<(), Fault>
-    ensures told { OnOk result (AreTold L.accepted W.contents teller.old teller.new
-        (unlogged_rows known rows.now) (opening_text options.now rows.now)) }
-    ensures part { ArePartTold L.accepted W.contents teller.old teller.new
-        (unlogged_rows known rows.now) (opening_text options.now rows.now)
-        ⊎ IsNothingTold L.accepted W.contents teller.old teller.new }
-    ensures fault { IfErr result IsPastReading }
-    ensures so_far { IfErr result (λ fault. AreToldAt L.accepted W.contents teller.old teller.new
-        fault (unlogged_rows known rows.now) (opening_text options.now rows.now)) }
-{
-    let added = &rows[known.min(rows.len())..];
-    let logged = logged_text(alloc, &teller.log, added, &History::new(alloc))?;
-    let text = opening_text(alloc, rows, options)?;
-    teller.tell(logged.as_slice(), text.as_slice())?;
-    Ok(())
-}
-
-/// Logs the rows of a part, and then writes what the options ask for of it.
+/// Logs the rows that a part adds, and then writes what the options ask for of it.
 pub fn tell_part<L: Log, W: Write>(
     alloc: Global,
     teller: &mut Teller<L, W>,
     options: &Options,
     before: &Before,
-    history: &History,
+    committed: &Committed,
 ) -> Result<(), Fault>
-    ensures told { OnOk result (OfPart options.now (gone_by before.now) history.now.entries
-        (AreTold L.accepted W.contents teller.old teller.new)) }
-    ensures part { OfPart options.now (gone_by before.now) history.now.entries
-        (ArePartTold L.accepted W.contents teller.old teller.new)
-        ⊎ IsNothingTold L.accepted W.contents teller.old teller.new }
-    ensures fault { IfErr result IsPastReading }
-    ensures so_far { IfErr result (λ fault.
-        OfPart options.now (gone_by before.now) history.now.entries
+    ensures told { OnOk result (OfPart options.now (gone_by before.now) committed.now.rows.items
+        committed.now.history.entries (AreTold L.accepted W.contents teller.old teller.new)) }
+    ensures so_far { IfErr result (λ fault. OfPart options.now (gone_by before.now)
+        committed.now.rows.items committed.now.history.entries
         (AreToldAt L.accepted W.contents teller.old teller.new fault)) }
 {
-    let rows = logged_text(alloc, &teller.log, &[], history)?;
-    let text = part_text(alloc, options, before, history)?;
+    let rows = logged_text(alloc, &teller.log, committed)?;
+    let text = part_text(alloc, options, before, committed)?;
     teller.tell(rows.as_slice(), text.as_slice())?;
     Ok(())
 }

@@ -3,6 +3,7 @@ use Rattle.std.proofs.Common.{◌≡◌, List, refl, subst, sym}
 use Rattle.std.specs.Prelude.{◌↔◌, Result, Ok, Err, IsErrAnd, IsErrOf, IfErr, IfOk, OnOk}
 use Rattle.std.proofs.lemmas.Result.{IfOk-weaker}
 use Rattle.auction_rows.specs.declared.limits.Policy.{Policy}
+use Rattle.auction_rows.specs.declared.limits.TheConstants.{MOST_OF_A_WORKER}
 use Rattle.auction_rows.specs.declared.requests.Request.{Request}
 use Rattle.auction_rows.specs.declared.values.Opening.{Opening}
 use Rattle.auction_rows.specs.Book.{Book}
@@ -78,12 +79,14 @@ module _ (opening : Opening) (rows : Book) (policy : Policy) (scripts : List (Li
   told_met (Err other) met fault told = let same : other ≡ fault = cc told in subst (IsMet scripts) same met
 
   -- a run of what was checked gives an outcome, or met a fault in a phase
-  pub answered : IsBook opening rows → all → (result : Result Outcome RunFault) → IfOk result (IsOutcome opening rows policy scripts) → IfErr result (IsMet scripts) →
+  pub answered : IsBook opening rows → all → (result : Result Outcome RunFault) → IfOk result (IsOutcome opening rows policy scripts) →
+      IfOk result (λ outcome. outcome.state.limit ≡ MOST_OF_A_WORKER) → IfErr result (IsMet scripts) →
       AnswersRun opening rows policy scripts result
-  answered is_book have result is met = record {
+  answered is_book have result is limit met = record {
     outcome = is;
     left = IfOk-weaker result (IsOutcome opening rows policy scripts) (λ outcome. IsBookOf outcome.state (book_after opening rows outcome.history.entries))
         (left_book opening rows policy scripts is_book have.0.own) is;
+    limit = limit;
     refused = record {
       ready = on_ok result have;
       workers = neither (told_met result met Workers) (λ no. no have.0);
@@ -97,7 +100,7 @@ module _ (opening : Opening) (rows : Book) (policy : Policy) (scripts : List (Li
   -- or no memory was left before the first
   pub answered_memory : IsBook opening rows → all → (result : Result Outcome RunFault) → IsErrAnd result (λ fault. fault ≡ Memory) → AnswersRun opening rows policy scripts result
   answered_memory is_book have (Ok outcome) is = absurd is
-  answered_memory is_book have (Err fault) is = answered is_book have (Err fault) tt (subst (IsMet scripts) (sym is) tt)
+  answered_memory is_book have (Err fault) is = answered is_book have (Err fault) tt tt (subst (IsMet scripts) (sym is) tt)
 
   -- what is checked refuses a run
   pub answered_first : (result : Result Outcome RunFault) (fault : RunFault) → IsErrAnd result (λ other. other ≡ fault) → first fault → AnswersRun opening rows policy scripts result
@@ -107,6 +110,7 @@ module _ (opening : Opening) (rows : Book) (policy : Policy) (scripts : List (Li
       record {
         outcome = tt;
         left = tt;
+        limit = tt;
         refused = refused_first other own;
         spawn = λ told. let same : other ≡ Spawn = cc told in absurd (subst first same own);
       }
@@ -126,7 +130,7 @@ module _ (opening : Opening) (rows : Book) (policy : Policy) (scripts : List (Li
 pub answered_stopped : (state : JoinedState) (policy : Policy) (scripts : List (List Request)) (result : Result Outcome Stopped) (why : Stopped) → IsErrAnd result (λ stopped. stopped ≡ why) →
     IsStopped state policy scripts why → AnswersNextRun state policy scripts result
 answered_stopped state policy scripts (Ok outcome) why is so = absurd is
-answered_stopped state policy scripts (Err stopped) why is so = record { ready = tt; outcome = tt; left = tt; stopped = subst (IsStopped state policy scripts) (sym is) so }
+answered_stopped state policy scripts (Err stopped) why is so = record { ready = tt; outcome = tt; left = tt; limit = tt; stopped = subst (IsStopped state policy scripts) (sym is) so }
 
 -- a run that goes on from what was checked gives no state back
 pub not_given_back : (state : JoinedState) (policy : Policy) (scripts : List (List Request)) → IsReadyFor state policy scripts → (result : Result Outcome Stopped) →

@@ -37,7 +37,7 @@ use Rattle.run_laws.proofs.StepLemmas.{run_begins}
 use Rattle.auction_run.specs.declared.checks.RunFault.{RunFault}
 use Rattle.auction_run.specs.declared.checks.RunFault.TheVariants.{Memory}
 use Rattle.auction_run.specs.declared.phase.Running.{Running}
-use Rattle.auction_run.specs.Beginning.{AreShort}
+use Rattle.auction_run.specs.Beginning.{AreShort, AreShortFor}
 use Rattle.auction_run.specs.Boards.{CanShow, HasShownAfter, IsUpToDate, phase_rows}
 use Rattle.auction_run.specs.Outcomes.{HasShownFirstAfter}
 use Rattle.auction_run.specs.Phases.{hot_sets, waiting_in}
@@ -138,7 +138,7 @@ rows_length zero history = refl
 rows_length (suc n) history = omega (arith, length-append (phase_rows n history) (rows_of (segment_of n history) ∷ []), rows_length n history)
 
 module _ (opening : Opening) (rows : Book) (is_book : IsBook opening rows) (policy : Policy) (scripts : List (List Request)) (workers : length scripts ≤ 16)
-    (own : All (λ row. worker_of row < length scripts) rows) (short : AreShort rows scripts)
+    (own : All (λ row. worker_of row < length scripts) rows)
     (p : ℕ) (next : Running) (run : IsRunning opening rows policy scripts (suc p) next) where
   abbrev commit : ℕ × Request → ℕ
   commit = commit_phase policy (hot_sets next.hot.items)
@@ -164,8 +164,8 @@ module _ (opening : Opening) (rows : Book) (is_book : IsBook opening rows) (poli
   abbrev all_workers : List ℕ
   all_workers = map worker_of rows ++ map (λ e. e.worker) history
 
-  each : (w : ℕ) → w < length scripts → how_many (λ m. m == w) all_workers ≤ 1000000
-  each w below =
+  each : AreShort rows scripts → (w : ℕ) → w < length scripts → how_many (λ m. m == w) all_workers ≤ 1000000
+  each short w below =
       let both = count-append (λ m. m == w) (map worker_of rows) (map (λ e. e.worker) history) in
       let first : how_many (λ m. m == w) (map worker_of rows) ≡ rows_by rows w = count-map worker_of (λ m. m == w) rows ∙ how_many-is (λ row. worker_of row == w) rows in
       let second : how_many (λ m. m == w) (map (λ e. e.worker) history) ≡ length (calls_of w history) =
@@ -181,10 +181,10 @@ module _ (opening : Opening) (rows : Book) (is_book : IsBook opening rows) (poli
       onto f [] h = tt
       onto f (x ∷ xs) h = (h.0, onto f xs h.1)
 
-  few : length rows + length (rows_of history) ≤ 16000000
-  few =
+  few : AreShort rows scripts → length rows + length (rows_of history) ≤ 16000000
+  few short =
       let counted = all_counted (length scripts) all_workers all_below in
-      let most = total_at_most (length scripts) all_workers each in
+      let most = total_at_most (length scripts) all_workers (each short) in
       let long = length-append (map worker_of rows) (map (λ e. e.worker) history) in
       omega (arith, counted, most, long, length-map rows worker_of, length-map history (λ e. e.worker), rows_few history, workers)
 
@@ -202,8 +202,8 @@ module _ (opening : Opening) (rows : Book) (is_book : IsBook opening rows) (poli
     now = of_phase p history es (sym last)
 
     -- the rows of the last phase follow those of the phases before it
-    can_follow : CanFollow opening (rows ++ rows_of old) (rows_of es)
-    can_follow = record {
+    can_follow : AreShort rows scripts → CanFollow opening (rows ++ rows_of old) (rows_of es)
+    can_follow short = record {
       is_book = subst (IsBook opening) (ap (λ rs. rows ++ rs) rows_now ∙ sym (append_assoc rows (rows_of old) (rows_of es)))
           (longer_book opening rows (rows_of history) is_book (rows_go_on opening rows history run.replayed.replays));
       workers = All-from_recursion (λ row. worker_of row < 16) (rows_of es)
@@ -211,7 +211,7 @@ module _ (opening : Opening) (rows : Book) (is_book : IsBook opening rows) (poli
           (subst (AllByRecursion (λ row. worker_of row < 16)) rows_now
           (rows_workers (λ w. w < 16) opening rows history run.replayed.replays
           (all-weaker (λ e. e.worker < length scripts) (λ e. e.worker < 16) (λ e below. omega (arith, below, workers)) history known))));
-      few = omega (arith, few, length-append rows (rows_of old), ap length rows_now, length-append (rows_of old) (rows_of es));
+      few = omega (arith, few short, length-append rows (rows_of old), ap length rows_now, length-append (rows_of old) (rows_of es));
     }
 
     one_phase_more : phase_rows (suc p) history ≡ phase_rows p old ++ rows_of es ∷ []
@@ -225,14 +225,14 @@ module _ (opening : Opening) (rows : Book) (is_book : IsBook opening rows) (poli
       all_now : before ++ phase_rows (suc p) history ≡ (before ++ phase_rows p old) ++ rows_of es ∷ []
       all_now = ap (λ phases. before ++ phases) one_phase_more ∙ sym (append_assoc before (phase_rows p old) (rows_of es ∷ []))
 
-      -- a board that has the phases before can be given the last one
-      pub can_show : CanShow has board (rows_of es)
-      can_show = record {
+      -- a board that has the phases before can be given the last one, if there are few rows
+      pub can_show : (limit : ℕ) → limit ≤ 1000000 → AreShortFor limit rows scripts → CanShow has board (rows_of es)
+      can_show limit low short = record {
         opening = opening;
         rows = first;
         phases = before ++ phase_rows p old;
         has_them = shown.has_them;
-        follow = subst (λ book. CanFollow opening book (rows_of es)) (sym book_now) can_follow;
+        follow = subst (λ book. CanFollow opening book (rows_of es)) (sym book_now) (can_follow (λ w below. omega (arith, low, (short w below).1)));
       }
 
       -- and then has all phases
@@ -325,10 +325,11 @@ module _ {B : Type 0} (has has_refused : B → Opening → Book → List (List R
 -- a board that has all phases of a run is up to date with the state that it left
 pub up_to_date : {B : Type 0} (has : B → Opening → Book → List (List Row) → Type 0) (opening : Opening) (rows : Book) (before : List (List Row)) (phase : ℕ) (history : List Entry) (board : B)
     (state : JoinedState) → HasShownAfter has opening rows before phase history board → ReplaysFrom opening (book_of rows before) history →
-    state.opening ≡ opening → IsBookOf state (book_after opening (book_of rows before) history) → IsUpToDate has board state
-up_to_date has opening rows before phase history board state shown replays same book = record {
+    state.opening ≡ opening → state.limit ≤ 1000000 → IsBookOf state (book_after opening (book_of rows before) history) → IsUpToDate has board state
+up_to_date has opening rows before phase history board state shown replays same few book = record {
   rows = rows;
   phases = before ++ phase_rows phase history;
   has_them = subst (λ o. has board o rows (before ++ phase_rows phase history)) (sym same) shown.has_them;
   book = subst (IsBookOf state) (book_after-replays opening (book_of rows before) history replays ∙ sym shown.book_is) book;
+  few = few;
 }

@@ -25,7 +25,7 @@ use Rattle.run_laws.specs.Serving.{script_of}
 use Rattle.run_laws.proofs.ScriptLemmas.{past_end}
 use Rattle.auction_run.specs.declared.runs.Outcome.{Outcome}
 use Rattle.auction_run.specs.declared.phase.Running.{Running}
-use Rattle.auction_run.specs.Beginning.{AreShort, HaveWorkers}
+use Rattle.auction_run.specs.Beginning.{AreShort, AreShortFor, HaveWorkers}
 use Rattle.auction_run.specs.GoingOn.{BeginsWith, CannotBegin, IsReadyFor}
 use Rattle.auction_run.specs.Outcomes.{IsOutcome}
 use Rattle.auction_run.specs.Running.{IsRunning, CanGoOn}
@@ -64,7 +64,7 @@ begins_next state rows policy scripts of few ready stands =
       is_book = of.is_book;
       few = few;
       own = subst (λ n. All (λ row. worker_of row < n) rows) (sym has) of.own;
-      short = λ w known. let is = stored state rows of.stands w (omega (arith, known, has)) in omega (arith, ready.1.1.1 w known, is);
+      short = λ w known. let is = stored state rows of.stands w (omega (arith, known, has)) in let both = ready.1.1.1 w known in (both.0, omega (arith, both.1, is));
       stands = stands;
       phase_is = refl;
       shards_are = sym ready.1.0;
@@ -82,14 +82,14 @@ begins_of state new rows policy checked scripts of same few ready is stands =
 
 -- a run begins with the state that an opening book leaves
 pub begins_resumed : (opening : Opening) (rows : Book) (policy : Policy) (scripts : List (List Request)) (state : JoinedState) (workers : ℕ) →
-    state.opening ≡ opening → state.phase ≡ 0 → length state.shards ≡ policy.shards → length state.counters ≡ workers → length scripts ≡ workers →
+    state.opening ≡ opening → state.limit ≡ 1000000 → state.phase ≡ 0 → length state.shards ≡ policy.shards → length state.counters ≡ workers → length scripts ≡ workers →
     ((w : ℕ) → w < workers → counters_at state.counters w ≡ counters_in rows w) → StandsFor state rows →
     IsBook opening rows → HaveWorkers rows scripts → AreShort rows scripts → BeginsWith state rows policy scripts
-begins_resumed opening rows policy scripts state workers opening_is phase shards many as_many counters stands is_book have short = record {
+begins_resumed opening rows policy scripts state workers opening_is limit phase shards many as_many counters stands is_book have short = record {
   is_book = subst (λ o. IsBook o rows) (sym opening_is) is_book;
   few = have.few;
   own = have.own;
-  short = short;
+  short = λ w known. let both = short w known in (omega (arith, both), omega (arith, both, limit));
   stands = stands;
   phase_is = phase;
   shards_are = shards;
@@ -108,10 +108,11 @@ module _ (state : JoinedState) (policy : Policy) (scripts : List (List Request))
   stashes_now = same (length running.stashes.items) (length scripts) (λ never. begins (λ rows from. never (runs rows from).stashes_are))
 
   pub few_phases_now : 0 < policy.joined_quota + policy.split_quota → p ≤ 2000002
-  few_phases_now some = at_most p 2000002 (λ never. begins (λ rows from. never (few_phases_so_far state.opening rows policy some scripts from.short p running (runs rows from))))
+  few_phases_now some = at_most p 2000002 (λ never. begins (λ rows from. never (few_phases_so_far state.opening rows policy some scripts state.limit from.short p running (runs rows from))))
 
-  pub still_goes_on : {own_policy : Policy} → own_policy ≡ policy → {own_scripts : List (List Request)} → own_scripts ≡ scripts → ¬ ¬ CanGoOn own_policy own_scripts running
-  still_goes_on same_policy same_scripts = λ never. begins (λ rows from. never (goes_on from.is_book same_policy same_scripts from.short (runs rows from)))
+  pub still_goes_on : running.state.limit ≡ state.limit → {own_policy : Policy} → own_policy ≡ policy → {own_scripts : List (List Request)} → own_scripts ≡ scripts → ¬ ¬ CanGoOn own_policy own_scripts running
+  still_goes_on lasts same_policy same_scripts = λ never. begins (λ rows from.
+      never (goes_on from.is_book same_policy same_scripts (subst (λ limit. AreShortFor limit rows scripts) (sym lasts) from.short) (runs rows from)))
 
 -- ---- what a run leaves
 

@@ -80,7 +80,7 @@ only_memory TooLong known short = absurd (short refl)
 only_memory Memory known short = refl
 
 pub not_too_long : {policy : Policy} {scripts : List (List Request)} {state : JoinedState} {stashes : List StashState} {hot : List Object} (may : MayPerform policy scripts state stashes hot) (handed : List StashState) (quotas : List ℕ) →
-    ((w : ℕ) → (stash_at handed w).requests ≡ waiting_in stashes w) → ((w : ℕ) → w < length scripts → slice_index quotas w ≡ quota_of policy state.phase (script_of scripts w)) → IsTooLong state.counters handed quotas → ⊥
+    ((w : ℕ) → (stash_at handed w).requests ≡ waiting_in stashes w) → ((w : ℕ) → w < length scripts → slice_index quotas w ≡ quota_of policy state.phase (script_of scripts w)) → IsTooLong state.limit state.counters handed quotas → ⊥
 not_too_long may handed quotas handed_is are long =
     let room = may.room long.0 long.1 in
     let same = are long.0 (omega (arith, long.1, may.scripts_are)) in
@@ -163,6 +163,7 @@ pub begun_split : {policy : Policy} {scripts : List (List Request)} {state : Joi
     MayPerform policy scripts state stashes hot → is_split state.phase ≡ true → HasBegunPhase policy scripts state [] hot floor permits → HasBegunPhase policy scripts state stashes hot floor permits
 begun_split may split begun = record {
   opening_is = begun.opening_is;
+  limit_is = begun.limit_is;
   phase_is = begun.phase_is;
   counters_are = begun.counters_are;
   hot_are = begun.hot_are;
@@ -213,13 +214,12 @@ module _ {policy : Policy} {scripts : List (List Request)} {state : JoinedState}
       let left = left_is w less in
       let waits : length (stashed (receipt_at permits w)) ≡ length (waiting_in stashes w) = ap length (stash_is w less) in
       let tries : (receipt_at permits w).tries ≡ 0 = ap (λ (p : WorkerState). p.tries) (begins w less).new in
-      let few = may.room w (omega (arith, less, may.scripts_are)) in
       let fits = within (cond (is_split state.phase) policy.split_quota policy.joined_quota) (length (script_of scripts w)) (first_index policy state.phase) first first_is in record {
         boxes_are = (begins w less).key.boxes_are;
         opening_is = subst (HaveOpening initial) (sym (ap (λ (p : WorkerState). p.opening) (begins w less).new)) have;
         short = may.short w;
         given = subst (λ n. n ≤ length (script_of scripts w) - first) (sym left) fits;
-        tries = omega (arith, left, waits, tries, few);
+        tries = omega (arith, left, waits, tries, fits, may.short w, may.waits w);
       })
 
   -- the permits are those of the workers of a phase that has this number
@@ -247,6 +247,7 @@ module _ {policy : Policy} {scripts : List (List Request)} {state : JoinedState}
             phase_is = journal_phase w less;
             stocks_are = (same w less).stocks ∙ ap (λ (p : WorkerState). stocks_of p.slices) (begins w less).new ∙ stocks_back floor.stocks;
             begun = (same w less).begun ∙ ap (λ (p : WorkerState). p.begun) (begins w less).new;
+            fits = omega (arith, (begins w less).fits, (same w less).room, ap (λ (p : WorkerState). p.journal.room) (begins w less).new);
           },
     )
 
@@ -367,6 +368,7 @@ module _ {policy : Policy} {scripts : List (List Request)} {state : JoinedState}
               );
           phase_is = let one_more : floor.phase + 1 ≡ suc floor.phase = omega arith in left.phase_is ∙ one_more ∙ ap suc begun.phase_is;
           opening_is = left.opening_is ∙ begun.opening_is;
+          limit_is = left.limit_is ∙ begun.limit_is;
           shards_are = sym (length-map next.shards state_of) ∙ law.left ∙ sym (ap length named) ∙ length-map state.shards state_of;
           workers_are = ap length left.counters_are ∙ length-map receipts counters_of ∙ count ∙ begun.new.0 ∙ ap length begun.counters_are;
           stashes_are = ap length left.stashes_are ∙ length-map receipts stash_of ∙ count ∙ begun.new.0 ∙ ap length begun.counters_are;

@@ -1,5 +1,5 @@
 -- Where a run begins, one phase more, and its end.
-use Rattle.std.proofs.Common.{◌≡◌, ℕ, zero, suc, ◌+◌, ◌-◌, ◌<◌, ◌≤◌, ◌^◌, ◌⊎◌, not, min, true, false, cond, List, [], ◌∷◌, ◌++◌, length, drop, refl, subst, sym, ap, ◌∙◌, inl, inr, arith}
+use Rattle.std.proofs.Common.{◌≡◌, Bool, ℕ, zero, suc, ◌+◌, ◌-◌, ◌<◌, ◌≤◌, ◌^◌, ◌⊎◌, not, min, true, false, cond, List, [], ◌∷◌, ◌++◌, length, drop, refl, subst, sym, ap, ◌∙◌, inl, inr, arith}
 use Rattle.std.specs.List.{filter}
 use Rattle.std.proofs.lemmas.Bool.{cases_Bool, cases_lt, false≢true}
 use Rattle.std.proofs.Math.Seq.{drop-append_seam}
@@ -19,19 +19,20 @@ use Rattle.phase_floor.specs.States.{states_of, StandsFor, DoAllExist}
 use Rattle.run_laws.specs.Phases.{is_split, quota}
 use Rattle.run_laws.proofs.QuotaLemmas.{given_length}
 use Rattle.run_laws.proofs.ReachLemmas.{first_next, split_then_joined}
-use Rattle.run_laws.proofs.TurnLemmas.{waiting_none}
+use Rattle.run_laws.proofs.TurnLemmas.{length-numbered, waiting_none}
 use Rattle.worker_journals.specs.Merged.{added, merged}
 use Rattle.auction_rows.specs.declared.limits.Policy.{Policy}
 use Rattle.run_laws.specs.Books.{HasReplayed, ReplaysOn}
 use Rattle.run_laws.specs.Run.{first_index, calls_of, calls_given, HasRun, IsPhasePerformed, HasLeft, AreChosen}
 use Rattle.run_laws.specs.Serving.{script_of, segment_of, hot_in, phase_reached, AreNumbered}
+use Rattle.run_laws.specs.Turns.{numbered}
 use Rattle.run_laws.proofs.BookLemmas.{phase_replayed}
 use Rattle.run_laws.proofs.ClosedLemmas.{none_chosen, none_numbered, phase_chosen, phase_numbered, segment_now}
 use Rattle.run_laws.proofs.EndLemmas.{run_serves, few_phases}
 use Rattle.run_laws.proofs.StepLemmas.{run_begins, phase_runs}
 use Rattle.run_laws.proofs.ScriptLemmas.{past_end}
 use Rattle.auction_run.specs.declared.phase.Running.{Running}
-use Rattle.auction_run.specs.Beginning.{HasQuotas, AreShort}
+use Rattle.auction_run.specs.Beginning.{HasQuotas, AreShortFor}
 use Rattle.auction_run.specs.Closed.{HasClosedPhase}
 use Rattle.auction_run.specs.Outcomes.{IsOutcome}
 use Rattle.auction_run.specs.Phases.{hot_sets, waiting_in, quota_of, MayPerform}
@@ -149,8 +150,8 @@ few_of is few = (omega (arith, is, few), omega (arith, is, few))
 
 -- a run goes on under the names that its plan has for the policy and the scripts
 pub goes_on : {opening : Opening} {rows : Book} → IsBook opening rows → {policy own_policy : Policy} → own_policy ≡ policy → {scripts own_scripts : List (List Request)} → own_scripts ≡ scripts →
-    AreShort rows scripts → {p : ℕ} {running : Running} → IsRunning opening rows policy scripts p running → CanGoOn own_policy own_scripts running
-goes_on {opening} {rows} is_book {policy} same_policy {scripts} {own_scripts} same_scripts short {p} {running} run =
+    {p : ℕ} {running : Running} → AreShortFor running.state.limit rows scripts → IsRunning opening rows policy scripts p running → CanGoOn own_policy own_scripts running
+goes_on {opening} {rows} is_book {policy} same_policy {scripts} {own_scripts} same_scripts {p} {running} short run =
     subst (λ po. CanGoOn po own_scripts running) (sym same_policy) (subst (λ sc. CanGoOn policy sc running) (sym same_scripts) (record {
       opening = opening;
       rows = rows;
@@ -159,11 +160,11 @@ goes_on {opening} {rows} is_book {policy} same_policy {scripts} {own_scripts} sa
       running_is = subst (λ n. IsRunning opening rows policy scripts n running) (sym run.phase_is) run;
     }))
 
-all_short : (rows : Book) (scripts : List (List Request)) → AreShort rows scripts → (worker : ℕ) → length (script_of scripts worker) ≤ 1000000
-all_short rows scripts short worker = go (cases_lt worker (length scripts))
+all_short : (limit : ℕ) (rows : Book) (scripts : List (List Request)) → AreShortFor limit rows scripts → (worker : ℕ) → length (script_of scripts worker) ≤ 1000000
+all_short limit rows scripts short worker = go (cases_lt worker (length scripts))
   where
     go : (worker < length scripts) ⊎ (length scripts ≤ worker) → length (script_of scripts worker) ≤ 1000000
-    go (inl known) = omega (arith, short worker known)
+    go (inl known) = (short worker known).0
     go (inr past) = let e : length (script_of scripts worker) ≡ 0 = ap length (past_end scripts worker past) in omega (arith, e)
 
 -- what was put off waits for a joined phase
@@ -177,8 +178,13 @@ nothing_waits policy scripts (suc p) hot history stashes run split worker =
     before (inl also) = absurd (false≢true (sym (split_then_joined p also) ∙ split))
     before (inr joined) = joined
 
-room_left : (commits waits rows first len part : ℕ) → commits + waits ≤ rows + min first len → rows + len ≤ 1000000 → commits + waits + min part (len - first) ≤ 1000000
-room_left commits waits rows first len part a b = omega (arith, a, b)
+-- no more waits than the script has
+few_wait : {R : Type 0} (p : ℕ × R → Bool) (script : List R) (calls : List (ℕ × R)) (most : ℕ) → calls ≡ filter p (numbered 0 script) → length script ≤ most → length calls ≤ most
+few_wait p script calls most are short =
+    let all = length-filter_both p (λ call. not (p call)) (λ call. refl) (numbered 0 script) in omega (arith, ap length are, all, length-numbered 0 script, short)
+
+room_left : (limit commits waits rows first len part : ℕ) → commits + waits ≤ rows + min first len → rows + len ≤ limit → commits + waits + min part (len - first) ≤ limit
+room_left limit commits waits rows first len part a b = omega (arith, a, b)
 
 module _ (policy : Policy) (scripts : List (List Request)) (running : Running) (shards : 0 < policy.shards) (on : CanGoOn policy scripts running)
     (counted : running.state.phase + 1 < 2 ^ 64) (hot_now : List Object)
@@ -203,11 +209,12 @@ module _ (policy : Policy) (scripts : List (List Request)) (running : Running) (
     scripts_are = sym run.workers_are;
     stashes_are = run.stashes_are ∙ sym run.workers_are;
     shards_are = run.shards_are;
-    short = all_short on.rows scripts on.short;
+    short = all_short running.state.limit on.rows scripts on.short;
+    waits = λ w. few_wait _ (script_of scripts w) (waiting_in running.stashes.items w) 1000000 (run.run.stashed w) (all_short running.state.limit on.rows scripts on.short w);
     room = λ w known. let own : w < length scripts = subst (λ n. w < n) run.workers_are known in
-        room_left (counters_at running.state.counters w).commits (length (waiting_in running.stashes.items w)) (rows_by on.rows w)
+        room_left running.state.limit (counters_at running.state.counters w).commits (length (waiting_in running.stashes.items w)) (rows_by on.rows w)
         (first_index policy running.state.phase) (length (script_of scripts w)) (cond (is_split running.state.phase) policy.split_quota policy.joined_quota)
-        (run.counted w own) (on.short w own);
+        (run.counted w own) (on.short w own).1;
     joined = not_chosen;
     exist = hot_exist;
     split = λ split. nothing_waits policy scripts running.state.phase (hot_sets running.hot.items) running.history.entries (waiting_in running.stashes.items) run.run split;
@@ -248,11 +255,11 @@ pub left_over : (policy : Policy) (scripts : List (List Request)) (p : ℕ) (run
 left_over policy scripts p running first worker is (inl more) = inl (omega (arith, is, more))
 left_over policy scripts p running first worker is (inr waits) = inr waits
 
-module _ (opening : Opening) (rows : Book) (policy : Policy) (some : 0 < policy.joined_quota + policy.split_quota) (scripts : List (List Request)) (short : AreShort rows scripts)
+module _ (opening : Opening) (rows : Book) (policy : Policy) (some : 0 < policy.joined_quota + policy.split_quota) (scripts : List (List Request)) (limit : ℕ) (short : AreShortFor limit rows scripts)
     (p : ℕ) (running : Running) (run : IsRunning opening rows policy scripts p running) where
   pub few_phases_so_far : p ≤ 2000002
   few_phases_so_far =
-      let most = few_phases policy some scripts p 1000000 (hot_sets running.hot.items) running.history.entries (waiting_in running.stashes.items) run.run (all_short rows scripts short) in
+      let most = few_phases policy some scripts p 1000000 (hot_sets running.hot.items) running.history.entries (waiting_in running.stashes.items) run.run (all_short limit rows scripts short) in
       omega (arith, most)
 
   pub phases_counted : running.state.phase ≡ length running.hot.items

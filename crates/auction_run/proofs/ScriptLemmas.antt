@@ -88,11 +88,16 @@ asked_at asked [] i d less = absurd (omega arith)
 asked_at asked (x ∷ xs) zero d less = refl
 asked_at asked (x ∷ xs) (suc i) d less = asked_at asked xs i d (omega arith)
 
+-- by what is read there
+pub asked_here : {S : Type 0} (asked : S → List Request) (scripts : List S) (i : ℕ) (script : S) → i < length scripts → script ≡ get_or scripts i script →
+    script_of (map asked scripts) i ≡ asked script
+asked_here asked scripts i script within is = asked_at asked scripts i script within ∙ ap asked (sym is)
+
 -- whether a worker's rows and script are short, by their counts
 module _ {S : Type 0} (asked : S → List Request) (rows : Book) (scripts : List S) (i count : ℕ) (script : S)
     (within : i < length scripts) (script_is : script ≡ get_or scripts i script) (counted : count ≡ rows_by rows i) (few : count ≤ 1000000) where
   same_length : length (script_of (map asked scripts) i) ≡ length (asked script)
-  same_length = ap length (asked_at asked scripts i script within ∙ ap asked (sym script_is))
+  same_length = ap length (asked_here asked scripts i script within script_is)
 
   pub is_short : length (asked script) ≤ 1000000 - count → rows_by rows i + length (script_of (map asked scripts) i) ≤ 1000000
   is_short less = omega (arith, same_length, counted, few, less)

@@ -60,7 +60,8 @@ may_still policy scripts state stashes hot counted joined never = record {
   stashes_are = same (length stashes) (length state.counters) (λ n. never (λ may. n may.stashes_are));
   shards_are = same (length state.shards) policy.shards (λ n. never (λ may. n may.shards_are));
   short = λ w. at_most (length (script_of scripts w)) 1000000 (λ n. never (λ may. n (may.short w)));
-  room = λ w known. at_most ((counters_at state.counters w).commits + length (waiting_in stashes w) + quota_of policy state.phase (script_of scripts w)) 1000000
+  waits = λ w. at_most (length (waiting_in stashes w)) 1000000 (λ n. never (λ may. n (may.waits w)));
+  room = λ w known. at_most ((counters_at state.counters w).commits + length (waiting_in stashes w) + quota_of policy state.phase (script_of scripts w)) state.limit
       (λ n. never (λ may. n (may.room w known)));
   joined = joined;
   exist = all_exist state.opening (states_of state) hot (λ n. never (λ may. n may.exist));

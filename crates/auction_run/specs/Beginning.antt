@@ -32,6 +32,13 @@ abbrev pub AreShort : Book → List (List Request) → Type 0
 AreShort rows scripts = (worker : ℕ) → worker < length scripts →
     rows_by rows worker + length (script_of scripts worker) ≤ MOST_OF_A_WORKER
 
+-- each worker's script has no more than 1,000,000 requests, and with the worker's rows no more than
+-- a limit
+abbrev pub AreShortFor : ℕ → Book → List (List Request) → Type 0
+AreShortFor limit rows scripts = (worker : ℕ) → worker < length scripts →
+    (length (script_of scripts worker) ≤ MOST_OF_A_WORKER)
+    × (rows_by rows worker + length (script_of scripts worker) ≤ limit)
+
 -- what each answer of the check says: all four hold, or the fault is that of the first that doesn't
 abbrev pub IsFirstToFail : {T : Type 0} → Result T RunFault →
     Type 0 → Type 0 → Type 0 → Type 0 → Type 0

@@ -1,5 +1,6 @@
 -- Boards, and the phases that they are given.
-use Rattle.std.specs.Prelude.{ℕ, zero, suc, ◌≡◌, Bool, List, [], ◌∷◌, ◌++◌, Option, MatchOption}
+use Rattle.std.specs.Prelude.{ℕ, zero, suc, ◌≡◌, ◌≤◌, Bool, List, [], ◌∷◌, ◌++◌, Option, MatchOption}
+use Rattle.auction_rows.specs.declared.limits.TheConstants.{MOST_OF_A_WORKER}
 use Rattle.auction_rows.specs.declared.values.Opening.{Opening}
 use Rattle.auction_rows.specs.declared.rows.Row.{Row}
 use Rattle.auction_rows.specs.declared.rows.Entry.{Entry}
@@ -50,10 +51,12 @@ abbrev pub HasShown : {B : Type 0} → (B → Opening → Book → List (List Ro
 HasShown has opening rows phase history board =
     HasShownAfter has opening rows [] phase history board
 
--- A board is up to date with a state: what is stored after its phases is a book of the state.
+-- A board is up to date with a state: what is stored after its phases is a book of the state. It is
+-- not a lasting state, since a board's book has at most 16,000,000 rows.
 pub record IsUpToDate {B : Type 0} (has : B → Opening → Book → List (List Row) → Type 0)
     (board : B) (state : JoinedState) : Type 0 where
   pub rows : Book
   pub phases : List (List Row)
   pub has_them : has board state.opening rows phases
   pub book : IsBookOf state (book_of rows phases)
+  pub few : state.limit ≤ MOST_OF_A_WORKER

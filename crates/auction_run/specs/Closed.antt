@@ -29,6 +29,7 @@ pub record HasClosedPhase (policy : Policy) (scripts : List (List Request)) (sta
   -- what is left is the next phase's
   pub phase_is : next.phase ≡ suc state.phase
   pub opening_is : next.opening ≡ state.opening
+  pub limit_is : next.limit ≡ state.limit
   pub shards_are : length next.shards ≡ length state.shards
   pub workers_are : length next.counters ≡ length state.counters
   pub stashes_are : length left ≡ length state.counters

@@ -12,7 +12,7 @@ use Rattle.closing_laws.specs.Standing.{counters_at, stores}
 use Rattle.phase_floor.specs.States.{JoinedState, StandsFor, IsBookOf}
 use Rattle.auction_rows.specs.declared.limits.Policy.{Policy}
 use Rattle.run_laws.specs.Serving.{script_of}
-use Rattle.auction_run.specs.Beginning.{AreShort, HasQuotas, IsFirstToFail}
+use Rattle.auction_run.specs.Beginning.{AreShortFor, HasQuotas, IsFirstToFail}
 use Rattle.auction_run.specs.Outcomes.{IsOutcome}
 use Rattle.auction_run.specs.Phases.{IsMet}
 use Rattle.auction_run.specs.declared.checks.RunFault.{RunFault}
@@ -28,11 +28,16 @@ HasScripts state scripts = length scripts ≡ length state.counters
 abbrev pub HasItsShards : JoinedState → Policy → Type 0
 HasItsShards state policy = policy.shards ≡ length state.shards
 
--- no worker's rows and script have more than 1,000,000 together
+-- a worker's script has no more than 1,000,000 requests, and with its rows no more than the state's
+-- limit
+abbrev pub IsShortOn : JoinedState → ℕ → List Request → Type 0
+IsShortOn state worker script = (length script ≤ MOST_OF_A_WORKER)
+    × (stores (counters_at state.counters worker) + length script ≤ state.limit)
+
+-- so is each worker's
 abbrev pub AreShortOn : JoinedState → List (List Request) → Type 0
 AreShortOn state scripts = (worker : ℕ) → worker < length scripts →
-    stores (counters_at state.counters worker) + length (script_of scripts worker)
-    ≤ MOST_OF_A_WORKER
+    IsShortOn state worker (script_of scripts worker)
 
 -- a run of these scripts can go on from the state
 abbrev pub IsReadyFor : JoinedState → Policy → List (List Request) → Type 0
@@ -75,6 +80,8 @@ pub record AnswersNextRun (state : JoinedState) (policy : Policy) (scripts : Lis
   -- the book after its history is one of the state left
   pub left : IfOk result (λ outcome. (book : Book) → IsBookOf state book →
       IsBookOf outcome.state (book_after state.opening book outcome.history.entries))
+  -- its workers may commit as much as before
+  pub limit : IfOk result (λ outcome. outcome.state.limit ≡ state.limit)
   -- or it says why it stopped
   pub stopped : IfErr result (IsStopped state policy scripts)
 
@@ -86,7 +93,7 @@ pub record BeginsWith (state : JoinedState) (rows : Book) (policy : Policy)
   pub is_book : IsBook state.opening rows
   pub few : length scripts ≤ MOST_WORKERS
   pub own : All (λ row. worker_of row < length scripts) rows
-  pub short : AreShort rows scripts
+  pub short : AreShortFor state.limit rows scripts
   pub stands : StandsFor state rows
   pub phase_is : state.phase ≡ 0
   pub shards_are : length state.shards ≡ policy.shards
@@ -98,7 +105,8 @@ pub record BeginsWith (state : JoinedState) (rows : Book) (policy : Policy)
 abbrev pub CannotBegin : JoinedState → Policy → List (List Request) → Type 0
 CannotBegin state policy scripts = (rows : Book) → BeginsWith state rows policy scripts → ⊥
 
--- A board can be shown such a run: it begins from the book of the phases that the board has.
+-- A board can be shown such a run: it begins from the book of the phases that the board has, and its
+-- state is not a lasting one.
 pub record CanShowRun {B : Type 0} (has : B → Opening → Book → List (List Row) → Type 0)
     (board : B) (state : JoinedState) (policy : Policy) (scripts : List (List Request))
     : Type 0 where
@@ -106,3 +114,4 @@ pub record CanShowRun {B : Type 0} (has : B → Opening → Book → List (List 
   pub before : List (List Row)
   pub begins : BeginsWith state (book_of rows before) policy scripts
   pub has_them : has board state.opening rows before
+  pub few : state.limit ≤ MOST_OF_A_WORKER

@@ -1,5 +1,6 @@
 -- What a run answers, and what its board has then.
 use Rattle.std.specs.Prelude.{ℕ, ◌≡◌, ◌<◌, ◌⊎◌, List, [], Result, length, IfOk, IsErrOf}
+use Rattle.auction_rows.specs.declared.limits.TheConstants.{MOST_OF_A_WORKER}
 use Rattle.auction_rows.specs.declared.requests.Object.{Object}
 use Rattle.auction_rows.specs.declared.values.Opening.{Opening}
 use Rattle.auction_rows.specs.declared.requests.Request.{Request}
@@ -49,6 +50,8 @@ pub record AnswersRun (opening : Opening) (rows : Book) (policy : Policy)
   -- the book after its history is one of the state left
   pub left : IfOk result (λ outcome.
       IsBookOf outcome.state (book_after opening rows outcome.history.entries))
+  -- in which each worker may commit 1,000,000 requests
+  pub limit : IfOk result (λ outcome. outcome.state.limit ≡ MOST_OF_A_WORKER)
   -- it is refused for the first of four reasons, exactly where one of them is there
   pub refused : IsRefusedInOrder result policy rows scripts
   -- Spawn comes only if there is a thread to start

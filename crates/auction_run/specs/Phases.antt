@@ -47,10 +47,12 @@ pub record MayPerform (policy : Policy) (scripts : List (List Request)) (state :
   pub stashes_are : length stashes ≡ length state.counters
   pub shards_are : length state.shards ≡ policy.shards
   pub short : (worker : ℕ) → length (script_of scripts worker) ≤ MOST_OF_A_WORKER
-  -- what a worker committed, what waits and its quota are no more than 1,000,000
+  -- no more waits than a script has
+  pub waits : (worker : ℕ) → length (waiting_in stashes worker) ≤ MOST_OF_A_WORKER
+  -- what a worker committed, what waits and its quota are no more than the limit
   pub room : (worker : ℕ) → worker < length state.counters →
       (counters_at state.counters worker).commits + length (waiting_in stashes worker)
-      + quota_of policy state.phase (script_of scripts worker) ≤ MOST_OF_A_WORKER
+      + quota_of policy state.phase (script_of scripts worker) ≤ state.limit
   -- nothing is hot in a joined phase, and what is hot in a split one is there
   pub joined : is_split state.phase ≡ false → hot ≡ []
   pub exist : DoAllExist state.opening (states_of state) hot

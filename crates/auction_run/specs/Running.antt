@@ -12,7 +12,7 @@ use Rattle.auction_rows.specs.declared.limits.Policy.{Policy}
 use Rattle.run_laws.specs.Books.{HasReplayed}
 use Rattle.run_laws.specs.Run.{HasRun, AreChosen, first_index}
 use Rattle.run_laws.specs.Serving.{script_of, segment_of, AreNumbered}
-use Rattle.auction_run.specs.Beginning.{AreShort}
+use Rattle.auction_run.specs.Beginning.{AreShortFor}
 use Rattle.auction_run.specs.Phases.{hot_sets, waiting_in}
 use Rattle.auction_run.specs.declared.phase.Running.{Running}
 
@@ -52,5 +52,5 @@ pub record CanGoOn (policy : Policy) (scripts : List (List Request)) (running : 
   pub opening : Opening
   pub rows : Book
   pub is_book : IsBook opening rows
-  pub short : AreShort rows scripts
+  pub short : AreShortFor running.state.limit rows scripts
   pub running_is : IsRunning opening rows policy scripts running.state.phase running

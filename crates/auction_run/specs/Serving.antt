@@ -24,6 +24,7 @@ pub record HasBegunPhase (policy : Policy) (scripts : List (List Request)) (stat
     (stashes : List StashState) (hot : List Object) (floor : FloorState)
     (permits : List WorkerState) : Type 0 where
   pub opening_is : floor.opening ≡ state.opening
+  pub limit_is : floor.limit ≡ state.limit
   pub phase_is : floor.phase ≡ state.phase
   pub counters_are : floor.counters ≡ state.counters
   pub hot_are : hot_objects floor.stocks ≡ hot

@@ -3,7 +3,7 @@ ghost use Rattle.std.specs.Prelude.{◌≡◌, ◌↔◌, ◌<◌, ◌≤◌, �
 ghost use Rattle.item_shards.specs.OpeningBooks.{rows_of_book};
 ghost use Rattle.item_shards.specs.OpeningRows.{rows_by};
 ghost use Rattle.auction_run.specs.Beginning.{HaveWorkers, HasShards, HasQuotas, AreShort, IsFirstToFail};
-ghost use Rattle.auction_run.specs.GoingOn.{AreShortOn, HasScripts, IsCheckedOn};
+ghost use Rattle.auction_run.specs.GoingOn.{AreShortOn, HasScripts, IsCheckedOn, IsShortOn};
 
 use auction_rows::{MOST_HOT, MOST_OF_A_WORKER, MOST_SHARDS, MOST_WORKERS, Policy, Request, Row};
 use item_shards::OpeningBook;
@@ -27,7 +27,9 @@ pub enum RunFault {
     /// A quota or the threshold is 0, or more than 64 objects may be hot.
     #[error("quota, threshold or hot limit")]
     Quota,
-    /// A worker's script and its rows in the opening book have more than 1,000,000 together.
+    /// A worker's script and its rows in the opening book have more than 1,000,000 together; or, of
+    /// a run that goes on from a lasting state, the script has more, or both have more than the
+    /// state's limit.
     #[error("more than 1000000 requests for a worker")]
     TooLong,
     /// A worker's thread could not be started, whatever the cause.
@@ -206,18 +208,29 @@ fn has_scripts<S: Requests>(state: &Joined, scripts: &[S]) -> bool
     scripts.len() == state.workers() as usize
 }
 
-// Whether no worker's rows and script have more than 1,000,000 together.
+// Whether no script has more than 1,000,000 requests, and none with its worker's rows more than the
+// state's limit.
 fn are_short_on<S: Requests>(state: &Joined, scripts: &[S]) -> bool
     requires { HasScripts state.now (map S.asked scripts.now) }
     ensures { IsTrue result ↔ AreShortOn state.now (map S.asked scripts.now) }
 {
     for worker in 0..scripts.len() {
-        let stored = state.stored_by(worker) as usize;
-        if scripts[worker].count() > MOST_OF_A_WORKER as usize - stored {
+        if !is_short_on(state, worker, &scripts[worker]) {
             return false;
         }
     }
     true
+}
+
+// Whether a worker's script has no more than 1,000,000 requests, and with its rows no more than the
+// state's limit.
+fn is_short_on<S: Requests>(state: &Joined, worker: usize, script: &S) -> bool
+    requires { worker < length state.now.counters }
+    ensures { IsTrue result ↔ IsShortOn state.now worker (S.asked script.now) }
+{
+    let stored = u64::from(state.stored_by(worker));
+    let asked = script.count() as u64;
+    asked <= MOST_OF_A_WORKER && asked <= state.limit() - stored
 }
 
 // Whether there are 1 to 16 scripts, and each row is of a worker that has one.

@@ -30,8 +30,10 @@ use worker_journals::Script;
 /// Goes on from a state that a run left, or with which an auction was resumed: performs scripts of
 /// its workers as `run` does. The history is that of these scripts, and replays from each book of
 /// the state; the state left has the book after it. Phases and indexes count from 0 again, and
-/// nothing is hot at first. The first four faults are found first, in their order, exactly for
-/// their causes, and give the state back as it was; after another it is gone.
+/// nothing is hot at first. `TooLong` is a script of more than 1,000,000 requests, or one that has
+/// with its worker's rows more than the state's limit: 1,000,000, or `MOST_COMMITS` if it lasts. The
+/// first four faults are found first, in their order, exactly for their causes, and give the state
+/// back as it was; after another it is gone.
 pub fn run_on<R: Threads + Wait + Sync, G: Gate + Sync>(
     rt: &R,
     alloc: Global,
@@ -47,9 +49,10 @@ pub fn run_on<R: Threads + Wait + Sync, G: Gate + Sync>(
 
 /// The same, of which a board that is up to date with the state is given the rows of each phase,
 /// after all that it has. It is up to date with the state left, and so the next part can be shown
-/// to it too. A board that errs ends the run with `Memory`. After a fault it has the phases that it
-/// was given, which are the first ones of such a run; it may have refused one more. If the state is
-/// given back, the board is as it was, so it is up to date with it and can be shown another run.
+/// to it too; no board is up to date with a lasting state. A board that errs ends the run with
+/// `Memory`. After a fault it has the phases that it was given, which are the first ones of such a
+/// run; it may have refused one more. If the state is given back, the board is as it was, so it is
+/// up to date with it and can be shown another run.
 pub fn run_on_shown<R: Threads + Wait + Sync, G: Gate + Sync, B: Board>(
     rt: &R,
     alloc: Global,

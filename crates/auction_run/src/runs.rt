@@ -220,6 +220,7 @@ pub(crate) fn run_from<R: Threads + Wait + Sync, G: Gate + Sync, B: Board>(
         B.has board.old state.opening rows before →
         HasShownFirstAfter B.has B.has_refused state.opening rows before work.entry.policy
         work.entry.scripts.now board.new fault) }
+    ensures limit { IfOk result (λ outcome. outcome.state.limit ≡ state.limit) }
     ensures fault { IfErr result (IsMet work.entry.scripts.now) }
 {
     let mut running = begin(alloc, state, work.scripts)?;
@@ -249,6 +250,7 @@ fn begin(alloc: Global, state: Joined, scripts: &[Script]) -> Result<Running, Al
     ensures running { IfOk result (λ running. (rows : Book) (policy : Rule) →
         BeginsWith state rows policy scripts.now →
         IsRunning state.opening rows policy scripts.now 0 running) }
+    ensures limit { IfOk result (λ running. running.state.limit ≡ state.limit) }
 {
     Ok(Running {
         state,
@@ -316,6 +318,7 @@ fn next_phase<R: Threads + Wait + Sync, G: Gate + Sync>(
         (suc running.state.phase) next) }
     ensures grown { IfOk result (λ next. next.history.entries
         ≡ running.history.entries ++ merged next.history.last) }
+    ensures limit { IfOk result (λ next. next.state.limit ≡ running.state.limit) }
     ensures fault { IfErr result (IsMet plan.entry.round.scripts.now) }
 {
     let hot_now = next_hot(alloc, &running, plan.policy)?;

@@ -18,13 +18,11 @@ pub mod NumberedLemmas
 pub mod NumeralLemmas
 pub mod OwnTurns
 pub mod PartLemmas
-pub mod PartsLemmas
 pub mod PlainFieldLemmas
 pub mod PlainLineLemmas
 pub mod ProgressLemmas
 pub mod PutLemmas
 pub mod QuotedFieldLemmas
-pub mod ReadableLemmas
 pub mod RecordsLeft
 pub mod ReplyOrder
 pub mod RowsFirst

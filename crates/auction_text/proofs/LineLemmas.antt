@@ -120,6 +120,11 @@ records_after_feed y =
     let turns = length (10 ∷ y) + 1 in
     turn_after st.StartRecord y (blank_feed y) turns (omega arith) ∙ turns_enough turns (length y + 1) st.StartRecord y (omega arith) (omega arith) refl
 
+-- no record is in no text
+pub none_in_none : records default_config [] ≡ []
+unfolding next_record records_from
+none_in_none = refl
+
 -- no byte order mark is taken off a text that begins with a line feed
 pub feed_no_bom : (rest : List ℕ) → strip_bom (10 ∷ rest) ≡ 10 ∷ rest
 unfolding strip_bom

@@ -24,7 +24,7 @@ use Rattle.auction_text.specs.LiveReading.{HasLeft, IsOneOf, IsWhole}
 use Rattle.auction_text.specs.Reading.{IsPlain}
 use Rattle.auction_text.specs.Records.{read_record}
 use Rattle.auction_text.specs.RecordsLeft.{Left}
-use Rattle.auction_text.proofs.LineLemmas.{feed_no_bom, records_after_feed}
+use Rattle.auction_text.proofs.LineLemmas.{feed_no_bom, none_in_none, records_after_feed}
 use Rattle.auction_text.proofs.RecordsLeft.{left_all, read_end, read_more}
 
 not_true : (b : Bool) → not b ≡ true → b ≡ false
@@ -106,11 +106,6 @@ no_feed_in [] none = refl
 no_feed_in (b ∷ xs) none =
     let first : not (b == 10) ≡ true = not_so (b == 10) (none 0 (omega arith)) in
     rw first (no_feed_in xs (λ j less. none (suc j) (omega (arith, less))))
-
--- no record is in no text
-none_in_none : records default_config [] ≡ []
-unfolding next_record records_from
-none_in_none = refl
 
 -- a plain line is the one record of its line
 pub plain_says : (line : List ℕ) (one : Record) (next workers place : ℕ) (begun : Bool) → IsWhole line → length line ≤ ROOM_TO_READ → IsLine line 0 one next → length line ≤ next

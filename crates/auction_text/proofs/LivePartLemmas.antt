@@ -1,8 +1,10 @@
 -- A part of an input that is read line by line, from what was taken for it.
-use Rattle.std.proofs.Common.{arith, ◌≡◌, ◌<◌, ◌≤◌, ◌+◌, ◌∷◌, ◌∙◌, [], ℕ, Bool, List, Option, None, Some, Result, Ok, Err, true, false, refl, sym, subst, inl, inr}
+use Rattle.std.proofs.Common.{arith, ◌≡◌, ◌≤◌, ◌+◌, ◌∷◌, ◌∙◌, [], ℕ, Bool, List, Option, None, Some, Result, Ok, Err, true, false, length, vec_len, refl, sym, ap, subst, inl, inr}
 use Rattle.std.proofs.lemmas.Bool.{cases_Bool}
 use Rattle.std.proofs.lemmas.List.{append-nil}
 use Rattle.csv.specs.Reading.{default_config, records}
+use Rattle.item_shards.specs.declared.openings.Opened.{Opened}
+use Rattle.auction_text.specs.declared.reading.TheConstants.{MOST_ROWS_OF_A_PART}
 use Rattle.auction_text.specs.declared.reading.ReadFault.{ReadFault}
 use Rattle.auction_text.specs.declared.reading.line_buffer.LineBuffer.{LineBuffer}
 use Rattle.auction_text.specs.declared.reading.line_taking.LineStop.{LineStop}
@@ -13,12 +15,11 @@ use Rattle.auction_text.specs.declared.reading.part_records.Taken.{Taken}
 use Rattle.auction_text.specs.declared.reading.record.Record.{Record}
 use Rattle.auction_text.specs.LineBuffers.{lines_left}
 use Rattle.auction_text.specs.LiveLines.{begun_after, is_long, line_says, lines_of, lines_say, one_says, records_say, then_say, worker_of}
-use Rattle.auction_text.specs.LiveParts.{GoesOnWith, IsLivePart, end_at, left_after, row_said, rows_said}
-use Rattle.auction_text.specs.LiveReading.{StopsAt, records_said, yet_said}
-use Rattle.auction_text.specs.Readable.{requests_in}
+use Rattle.auction_text.specs.LiveParts.{GoesOnWith, IsLivePart, MayEndEarly, end_at, left_after, row_said, rows_said}
+use Rattle.auction_text.specs.LiveReading.{MayEnd, StopsAt, records_said, yet_said}
 use Rattle.auction_text.specs.Reading.{nothing_asked}
 use Rattle.auction_text.specs.Records.{read_record}
-use Rattle.auction_text.specs.Scripts.{asked_of}
+use Rattle.auction_text.specs.Scripts.{asked_of, requests_in, rows}
 use Rattle.auction_text.specs.Taking.{AskFor, KnowsBegun}
 use Rattle.auction_text.proofs.RowsFirst.{request_after}
 use Rattle.auction_text.proofs.TakingLemmas.{ask_is, ask_none}
@@ -75,7 +76,7 @@ pub fresh_lines : (workers : ℕ) (all : List Said) (taken : Taken) (left : List
 fresh_lines workers all taken left none zero is = record { said = []; front = is; asked = subst (AskFor workers []) (sym none) (ask_none workers); requests = zero }
 
 module _ {R : Type 0} (rem : R → Option (List ℕ)) (workers most : ℕ) (all : List Said) (taken : Taken) (lines : LineBuffer R) (to : List ℕ) (known : lines_left rem lines ≡ Some to)
-    (knows : KnowsBegun taken) (few : taken.requests ≤ most) where
+    (knows : KnowsBegun taken) (few : taken.requests ≤ most) (few_rows : vec_len taken.input.rows ≤ MOST_ROWS_OF_A_PART) where
   goes_on_with : (said : List Record) → taken.requests ≡ requests_in said → GoesOnWith rem said (left_after taken lines workers) (yet_said workers taken to)
   goes_on_with said are = record {
     late = λ some.
@@ -84,21 +85,33 @@ module _ {R : Type 0} (rem : R → Option (List ℕ)) (workers most : ℕ) (all 
     left_is = record { bytes = to; known = known; all_is = refl };
   }
 
+  -- so many rows are taken
+  rows_taken : (said : List Record) → AskFor workers said (asked_of taken.input) → length (rows said) ≡ vec_len taken.input.rows
+  rows_taken said ask = ap (λ (rs : List Opened). length rs) ask.rows_are ∙ sym taken.input.rows.ok.0
+
+  may_end : (said : List Record) → taken.requests ≡ requests_in said → length (rows said) ≡ vec_len taken.input.rows → MayEnd taken → MayEndEarly said
+  may_end said requests count ends = elim ends [
+    | inl some ↦ inl (omega (arith, requests, some))
+    | inr full ↦ inr (omega (arith, count, full, few_rows))
+  ]
+
   -- the part that ends where the taking stopped
-  pub part_at : (how : LineStop) → StopsAt workers all taken how to → (how ≡ stop.Full → 0 < taken.requests)
+  pub part_at : (how : LineStop) → StopsAt workers all taken how to → (how ≡ stop.Full → MayEnd taken)
       → IsLivePart rem workers most all (record { input = taken.input; requests = taken.requests; end = end_at how (left_after taken lines workers) })
   part_at stop.Full is some = record {
     said = is.said;
     asked = ask_is workers is.said (asked_of taken.input) is.asked;
     requests = is.requests;
     few = subst (λ (n : ℕ). n ≤ most) is.requests few;
-    goes_on = (yet_said workers taken to, (subst (λ (n : ℕ). 1 ≤ n) is.requests (some refl), (is.front, goes_on_with is.said is.requests)));
+    few_rows = omega (arith, rows_taken is.said is.asked, few_rows);
+    goes_on = (yet_said workers taken to, (may_end is.said is.requests (rows_taken is.said is.asked) (some refl), (is.front, goes_on_with is.said is.requests)));
   }
   part_at (stop.Fault fault) is some = record {
     said = is.said;
     asked = ask_is workers is.said (asked_of taken.input) is.asked;
     requests = is.requests;
     few = subst (λ (n : ℕ). n ≤ most) is.requests few;
+    few_rows = omega (arith, rows_taken is.said is.asked, few_rows);
     goes_on = (yet_said workers taken to, (is.front, goes_on_with is.said is.requests));
   }
   part_at stop.End is some = record {
@@ -106,5 +119,6 @@ module _ {R : Type 0} (rem : R → Option (List ℕ)) (workers most : ℕ) (all 
     asked = ask_is workers is.said (asked_of taken.input) is.asked;
     requests = is.requests;
     few = subst (λ (n : ℕ). n ≤ most) is.requests few;
+    few_rows = omega (arith, rows_taken is.said is.asked, few_rows);
     goes_on = is.front ∙ append-nil (records_said is.said);
   }

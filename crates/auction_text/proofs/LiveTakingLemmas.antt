@@ -1,5 +1,6 @@
 -- What is taken of an input, line by line.
 use Rattle.std.proofs.Common.{arith, ◌≡◌, ◌<◌, ◌≤◌, ◌+◌, ◌∷◌, ◌++◌, ◌∙◌, ◌||◌, not, [], ℕ, Bool, List, Option, None, Some, true, false, drop, length, take, vec_len, refl, sym, ap, ap₂, subst, append_assoc, take-append-drop, if◌then◌else◌, inl, inr}
+use Rattle.std.proofs.lemmas.Bool.{cases_Bool}
 use Rattle.std.proofs.lemmas.List.{append-nil, drop-drop, length-append, length-drop, map-append}
 use Rattle.std.specs.Io.KnownBytes.{IsAtEnd, prepend_known}
 use Rattle.csv.specs.Reading.{default_config, records}
@@ -18,7 +19,8 @@ use Rattle.auction_text.specs.LineBuffers.{held, lines_left, underneath}
 use Rattle.auction_text.specs.Lines.{has_no_feed}
 use Rattle.auction_text.specs.LiveLines.{begun_after, faulty_line, first_worker, is_long, line_says, lines_of, lines_say, records_say, then_say}
 use Rattle.auction_text.specs.LiveReading.{HasFirstLine, IsFront, IsWhole, PassesLine, StopsAt, TakesFrom, TakesSaid, TakesText, records_said, stop_at, yet_said}
-use Rattle.auction_text.specs.Scripts.{asked_of}
+use Rattle.auction_text.specs.Reading.{with_record}
+use Rattle.auction_text.specs.Scripts.{Asked, asked_of}
 use Rattle.auction_text.specs.Taking.{HasTaken, KnowsBegun}
 use Rattle.auction_text.proofs.LineBufferLemmas.{known_behind}
 use Rattle.auction_text.proofs.LiveLineLemmas.{begun_is_long, first_whole, last_is_long, last_line, no_feed_both, nothing_says, short_says}
@@ -61,6 +63,19 @@ pub knows_step : (workers : ℕ) (old new : Taken) (said : Option Said) (fault :
 knows_step workers old new None fault (same, none) knows = subst KnowsBegun (sym same) knows
 knows_step workers old new (Some (says.Record one)) fault (below, (added, none)) knows = knows_more old new one added knows
 knows_step workers old new (Some (says.Fault met)) fault (same, found) knows = subst KnowsBegun (sym same) knows
+
+-- a line adds a row at most
+row_more : (one : Record) (asked : Asked) → length (with_record one asked).rows ≤ length asked.rows + 1
+row_more one asked = elim (cases_Bool one.is_row) [
+  | inl row ↦ rw (row, length-append) (omega arith)
+  | inr request ↦ rw request (omega arith)
+]
+
+pub rows_step : (workers : ℕ) (old new : Taken) (said : Option Said) (fault : Option LineFault) → TakesSaid workers old said new fault → vec_len new.input.rows ≤ vec_len old.input.rows + 1
+rows_step workers old new None fault (same, none) = omega (arith, ap (λ (t : Taken). vec_len t.input.rows) same)
+rows_step workers old new (Some (says.Record one)) fault (below, (added, none)) =
+    omega (arith, new.input.rows.ok.0, old.input.rows.ok.0, ap (λ (a : Asked). length a.rows) added.asked, row_more one (asked_of old.input))
+rows_step workers old new (Some (says.Fault met)) fault (same, found) = omega (arith, ap (λ (t : Taken). vec_len t.input.rows) same)
 
 -- what a line says that is read by itself
 pub takes_read : (workers : ℕ) (old new : Taken) (line : List ℕ) (place : ℕ) (said : Option Said) (fault : Option LineFault) → is_long line ≡ false → place ≡ old.count + 1

@@ -30,12 +30,12 @@ no_mark_third (a ∷ []) more some other = absurd (omega (arith, some))
 no_mark_third (a ∷ b ∷ []) more some other = absurd (omega (arith, some))
 no_mark_third (a ∷ b ∷ c ∷ rest) more some other = rw (ne_eqb c 0xBF other, and-false ((a == 0xEF) && (b == 0xBB))) refl
 
-pub is_mark : (xs more : List ℕ) → 2 < length xs → get_or xs 0 0 ≡ 0xEF → get_or xs 1 0 ≡ 0xBB → get_or xs 2 0 ≡ 0xBF → strip_bom (xs ++ more) ≡ drop 3 xs ++ more
+pub is_mark : (xs more : List ℕ) → get_or xs 0 0 ≡ 0xEF → get_or xs 1 0 ≡ 0xBB → get_or xs 2 0 ≡ 0xBF → strip_bom (xs ++ more) ≡ drop 3 xs ++ more
 unfolding strip_bom
-is_mark [] more some first second third = absurd (omega (arith, some))
-is_mark (a ∷ []) more some first second third = absurd (omega (arith, some))
-is_mark (a ∷ b ∷ []) more some first second third = absurd (omega (arith, some))
-is_mark (a ∷ b ∷ c ∷ rest) more some first second third = rw (eq-eqb a 0xEF first, eq-eqb b 0xBB second, eq-eqb c 0xBF third) refl
+is_mark [] more first second third = absurd (omega (arith, first))
+is_mark (a ∷ []) more first second third = absurd (omega (arith, second))
+is_mark (a ∷ b ∷ []) more first second third = absurd (omega (arith, third))
+is_mark (a ∷ b ∷ c ∷ rest) more first second third = rw (eq-eqb a 0xEF first, eq-eqb b 0xBB second, eq-eqb c 0xBF third) refl
 
 -- nor has one that is shorter than it
 pub short_no_mark : (xs : List ℕ) → length xs < 3 → strip_bom xs ≡ xs

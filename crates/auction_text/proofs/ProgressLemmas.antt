@@ -1,5 +1,5 @@
 -- How far an input is read, line by line.
-use Rattle.std.proofs.Common.{arith, ◌≡◌, ◌==◌, ◌&&◌, ◌<◌, ◌≤◌, ◌+◌, ◌∷◌, ◌++◌, ◌∙◌, [], ℕ, List, Bool, Option, true, false, drop, length, refl, sym, append_assoc, if◌then◌else◌}
+use Rattle.std.proofs.Common.{arith, ◌≡◌, ◌==◌, ◌&&◌, ◌<◌, ◌≤◌, ◌+◌, ◌∷◌, ◌++◌, ◌∙◌, [], ℕ, List, Bool, Option, Ok, true, false, drop, length, refl, sym, ap, append_assoc, if◌then◌else◌}
 use Rattle.std.proofs.lemmas.List.{append-nil}
 use Rattle.csv.specs.Reading.{default_config, records, strip_bom}
 use Rattle.csv.specs.declared.reader.Reader.{Reader}
@@ -9,10 +9,10 @@ use Rattle.auction_text.specs.declared.reading.TheConstants.{MOST_RECORDS}
 use Rattle.auction_text.specs.Lines.{IsLine}
 use Rattle.auction_text.specs.Progress.{HasAdded, IsReadUpTo, ReadsOn, unmarked}
 use Rattle.auction_text.specs.Reading.{IsAtStart}
-use Rattle.auction_text.specs.Scripts.{asked_of, records_of}
-use Rattle.auction_text.proofs.LineLemmas.{feed_no_bom, records_after_feed}
+use Rattle.auction_text.specs.Scripts.{asked_of, input_of, records_of}
+use Rattle.auction_text.proofs.LineLemmas.{feed_no_bom, none_in_none, records_after_feed}
 use Rattle.auction_text.proofs.RecordsLeft.{left_all}
-use Rattle.auction_text.proofs.SoFar.{IsReading, so_far_more}
+use Rattle.auction_text.proofs.SoFar.{IsReading, so_far_all, so_far_more}
 
 -- where nothing is read, nothing changes
 pub reads_on_none : (progress : Progress) (text : List ℕ) → progress.count ≤ MOST_RECORDS → ReadsOn progress text progress text
@@ -74,6 +74,13 @@ pub read_up_to_front : (workers : ℕ) (bytes : List ℕ) (progress : Progress) 
 read_up_to_front workers bytes progress source read =
     let both = front_of (progress.count == 0) progress.count source refl in
     (rw both.0 read, both.1)
+
+-- an input of which nothing is left
+pub read_to_end : (workers : ℕ) (bytes : List ℕ) (progress : Progress) → IsReadUpTo workers bytes progress [] → input_of workers bytes ≡ Ok (asked_of progress.input)
+unfolding strip_bom
+read_to_end workers bytes progress read =
+    let none : records default_config (unmarked progress.count []) ≡ [] = ap (records default_config) (same_if (progress.count == 0) (strip_bom []) [] refl) ∙ none_in_none in
+    so_far_all workers (records_of bytes) progress.count progress.begun (asked_of progress.input) (rw none at read)
 
 -- a reader of these bytes
 pub reading_up_to : {R : Type 0} (rem : R → Option (List ℕ)) (workers : ℕ) (bytes left : List ℕ) (progress : Progress) (reader : Reader R)

@@ -87,7 +87,7 @@ unfolding read_records
 so_far_long workers all begun fields rest asked so_far = so_far.read
 
 -- no record left
-so_far_all : (workers : ℕ) (all : List (List (List ℕ))) (count : ℕ) (begun : Bool) (asked : Asked)
+pub so_far_all : (workers : ℕ) (all : List (List (List ℕ))) (count : ℕ) (begun : Bool) (asked : Asked)
     → SoFar workers all count begun [] asked → and_then (read_records workers 1 false all) (λ said. Ok (asked_in workers said)) ≡ Ok asked
 unfolding read_records
 so_far_all workers all count begun asked so_far =

@@ -9,10 +9,8 @@ pub mod LiveReading
 pub mod Moved
 pub mod Numerals
 pub mod Order
-pub mod Parts
 pub mod Progress
 pub mod QuotedFields
-pub mod Readable
 pub mod Reading
 pub mod Records
 pub mod RecordsLeft

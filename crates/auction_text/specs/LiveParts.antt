@@ -1,8 +1,9 @@
 -- The parts of an input that is read line by line.
-use Rattle.std.specs.Prelude.{ℕ, ◌≡◌, ◌≤◌, ◌+◌, ◌++◌, List, [], ◌∷◌, Option, None, Some, true, if◌then◌else◌}
+use Rattle.std.specs.Prelude.{ℕ, ◌≡◌, ◌≤◌, ◌+◌, ◌++◌, ◌⊎◌, List, [], ◌∷◌, length, Option, None, Some, true, if◌then◌else◌}
 use Rattle.std.specs.List.{filter_map}
 use Rattle.csv.specs.Reading.{strip_bom}
 use Rattle.item_shards.specs.declared.openings.Opened.{Opened}
+use Rattle.auction_text.specs.declared.reading.TheConstants.{MOST_ROWS_OF_A_PART}
 use Rattle.auction_text.specs.declared.reading.line_buffer.LineBuffer.{LineBuffer}
 use Rattle.auction_text.specs.declared.reading.line_taking.LineStop.{LineStop}
 use Rattle.auction_text.specs.declared.reading.line_taking.LineStop.TheVariants as stop
@@ -17,8 +18,7 @@ use Rattle.auction_text.specs.declared.reading.record.Record.{Record}
 use Rattle.auction_text.specs.LineBuffers.{lines_left}
 use Rattle.auction_text.specs.LiveLines.{lines_of, lines_say}
 use Rattle.auction_text.specs.LiveReading.{records_said}
-use Rattle.auction_text.specs.Readable.{requests_in}
-use Rattle.auction_text.specs.Scripts.{asked_of, asked_in, row_in}
+use Rattle.auction_text.specs.Scripts.{asked_of, asked_in, requests_in, row_in, rows}
 
 -- An input has yet to say all this.
 pub record HasToSay {R : Type 0} (remaining : R → Option (List ℕ)) (left : LiveInput R)
@@ -69,12 +69,17 @@ pub record GoesOnWith {R : Type 0} (remaining : R → Option (List ℕ)) (said :
   pub late : 1 ≤ requests_in said → rows_said behind ≡ []
   pub left_is : HasToSay remaining left behind
 
--- how an input goes on after records that say this: if there may be more, a request was read, or a
--- line with a fault is next
+-- a part that says this may end before its input does: it has a request, or all the rows that it
+-- may have
+abbrev pub MayEndEarly : List Record → Type 0
+MayEndEarly said = (1 ≤ requests_in said) ⊎ (length (rows said) ≡ MOST_ROWS_OF_A_PART)
+
+-- how an input goes on after records that say this: if there may be more, a request was read, or
+-- all the rows that a part may have, or a line with a fault is next
 abbrev pub GoesOnAfter : {R : Type 0} → (R → Option (List ℕ)) → List Said → List Record →
     LiveEnd R → Type 0
 GoesOnAfter remaining all said (More left) = (behind : List Said)
-    × ((1 ≤ requests_in said) × ((all ≡ records_said said ++ behind)
+    × (MayEndEarly said × ((all ≡ records_said said ++ behind)
     × GoesOnWith remaining said left behind))
 GoesOnAfter remaining all said (Fault fault left) = (behind : List Said)
     × ((all ≡ records_said said ++ (says.Fault fault ∷ behind))
@@ -82,11 +87,12 @@ GoesOnAfter remaining all said (Fault fault left) = (behind : List Said)
 GoesOnAfter remaining all said All = all ≡ records_said said
 
 -- A part of an input: what it asks for is what its first records say, at most so many of them
--- requests.
+-- requests, and few of them rows.
 pub record IsLivePart {R : Type 0} (remaining : R → Option (List ℕ)) (workers most : ℕ)
     (all : List Said) (part : LivePart R) : Type 0 where
   pub said : List Record
   pub asked : asked_of part.input ≡ asked_in workers said
   pub requests : part.requests ≡ requests_in said
   pub few : requests_in said ≤ most
+  pub few_rows : length (rows said) ≤ MOST_ROWS_OF_A_PART
   pub goes_on : GoesOnAfter remaining all said part.end

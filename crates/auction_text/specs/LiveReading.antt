@@ -1,7 +1,8 @@
 -- What is read and taken of an input line by line.
-use Rattle.std.specs.Prelude.{ℕ, ◌≡◌, ◌<◌, ◌+◌, ◌++◌, ◌⊎◌, List, [], ◌∷◌, Option, None, Some, true, map, vec_len}
+use Rattle.std.specs.Prelude.{ℕ, ◌≡◌, ◌<◌, ◌≤◌, ◌+◌, ◌++◌, ◌⊎◌, List, [], ◌∷◌, Option, None, Some, true, map, vec_len}
 use Rattle.csv.specs.Reading.{reader_state, source_of}
 use Rattle.csv.specs.declared.reader.Reader.{Reader}
+use Rattle.auction_text.specs.declared.reading.TheConstants.{MOST_ROWS_OF_A_PART}
 use Rattle.auction_text.specs.declared.reading.line_buffer.LineBuffer.{LineBuffer}
 use Rattle.auction_text.specs.declared.reading.line_taking.LineStop.{LineStop}
 use Rattle.auction_text.specs.declared.reading.line_taking.LineStop.TheVariants.{Full, End, Fault}
@@ -13,10 +14,9 @@ use Rattle.auction_text.specs.declared.reading.record.Record.{Record}
 use Rattle.auction_text.specs.LineBuffers.{lines_left}
 use Rattle.auction_text.specs.Lines.{has_no_feed, line_feed}
 use Rattle.auction_text.specs.LiveLines.{lines_of, lines_say}
-use Rattle.auction_text.specs.Readable.{requests_in}
 use Rattle.auction_text.specs.Reading.{IsPlain}
 use Rattle.auction_text.specs.RecordsLeft.{Left}
-use Rattle.auction_text.specs.Scripts.{asked_of}
+use Rattle.auction_text.specs.Scripts.{asked_of, requests_in}
 use Rattle.auction_text.specs.Taking.{AskFor, HasTaken, KnowsBegun}
 
 -- A whole line: it ends with its line feed, and has no other.
@@ -77,6 +77,15 @@ IsTakenTo workers all taken left = StopsAt workers all taken Full left
 abbrev pub stop_at : Option LineFault → LineStop
 stop_at None = Full
 stop_at (Some fault) = Fault fault
+
+-- more may be taken for a part of at most so many requests
+abbrev pub HasRoom : ℕ → Taken → Type 0
+HasRoom most taken =
+    (taken.requests < most) × (vec_len taken.input.rows < MOST_ROWS_OF_A_PART)
+
+-- a part may end before its input does: a request is taken, or all the rows that it may have
+abbrev pub MayEnd : Taken → Type 0
+MayEnd taken = (0 < taken.requests) ⊎ (MOST_ROWS_OF_A_PART ≤ vec_len taken.input.rows)
 
 -- What was taken up to the first bytes is now taken up to the second, and the taking stops so.
 pub record TakesText (workers : ℕ) (old : Taken) (from : List ℕ) (new : Taken) (stop : LineStop)

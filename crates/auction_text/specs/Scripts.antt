@@ -1,5 +1,5 @@
 -- What the text of an input asks for.
-use Rattle.std.specs.Prelude.{ℕ, ◌≡◌, ◌++◌, Bool, false, not, ◌==◌, ◌&&◌, ◌||◌, ◌+◌, List, [], ◌∷◌, map, nat_lt, Option, Some, None, Result, Ok, Err, if◌then◌else◌}
+use Rattle.std.specs.Prelude.{ℕ, ◌≡◌, ◌++◌, Bool, false, not, ◌==◌, ◌&&◌, ◌||◌, ◌+◌, List, [], ◌∷◌, count_by, map, nat_lt, Option, Some, None, Result, Ok, Err, if◌then◌else◌}
 use Rattle.std.specs.List.{filter, filter_map, range_with_len}
 use Rattle.csv.specs.Reading.{default_config, records, strip_bom}
 use Rattle.auction_rows.specs.declared.requests.Request.{Request}
@@ -73,6 +73,10 @@ asked_in workers all = record {
 abbrev pub input_of : ℕ → List ℕ → Result Asked ReadFault
 input_of workers bytes =
     and_then (read_records workers 1 false (records_of bytes)) (λ all. Ok (asked_in workers all))
+
+-- how many records are requests
+abbrev pub requests_in : List Record → ℕ
+requests_in said = count_by (λ one. not one.is_row) said
 
 -- the rows stand before all requests
 abbrev pub RowsComeFirst : List Record → Type 0

@@ -1,5 +1,5 @@
 //! What holds of inputs, and of the texts that are written.
-ghost use Rattle.std.specs.Prelude.{◌≡◌, List, ◌≤◌, ℕ, false, length};
+ghost use Rattle.std.specs.Prelude.{◌≡◌, List, ℕ, false};
 ghost use Rattle.std.specs.List.Sorted.{IsPermutation, IsSorted, IsStable};
 ghost use Rattle.auction_rows.specs.declared.values.Opening.{Opening};
 ghost use Rattle.auction_rows.specs.declared.rows.Entry.{Entry as Commit};
@@ -10,8 +10,6 @@ ghost use Rattle.auction_text.specs.Order.{in_order, precedence};
 ghost use Rattle.auction_text.specs.Replies.{lines, replies_text, reply_line};
 ghost use Rattle.auction_text.specs.RowLines.{row_line, rows_text};
 ghost use Rattle.auction_text.specs.declared.reading.record.Record.{Record};
-ghost use Rattle.auction_text.specs.declared.reading.TheConstants.{MOST_RECORDS};
-ghost use Rattle.auction_text.specs.Readable.{all_said, readable_of};
 ghost use Rattle.auction_text.specs.Scripts.{RowsComeFirst, read_records, records_of};
 
 /// The replies stand by worker, then index, then place, each once; entries that are in order
@@ -43,12 +41,4 @@ pub fn moved_in_order()
 pub fn rows_come_first()
     ensures { (workers : ℕ) (text : List ℕ) (all : List Record) →
         read_records workers 1 false (records_of text) ≡ Ok all → RowsComeFirst all }
-{}
-
-/// What can be read of an input of at most `MOST_RECORDS` records is what all of it says, or its
-/// first fault.
-pub fn all_is_readable()
-    ensures { (workers : ℕ) (text : List ℕ) → length (records_of text) ≤ MOST_RECORDS →
-        read_records workers 1 false (records_of text)
-        ≡ all_said (readable_of workers text).said (readable_of workers text).fault }
 {}

@@ -6,20 +6,18 @@ mod laws;
 mod reading;
 mod writing;
 
-pub use laws::{
-    all_is_readable, moved_in_order, replies_in_order, rows_come_first, rows_of_histories,
-};
+pub use laws::{moved_in_order, replies_in_order, rows_come_first, rows_of_histories};
 pub use reading::fields::read_u64;
 pub use reading::live_lines::{LineFault, Said};
 pub use reading::live_parts::{LiveEnd, LiveInput, LivePart};
-pub use reading::parts::{InputLeft, Part, PartEnd};
 pub use reading::scripts::{read_compact_scripts, read_scripts};
 pub use reading::until_end::UntilEnd;
-pub use reading::{Cause, CompactInput, Input, MOST_RECORDS, ReadFault};
+pub use reading::{Cause, CompactInput, Input, MOST_RECORDS, MOST_ROWS_OF_A_PART, ReadFault};
+pub use writing::block::TextBlock;
 pub use writing::fault_lines::push_fault_line;
 pub use writing::output::{
-    write_history, write_history_on, write_replies, write_replies_by_threads, write_replies_on,
-    write_report, write_rows,
+    write_history, write_history_on, write_replies, write_replies_by, write_replies_by_threads,
+    write_replies_on, write_report, write_rows,
 };
 pub use writing::replies::push_reply;
 pub use writing::report::ReportLines;

@@ -1,8 +1,9 @@
 //! Inputs: the rows and scripts that they give, and why one gives none.
 //!
-//! `scripts` reads a whole input, `parts` one that goes on while its requests are served. Both read
-//! plain lines where they lie, and leave the first line that is not plain or has a fault, and all
-//! after it, to `csv`. Of a whole input only records are counted, of a part its requests too.
+//! `scripts` reads a whole input: its plain lines where they lie, and from the first on that is not
+//! plain or has a fault by `csv`. `live_parts` reads one that goes on while its requests are served,
+//! of which each line is a text of its own. Of a whole input only records are counted, of a part its
+//! requests too.
 ghost use Rattle.std.specs.Prelude.{◌≡◌, ◌<◌, vec_len, IfErr, IfOk, OnOk};
 ghost use Rattle.auction_text.specs.Reading.{IsInputFault, nothing_asked, with_record};
 ghost use Rattle.auction_text.specs.Scripts.{asked_of};
@@ -20,7 +21,6 @@ pub mod line_taking;
 pub mod live_lines;
 pub mod live_parts;
 pub mod part_records;
-pub mod parts;
 pub mod plain_fields;
 pub mod plain_lines;
 pub mod plain_text;
@@ -30,6 +30,10 @@ pub mod until_end;
 
 /// The most records of an input: as many as a book has rows.
 pub const MOST_RECORDS: u32 = MOST_ROWS as u32;
+
+/// The most rows of a part of an input that is read line by line: rows may flood in before the first
+/// request.
+pub const MOST_ROWS_OF_A_PART: usize = 65_536;
 
 /// What an input asks for: the rows that the auction is opened with, and each worker's script.
 #[derive(Drop)]
@@ -107,13 +111,15 @@ pub fn empty_input(alloc: Global, workers: u32) -> Result<CompactInput, ReadFaul
     ensures count { IfOk result (λ input. vec_len input.scripts ≡ workers) }
     ensures fails { IfErr result (λ fault. IsInputFault fault → ⊥) }
 {
-    let rows = Vec::new(alloc);
-    let mut scripts = Vec::new(alloc);
+    let Ok(mut scripts) = Vec::with_capacity(alloc, workers as usize) else {
+        return Err(ReadFault::Memory);
+    };
     for _ in 0..workers {
         if scripts.push(Script::new(alloc)).is_err() {
             return Err(ReadFault::Memory);
         }
     }
+    let rows = Vec::new(alloc);
     Ok(CompactInput { rows, scripts })
 }
 

@@ -22,6 +22,7 @@ use Rattle.auction_rows.proofs.RequestLemmas.{same_object-true, same_object-own}
 use Rattle.item_shards.specs.declared.shard.slices.Slice.{Slice}
 use Rattle.item_shards.specs.declared.shard.slices.Slice.TheVariants as slice
 use Rattle.item_shards.specs.Values.{Value, value}
+use Rattle.shard_boxes.specs.declared.limits.TheConstants.{MOST_COMMITS, MOST_KEPT}
 use Rattle.shard_boxes.specs.States.{ShardState, state_at}
 use Rattle.phase_permits.specs.Workers.{WorkerState}
 use Rattle.phase_permits.specs.Slicing.{hot_objects, slices_in, slices_of, slice_of, HasAtMost, HaveAtMost}
@@ -41,7 +42,7 @@ IsOfKind object s = ⊥
 pub record IsGood (hot : List Object) (pair : Object × Slice) : Type 0 where
   pub is_hot : is_hot hot pair.0 ≡ true
   pub kind : IsOfKind pair.0 pair.1
-  pub few : HasAtMost 1000000 pair.1
+  pub few : HasAtMost MOST_COMMITS pair.1
 
 abbrev is_of : Object → Object × Slice → Bool
 is_of object pair = same_object pair.0 object
@@ -52,8 +53,8 @@ how_many object pairs = count_by (is_of object) pairs
 
 -- an object's value leaves room for so many slices
 abbrev pub HasRoomFor : Object → Value → ℕ → Type 0
-HasRoomFor (Item id) v n = IsSome v.facts × (v.bids.bids + 1000000 * n ≤ 32000000)
-HasRoomFor (User user) v n = (v.comments.comments + 1000000 * n ≤ 32000000) × (unsigned_abs v.comments.rating + 5000000 * n ≤ 160000000)
+HasRoomFor (Item id) v n = IsSome v.facts × (v.bids.bids + MOST_COMMITS * n ≤ 2 * MOST_KEPT)
+HasRoomFor (User user) v n = (v.comments.comments + MOST_COMMITS * n ≤ 2 * MOST_KEPT) × (unsigned_abs v.comments.rating + 5 * MOST_COMMITS * n ≤ 10 * MOST_KEPT)
 HasRoomFor (Category category) v n = Unit {0}
 
 room_kept : (object : Object) (v : Value) (n m : ℕ) → n ≡ m → HasRoomFor object v n → HasRoomFor object v m
@@ -63,7 +64,7 @@ sum_near : (y z : ℤ) → unsigned_abs (y +ℤ z) ≤ unsigned_abs y + unsigned
 sum_near y z = omega (arith, ints)
 
 -- after its slice is merged there is room for one less
-room_after : (object : Object) (s : Slice) (v : Value) (n : ℕ) → IsOfKind object s → HasAtMost 1000000 s → HasRoomFor object v (suc n) → HasRoomFor object (merged_with s v) n
+room_after : (object : Object) (s : Slice) (v : Value) (n : ℕ) → IsOfKind object s → HasAtMost MOST_COMMITS s → HasRoomFor object v (suc n) → HasRoomFor object (merged_with s v) n
 room_after (Item id) (slice.Item s) v n kind few room = (room.0, omega (arith, room.1, few))
 room_after (Item id) (slice.User s) v n kind few room = absurd kind
 room_after (Item id) (slice.Category s) v n kind few room = absurd kind
@@ -74,7 +75,7 @@ room_after (Category category) (slice.Item s) v n kind few room = absurd kind
 room_after (Category category) (slice.User s) v n kind few room = absurd kind
 room_after (Category category) (slice.Category s) v n kind few room = tt
 
-can_merge : (states : List ShardState) (object : Object) (s : Slice) (n : ℕ) → IsOfKind object s → HasAtMost 1000000 s → HasRoomFor object (value_on states object) (suc n) → CanMerge states (object, s)
+can_merge : (states : List ShardState) (object : Object) (s : Slice) (n : ℕ) → IsOfKind object s → HasAtMost MOST_COMMITS s → HasRoomFor object (value_on states object) (suc n) → CanMerge states (object, s)
 can_merge states (Item id) (slice.Item s) n kind few room = (room.0, omega (arith, room.1, few))
 can_merge states (Item id) (slice.User s) n kind few room = absurd kind
 can_merge states (Item id) (slice.Category s) n kind few room = absurd kind
@@ -102,7 +103,7 @@ one_counts object pair pairs is = sum_by-cons (λ p. cond (is_of object p) 1 0) 
 other_counts : (object : Object) (pair : Object × Slice) (pairs : List (Object × Slice)) → same_object pair.0 object ≡ false → how_many object (pair ∷ pairs) ≡ how_many object pairs
 other_counts object pair pairs is = sum_by-cons (λ p. cond (is_of object p) 1 0) pair pairs ∙ first_counts_not (same_object pair.0 object) (how_many object pairs) is
 
-room_next : (object : Object) (pair : Object × Slice) (pairs : List (Object × Slice)) (v : Value) (b : Bool) → same_object pair.0 object ≡ b → IsOfKind pair.0 pair.1 → HasAtMost 1000000 pair.1
+room_next : (object : Object) (pair : Object × Slice) (pairs : List (Object × Slice)) (v : Value) (b : Bool) → same_object pair.0 object ≡ b → IsOfKind pair.0 pair.1 → HasAtMost MOST_COMMITS pair.1
     → HasRoomFor object v (how_many object (pair ∷ pairs)) → HasRoomFor object (cond b (merged_with pair.1 v) v) (how_many object pairs)
 room_next object pair pairs v true same kind few room =
     room_after object pair.1 v (how_many object pairs) (subst (λ (o : Object). IsOfKind o pair.1) (same_object-true pair.0 object same) kind) few
@@ -146,7 +147,7 @@ kind_of (User user) v = tt
 kind_of (Category category) v = tt
 
 good_from : (hot : List Object) (stocks : List (Object × Option (Facts × ℕ))) (rows : Book) → ((object : Object) → is_hot (hot_objects stocks) object ≡ true → is_hot hot object ≡ true)
-    → HaveAtMost 1000000 (slices_of stocks rows) → AllByRecursion (IsGood hot) (slices_in (slices_of stocks rows))
+    → HaveAtMost MOST_COMMITS (slices_of stocks rows) → AllByRecursion (IsGood hot) (slices_in (slices_of stocks rows))
 good_from hot [] rows among few = tt
 good_from hot (stock ∷ stocks) rows among few = (
   record {
@@ -171,12 +172,12 @@ module _ (stocks : List (Object × Option (Facts × ℕ))) (rows_by : WorkerStat
       )
 
   pub all_good : (receipts : List WorkerState) → AllByRecursion (λ receipt. receipt.slices ≡ slices_of stocks (rows_by receipt)) receipts
-      → AllByRecursion (λ receipt. HaveAtMost 1000000 receipt.slices) receipts → AllByRecursion (IsGood (hot_objects stocks)) (slices_left receipts)
+      → AllByRecursion (λ receipt. HaveAtMost MOST_COMMITS receipt.slices) receipts → AllByRecursion (IsGood (hot_objects stocks)) (slices_left receipts)
   all_good [] sliced few = tt
   all_good (receipt ∷ receipts) sliced few =
       all-append (IsGood (hot_objects stocks)) (slices_in receipt.slices) (slices_left receipts)
       (subst (λ slices. AllByRecursion (IsGood (hot_objects stocks)) (slices_in slices)) (sym sliced.0)
-      (good_from (hot_objects stocks) stocks (rows_by receipt) (λ object is. is) (subst (HaveAtMost 1000000) sliced.0 few.0)))
+      (good_from (hot_objects stocks) stocks (rows_by receipt) (λ object is. is) (subst (HaveAtMost MOST_COMMITS) sliced.0 few.0)))
       (all_good receipts sliced.1 few.1)
 
 -- In any order each slice can be merged in its turn.

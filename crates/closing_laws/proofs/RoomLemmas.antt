@@ -12,6 +12,7 @@ use Rattle.auction_rows.specs.Footprint.{is_hot}
 use Rattle.auction_rows.specs.Requests.{shard_of}
 use Rattle.item_shards.specs.declared.shard.slices.Slice.{Slice}
 use Rattle.item_shards.specs.Values.{Value, stock}
+use Rattle.shard_boxes.specs.declared.limits.TheConstants.{MOST_COMMITS}
 use Rattle.shard_boxes.specs.States.{state_at, IsInitial, AreInitial}
 use Rattle.phase_permits.specs.Txns.{hot_of}
 use Rattle.phase_permits.specs.Slicing.{HaveAtMost}
@@ -45,7 +46,7 @@ module _ (p : Phase) (closed : HasClosed p) (opened : AreInitial p.initial) wher
   )
   room_opened (Category category) n few hot = tt
 
-  pub merges_can_be_done : length p.receipts ≤ 16 → AllByRecursion (λ receipt. HaveAtMost 1000000 receipt.slices) p.receipts
+  pub merges_can_be_done : length p.receipts ≤ 16 → AllByRecursion (λ receipt. HaveAtMost MOST_COMMITS receipt.slices) p.receipts
       → (order : List (Object × Slice)) → IsPermutation (slices_left p.receipts) order → SawInTurn CanMerge after_merge p.given order
   merges_can_be_done workers few order moved =
       all_in_turn (hot_of p.setting) (slices_left p.receipts) order p.given (subst (λ n. 0 < n) (sym closed.boxes.0) closed.begun.some) moved

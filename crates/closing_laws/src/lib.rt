@@ -24,11 +24,12 @@ ghost use Rattle.phase_permits.specs.Txns.{hot_of};
 ghost use Rattle.phase_permits.specs.Workers.{WorkerState};
 ghost use Rattle.phase_permits.specs.Slicing.{HaveAtMost, slices_in};
 
-use auction_rows::{MOST_OF_A_WORKER, MOST_WORKERS};
+use auction_rows::MOST_WORKERS;
 pub use commits::{
     commits_keep_work, commits_stay_explained, empty_footprints_leave_keys, one_shard_put,
     replies_are_right, slices_of_rows,
 };
+use shard_boxes::MOST_COMMITS;
 
 /// Each shard's list holds the lines of the entries whose footprint has the shard, in the entries' order, and
 /// nothing else.
@@ -106,10 +107,10 @@ pub fn phases_close_lawfully()
 
 /// In whatever order the slices are merged into the shards that the boxes gave back, each can be merged in its turn:
 /// its object is of its kind, an item is stored, and the sums fit. There are at most 16 workers, and each slice has at
-/// most 1,000,000 operations.
+/// most `MOST_COMMITS` operations.
 pub fn slices_can_be_merged()
     ensures { (p : Phase) → HasClosed p → AreInitial p.initial → length p.receipts ≤ MOST_WORKERS →
-        AllByRecursion (λ receipt. HaveAtMost MOST_OF_A_WORKER receipt.slices) p.receipts →
+        AllByRecursion (λ receipt. HaveAtMost MOST_COMMITS receipt.slices) p.receipts →
         (order : List (Object × Slice)) → IsPermutation (slices_left p.receipts) order →
         SawInTurn CanMerge after_merge p.given order }
 {}

@@ -53,7 +53,7 @@ enough_left book item quantity stored few = at (facts_of book item) refl stored 
         enough = omega (arith, ltb-false (left_of book item) quantity few, up);
       }
 
-rating_fits : (z : ℤ) (stars : Stars) (n : ℕ) → unsigned_abs z ≤ 5 * n → n ≤ 16000000 → FitsSigned w64 (z +ℤ stars.value)
+rating_fits : (z : ℤ) (stars : Stars) (n : ℕ) → unsigned_abs z ≤ 5 * n → n < 2 ^ 59 → FitsSigned w64 (z +ℤ stars.value)
 rating_fits z stars n near few = fits_signed_from_abs w64 (z +ℤ stars.value) (omega (arith, ints, stars.at_least, stars.at_most))
 
 module _ (opening : Opening) (number shards : ℕ) (rooms : ItemId → Bool) (contents : Contents) (book : Book) (hot : List Object)
@@ -80,7 +80,7 @@ module _ (opening : Opening) (number shards : ℕ) (rooms : ItemId → Bool) (co
   looks_can saw answered (ViewCategory category) = (λ e. tt, tt)
   looks_can saw answered (ViewUser user) = (λ e. tt, tt)
 
-  module _ (few : length book ≤ 16000000) (worker : ℕ) where
+  module _ (few : length book < 2 ^ 59) (worker : ℕ) where
     abbrev IsRoomFor : Reply → Type 0
     IsRoomFor answered = (id : ItemId) → answered ≡ ItemStored id → shard_of (Item id) shards ≡ number → IsTrue (rooms id)
 
@@ -141,12 +141,17 @@ module _ (opening : Opening) (number shards : ℕ) (rooms : ItemId → Bool) (co
     writes_can request None e room = accepted_can request e room
     writes_can request (Some reason) e room = refused_can request reason
 
+  -- the row of an entry on a book that is not too long for sums
+  pub row_can_in : length book < 2 ^ 59 → (entry : Entry) → IsRight opening book entry → HasRoomFor number shards rooms entry → AllByRecursion Can (writes_if (row_of_entry entry))
+  row_can_in few entry right room =
+      subst (λ answered. AllByRecursion Can (writes_if (row_of entry.worker entry.request answered))) (sym right)
+      (writes_can few entry.worker entry.request (refusal opening book entry.request) refl (λ id e. room id (right ∙ e)))
+
   module _ (saw : Option (Facts × ℕ)) (entry : Entry) (right : IsRight opening book entry) (limits : IsWithinLimits (after_entry opening book entry)) (room : HasRoomFor number shards rooms entry) where
     pub row_can : AllByRecursion Can (writes_if (row_of_entry entry))
     row_can =
-        let few : length book ≤ 16000000 = omega (arith, limits.few, length-append book (option_to_list (row_of entry.worker entry.request (reply opening book entry.worker entry.request)))) in
-        subst (λ answered. AllByRecursion Can (writes_if (row_of entry.worker entry.request answered))) (sym right)
-        (writes_can few entry.worker entry.request (refusal opening book entry.request) refl (λ id e. room id (right ∙ e)))
+        row_can_in (omega (arith, limits.few, length-append book (option_to_list (row_of entry.worker entry.request (reply opening book entry.worker entry.request)))))
+        entry right room
 
     pub each_can : (act : Event) → Contains (acts_of opening saw entry) act → is_done_on number shards hot act ≡ true → CanActOn opening number shards rooms contents act
     each_can act member = all-member Can (acts_of opening saw entry) act (at (is_some (number_refusal opening entry.request))) member where

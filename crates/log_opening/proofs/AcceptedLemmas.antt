@@ -19,12 +19,12 @@ use Rattle.auction_text.specs.RowLines.{row_line, rows_text}
 use Rattle.log_opening.specs.Accepted.{GoOnFrom, added_rows, book_past_all}
 
 -- requests that are rows add a row each
-record Grown (opening : Opening) (book : Book) (more : List Opened) : Type 0 where
-  extra : List Row
-  is : fold (with_opened opening) book more ≡ book ++ extra
-  long : length extra ≡ length more
+pub record Grown (opening : Opening) (book : Book) (more : List Opened) : Type 0 where
+  pub extra : List Row
+  pub is : fold (with_opened opening) book more ≡ book ++ extra
+  pub long : length extra ≡ length more
 
-grown : (opening : Opening) (book : Book) (more : List Opened) → Replays (IsRow opening) (with_opened opening) book more → Grown opening book more
+pub grown : (opening : Opening) (book : Book) (more : List Opened) → Replays (IsRow opening) (with_opened opening) book more → Grown opening book more
 grown opening book [] are = record { extra = []; is = sym (append-nil book); long = refl }
 grown opening book (one ∷ more) are =
     let a = adds opening book one are.0 in
@@ -35,24 +35,24 @@ grown opening book (one ∷ more) are =
       long = omega (arith, m.long);
     }
 
-folded : (opening : Opening) (book : Book) (xs ys : List Opened) → fold (with_opened opening) book (xs ++ ys) ≡ fold (with_opened opening) (fold (with_opened opening) book xs) ys
+pub folded : (opening : Opening) (book : Book) (xs ys : List Opened) → fold (with_opened opening) book (xs ++ ys) ≡ fold (with_opened opening) (fold (with_opened opening) book xs) ys
 folded opening book [] ys = refl
 folded opening book (x ∷ xs) ys = folded opening (with_opened opening book x) xs ys
 
-first_are : (opening : Opening) (book : Book) (xs ys : List Opened) → Replays (IsRow opening) (with_opened opening) book (xs ++ ys) → Replays (IsRow opening) (with_opened opening) book xs
+pub first_are : (opening : Opening) (book : Book) (xs ys : List Opened) → Replays (IsRow opening) (with_opened opening) book (xs ++ ys) → Replays (IsRow opening) (with_opened opening) book xs
 first_are opening book [] ys are = tt
 first_are opening book (x ∷ xs) ys are = (are.0, first_are opening (with_opened opening book x) xs ys are.1)
 
-rest_are : (opening : Opening) (book : Book) (xs ys : List Opened) → Replays (IsRow opening) (with_opened opening) book (xs ++ ys)
+pub rest_are : (opening : Opening) (book : Book) (xs ys : List Opened) → Replays (IsRow opening) (with_opened opening) book (xs ++ ys)
     → Replays (IsRow opening) (with_opened opening) (fold (with_opened opening) book xs) ys
 rest_are opening book [] ys are = are
 rest_are opening book (x ∷ xs) ys are = rest_are opening (with_opened opening book x) xs ys are.1
 
 -- the lines of rows and of more rows
-joined : (first second : List Row) → lines row_line first ++ lines row_line second ≡ lines row_line (first ++ second)
+pub joined : (first second : List Row) → lines row_line first ++ lines row_line second ≡ lines row_line (first ++ second)
 joined first second = sym (flat_map-append row_line first second)
 
-rows_alone : (book : Book) → rows_text book [] ≡ lines row_line book
+pub rows_alone : (book : Book) → rows_text book [] ≡ lines row_line book
 rows_alone book = ap (lines row_line) (append-nil book)
 
 drop_all : (xs ys : List Row) (n : ℕ) → length xs ≡ n → drop n (xs ++ ys) ≡ ys

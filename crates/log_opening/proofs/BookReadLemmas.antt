@@ -16,14 +16,14 @@ use Rattle.auction_text.specs.declared.reading.TheConstants.{MOST_RECORDS}
 use Rattle.log_opening.specs.ReadBack.{IsWritten, book_asked, said_of}
 use Rattle.log_opening.proofs.RowLineLemmas.{IsReadAs, line_read}
 
-written_read : (workers : ℕ) (row : Row) → workers ≤ 2 ^ 32 → IsWritten workers row → IsReadAs (row_line row) (said_of row)
+pub written_read : (workers : ℕ) (row : Row) → workers ≤ 2 ^ 32 → IsWritten workers row → IsReadAs (row_line row) (said_of row)
 written_read workers row few written = line_read row (omega (arith, few, written.0)) written.1
 
 -- the worker that a line says is its row's
 said_worker : (row : Row) → (said_of row).worker ≡ worker_of row
 said_worker row = refl
 
-none_read : records default_config [] ≡ []
+pub none_read : records default_config [] ≡ []
 unfolding records_from next_record
 none_read = refl
 
@@ -41,7 +41,7 @@ all_read workers place (row ∷ book) few all room =
     rw reads (rw (short, says, others) refl)
 
 -- rows and no requests
-rows_said : (book : Book) → rows (map said_of book) ≡ map opened_of book
+pub rows_said : (book : Book) → rows (map said_of book) ≡ map opened_of book
 rows_said [] = refl
 rows_said (Item row ∷ book) = ap (λ l. opened_of (Item row) ∷ l) (rows_said book)
 rows_said (Bid row ∷ book) = ap (λ l. opened_of (Bid row) ∷ l) (rows_said book)

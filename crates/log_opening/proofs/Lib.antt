@@ -1,10 +1,14 @@
 pub mod AcceptedLemmas
 pub mod BookReadLemmas
 pub mod DifferenceLemmas
+pub mod FileLemmas
 pub mod NeverLemmas
-pub mod OpeningLemmas
+pub mod OpenedLemmas
+pub mod PartLemmas
 pub mod PrefixLemmas
 pub mod ReadBackLemmas
+pub mod ReadingLemmas
 pub mod RecoveryLemmas
 pub mod RowLineLemmas
+pub mod SameRowsLemmas
 pub mod TailLemmas

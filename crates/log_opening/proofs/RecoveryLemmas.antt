@@ -23,11 +23,11 @@ use Rattle.log_opening.proofs.BookReadLemmas.{book_read}
 use Rattle.log_opening.proofs.PrefixLemmas.{Prints, line_first, prints_at, row_prints}
 
 -- the first rows, whose lines are whole
-record Front (book : Book) (n whole : ℕ) : Type 0 where
-  count : ℕ
-  within : count ≤ length book
-  is : take whole (take n (lines row_line book)) ≡ lines row_line (take count book)
-  begins : (accepted : ℕ) → accepted ≤ length book → length (lines row_line (take accepted book)) ≤ n → accepted ≤ count
+pub record Front (book : Book) (n whole : ℕ) : Type 0 where
+  pub count : ℕ
+  pub within : count ≤ length book
+  pub is : take whole (take n (lines row_line book)) ≡ lines row_line (take count book)
+  pub begins : (accepted : ℕ) → accepted ≤ length book → length (lines row_line (take accepted book)) ≤ n → accepted ≤ count
 
 -- a prefix of a line without its end has no whole line
 pub none_whole : (text rest : List ℕ) (n whole : ℕ) → Prints text → n ≤ length text → AreWholeLines (take n (text ++ rest)) whole → whole ≡ 0
@@ -46,7 +46,7 @@ take_past xs ys n l long past =
     let same : n ≡ length xs + (n - l) = omega (arith, long, past) in
     ap (λ (i : ℕ). take i (xs ++ ys)) same ∙ take-append-add xs ys (n - l)
 
-front : (workers : ℕ) (book : Book) (n whole : ℕ) → workers ≤ 2 ^ 32 → AllByRecursion (IsWritten workers) book → AreWholeLines (take n (lines row_line book)) whole → Front book n whole
+pub front : (workers : ℕ) (book : Book) (n whole : ℕ) → workers ≤ 2 ^ 32 → AllByRecursion (IsWritten workers) book → AreWholeLines (take n (lines row_line book)) whole → Front book n whole
 front workers [] n whole few all are = record {
   count = 0;
   within = omega arith;
@@ -95,17 +95,17 @@ front workers (row ∷ book) n whole few all are =
           omega (arith, less)
 
 -- the first rows of a book are a book
-front_goes_on : (opening : Opening) (book rows : List Row) (k : ℕ) → GoOn opening book rows → GoOn opening book (take k rows)
+pub front_goes_on : (opening : Opening) (book rows : List Row) (k : ℕ) → GoOn opening book rows → GoOn opening book (take k rows)
 front_goes_on opening book rows zero go = tt
 front_goes_on opening book [] (suc k) go = tt
 front_goes_on opening book (row ∷ rows) (suc k) go = (go.0, front_goes_on opening (after_entry opening book (commit_of row)) rows k go.1)
 
-front_all : (P : Row → Type 0) (rows : List Row) (k : ℕ) → AllByRecursion P rows → AllByRecursion P (take k rows)
+pub front_all : (P : Row → Type 0) (rows : List Row) (k : ℕ) → AllByRecursion P rows → AllByRecursion P (take k rows)
 front_all P rows zero all = tt
 front_all P [] (suc k) all = tt
 front_all P (row ∷ rows) (suc k) all = (all.0, front_all P rows k all.1)
 
-text_alone : (book : Book) → rows_text book [] ≡ lines row_line book
+pub text_alone : (book : Book) → rows_text book [] ≡ lines row_line book
 text_alone book = ap (λ (l : List Row). lines row_line l) (append-nil book)
 
 pub opens_to : (opening : Opening) (workers : ℕ) (book : Book) (n whole : ℕ) → workers ≤ 2 ^ 32 → IsBook opening book → All (λ row. worker_of row < 16) book → All (IsWritten workers) book

@@ -1,7 +1,9 @@
 pub mod Accepted
 pub mod CutRows
 pub mod Differences
+pub mod Files
 pub mod Lines
 pub mod Opening
+pub mod Parts
 pub mod ReadBack
 pub mod Recovery

@@ -1,70 +1,165 @@
--- Why the text of a log is refused.
-use Rattle.std.specs.Prelude.{◌≡◌, ℕ, false, List, [], Ok, Err, drop, take}
+-- What the text of a log opens, and why it is refused.
+use Rattle.std.specs.Prelude.{◌≡◌, ◌≤◌, ◌<◌, ◌+◌, ◌++◌, ℕ, true, false, List, [], All, Option, Ok, Err, IfSome, drop, length, take}
+use Rattle.std.specs.Io.KnownBytes.{Appends}
 use Rattle.auction_rows.specs.declared.values.Opening.{Opening}
-use Rattle.item_shards.specs.OpeningRows.{AreRows, IsFirstBad, IsTooLong, opening_rows}
-use Rattle.item_shards.specs.declared.openings.ResumeFault.{ResumeFault}
-use Rattle.item_shards.specs.declared.openings.ResumeFault.TheVariants as resume
+use Rattle.auction_rows.specs.Book.{Book}
+use Rattle.auction_rows.specs.History.{IsBook}
+use Rattle.phase_floor.specs.Adding.{IsStartOf}
+use Rattle.phase_floor.specs.declared.adding.AddFault.{AddFault}
+use Rattle.phase_floor.specs.declared.adding.AddFault.TheVariants as add
 use Rattle.auction_text.specs.Reading.{IsInputFault}
 use Rattle.auction_text.specs.RowLines.{rows_text}
 use Rattle.auction_text.specs.Scripts.{Asked, input_of}
+use Rattle.auction_text.specs.Writing.{IsPartWritten}
 use Rattle.auction_text.specs.declared.reading.ReadFault.{ReadFault}
+use Rattle.auction_text.specs.declared.reading.ReadFault.TheVariants as read
 use Rattle.log_opening.specs.CutRows.{is_cut_row}
 use Rattle.log_opening.specs.Differences.{IsFirstDifference}
-use Rattle.log_opening.specs.Lines.{AreWholeLines, line_at}
+use Rattle.log_opening.specs.Lines.{AreLines, AreWholeLines, line_at}
+use Rattle.log_opening.specs.Parts.{AreRowsFrom, HasNoEnd, IsFirstRefused, rows_from}
+use Rattle.log_opening.specs.ReadBack.{IsWritten}
+use Rattle.log_opening.specs.declared.opening.LoggedAuction.{LoggedAuction}
 use Rattle.log_opening.specs.declared.opening.OpenFault.{OpenFault}
 use Rattle.log_opening.specs.declared.opening.OpenFault.TheVariants as fault
+use Rattle.log_opening.specs.declared.parts.TheConstants.{PART_LEN}
+use Rattle.log_opening.specs.declared.tails.TheConstants.{MOST_OF_A_ROW}
 
--- What is behind the whole lines of a text, on the line with this number, is no beginning of a row.
-pub record HasOtherTail (text : List ℕ) (line : ℕ) : Type 0 where
-  pub whole : ℕ
-  pub lines : AreWholeLines text whole
-  pub other : is_cut_row (drop whole text) ≡ false
-  pub number : line ≡ line_at text whole
+-- ---- what a text opens
 
--- The whole lines of a text cannot be read, by this fault, if it is one of what they say.
-pub record IsFaulty (workers : ℕ) (text : List ℕ) (fault : ReadFault) : Type 0 where
-  pub whole : ℕ
-  pub lines : AreWholeLines text whole
-  pub read : IsInputFault fault → input_of workers (take whole text) ≡ Err fault
+-- A text is that of a book's rows, which are its whole lines, and of the tail behind them.
+pub record HasRowsAndTail (text : List ℕ) (book : Book) (opened : LoggedAuction) : Type 0 where
+  pub lines : AreWholeLines text opened.kept
+  pub rows : take opened.kept text ≡ rows_text book []
+  pub tail : opened.tail.items ≡ drop opened.kept text
 
--- The whole lines of a text ask for this.
-pub record AsksFor (workers : ℕ) (text : List ℕ) (asked : Asked) : Type 0 where
-  pub whole : ℕ
-  pub lines : AreWholeLines text whole
-  pub read : input_of workers (take whole text) ≡ Ok asked
+-- The text of a log opens an auction with the rows of a book. What is behind them is a cut row.
+pub record OpensWith (text : Option (List ℕ)) (book : Book) (opened : LoggedAuction)
+    : Type 0 where
+  -- the auction is a start of the book
+  pub start : IsStartOf opened.auction book
+  -- its rows are as a log's rows are
+  pub written : All (IsWritten (length opened.auction.counters)) book
+  -- so many there are
+  pub rows : opened.rows ≡ length book
+  -- and so many bytes is their text
+  pub kept : opened.kept ≡ length (rows_text book [])
+  -- the text, if it is known, is that of the rows and the tail
+  pub text_is : IfSome text (λ text. HasRowsAndTail text book opened)
+  -- the tail is a cut row
+  pub cut : is_cut_row opened.tail.items ≡ true
 
--- rows open no auction, by this fault
-abbrev pub OpenNone : Opening → ResumeFault → Asked → Type 0
-OpenNone opening resume.TooLong asked = IsTooLong asked.rows
-OpenNone opening (resume.BadRow number) asked = IsFirstBad opening asked.rows number
-OpenNone opening resume.Memory asked = Unit {0}
+-- The text of a log opens an auction, and the text of its rows was told.
+pub record Opens (text told now : Option (List ℕ)) (opened : LoggedAuction) : Type 0 where
+  pub book : Book
+  pub opens : OpensWith text book opened
+  pub tells : Appends told now (rows_text book [])
 
--- The whole lines of a text ask for rows that open the auction, but are not the text of these rows:
--- they differ first on the line with this number.
-pub record HasOtherLine (workers : ℕ) (opening : Opening) (text : List ℕ) (line : ℕ) : Type 0 where
+-- ---- why a text is refused
+
+-- the number of the record that has a fault, 0 of other faults
+abbrev pub place_of : ReadFault → ℕ
+place_of (read.Line place cause) = place
+place_of (read.Worker place) = place
+place_of read.Read = 0
+place_of read.Memory = 0
+place_of read.Long = 0
+
+-- a fault of a record that is counted after so many others
+abbrev pub counted_after : ℕ → ReadFault → ReadFault
+counted_after rows (read.Line place cause) = read.Line (rows + place) cause
+counted_after rows (read.Worker place) = read.Worker (rows + place)
+counted_after rows read.Read = read.Read
+counted_after rows read.Memory = read.Memory
+counted_after rows read.Long = read.Long
+
+-- the fault of the row with this number, which is not added
+abbrev pub row_fault : ℕ → AddFault → OpenFault
+row_fault number add.TooLong = fault.TooMany number
+row_fault number add.BadRow = fault.BadRow number
+row_fault number add.Memory = fault.Memory
+
+-- Lines cannot be read, by this fault, if it is one of what they say.
+pub record AreFaulty (workers before : ℕ) (lines : List ℕ) (told : ReadFault) : Type 0 where
+  pub are_lines : AreLines lines
+  pub of : ReadFault
+  pub told_is : told ≡ counted_after before of
+  pub read : IsInputFault of → input_of workers lines ≡ Err of
+
+-- Lines after a book ask for rows, one of which is not taken.
+pub record AreRefused (limit : ℕ) (taken : AddFault) (workers : ℕ) (opening : Opening)
+    (book : Book) (lines : List ℕ) (number : ℕ) : Type 0 where
+  pub are_lines : AreLines lines
   pub asked : Asked
-  pub ask : AsksFor workers text asked
-  pub are_rows : AreRows opening asked.rows
+  pub read : input_of workers lines ≡ Ok asked
+  pub place : ℕ
+  pub first : IsFirstRefused limit taken workers opening book asked.rows place
+  pub number_is : number ≡ length book + place + 1
+
+-- Lines after a book ask for rows but are not the text of these: they differ first on the line with
+-- this number.
+pub record AreOther (workers : ℕ) (opening : Opening) (book : Book) (lines : List ℕ)
+    (number : ℕ) : Type 0 where
+  pub are_lines : AreLines lines
+  pub asked : Asked
+  pub read : input_of workers lines ≡ Ok asked
+  pub are_rows : AreRowsFrom opening book asked.rows
+  pub added : Book
+  pub added_is : rows_from opening book asked.rows ≡ book ++ added
   pub at : ℕ
-  pub differs : IsFirstDifference (take ask.whole text)
-      (rows_text (opening_rows opening asked.rows) []) at
-  pub number : line ≡ line_at text at
+  pub differs : IsFirstDifference lines (rows_text added []) at
+  pub number_is : number ≡ length book + line_at lines at
 
--- why a text is refused
-abbrev pub IsRefused : OpenFault → ℕ → Opening → List ℕ → Type 0
-IsRefused (fault.Tail line) workers opening text = HasOtherTail text line
-IsRefused (fault.Record of) workers opening text = IsFaulty workers text of
-IsRefused (fault.Resume of) workers opening text =
-    (asked : Asked) × (AsksFor workers text asked × OpenNone opening of asked)
-IsRefused (fault.Line line) workers opening text = HasOtherLine workers opening text line
-IsRefused fault.Memory workers opening text = Unit {0}
+-- these bytes of a text are refused after the rows of a book, by this fault; the last are those
+-- behind them
+abbrev pub AreNotRows : OpenFault → ℕ → ℕ → Opening → Book → List ℕ → List ℕ → Type 0
+AreNotRows (fault.Tail line) limit workers opening book bytes behind =
+    HasNoEnd bytes × (is_cut_row bytes ≡ false) × (behind ≡ []) × (line ≡ length book + 1)
+AreNotRows (fault.Long line) limit workers opening book bytes behind =
+    HasNoEnd bytes × (MOST_OF_A_ROW < length bytes) × (line ≡ length book + 1)
+AreNotRows (fault.Record of) limit workers opening book bytes behind =
+    AreFaulty workers (length book) bytes of
+AreNotRows (fault.TooMany number) limit workers opening book bytes behind =
+    AreRefused limit add.TooLong workers opening book bytes number
+AreNotRows (fault.BadRow number) limit workers opening book bytes behind =
+    AreRefused limit add.BadRow workers opening book bytes number
+AreNotRows (fault.Line line) limit workers opening book bytes behind =
+    AreOther workers opening book bytes line
+AreNotRows fault.Memory limit workers opening book bytes behind = Unit {0}
+AreNotRows fault.Write limit workers opening book bytes behind = Unit {0}
 
--- a fault that only memory, or a read that failed, can bring
+-- The first of these bytes, a part of a text, are refused after the rows of a book, by this fault.
+pub record IsRefusedIn (told : OpenFault) (limit workers : ℕ) (opening : Opening) (book : Book)
+    (text : List ℕ) : Type 0 where
+  pub bytes : List ℕ
+  pub behind : List ℕ
+  pub text_is : text ≡ bytes ++ behind
+  pub few : length bytes ≤ PART_LEN
+  pub not_rows : AreNotRows told limit workers opening book bytes behind
+
+-- A text is refused by this fault, where each of so many workers may commit so many requests: its
+-- first lines are the text of the rows of a book, and the bytes behind these are refused.
+pub record IsRefused (told : OpenFault) (limit workers : ℕ) (opening : Opening) (text : List ℕ)
+    : Type 0 where
+  pub book : Book
+  pub is_book : IsBook opening book
+  pub written : All (IsWritten workers) book
+  pub rest : List ℕ
+  pub text_is : text ≡ rows_text book [] ++ rest
+  pub refused : IsRefusedIn told limit workers opening book rest
+
+-- At a fault a prefix of the text of rows was told. They are the first of the text, if it is known.
+pub record TellsFirst (text told now : Option (List ℕ)) : Type 0 where
+  pub book : Book
+  pub part : IsPartWritten told now (rows_text book [])
+  pub text_is : IfSome text (λ text. (rest : List ℕ) × (text ≡ rows_text book [] ++ rest))
+
+-- a fault that only memory, or a read or a write that failed, can bring
 abbrev pub IsForMemory : OpenFault → Type 0
 IsForMemory (fault.Tail line) = ⊥
+IsForMemory (fault.Long line) = ⊥
 IsForMemory (fault.Record of) = ¬ IsInputFault of
-IsForMemory (fault.Resume resume.TooLong) = ⊥
-IsForMemory (fault.Resume (resume.BadRow number)) = ⊥
-IsForMemory (fault.Resume resume.Memory) = Unit {0}
+IsForMemory (fault.TooMany number) = ⊥
+IsForMemory (fault.BadRow number) = ⊥
 IsForMemory (fault.Line line) = ⊥
 IsForMemory fault.Memory = Unit {0}
+IsForMemory fault.Write = Unit {0}

@@ -23,3 +23,12 @@ pub record OpensTo (opening : Opening) (workers : ℕ) (book : Book) (n whole : 
   -- rows whose text is within the n bytes are among them
   pub begins : (accepted : ℕ) → accepted ≤ length book →
       length (rows_text (take accepted book) []) ≤ n → accepted ≤ count
+
+-- Rows are the first of a book, and all those whose lines are in the first n bytes of its text.
+pub record AreFirstOf (book : Book) (n : ℕ) (rows : Book) : Type 0 where
+  pub count : ℕ
+  pub within : count ≤ length book
+  pub rows_are : rows ≡ take count book
+  -- rows whose text is within the n bytes are among them
+  pub begins : (accepted : ℕ) → accepted ≤ length book →
+      length (rows_text (take accepted book) []) ≤ n → accepted ≤ count

@@ -1,5 +1,5 @@
 //! Laws of the text of a log: what a crash leaves of it opens, and its bytes are an auction's rows.
-ghost use Rattle.std.specs.Prelude.{◌≡◌, ◌≤◌, ◌<◌, ◌^◌, ◌++◌, All, ℕ, List, [], Ok, Option, Some, drop, length, map, take, true};
+ghost use Rattle.std.specs.Prelude.{◌≡◌, ◌≤◌, ◌<◌, ◌^◌, ◌++◌, All, ℕ, List, [], Ok, Option, Some, drop, length, take, true};
 ghost use Rattle.std.specs.Io.KnownBytes.{Appends};
 ghost use Rattle.auction_rows.specs.declared.limits.TheConstants.{MOST_WORKERS};
 ghost use Rattle.auction_rows.specs.declared.values.Opening.{Opening};
@@ -7,7 +7,7 @@ ghost use Rattle.auction_rows.specs.declared.rows.Entry.{Entry as Commit};
 ghost use Rattle.auction_rows.specs.Book.{Book};
 ghost use Rattle.auction_rows.specs.History.{IsBook};
 ghost use Rattle.item_shards.specs.Counting.{worker_of};
-ghost use Rattle.item_shards.specs.OpeningRows.{AreRows, IsTooLong, opened_of, opening_rows};
+ghost use Rattle.item_shards.specs.OpeningRows.{AreRows, opening_rows, rows_by};
 ghost use Rattle.item_shards.specs.declared.openings.Opened.{Opened};
 ghost use Rattle.auction_text.specs.RowLines.{rows_text};
 ghost use Rattle.auction_text.specs.Scripts.{input_of};
@@ -15,10 +15,11 @@ ghost use Rattle.auction_text.specs.declared.reading.TheConstants.{MOST_RECORDS}
 ghost use Rattle.log_opening.specs.Accepted.{GoOnFrom, added_rows, book_past_all};
 ghost use Rattle.log_opening.specs.CutRows.{is_cut_row};
 ghost use Rattle.log_opening.specs.Lines.{AreWholeLines};
-ghost use Rattle.log_opening.specs.Opening.{IsForMemory, IsRefused};
+ghost use Rattle.log_opening.specs.Opening.{IsForMemory, IsRefused, OpensWith};
+ghost use Rattle.log_opening.specs.declared.opening.LoggedAuction.{LoggedAuction};
 ghost use Rattle.log_opening.specs.declared.opening.OpenFault.{OpenFault};
 ghost use Rattle.log_opening.specs.ReadBack.{IsWritten, book_asked};
-ghost use Rattle.log_opening.specs.Recovery.{OpensTo};
+ghost use Rattle.log_opening.specs.Recovery.{AreFirstOf, OpensTo};
 
 /// Rows are read back as they were printed: the text of a book's rows asks for these rows, and for
 /// nothing else.
@@ -38,6 +39,17 @@ pub fn a_prefix_opens()
         OpensTo opening workers book n whole }
 {}
 
+/// What `open_parts` opens of a prefix of a log is an auction with the first rows of its book, and
+/// all those whose lines are there. Whatever a crash leaves behind the bytes that were accepted, a
+/// start has all accepted rows, and no row that is not the book's.
+pub fn a_prefix_opens_its_rows()
+    ensures { (opening : Opening) (workers : ℕ) (book rows : Book) (n : ℕ)
+        (opened : LoggedAuction) → workers ≤ MOST_WORKERS → IsBook opening book →
+        All (IsWritten workers) book → opened.auction.opening ≡ opening →
+        length opened.auction.counters ≡ workers →
+        OpensWith (Some (take n (rows_text book []))) rows opened → AreFirstOf book n rows }
+{}
+
 /// What a prefix of a log has behind its whole lines is a cut row, which a start takes off.
 pub fn a_tail_is_a_cut_row()
     ensures { (workers : ℕ) (book : Book) (n whole : ℕ) → workers ≤ MOST_WORKERS →
@@ -45,14 +57,13 @@ pub fn a_tail_is_a_cut_row()
         is_cut_row (drop whole (take n (rows_text book []))) ≡ true }
 {}
 
-/// Whatever prefix a crash leaves of a log, `open_text` refuses it only for want of memory.
+/// Whatever prefix a crash leaves of a log, `open_parts` refuses it only for want of memory, or if a
+/// read or a write fails. It may have more rows than fit into memory.
 pub fn a_prefix_is_never_refused()
-    ensures { (opening : Opening) (workers : ℕ) (book : Book) (n : ℕ) (fault : OpenFault) →
-        workers ≤ MOST_WORKERS → IsBook opening book →
-        All (λ row. worker_of row < MOST_WORKERS) book →
-        All (IsWritten workers) book → length book ≤ MOST_RECORDS →
-        ¬ IsTooLong (map opened_of book) →
-        IsRefused fault workers opening (take n (rows_text book [])) → IsForMemory fault }
+    ensures { (opening : Opening) (limit workers : ℕ) (book : Book) (n : ℕ) (fault : OpenFault) →
+        workers ≤ MOST_WORKERS → IsBook opening book → All (IsWritten workers) book →
+        ((worker : ℕ) → rows_by book worker ≤ limit) →
+        IsRefused fault limit workers opening (take n (rows_text book [])) → IsForMemory fault }
 {}
 
 /// A log that has the rows that an auction was opened with, and then accepted those of the opening

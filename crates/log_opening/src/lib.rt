@@ -2,18 +2,21 @@
 //! being written, and which are neither.
 #![tactic(auto)]
 
+mod files;
 mod laws;
 mod lines;
 mod opening;
-mod requests;
+mod parts;
+mod ranges;
 mod row_texts;
 mod tails;
 
+pub use files::{cut_log, read_log};
 pub use laws::{
-    a_log_has_its_book, a_prefix_is_never_refused, a_prefix_opens, a_tail_is_a_cut_row,
-    rows_are_read_back,
+    a_log_has_its_book, a_prefix_is_never_refused, a_prefix_opens, a_prefix_opens_its_rows,
+    a_tail_is_a_cut_row, rows_are_read_back,
 };
 pub use lines::{LINE_END, whole_lines};
-pub use opening::{OpenFault, OpenedText, open_text};
-pub use requests::opened_rows;
+pub use opening::{LoggedAuction, OpenFault, open_parts};
+pub use parts::{Refused, add_rows};
 pub use tails::{MOST_OF_A_ROW, is_cut_row};

@@ -1,83 +1,84 @@
 //! What the text of a log opens, and which text is refused.
-ghost use Rattle.std.specs.Prelude.{◌≡◌, true, [], IfErr, IfOk, drop, take};
-ghost use Rattle.auction_rows.specs.History.{IsBook};
-ghost use Rattle.item_shards.specs.OpeningBooks.{opening_of, rows_of_book};
-ghost use Rattle.auction_text.specs.RowLines.{rows_text};
-ghost use Rattle.log_opening.specs.CutRows.{is_cut_row};
-ghost use Rattle.log_opening.specs.Lines.{AreWholeLines};
-ghost use Rattle.log_opening.specs.Opening.{IsRefused};
+ghost use Rattle.std.specs.Prelude.{◌≡◌, [], IfErr, IfOk, IfSome, length};
+ghost use Rattle.phase_floor.specs.Adding.{IsSameAuction, IsStartOf};
+ghost use Rattle.log_opening.specs.Opening.{IsRefused, Opens, TellsFirst};
 
-use crate::lines::{line_at, whole_lines};
-use crate::row_texts::difference_from;
-use crate::tails::is_cut_row;
-use auction_rows::Opening;
-use auction_text::{CompactInput, ReadFault, read_compact_scripts};
-use item_shards::{OpeningBook, ResumeFault};
+use crate::parts::{PART_LEN, ReadRows};
+use auction_text::ReadFault;
+use phase_floor::Joined;
 use std::alloc::Global;
+use std::io::{Read, Write};
 use thiserror::Error;
 
-/// Why the text of a log opens no auction.
+/// Why the text of a log opens no auction. Lines, records and rows are counted from 1.
 #[derive(Clone, Copy, Debug, PartialEq, Eq, Drop, Error)]
 pub enum OpenFault {
     /// The last line, the one with this number, has no end and is not the beginning of a row.
     #[error("line {0}: no line end, and not the beginning of a row")]
     Tail(u64),
+    /// The line with this number is longer than a row.
+    #[error("line {0}: longer than a row")]
+    Long(u64),
     /// A record cannot be read.
     #[error("{0}")]
     Record(ReadFault),
-    /// The rows open no auction.
-    #[error("{0}")]
-    Resume(ResumeFault),
+    /// The row with this number is of a worker that has as many as it may commit.
+    #[error("row {0}: more requests than its worker may commit")]
+    TooMany(u64),
+    /// The row with this number is refused at its place or is of no worker.
+    #[error("row {0}: refused")]
+    BadRow(u64),
     /// The line with this number is the first that is not as rows are written.
     #[error("line {0}: not as rows are written")]
     Line(u64),
     /// No memory was left.
     #[error("no memory")]
     Memory,
+    /// The rows that were read could not be told.
+    #[error("output cannot be written")]
+    Write,
 }
 
 /// What the text of a log opens.
 #[derive(Drop)]
-pub struct OpenedText {
-    /// The rows.
-    pub book: OpeningBook,
-    /// How many bytes of the text they are: those behind them are a cut row.
-    pub kept: usize,
+pub struct LoggedAuction {
+    /// An auction with its rows.
+    pub auction: Joined,
+    /// How many they are.
+    pub rows: u64,
+    /// How many bytes of the text they are.
+    pub kept: u64,
+    /// The bytes behind them: a cut row.
+    pub tail: Vec<u8>,
 }
 
-/// Opens an auction with the text of a log: its whole lines are rows as they are written, and what
-/// is behind them is the beginning of a row that was being written, or nothing. Any other text is
-/// refused.
-pub fn open_text(
+/// Adds the rows of a log to an auction while its text is read: its whole lines are rows as they
+/// are written, and what is behind them is the beginning of a row that was being written, or
+/// nothing. Any other text is refused. Of the text a part of 64 KiB is held at a time, and the text
+/// of its rows is then told: `io::sink()` is for those who do not want it.
+pub fn open_parts<R: Read, W: Write>(
     alloc: Global,
-    text: &[u8],
-    workers: u32,
-    opening: Opening,
-) -> Result<OpenedText, OpenFault>
-    ensures lines { IfOk result (λ opened. AreWholeLines text.now opened.kept) }
-    ensures rows { IfOk result (λ opened.
-        take opened.kept text.now ≡ rows_text (rows_of_book opened.book) []) }
-    ensures tail { IfOk result (λ opened. is_cut_row (drop opened.kept text.now) ≡ true) }
-    ensures opening { IfOk result (λ opened. opening_of opened.book ≡ opening) }
-    ensures book { IfOk result (λ opened. IsBook opening (rows_of_book opened.book)) }
-    ensures refused { IfErr result (λ fault. IsRefused fault workers opening text.now) }
+    reader: &mut R,
+    auction: Joined,
+    told: &mut W,
+) -> Result<LoggedAuction, OpenFault>
+    requires { IsStartOf auction [] }
+    ensures opens { IfOk result (Opens (R.remaining reader.old)
+        (W.contents told.old) (W.contents told.new)) }
+    ensures same { IfOk result (λ opened. IsSameAuction auction opened.auction) }
+    ensures refused { IfErr result (λ fault. IfSome (R.remaining reader.old)
+        (IsRefused fault auction.limit (length auction.counters) auction.opening)) }
+    ensures told { IfErr result (λ _. TellsFirst (R.remaining reader.old)
+        (W.contents told.old) (W.contents told.new)) }
 {
-    let kept = whole_lines(text);
-    if !is_cut_row(&text[kept..]) {
-        return Err(OpenFault::Tail(line_at(text, kept)));
-    }
-    let lines = &text[..kept];
-    let CompactInput { rows, scripts: _ } = match read_compact_scripts(alloc, lines, workers) {
-        Ok(input) => input,
-        Err(fault) => return Err(OpenFault::Record(fault)),
+    let mut reading = ReadRows {
+        auction,
+        rows: 0,
+        kept: 0,
     };
-    let book = match OpeningBook::new(alloc, opening, rows) {
-        Ok(book) => book,
-        Err(fault) => return Err(OpenFault::Resume(fault)),
+    let Ok(mut buffer) = vec![in alloc; 0u8; PART_LEN] else {
+        return Err(OpenFault::Memory);
     };
-    match difference_from(alloc, lines, book.rows()) {
-        Ok(None) => Ok(OpenedText { book, kept }),
-        Ok(Some(at)) => Err(OpenFault::Line(line_at(text, at))),
-        Err(_) => Err(OpenFault::Memory),
-    }
+    let filled = reading.read_parts(alloc, reader, &mut buffer, told)?;
+    reading.end(buffer, filled)
 }

@@ -1,5 +1,5 @@
 -- How much of what a file holds a log has accepted, and what a start finds in it.
-use Rattle.std.specs.Prelude.{◌≡◌, ◌≤◌, ℕ, Bool, true, false, List, Option, IfSome, length, take}
+use Rattle.std.specs.Prelude.{◌≡◌, ◌≤◌, ℕ, Bool, true, false, List, Option, IfSome, drop, length, take}
 use Rattle.std.specs.Io.KnownBytes.{append_known}
 use Rattle.part_log.specs.declared.log.LogFault.{LogFault}
 use Rattle.part_log.specs.declared.log.LogFault.TheVariants.{Write, Sync, Broken}
@@ -7,6 +7,10 @@ use Rattle.part_log.specs.declared.log.LogFault.TheVariants.{Write, Sync, Broken
 -- the known bytes are so many at least
 abbrev pub HoldsSoMany : Option (List ℕ) → ℕ → Type 0
 HoldsSoMany held count = IfSome held (λ bytes. count ≤ length bytes)
+
+-- a file has these bytes from a place on
+abbrev pub IsReadAt : List ℕ → ℕ → List ℕ → Type 0
+IsReadAt bytes at read = take (length read) (drop at bytes) ≡ read
 
 -- so many of a file's bytes were accepted, and it holds others only if the log has ended
 abbrev pub IsKeptIn : Option (List ℕ) → ℕ → Bool → Type 0

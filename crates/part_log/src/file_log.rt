@@ -1,22 +1,30 @@
-//! Files at whose end bytes are added, and a log in such a file.
-ghost use Rattle.std.specs.Prelude.{◌≡◌, ℕ, false, List, Option, None, IsErr, OnOk, take, IfErr, IfOk};
+//! Files that are read by places and at whose end bytes are added, and a log in such a file.
+ghost use Rattle.std.specs.Prelude.{◌≡◌, ◌≤◌, ◌<◌, ℕ, false, List, Option, None, IsErr, OnOk, length, take, IfErr, IfOk, IfSome};
 ghost use Rattle.std.specs.Option.{option_map};
 ghost use Rattle.std.specs.Io.KnownBytes.{append_known};
-ghost use Rattle.part_log.specs.Files.{HoldsSoMany};
+ghost use Rattle.part_log.specs.Files.{HoldsSoMany, IsReadAt};
 
 use crate::log::{Log, LogFault};
 use std::fs::File;
 use std::io;
-use std::io::Write;
+use std::io::{Read, Seek, SeekFrom, Write};
 use std::marker::Model;
 
-/// A file at whose end bytes are added, and which can be cut.
+/// A file that is read by places, at whose end bytes are added, and which can be cut.
 pub trait AppendFile {
     /// The bytes that it holds, if they are known: those that a read gives.
     ghost held: { Self → Option (List ℕ) };
 
     /// The bytes that the disk keeps, if they are known: those that outlast a crash.
     ghost synced: { Self → Option (List ℕ) };
+
+    /// Reads bytes from a place on: none only at the end, or into no room.
+    fn read_at(&self, at: u64, buffer: &mut [u8]) -> io::Result<usize>
+        ensures bound { IfOk result (λ given. given ≤ length buffer.new) }
+        ensures read { IfOk result (λ given. IfSome (held self.now) (λ bytes.
+            IsReadAt bytes at (take given buffer.new))) }
+        ensures end { IfOk result (λ given. given ≡ 0 → 0 < length buffer.new →
+            IfSome (held self.now) (λ bytes. length bytes ≤ at)) };
 
     /// Adds bytes at the end: of those that it fails to add, a prefix may be there.
     fn append(&mut self, bytes: &[u8]) -> io::Result<()>
@@ -44,6 +52,12 @@ impl AppendFile for File {
     ghost held = { λ _. None };
 
     ghost synced = { λ _. None };
+
+    fn read_at(&self, at: u64, buffer: &mut [u8]) -> io::Result<usize> {
+        let mut file = self;
+        file.seek(SeekFrom::Start(at))?;
+        file.read(buffer)
+    }
 
     fn append(&mut self, bytes: &[u8]) -> io::Result<()> {
         self.write_all(bytes)

@@ -8,6 +8,7 @@ use Rattle.auction_rows.specs.declared.requests.Object.{Object}
 use Rattle.auction_rows.specs.declared.requests.Object.TheVariants.{Item}
 use Rattle.auction_rows.specs.declared.requests.Facts.{Facts}
 use Rattle.auction_rows.specs.Footprint.{is_hot}
+use Rattle.shard_boxes.specs.declared.limits.TheConstants.{MOST_COMMITS}
 use Rattle.shard_boxes.specs.Keys.{KeyState, SeatState, no_key, IsNewKey, AreNewKeys}
 use Rattle.shard_boxes.specs.States.{ShardState}
 use Rattle.shard_boxes.proofs.Each.{at_head}
@@ -30,14 +31,16 @@ use Rattle.phase_floor.proofs.StoredItems.{stored_before}
 pub begun_next : (floor : FloorState) (workers w : ℕ) (quotas : List ℕ) (keys keys_left : List KeyState) (kits kits_left : List Kit) (stashes stashes_left : List StashState)
     → AreNewKeys floor.boxes workers keys → AreKits floor.phase floor.stocks stashes quotas workers kits → w < workers
     → (key : KeyState) (kit : Kit) (stash : StashState) → key ∷ keys_left ≡ drop w keys → kit ∷ kits_left ≡ drop w kits → stash ∷ stashes_left ≡ drop w stashes
+    → (counters_at floor.counters w).commits + length (stash_at stashes w).requests + get_or quotas w 0 ≤ floor.limit
     → (opening : Opening) (counters : Counters) → opening ≡ floor.opening → counters ≡ counters_at floor.counters w
     → IsNewPermit floor w (get_or quotas w 0) (stash_at stashes w) (new_worker key opening counters kit.journal stash kit.slices (get_or quotas w 0) 0)
-begun_next floor workers w quotas keys keys_left kits kits_left stashes stashes_left new made below key kit stash next_key next_kit next_stash opening counters openings counts =
+begun_next floor workers w quotas keys keys_left kits kits_left stashes stashes_left new made below key kit stash next_key next_kit next_stash fits opening counters openings counts =
     let quota = get_or quotas w 0 in
     let kit_is = subst (IsKit floor.phase floor.stocks w (length (stash_at stashes w).requests + quota)) (at_head kits w kit kits_left kit next_kit) (made w kit below) in
     let stash_is = sym (at_head stashes w stash stashes_left no_stash next_stash) in record {
       new = λ i. new_worker key (openings i) (counts i) (kit_is.journal i) (stash_is i) (kit_is.slices i) quota 0;
       key = subst (IsNewKey floor.boxes w) (at_head keys w key keys_left no_key next_key) (new.1 w below);
+      fits = fits;
     }
 
 -- the causes for which a phase does not begin are told apart
@@ -55,10 +58,10 @@ memory_not_long same = absurd cc
 
 -- a joined phase that does not begin, by its fault
 module _ (old : JoinedState) (held : Vec StashState) (given : List ℕ) (back : JoinedState) (kept : Vec StashState) (state_is : back ≡ old) (stashes_are : kept ≡ held) where
-  pub joined_too_long : IsTooLong old.counters held.items given → HasRefusedJoined old held given back kept TooLong
+  pub joined_too_long : IsTooLong old.limit old.counters held.items given → HasRefusedJoined old held given back kept TooLong
   joined_too_long long = record { state = state_is; stashes = stashes_are; too_long = ((λ same. long), λ yes. refl); known = long_not_unknown }
 
-  pub joined_memory : ¬ IsTooLong old.counters held.items given → HasRefusedJoined old held given back kept Memory
+  pub joined_memory : ¬ IsTooLong old.limit old.counters held.items given → HasRefusedJoined old held given back kept Memory
   joined_memory short = record {
     state = state_is;
     stashes = stashes_are;
@@ -75,14 +78,14 @@ module _ (old : JoinedState) (given : List ℕ) (objects : List Object) (back : 
     too_long = ((λ same. absurd (unknown_not_long same)), λ both. absurd (none both.0));
   }
 
-  pub split_too_long : DoAllExist old.opening (states_of old) objects → IsTooLong old.counters [] given → HasRefusedSplit old given objects back TooLong
+  pub split_too_long : DoAllExist old.opening (states_of old) objects → IsTooLong old.limit old.counters [] given → HasRefusedSplit old given objects back TooLong
   split_too_long exist long = record {
     state = state_is;
     unknown = ((λ same. absurd (long_not_unknown same)), λ none. absurd (none exist));
     too_long = ((λ same. (exist, long)), λ both. refl);
   }
 
-  pub split_memory : DoAllExist old.opening (states_of old) objects → ¬ IsTooLong old.counters [] given → HasRefusedSplit old given objects back Memory
+  pub split_memory : DoAllExist old.opening (states_of old) objects → ¬ IsTooLong old.limit old.counters [] given → HasRefusedSplit old given objects back Memory
   split_memory exist short = record {
     state = state_is;
     unknown = ((λ same. absurd (memory_not_unknown same)), λ none. absurd (none exist));
@@ -90,30 +93,35 @@ module _ (old : JoinedState) (given : List ℕ) (objects : List Object) (back : 
   }
 
 -- what the test says of these, of the same as it was given
-module _ (test : Bool) (counters given_counters : List Counters) (stashes given_stashes : List StashState) (quotas : List ℕ) (same_counters : given_counters ≡ counters) (same_stashes : given_stashes ≡ stashes) where
-  pub too_long : (IsTrue test → IsTooLong given_counters given_stashes quotas) → test ≡ true → IsTooLong counters stashes quotas
+module _ (test : Bool) (limit given_limit : ℕ) (counters given_counters : List Counters) (stashes given_stashes : List StashState) (quotas : List ℕ) (same_limit : given_limit ≡ limit)
+    (same_counters : given_counters ≡ counters) (same_stashes : given_stashes ≡ stashes) where
+  pub too_long : (IsTrue test → IsTooLong given_limit given_counters given_stashes quotas) → test ≡ true → IsTooLong limit counters stashes quotas
   too_long tested passes =
-      subst (λ (cs : List Counters). IsTooLong cs stashes quotas) same_counters (subst (λ (ss : List StashState). IsTooLong given_counters ss quotas) same_stashes (tested passes))
+      subst (λ n. IsTooLong n counters stashes quotas) same_limit
+      (subst (λ (cs : List Counters). IsTooLong given_limit cs stashes quotas) same_counters
+      (subst (λ (ss : List StashState). IsTooLong given_limit given_counters ss quotas) same_stashes (tested passes)))
 
-  pub fits : (IsTooLong given_counters given_stashes quotas → IsTrue test) → test ≡ false → ¬ IsTooLong counters stashes quotas
+  pub fits : (IsTooLong given_limit given_counters given_stashes quotas → IsTrue test) → test ≡ false → ¬ IsTooLong limit counters stashes quotas
   fits tested fails long =
-      false≢true (sym fails ∙ tested (subst (λ (cs : List Counters). IsTooLong cs given_stashes quotas) (sym same_counters) (subst (λ (ss : List StashState). IsTooLong counters ss quotas) (sym same_stashes) long)))
+      false≢true (sym fails ∙ tested (subst (λ n. IsTooLong n given_counters given_stashes quotas) (sym same_limit)
+      (subst (λ (cs : List Counters). IsTooLong limit cs given_stashes quotas) (sym same_counters)
+      (subst (λ (ss : List StashState). IsTooLong limit counters ss quotas) (sym same_stashes) long))))
 
 -- what each worker is asked for, where it is not too much
-pub within : (counters : List Counters) (stashes : List StashState) (quotas : List ℕ) → ¬ IsTooLong counters stashes quotas → (w : ℕ) → w < length counters
-    → asked_in_all counters stashes quotas w ≤ 1000000
-within counters stashes quotas short w low =
-    let not_over : ¬ (1000000 < asked_in_all counters stashes quotas w) = λ more. short (w, low, more) in omega (arith, not_over)
+pub within : (limit : ℕ) (counters : List Counters) (stashes : List StashState) (quotas : List ℕ) → ¬ IsTooLong limit counters stashes quotas → (w : ℕ) → w < length counters
+    → asked_in_all counters stashes quotas w ≤ limit
+within limit counters stashes quotas short w low =
+    let not_over : ¬ (limit < asked_in_all counters stashes quotas w) = λ more. short (w, low, more) in omega (arith, not_over)
 
 -- what waits for a worker and its quota, too
-pub waiting_within : (counters : List Counters) (stashes : List StashState) (quotas : List ℕ) → ¬ IsTooLong counters stashes quotas → (w : ℕ) → w < length counters
-    → length (stash_at stashes w).requests + get_or quotas w 0 ≤ 1000000
-waiting_within counters stashes quotas short w low = let all = within counters stashes quotas short w low in omega (arith, all)
+pub waiting_within : (limit : ℕ) (counters : List Counters) (stashes : List StashState) (quotas : List ℕ) → limit ≤ MOST_COMMITS → ¬ IsTooLong limit counters stashes quotas
+    → (w : ℕ) → w < length counters → length (stash_at stashes w).requests + get_or quotas w 0 ≤ MOST_COMMITS
+waiting_within limit counters stashes quotas last short w low = let all = within limit counters stashes quotas short w low in omega (arith, all, last)
 
--- a worker can start with what is begun, where it asks for no more than 1,000,000
+-- a worker can start with what is begun
 pub can_start : (initial : List ShardState) (workers : ℕ) (floor : FloorState) → IsOpen initial workers floor → (w quota : ℕ) (stash : StashState) (start : WorkerState) → w < workers
-    → (counters_at floor.counters w).commits + length stash.requests + quota ≤ 1000000 → HasStashRoom (slices_of floor.stocks []) quota stash.room → IsNewPermit floor w quota stash start → CanStart start
-can_start initial workers floor is_open w quota stash start below fits room begun =
+    → HasStashRoom (slices_of floor.stocks []) quota stash.room → IsNewPermit floor w quota stash start → CanStart start
+can_start initial workers floor is_open w quota stash start below room begun =
     let low : w < length floor.counters = omega (arith, below, is_open.workers_are) in
     let limit = is_open.kept.limits w low in
     subst CanStart (sym begun.new) (record {
@@ -123,12 +131,12 @@ can_start initial workers floor is_open w quota stash start below fits room begu
       identities = sym (ap (λ s. slices_of s []) (stocks_of_rows floor.stocks []));
       room = omega arith;
       stash_room = room;
-      limit = fits;
+      limit = omega (arith, begun.fits, is_open.kept.last);
       counted = record { items = omega (arith, limit.stored); bids = omega (arith, limit.stored); comments = omega (arith, limit.stored); buys = omega (arith, limit.stored) };
       stored = λ item hot own.
           let some = hot_is_stored initial floor.stocks is_open.stocks_are.stocked is_open.stocks_are.read item
           (sym (ap (λ os. is_hot os (Item item)) (objects_of_slices floor.stocks [])) ∙ hot) in
-          let before = stored_before floor.opening initial floor.counters is_open.kept item some (omega (arith, own, low)) in
+          let before = stored_before floor.opening floor.limit initial floor.counters is_open.kept item some (omega (arith, own, low)) in
           omega (arith, before, ap (λ v. (counters_at floor.counters v).items) own);
     })
 
@@ -146,8 +154,8 @@ nothing_waits [] w = refl
 nothing_waits (quota ∷ quotas) zero = refl
 nothing_waits (quota ∷ quotas) (suc w) = nothing_waits quotas w
 
-pub not_too_long : (counters : List Counters) (quotas : List ℕ) → ¬ IsTooLong counters [] quotas → ¬ IsTooLong counters (map empty_stash quotas) quotas
-not_too_long counters quotas short (w, low, more) =
+pub not_too_long : (limit : ℕ) (counters : List Counters) (quotas : List ℕ) → ¬ IsTooLong limit counters [] quotas → ¬ IsTooLong limit counters (map empty_stash quotas) quotas
+not_too_long limit counters quotas short (w, low, more) =
     let none : length (stash_at [] w).requests ≡ 0 = refl in
     short (w, low, omega (arith, more, nothing_waits quotas w, none))
 

@@ -8,6 +8,7 @@ use Rattle.item_shards.specs.declared.shard.Shard.{Shard}
 use Rattle.item_shards.specs.ShardContents.{IsNewShard}
 use Rattle.item_shards.specs.Values.{Value}
 use Rattle.item_shards.proofs.StandingLemmas.{blank_of_none}
+use Rattle.shard_boxes.specs.declared.limits.TheConstants.{MOST_COMMITS, MOST_KEPT}
 use Rattle.shard_boxes.specs.States.{ShardState, state_of, state_at, IsInitial}
 use Rattle.phase_permits.specs.declared.worker.Counters.{Counters}
 use Rattle.phase_permits.specs.Replying.{CountsOf}
@@ -27,9 +28,9 @@ opened_of_blank opening count n state h = record {
   shards_is = h.shards_is;
   clock_is = h.clock_is;
   within = record {
-    bids = λ id. subst (λ (v : Value). v.bids.bids ≤ 16000000 + 2 * state.clock) (sym (h.nothing (Item id))) (omega arith);
-    comments = λ user. subst (λ (v : Value). v.comments.comments ≤ 16000000 + 2 * state.clock) (sym (h.nothing (User user))) (omega arith);
-    ratings = λ user. subst (λ (v : Value). unsigned_abs v.comments.rating ≤ 80000000 + 10 * state.clock) (sym (h.nothing (User user))) (omega (arith, ints));
+    bids = λ id. subst (λ (v : Value). v.bids.bids ≤ MOST_KEPT + 2 * state.clock) (sym (h.nothing (Item id))) (omega arith);
+    comments = λ user. subst (λ (v : Value). v.comments.comments ≤ MOST_KEPT + 2 * state.clock) (sym (h.nothing (User user))) (omega arith);
+    ratings = λ user. subst (λ (v : Value). unsigned_abs v.comments.rating ≤ 5 * MOST_KEPT + 10 * state.clock) (sym (h.nothing (User user))) (omega (arith, ints));
   };
 }
 
@@ -38,7 +39,7 @@ none_counted zero w = refl
 none_counted (suc workers) zero = refl
 none_counted (suc workers) (suc w) = none_counted workers w
 
-module _ (opening : Opening) (shards : List Shard) (counters : List Counters) (count workers : ℕ) (blank : AreBlank opening count count (map state_of shards))
+module _ (opening : Opening) (limit : ℕ) (shards : List Shard) (counters : List Counters) (count workers : ℕ) (blank : AreBlank opening count count (map state_of shards))
     (len : length shards ≡ count) (counted : counters ≡ replicate workers no_counters) where
   same : length (map state_of shards) ≡ length shards
   same = simp length-map
@@ -50,20 +51,21 @@ module _ (opening : Opening) (shards : List Shard) (counters : List Counters) (c
   nothing w = sym (ap (λ cs. counters_at cs w) counted ∙ none_counted workers w)
 
   -- what is blank stands for no rows
-  pub blank_stands : StandsFor (joined_of opening 0 shards counters) []
+  pub blank_stands : StandsFor (joined_of opening limit 0 shards counters) []
   blank_stands = record {
     shards = λ s below object lies cold. (blank s (here s below)).nothing object ∙ sym (blank_of_none object);
     counts = λ w below. subst (CountsOf [] w) (nothing w) (record { items = refl; bids = refl; comments = refl; buys = refl });
   }
 
-  pub blank_kept : (0 < count) × (count ≤ 64) → (0 < workers) × (workers ≤ 16) → length counters ≡ workers → IsKept opening (map state_of shards) counters
-  blank_kept some few many = record {
+  pub blank_kept : limit ≤ MOST_COMMITS → (0 < count) × (count ≤ 64) → (0 < workers) × (workers ≤ 16) → length counters ≡ workers → IsKept opening limit (map state_of shards) counters
+  blank_kept last some few many = record {
     some_shards = omega (arith, same, len, some);
     few_shards = omega (arith, same, len, some);
     some_workers = omega (arith, few, many);
     few_workers = omega (arith, few, many);
     opened = λ s below. subst (λ n. IsInitial n s (state_at (map state_of shards) s)) (sym (same ∙ len)) (opened_of_blank opening count s (state_at (map state_of shards) s) (blank s (here s below)));
     opening_is = λ s below. (blank s (here s below)).opening_is;
-    limits = λ w below. subst IsWithinLimit (nothing w) (record { stored = omega arith; commits = omega arith });
+    last = last;
+    limits = λ w below. subst (IsWithinLimit limit) (nothing w) (record { stored = omega arith; commits = omega arith });
     of_a_book = λ none. none [] tt tt blank_stands;
   }

@@ -1,5 +1,5 @@
 -- What is kept between phases is kept by a phase that closes.
-use Rattle.std.proofs.Common.{◌≡◌, ℕ, zero, suc, ◌<◌, ◌≤◌, ◌==◌, Bool, true, false, cond, List, [], ◌∷◌, map, length, refl, sym, ap, ◌∙◌, subst, arith, unsigned_abs}
+use Rattle.std.proofs.Common.{◌≡◌, ℕ, zero, suc, ◌*◌, ◌<◌, ◌≤◌, ◌==◌, Bool, true, false, cond, List, [], ◌∷◌, map, length, refl, sym, ap, ◌∙◌, subst, arith, unsigned_abs}
 use Rattle.std.proofs.lemmas.Bool.{eqb-true}
 use Rattle.std.proofs.lemmas.Int.{ints}
 use Rattle.std.proofs.lemmas.List.{length-map}
@@ -15,12 +15,13 @@ use Rattle.item_shards.specs.declared.shard.Shard.{Shard}
 use Rattle.item_shards.specs.ShardContents.{kept}
 use Rattle.item_shards.specs.Values.{Value, blank, value}
 use Rattle.item_shards.proofs.CountLemmas.{bids_at_most, comments_at_most, rating_at_most}
+use Rattle.shard_boxes.specs.declared.limits.TheConstants.{MOST_COMMITS, MOST_KEPT}
 use Rattle.shard_boxes.specs.States.{ShardState, state_of, state_at, IsWithin, AreInitial}
 use Rattle.phase_permits.specs.declared.worker.Counters.{Counters}
 use Rattle.phase_permits.specs.Workers.{WorkerState}
 use Rattle.closing_laws.specs.Phases.{HasClosed, receipt_at, counters_of}
 use Rattle.closing_laws.specs.Standing.{StandFor, AreOfWorkers, counters_at}
-use Rattle.closing_laws.proofs.CommitLemmas.{book_left, stores_few, workers_go_on}
+use Rattle.closing_laws.proofs.CommitLemmas.{book_left, commits_grow, stores_few, workers_go_on}
 use Rattle.phase_floor.specs.Closings.{AreReceiptsOf, phase_of}
 use Rattle.phase_floor.specs.Floors.{FloorState, IsOpen}
 use Rattle.phase_floor.specs.Resuming.{AreReady}
@@ -37,21 +38,21 @@ elsewhere (shard ∷ shards) zero below object apart = ap (λ b. cond b (kept sh
 elsewhere (shard ∷ shards) (suc s) below object apart = elsewhere shards s (omega (arith, below)) object apart
 
 module _ (opening : Opening) (shards : List Shard) (counters : List Counters) (ready : AreReady opening (map state_of shards))
-    (few : length counters ≤ 16) (limits : AreWithinLimit counters) (of_a_book : AreOfABook opening (map state_of shards) counters) where
+    (few : length counters ≤ 16) (most : ℕ) (last : most ≤ MOST_COMMITS) (limits : AreWithinLimit most counters) (of_a_book : AreOfABook opening (map state_of shards) counters) where
   -- of a book for which they stand
-  size : (book : Book) → AreOfWorkers (length counters) book → StandFor (map state_of shards) counters book [] → length book ≤ 16000000
+  size : (book : Book) → AreOfWorkers (length counters) book → StandFor (map state_of shards) counters book [] → length book ≤ MOST_KEPT
   size book own holds =
-      let all = size_at_most book 1000000 (length counters) own (λ w low.
-      let counts = holds.counts w low in let limit = limits w low in omega (arith, counts.items, counts.bids, counts.comments, counts.buys, limit.stored, limit.commits)) in
+      let all = size_at_most book MOST_COMMITS (length counters) own (λ w low.
+      let counts = holds.counts w low in let limit = limits w low in omega (arith, counts.items, counts.bids, counts.comments, counts.buys, limit.stored, limit.commits, last)) in
       omega (arith, all, few)
 
   -- what holds of blank values and of those of a book for which they stand holds of theirs
-  module _ (s : ℕ) (below : s < length (map state_of shards)) (object : Object) (measure : Value → ℕ) (most : ℕ) (none : measure blank ≤ most)
-      (some : (book : Book) → length book ≤ 16000000 → measure (value book object) ≤ most) where
+  module _ (s : ℕ) (below : s < length (map state_of shards)) (object : Object) (measure : Value → ℕ) (top : ℕ) (none : measure blank ≤ top)
+      (some : (book : Book) → length book ≤ MOST_KEPT → measure (value book object) ≤ top) where
     abbrev state : ShardState
     state = state_at (map state_of shards) s
 
-    over : most < measure (state.contents object) → (book : Book) → AreOfWorkers (length counters) book → StandFor (map state_of shards) counters book [] → ⊥
+    over : top < measure (state.contents object) → (book : Book) → AreOfWorkers (length counters) book → StandFor (map state_of shards) counters book [] → ⊥
     over more book own holds = at (shard_of object state.shards == state.number) refl where
       at : (b : Bool) → (shard_of object state.shards == state.number) ≡ b → ⊥
       at true here =
@@ -65,16 +66,16 @@ module _ (opening : Opening) (shards : List Shard) (counters : List Counters) (r
           let is : measure (state.contents object) ≡ measure blank = ap measure (elsewhere shards s (omega (arith, below, same)) object apart) in
           omega (arith, is, none, more)
 
-    measured : measure (state.contents object) ≤ most
+    measured : measure (state.contents object) ≤ top
     measured =
-        let not_over : ¬ (most < measure (state.contents object)) = λ more. of_a_book (λ book is own holds. over more book own holds) in
+        let not_over : ¬ (top < measure (state.contents object)) = λ more. of_a_book (λ book is own holds. over more book own holds) in
         omega (arith, not_over)
 
   within : (s : ℕ) → s < length (map state_of shards) → IsWithin (state_at (map state_of shards) s)
   within s below = record {
-    bids = λ id. let m = measured s below (Item id) (λ v. v.bids.bids) 16000000 (omega arith) (λ book small. let most = bids_at_most book id in omega (arith, most, small)) in omega (arith, m);
-    comments = λ user. let m = measured s below (User user) (λ v. v.comments.comments) 16000000 (omega arith) (λ book small. let most = comments_at_most book user in omega (arith, most, small)) in omega (arith, m);
-    ratings = λ user. let m = measured s below (User user) (λ v. unsigned_abs v.comments.rating) 80000000 (omega (arith, ints)) (λ book small. let most = rating_at_most book user in omega (arith, most, small)) in omega (arith, m);
+    bids = λ id. let m = measured s below (Item id) (λ v. v.bids.bids) MOST_KEPT (omega arith) (λ book small. let some = bids_at_most book id in omega (arith, some, small)) in omega (arith, m);
+    comments = λ user. let m = measured s below (User user) (λ v. v.comments.comments) MOST_KEPT (omega arith) (λ book small. let some = comments_at_most book user in omega (arith, some, small)) in omega (arith, m);
+    ratings = λ user. let m = measured s below (User user) (λ v. unsigned_abs v.comments.rating) (5 * MOST_KEPT) (omega (arith, ints)) (λ book small. let some = rating_at_most book user in omega (arith, some, small)) in omega (arith, m);
   }
 
   pub are_opened : AreInitial (map state_of shards)
@@ -87,7 +88,7 @@ module _ (opening : Opening) (shards : List Shard) (counters : List Counters) (r
 
 module _ (initial : List ShardState) (workers : ℕ) (floor : FloorState) (is_open : IsOpen initial workers floor) (receipts : List WorkerState) (are : AreReceiptsOf floor receipts)
     (given : List ShardState) (entries : List Entry) (closed : HasClosed (phase_of initial floor receipts given entries))
-    (limit : (w : ℕ) → w < length receipts → (counters_of (receipt_at receipts w)).commits ≤ 1000000) where
+    (room : (w : ℕ) → w < length receipts → length (receipt_at receipts w).journal.entries ≤ (receipt_at receipts w).journal.room) where
   -- the counters of a worker after the phase
   pub counted : (w : ℕ) → w < length receipts → counters_of (receipt_at receipts w) ≡ counters_at (map counters_of receipts) w
   counted w below = sym (get_or-map counters_of receipts w _)
@@ -95,12 +96,12 @@ module _ (initial : List ShardState) (workers : ℕ) (floor : FloorState) (is_op
   many : length (map counters_of receipts) ≡ length receipts
   many = simp length-map
 
-  limits_after : AreWithinLimit (map counters_of receipts)
+  limits_after : AreWithinLimit floor.limit (map counters_of receipts)
   limits_after w low =
       let below : w < length receipts = omega (arith, low, many) in
-      subst IsWithinLimit (counted w below) (record {
+      subst (IsWithinLimit floor.limit) (counted w below) (record {
         stored = stores_few (phase_of initial floor receipts given entries) closed w below (is_open.kept.limits w (omega (arith, below, are.0))).stored;
-        commits = limit w below;
+        commits = omega (arith, commits_grow (phase_of initial floor receipts given entries) closed w below, room w below, (are.1 w (omega (arith, below, are.0))).fits);
       })
 
   module _ (shards : List Shard) (as_many : length (map state_of shards) ≡ length initial) (ready : AreReady floor.opening (map state_of shards))
@@ -111,15 +112,16 @@ module _ (initial : List ShardState) (workers : ℕ) (floor : FloorState) (is_op
         (subst (λ n. AreOfWorkers n (book_after floor.opening book entries)) (sym many) (workers_go_on (phase_of initial floor receipts given entries) closed book holds own))
         (stand book holds))
 
-    pub kept_after : IsKept floor.opening (map state_of shards) (map counters_of receipts)
+    pub kept_after : IsKept floor.opening floor.limit (map state_of shards) (map counters_of receipts)
     kept_after =
         let few : length (map counters_of receipts) ≤ 16 = omega (arith, many, are.0, is_open.kept.few_workers) in record {
           some_shards = omega (arith, as_many, is_open.kept.some_shards);
           few_shards = omega (arith, as_many, is_open.kept.few_shards);
           some_workers = omega (arith, many, are.0, is_open.kept.some_workers);
           few_workers = few;
-          opened = are_opened floor.opening shards (map counters_of receipts) ready few limits_after of_a_book_after;
+          opened = are_opened floor.opening shards (map counters_of receipts) ready few floor.limit is_open.kept.last limits_after of_a_book_after;
           opening_is = ready.opening_is;
+          last = is_open.kept.last;
           limits = limits_after;
           of_a_book = of_a_book_after;
         }

@@ -24,7 +24,7 @@ use Rattle.closing_laws.specs.Phases.{HasClosed, counters_of}
 use Rattle.closing_laws.specs.Standing.{StandFor, counters_at}
 use Rattle.closing_laws.proofs.CommitLemmas.{commits_grow}
 use Rattle.closing_laws.proofs.ReplayLemmas.{entries_replay}
-use Rattle.phase_floor.specs.Closings.{AreReceiptsOf, AreKnown, AreOfOne, ArePartsOf, HasReconciled, IsFinished, Leaves, at_start, from_the_last, phase_of, stash_of}
+use Rattle.phase_floor.specs.Closings.{AreReceiptsOf, AreKnown, AreOfOne, ArePartsOf, HasReconciled, IsFinished, Leaves, at_start, from_the_last, phase_of, sliced_of, stash_of}
 use Rattle.phase_floor.specs.Floors.{FloorState, IsOpen}
 use Rattle.phase_floor.specs.States.{IsKept, joined_of}
 use Rattle.phase_floor.proofs.Closings.{finished, has_closed, in_order}
@@ -35,7 +35,7 @@ use Rattle.phase_floor.proofs.Reconciled.{order_of, all_once, given_one, given_k
 -- what the parts of the receipts, the boxes and the history tell: the phase has reconciled
 module _ (initial : List ShardState) (workers : ℕ) (floor : FloorState) (is_open : IsOpen initial workers floor) (receipts : List WorkerState) (are : AreReceiptsOf floor receipts)
     (all : AllByRecursion (IsFinished (length initial)) receipts) (given : List ShardState) (old new : HistoryView) (journals : List JournalView) (stashes : List StashState) (keys : List KeyState)
-    (counters : List Counters) (slices : List (List (Object × Hot))) (parts : ArePartsOf receipts journals stashes keys counters slices) (is : new ≡ with_phase old journals)
+    (counters : List Counters) (slices : List (List (Object × Hot))) (parts : ArePartsOf receipts journals stashes keys counters) (same : flat_map from_the_last slices ≡ flat_map from_the_last (map sliced_of receipts)) (is : new ≡ with_phase old journals)
     (lawful : AllByRecursion IsLawfulJournal journals) (boxes : AreClosed initial workers keys given) where
   closed : HasClosed (phase_of initial floor receipts given (added old.entries new.entries))
   closed =
@@ -48,11 +48,11 @@ module _ (initial : List ShardState) (workers : ℕ) (floor : FloorState) (is_op
   shards_one = given_one initial workers floor is_open receipts are given (added old.entries new.entries) closed
 
   pub slices_known : AreKnown given (flat_map from_the_last slices)
-  slices_known = subst (AreKnown given) (sym (ap (flat_map from_the_last) parts.slices_are)) (given_known initial workers floor is_open receipts are given (added old.entries new.entries) closed)
+  slices_known = subst (AreKnown given) (sym same) (given_known initial workers floor is_open receipts are given (added old.entries new.entries) closed)
 
   pub slices_can : SawInTurn CanMerge after_merge given (flat_map from_the_last slices)
   slices_can =
-      subst (SawInTurn CanMerge after_merge given) (sym (ap (flat_map from_the_last) parts.slices_are))
+      subst (SawInTurn CanMerge after_merge given) (sym same)
       (given_can initial workers floor is_open receipts are given (added old.entries new.entries) closed (λ w below. (finished initial workers floor is_open receipts are all w below).few))
 
   pub reconciled : (states : List ShardState) → states ≡ map at_start (fold after_merge given (flat_map from_the_last slices)) → HasReconciled initial floor receipts states (added old.entries new.entries)
@@ -61,31 +61,33 @@ module _ (initial : List ShardState) (workers : ℕ) (floor : FloorState) (is_op
     closed = closed;
     order = order_of receipts;
     each = all_once receipts;
-    states_are = states_are ∙ ap (λ (order : List (Object × Slice)). map at_start (fold after_merge given order)) (ap (flat_map from_the_last) parts.slices_are);
+    states_are = states_are ∙ ap (λ (order : List (Object × Slice)). map at_start (fold after_merge given order)) same;
   }
 
 module _ (initial : List ShardState) (workers : ℕ) (floor : FloorState) (is_open : IsOpen initial workers floor) (receipts : List WorkerState) (are : AreReceiptsOf floor receipts)
     (all : AllByRecursion (IsFinished (length initial)) receipts) (entries : List Entry) (shards : List Shard)
-    (e : HasReconciled initial floor receipts (map state_of shards) entries) (start : Opening) (counters : List Counters) (start_is : start ≡ floor.opening) (counters_are : counters ≡ map counters_of receipts) where
-  pub kept_left : IsKept start (map state_of shards) counters
+    (e : HasReconciled initial floor receipts (map state_of shards) entries) (start : Opening) (limit : ℕ) (counters : List Counters) (start_is : start ≡ floor.opening) (limit_is : limit ≡ floor.limit) (counters_are : counters ≡ map counters_of receipts) where
+  pub kept_left : IsKept start limit (map state_of shards) counters
   kept_left =
       let states = map state_of shards in
-      let kept = kept_after initial workers floor is_open receipts are e.given entries e.closed (λ w below. (finished initial workers floor is_open receipts are all w below).limit) shards
+      let kept = kept_after initial workers floor is_open receipts are e.given entries e.closed (λ w below. (finished initial workers floor is_open receipts are all w below).room) shards
       (as_many initial workers floor is_open receipts are e.given entries e.closed e.order e.each states e.states_are)
       (ready initial workers floor is_open receipts are e.given entries e.closed e.order e.each states e.states_are)
       (stand_after initial workers floor is_open receipts are e.given entries e.closed e.order e.each states e.states_are) in
-      subst (λ (o : Opening). IsKept o states counters) (sym start_is) (subst (λ (cs : List Counters). IsKept floor.opening states cs) (sym counters_are) kept)
+      subst (λ (o : Opening). IsKept o limit states counters) (sym start_is) (subst (λ n. IsKept floor.opening n states counters) (sym limit_is)
+      (subst (λ (cs : List Counters). IsKept floor.opening floor.limit states cs) (sym counters_are) kept))
 
-  pub leaves : (phase : ℕ) (stashes : List StashState) → phase ≡ floor.phase + 1 → stashes ≡ map stash_of receipts → Leaves initial floor receipts entries (joined_of start phase shards counters) stashes
+  pub leaves : (phase : ℕ) (stashes : List StashState) → phase ≡ floor.phase + 1 → stashes ≡ map stash_of receipts → Leaves initial floor receipts entries (joined_of start limit phase shards counters) stashes
   leaves phase stashes phase_is stashes_are = record {
     opening_is = start_is;
+    limit_is = limit_is;
     phase_is = phase_is;
     counters_are = counters_are;
     stashes_are = stashes_are;
     lawful = reconciled_lawful initial floor receipts (map state_of shards) entries e;
     commits = λ w below.
         ap (λ (cs : List Counters). (counters_at cs w).commits) counters_are
-        ∙ sym (ap (λ (cs : Counters). cs.commits) (counted initial workers floor is_open receipts are e.given entries e.closed (λ v low. (finished initial workers floor is_open receipts are all v low).limit) w below))
+        ∙ sym (ap (λ (cs : Counters). cs.commits) (counted initial workers floor is_open receipts are e.given entries e.closed (λ v low. (finished initial workers floor is_open receipts are all v low).room) w below))
         ∙ commits_grow (phase_of initial floor receipts e.given entries) e.closed w below;
     replays = λ book holds. entries_replay (phase_of initial floor receipts e.given entries) e.closed book holds;
     stands = λ book holds. subst (λ (cs : List Counters). StandFor (map state_of shards) cs (book_after floor.opening book entries) []) (sym counters_are)

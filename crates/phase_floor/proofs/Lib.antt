@@ -16,8 +16,8 @@ pub mod Reconciled
 pub mod Receipts
 pub mod ResumeLemmas
 pub mod ResumeActs
-pub mod ResumeKept
 pub mod Lawfully
 pub mod Cold
 pub mod Leaving
 pub mod NextRunLemmas
+pub mod RowLemmas

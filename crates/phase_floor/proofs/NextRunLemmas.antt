@@ -5,6 +5,7 @@ use Rattle.std.proofs.lemmas.List.{length-map}
 use Rattle.std.proofs.Math.ListN.{get_or-map}
 use Rattle.auction_rows.specs.declared.values.Opening.{Opening}
 use Rattle.auction_rows.specs.Book.{Book}
+use Rattle.shard_boxes.specs.declared.limits.TheConstants.{MOST_COMMITS}
 use Rattle.shard_boxes.specs.States.{ShardState}
 use Rattle.phase_permits.specs.declared.worker.Counters.{Counters}
 use Rattle.phase_permits.specs.Replying.{CountsOf}
@@ -31,30 +32,45 @@ module _ (counters : List Counters) where
         subst (CountsOf book w) (sym (at_next w)) (record { items = own.items; bids = own.bids; comments = own.comments; buys = own.buys });
   }
 
-  limits_next : AreWithinLimit counters → AreWithinLimit new
-  limits_next limits = λ w low.
+  limits_next : (limit : ℕ) → AreWithinLimit limit counters → AreWithinLimit limit new
+  limits_next limit limits = λ w low.
       let own = limits w (omega (arith, low, many)) in
-      subst IsWithinLimit (sym (at_next w)) (record { stored = omega arith; commits = omega (arith, own.stored, own.commits) })
+      subst (IsWithinLimit limit) (sym (at_next w)) (record { stored = omega arith; commits = omega (arith, own.stored, own.commits) })
 
   of_a_book_next : (opening : Opening) (states : List ShardState) → AreOfABook opening states counters → AreOfABook opening states new
   of_a_book_next opening states of_a_book = λ none.
       of_a_book (λ book is own holds. none book is (subst (λ n. AreOfWorkers n book) (sym many) own) (stand_next states book holds))
 
-  pub kept_next : (opening : Opening) (states : List ShardState) → IsKept opening states counters → IsKept opening states new
-  kept_next opening states kept = record {
+  pub kept_next : (opening : Opening) (limit : ℕ) (states : List ShardState) → IsKept opening limit states counters → IsKept opening limit states new
+  kept_next opening limit states kept = record {
     some_shards = kept.some_shards;
     few_shards = kept.few_shards;
     some_workers = omega (arith, many, kept.some_workers);
     few_workers = omega (arith, many, kept.few_workers);
     opened = kept.opened;
     opening_is = kept.opening_is;
-    limits = limits_next kept.limits;
+    last = kept.last;
+    limits = limits_next limit kept.limits;
     of_a_book = of_a_book_next opening states kept.of_a_book;
   }
 
 -- each worker's stores are within the limit
-pub stores_within : (counters : List Counters) → AreWithinLimit counters → AllByRecursion (λ c. stores c ≤ 1000000) counters
-stores_within [] limits = tt
-stores_within (c ∷ cs) limits =
+pub stores_within : (limit : ℕ) → limit ≤ MOST_COMMITS → (counters : List Counters) → AreWithinLimit limit counters → AllByRecursion (λ c. stores c ≤ MOST_COMMITS) counters
+stores_within limit last [] limits = tt
+stores_within limit last (c ∷ cs) limits =
     let first = limits 0 (omega arith) in
-    (omega (arith, first.stored, first.commits), stores_within cs (λ w low. limits (suc w) (omega (arith, low))))
+    (omega (arith, first.stored, first.commits, last), stores_within limit last cs (λ w low. limits (suc w) (omega (arith, low))))
+
+-- a state that may last longer keeps what is kept between phases
+pub kept_longer : (opening : Opening) (limit : ℕ) (states : List ShardState) (counters : List Counters) → IsKept opening limit states counters → IsKept opening MOST_COMMITS states counters
+kept_longer opening limit states counters kept = record {
+  some_shards = kept.some_shards;
+  few_shards = kept.few_shards;
+  some_workers = kept.some_workers;
+  few_workers = kept.few_workers;
+  opened = kept.opened;
+  opening_is = kept.opening_is;
+  last = omega arith;
+  limits = λ w low. let own = kept.limits w low in record { stored = own.stored; commits = omega (arith, own.commits, kept.last) };
+  of_a_book = kept.of_a_book;
+}

@@ -24,6 +24,7 @@ use Rattle.closing_laws.specs.Merging.{after_merge, slices_left, CanMerge}
 use Rattle.closing_laws.proofs.MergeLemmas.{as_many as as_many_merged}
 use Rattle.closing_laws.proofs.ReconcileLemmas.{reconciled_stand}
 use Rattle.closing_laws.proofs.RoomLemmas.{merges_can_be_done}
+use Rattle.shard_boxes.specs.declared.limits.TheConstants.{MOST_COMMITS}
 use Rattle.phase_floor.specs.Closings.{AreReceiptsOf, AreOfOne, AreKnown, IsKnown, phase_of, at_start, sliced_of, opening_in, from_the_last}
 use Rattle.phase_floor.specs.Floors.{FloorState, IsOpen}
 use Rattle.phase_floor.specs.Resuming.{AreReady}
@@ -90,10 +91,10 @@ module _ (initial : List ShardState) (workers : ℕ) (floor : FloorState) (is_op
       (all_numbered floor.opening initial floor.stocks is_open.stocks_are.exist receipts stocks) in
       recursion_from_All P (order_of receipts) (All-permutation P (slices_left receipts) (order_of receipts) (all_once receipts) (All-from_recursion P (slices_left receipts) left))
 
-  pub given_can : ((w : ℕ) → w < length receipts → HaveAtMost 1000000 (receipt_at receipts w).slices) → SawInTurn CanMerge after_merge given (order_of receipts)
+  pub given_can : ((w : ℕ) → w < length receipts → HaveAtMost MOST_COMMITS (receipt_at receipts w).slices) → SawInTurn CanMerge after_merge given (order_of receipts)
   given_can few =
       merges_can_be_done (phase_of initial floor receipts given entries) closed is_open.kept.opened (omega (arith, are.0, is_open.kept.few_workers))
-      (every_from (λ receipt. HaveAtMost 1000000 receipt.slices) receipts no_receipt few) (order_of receipts) (all_once receipts)
+      (every_from (λ receipt. HaveAtMost MOST_COMMITS receipt.slices) receipts no_receipt few) (order_of receipts) (all_once receipts)
 
   -- merged in any order
   module _ (order : List (Object × Slice)) (each : IsPermutation (slices_left receipts) order) (states : List ShardState) (states_are : states ≡ map at_start (fold after_merge given order)) where

@@ -1,5 +1,5 @@
 -- The acts of a row, each on the shard where its object lies.
-use Rattle.std.proofs.Common.{◌≡◌, ℕ, ◌<◌, ◌==◌, Bool, true, false, cond, List, [], ◌∷◌, ◌++◌, Some, None, length, map, get_or, set, refl, sym, ap, ◌∙◌, subst, arith, eq-eqb, length-set}
+use Rattle.std.proofs.Common.{◌≡◌, ℕ, ◌<◌, ◌^◌, ◌==◌, Bool, true, false, cond, List, [], ◌∷◌, ◌++◌, Some, length, map, get_or, set, refl, sym, ap, ◌∙◌, subst, arith, eq-eqb, length-set}
 use Rattle.std.specs.Option.{option_map_or}
 use Rattle.std.specs.List.{AllByRecursion}
 use Rattle.std.proofs.lemmas.Bool.{eqb-true, false≢true}
@@ -21,11 +21,9 @@ use Rattle.item_shards.specs.Events.{Event, AddItem}
 use Rattle.item_shards.specs.declared.shard.Shard.{Shard}
 use Rattle.item_shards.specs.ShardContents.{IsSameShard, LiesIn, HasItemRoom, clock, contents, shard_number, shard_count, opening as opening_of}
 use Rattle.item_shards.specs.Acting.{CanActOn}
-use Rattle.item_shards.specs.Limits.{IsWithinLimits}
 use Rattle.item_shards.specs.Contents.{Contents, target, after_act, after_acts}
 use Rattle.item_shards.specs.Writing.{writes_of, writes_if, is_cold_in, is_done_on, done_on}
-use Rattle.item_shards.proofs.CanActLemmas.{row_can}
-use Rattle.item_shards.proofs.SerialLemmas.{after_own}
+use Rattle.item_shards.proofs.CanActLemmas.{row_can_in}
 use Rattle.item_shards.proofs.StandingLemmas.{cold_here, row_stands}
 use Rattle.shard_boxes.specs.States.{ShardState, state_of, state_at, no_shard}
 use Rattle.closing_laws.specs.Standing.{ShardsStandFor}
@@ -82,12 +80,12 @@ module _ (opening : Opening) (old new : List ShardState) (r : Row) (ready : AreR
       ∙ row_stands s (length old) state.contents b [] r (stand s known) object (ap (shard_of object) (sym done.len) ∙ lies) cold
 
   -- the row that goes on a book can be written where the shards stand for it
-  pub can_write : (b : Book) → ShardsStandFor old b [] → GoOn opening b (r ∷ []) → IsWithinLimits (b ++ r ∷ []) → CanWriteOn old r
-  can_write b stand goes limits = λ s low.
+  pub can_write : (b : Book) → ShardsStandFor old b [] → GoOn opening b (r ∷ []) → length b < 2 ^ 59 → CanWriteOn old r
+  can_write b stand goes few = λ s low.
       let state = state_at old s in
       subst (λ (start : Opening). AllByRecursion (λ act. is_done_on s (length old) [] act ≡ true → CanActOn start s (length old) (λ id. true) state.contents act) (writes_of r)) (sym (ready.opening_is s low))
       (subst (λ o. AllByRecursion (λ act. is_done_on s (length old) [] act ≡ true → CanActOn opening s (length old) (λ id. true) state.contents act) (writes_if o)) (own_row r)
-      (row_can opening s (length old) (λ id. true) state.contents b [] (stand s low) None (commit_of r) goes.0 (subst IsWithinLimits (sym (after_own opening b r goes)) limits) (λ id is lies. refl)))
+      (row_can_in opening s (length old) (λ id. true) state.contents b [] (stand s low) few (commit_of r) goes.0 (λ id is lies. refl)))
 
 -- one shard acts, of those that are numbered
 pub act_done : (shards : List Shard) → AreNumbered (map state_of shards) → (place : ℕ) → place < length shards → (object : Object) (act : Event) → target act ≡ Some object

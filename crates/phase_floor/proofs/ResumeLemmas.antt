@@ -1,20 +1,19 @@
 -- A book that is counted and written row by row.
-use Rattle.std.proofs.Common.{◌≡◌, ℕ, zero, suc, ◌+◌, ◌<◌, ◌≤◌, ◌==◌, Bool, true, false, cond, List, [], ◌∷◌, ◌++◌, length, set, take, refl, sym, ap, ◌∙◌, arith, eq-eqb}
+use Rattle.std.proofs.Common.{◌≡◌, ℕ, ◌+◌, ◌<◌, ◌≤◌, ◌==◌, Bool, true, false, cond, List, [], ◌∷◌, ◌++◌, length, set, take, drop, get_or, refl, sym, ap, ◌∙◌, arith, eq-eqb}
 use Rattle.std.proofs.lemmas.Bool.{eqb-true, false≢true}
-use Rattle.std.proofs.lemmas.List.{get_or-set_same, get_or-set_other, length-take-le}
-use Rattle.std.proofs.lemmas.List.Sums.{sum_by-append, count_by-le-length}
+use Rattle.std.proofs.lemmas.List.{get_or-set_same, get_or-set_other, take-append-drop}
+use Rattle.std.proofs.lemmas.List.Sums.{sum_by-append}
 use Rattle.auction_rows.specs.declared.rows.Row.{Row}
 use Rattle.auction_rows.specs.declared.rows.Row.TheVariants as row
 use Rattle.auction_rows.specs.Book.{Book}
 use Rattle.item_shards.specs.declared.openings.StoreCounts.{StoreCounts}
 use Rattle.item_shards.specs.Counting.{worker_of, stored_by, counted}
-use Rattle.item_shards.specs.Limits.{IsWithinLimits}
 use Rattle.item_shards.specs.OpeningRows.{rows_by}
-use Rattle.item_shards.proofs.SerialLemmas.{stored_next, stored_few}
+use Rattle.item_shards.proofs.SerialLemmas.{one_more, stored_next}
 use Rattle.phase_permits.specs.declared.worker.Counters.{Counters}
 use Rattle.phase_permits.specs.Workers.{no_counters}
 use Rattle.closing_laws.specs.Standing.{counters_at}
-use Rattle.phase_floor.specs.Resuming.{counters_in, with_row, HaveRoom}
+use Rattle.phase_floor.specs.Resuming.{counters_in, with_row}
 
 -- One more row is counted among its worker's.
 
@@ -39,11 +38,6 @@ counters_next b r w = (λ i. of_counts (stored_next b r w i) (rows_more b r w i)
   at true = counted_as r (stored_by b w) (rows_by b w)
   at false = refl
 
-pub have_room : (b : Book) (w : ℕ) → length b < 16000000 → HaveRoom (counters_in b w)
-have_room b w few =
-    let f = stored_few b w few in let most = count_by-le-length (λ one. worker_of one == w) b in
-    record { items = f.0; bids = f.1; comments = f.2; buys = f.3; commits = omega (arith, few, most) }
-
 module _ (b : Book) (r : Row) (old : List Counters) (workers : ℕ) (len : length old ≡ workers)
     (each : (w : ℕ) → w < workers → counters_at old w ≡ counters_in b w) (own : worker_of r < workers) where
   abbrev next : List Counters
@@ -65,14 +59,11 @@ module _ (b : Book) (r : Row) (old : List Counters) (workers : ℕ) (len : lengt
         ∙ each w low
         ∙ sym (counters_next b r w ∙ ap (λ t. cond t (with_row r (counters_in b w)) (counters_in b w)) e)
 
-pub below_front : (rows : Book) (i : ℕ) → i < length rows → length rows ≤ 16000000 → length (take i rows) < 16000000
-below_front rows i low few = let part = length-take-le i rows (omega (arith, low)) in omega (arith, part, low, few)
-
-pub front_within : (rows : Book) (i : ℕ) → IsWithinLimits rows → IsWithinLimits (take i rows)
-front_within rows i limits = record { few = at i rows limits.few } where
-  at : (n : ℕ) (rs : Book) → length rs ≤ 16000000 → length (take n rs) ≤ 16000000
-  at n rs few = let most = shorter n rs in omega (arith, most, few) where
-    shorter : (n : ℕ) (rs : Book) → length (take n rs) ≤ length rs
-    shorter zero rs = omega arith
-    shorter (suc n) [] = omega arith
-    shorter (suc n) (r ∷ rs) = let rest = shorter n rs in omega (arith, rest)
+-- a worker's row is counted, so those before it are fewer
+pub before_fewer : (rows : Book) (i : ℕ) (r : Row) → i < length rows → r ≡ get_or rows i r → rows_by (take i rows) (worker_of r) + 1 ≤ rows_by rows (worker_of r)
+before_fewer rows i r low is =
+    let w = worker_of r in
+    let all : rows ≡ (take i rows ++ r ∷ []) ++ drop (i + 1) rows = sym (ap (λ front. front ++ drop (i + 1) rows) (sym (one_more [] rows i r low is)) ∙ take-append-drop (i + 1) rows) in
+    let split = ap (λ b. rows_by b w) all ∙ sum_by-append (λ x. cond (worker_of x == w) 1 0) (take i rows ++ r ∷ []) (drop (i + 1) rows) in
+    let last = rows_more (take i rows) r w ∙ ap (λ t. cond t (rows_by (take i rows) w + 1) (rows_by (take i rows) w)) (eq-eqb w w refl) in
+    omega (arith, split, last)

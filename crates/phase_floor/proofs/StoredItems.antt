@@ -24,7 +24,7 @@ nothing_left : (book : Book) (id : ItemId) → facts_of book id ≡ None → IsS
 nothing_left book id none some =
     false≢true (sym (ap (λ (o : Option Facts). is_some {T = Facts × ℕ} (option_map (λ (facts : Facts). (facts, facts.quantity - bought book id)) o)) none) ∙ some)
 
-module _ (opening : Opening) (states : List ShardState) (counters : List Counters) (kept : IsKept opening states counters) where
+module _ (opening : Opening) (limit : ℕ) (states : List ShardState) (counters : List Counters) (kept : IsKept opening limit states counters) where
   -- of a book that is held, a stored item's serial is below its worker's count
   no_later : (id : ItemId) → IsSome (stock (value_on states (Item id))) → id.worker < length counters → (counters_at counters id.worker).items ≤ id.serial
       → (book : Book) → IsBook opening book → StandFor states counters book [] → ⊥

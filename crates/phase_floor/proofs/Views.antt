@@ -17,7 +17,7 @@ use Rattle.phase_floor.specs.Resuming.{AreNumbered}
 use Rattle.phase_floor.specs.States.{JoinedState, states_of, StandsFor, IsKept}
 use Rattle.phase_floor.proofs.Placed.{seen, number_there, count_there, lies_there, opening_there, value_there}
 
-module _ (state : JoinedState) (kept : IsKept state.opening (states_of state) state.counters) (object : Object) (shard : Shard) (is : shard ≡ get_or state.shards (shard_of object (length state.shards)) shard) where
+module _ (state : JoinedState) (kept : IsKept state.opening state.limit (states_of state) state.counters) (object : Object) (shard : Shard) (is : shard ≡ get_or state.shards (shard_of object (length state.shards)) shard) where
   abbrev place : ℕ
   place = shard_of object (length state.shards)
 

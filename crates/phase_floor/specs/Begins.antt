@@ -1,7 +1,6 @@
 -- When a phase begins, and when it does not.
 use Rattle.std.specs.Prelude.{◌≡◌, ◌+◌, ◌<◌, ◌^◌, ◌↔◌, ℕ, List, [], length, map, slice_index, slice_index_or}
 use Rattle.std.specs.Global.{Vec}
-use Rattle.auction_rows.specs.declared.limits.TheConstants.{MOST_OF_A_WORKER}
 use Rattle.auction_rows.specs.declared.requests.Object.{Object}
 use Rattle.shard_boxes.specs.States.{ShardState}
 use Rattle.worker_journals.specs.Journals.{empty_journal}
@@ -21,10 +20,10 @@ abbrev pub asked_in_all : List Counters → List StashState → List ℕ → ℕ
 asked_in_all counters stashes quotas w =
     (counters_at counters w).commits + length (stash_at stashes w).requests + slice_index quotas w
 
--- what some worker has committed, what waits and its quota are more than 1,000,000 together
-abbrev pub IsTooLong : List Counters → List StashState → List ℕ → Type 0
-IsTooLong counters stashes quotas =
-    (w : ℕ) × (w < length counters) × (MOST_OF_A_WORKER < asked_in_all counters stashes quotas w)
+-- what some worker has committed, what waits and its quota are more than the limit together
+abbrev pub IsTooLong : ℕ → List Counters → List StashState → List ℕ → Type 0
+IsTooLong limit counters stashes quotas =
+    (w : ℕ) × (w < length counters) × (limit < asked_in_all counters stashes quotas w)
 
 -- an empty stash with room for a quota
 abbrev pub empty_stash : ℕ → StashState
@@ -54,8 +53,8 @@ pub record CanBeGiven (state : JoinedState) (hot : Stocks) (waiting : List Stash
     (given : List ℕ) : Type 0 where
   -- what is fixed of the hot objects is what the shards show
   pub stocks : AreStocksOf state.opening (states_of state) hot
-  -- no worker has more than 1,000,000 commits then
-  pub fits : ¬ IsTooLong state.counters waiting given
+  -- no worker has more commits than the limit then
+  pub fits : ¬ IsTooLong state.limit state.counters waiting given
   -- each stash has room for what is put off
   pub rooms : HaveStashRoom hot waiting given
 
@@ -66,6 +65,8 @@ pub record OpensPhase (state : JoinedState) (given : List ℕ) (waiting : List S
     (floor : FloorState) (begun : List WorkerState) : Type 0 where
   -- it is of the state's users and categories
   pub opening : floor.opening ≡ state.opening
+  -- its workers may commit as much
+  pub limit : floor.limit ≡ state.limit
   -- its number is the state's
   pub phase : floor.phase ≡ state.phase
   -- each worker begins with the state's counters
@@ -80,8 +81,8 @@ pub record OpensJoined (state : JoinedState) (given : List ℕ) (waiting : List 
   pub opens : OpensPhase state given waiting floor begun
   -- nothing is hot
   pub cold : floor.stocks ≡ []
-  -- no worker has more than 1,000,000 commits, stashed and given requests together
-  pub fits : ¬ IsTooLong state.counters waiting given
+  -- no worker has more commits, stashed and given requests together than the limit
+  pub fits : ¬ IsTooLong state.limit state.counters waiting given
 
 -- A split phase is open, in which these objects are hot.
 pub record OpensSplit (state : JoinedState) (given : List ℕ) (objects : List Object)
@@ -92,8 +93,8 @@ pub record OpensSplit (state : JoinedState) (given : List ℕ) (objects : List O
   pub hot : hot_objects floor.stocks ≡ objects
   -- they exist
   pub known : DoAllExist state.opening (states_of state) objects
-  -- no worker has more than 1,000,000 commits and given requests together
-  pub fits : ¬ IsTooLong state.counters [] given
+  -- no worker has more commits and given requests together than the limit
+  pub fits : ¬ IsTooLong state.limit state.counters [] given
 
 -- ---- what comes back otherwise
 
@@ -104,8 +105,8 @@ pub record HasRefusedJoined (old : JoinedState) (held : Vec StashState) (given :
   pub state : back ≡ old
   -- so do the stashes
   pub stashes : kept ≡ held
-  -- TooLong is told exactly where some worker would have more than 1,000,000
-  pub too_long : (fault ≡ TooLong) ↔ IsTooLong old.counters held.items given
+  -- TooLong is told exactly where some worker would have more than the limit
+  pub too_long : (fault ≡ TooLong) ↔ IsTooLong old.limit old.counters held.items given
   -- UnknownHot is never told
   pub known : ¬ (fault ≡ UnknownHot)
 
@@ -116,9 +117,9 @@ pub record HasRefusedSplit (old : JoinedState) (given : List ℕ) (objects : Lis
   pub state : back ≡ old
   -- UnknownHot is told exactly where a hot object does not exist
   pub unknown : (fault ≡ UnknownHot) ↔ ¬ DoAllExist old.opening (states_of old) objects
-  -- TooLong is told exactly where all exist and some worker would have more than 1,000,000
+  -- TooLong is told exactly where all exist and some worker would have more than the limit
   pub too_long : (fault ≡ TooLong)
-      ↔ (DoAllExist old.opening (states_of old) objects × IsTooLong old.counters [] given)
+      ↔ (DoAllExist old.opening (states_of old) objects × IsTooLong old.limit old.counters [] given)
 
 -- ---- what a worker gets
 

@@ -1,8 +1,8 @@
 -- How a phase closes.
-use Rattle.std.specs.Prelude.{◌≡◌, ℕ, ◌+◌, ◌<◌, ◌≤◌, List, [], map, fold, length, reverse, ⊤}
+use Rattle.std.specs.Prelude.{◌≡◌, ℕ, ◌+◌, ◌<◌, ◌≤◌, Bool, true, false, List, [], map, fold, length, reverse, ⊤}
 use Rattle.std.specs.List.{AllByRecursion}
 use Rattle.std.specs.List.Sorted.{IsPermutation}
-use Rattle.auction_rows.specs.declared.limits.TheConstants.{MOST_OF_A_WORKER, MOST_SHARDS}
+use Rattle.auction_rows.specs.declared.limits.TheConstants.{MOST_SHARDS}
 use Rattle.auction_rows.specs.declared.values.Opening.{Opening}
 use Rattle.auction_rows.specs.declared.rows.Entry.{Entry}
 use Rattle.auction_rows.specs.declared.requests.Object.{Object}
@@ -10,6 +10,7 @@ use Rattle.auction_rows.specs.declared.requests.Object.TheVariants.{Item, User, 
 use Rattle.auction_rows.specs.Book.{Book}
 use Rattle.auction_rows.specs.History.{ReplaysFrom, book_after}
 use Rattle.item_shards.specs.declared.shard.slices.Slice.{Slice}
+use Rattle.shard_boxes.specs.declared.limits.TheConstants.{MOST_COMMITS}
 use Rattle.shard_boxes.specs.Keys.{KeyState}
 use Rattle.shard_boxes.specs.States.{ShardState, state_at}
 use Rattle.worker_journals.specs.Journals.{JournalView}
@@ -26,8 +27,8 @@ use Rattle.closing_laws.specs.Standing.{StandFor, counters_at}
 use Rattle.phase_floor.specs.Floors.{FloorState}
 use Rattle.phase_floor.specs.States.{JoinedState, states_of, StandsFor}
 
--- the worker's receipt of the phase: its key is to the phase's boxes, and it began with the floor's
--- counters, at clock 0
+-- the worker's receipt of the phase: its key is to the phase's boxes, it began with the floor's
+-- counters, at clock 0, and its journal had no room for more commits than the limit
 pub record IsReceipt (floor : FloorState) (worker : ℕ) (receipt : WorkerState) : Type 0 where
   -- its key is to the phase's boxes
   pub boxes_are : receipt.key.boxes ≡ floor.boxes
@@ -41,6 +42,8 @@ pub record IsReceipt (floor : FloorState) (worker : ℕ) (receipt : WorkerState)
   pub stocks_are : stocks_of receipt.slices ≡ floor.stocks
   -- it began with the floor's counters, at clock 0
   pub begun : receipt.begun ≡ (counters_at floor.counters worker, 0)
+  -- with its journal full it has no more commits than the limit
+  pub fits : (counters_at floor.counters worker).commits + receipt.journal.room ≤ floor.limit
 
 -- each worker's receipt of the phase, in order
 abbrev pub AreReceiptsOf : FloorState → List WorkerState → Type 0
@@ -52,10 +55,10 @@ AreReceiptsOf floor receipts =
 pub record IsFinished (shards : ℕ) (receipt : WorkerState) : Type 0 where
   -- its transactions explain it
   pub explained : IsExplained shards receipt
-  -- it has at most 1,000,000 commits
-  pub limit : (counters_of receipt).commits ≤ MOST_OF_A_WORKER
-  -- and as many operations in a slice
-  pub few : HaveAtMost MOST_OF_A_WORKER receipt.slices
+  -- its entries had room in its journal
+  pub room : length receipt.journal.entries ≤ receipt.journal.room
+  -- no slice has more operations than a worker may ever commit
+  pub few : HaveAtMost MOST_COMMITS receipt.slices
 
 abbrev pub stash_of : WorkerState → StashState
 stash_of receipt = receipt.stash
@@ -112,6 +115,7 @@ pub record Leaves (initial : List ShardState) (floor : FloorState) (receipts : L
     (entries : List Entry) (state : JoinedState) (stashes : List StashState) : Type 0 where
   -- it is the next phase of the same auction
   pub opening_is : state.opening ≡ floor.opening
+  pub limit_is : state.limit ≡ floor.limit
   pub phase_is : state.phase ≡ floor.phase + 1
   -- counters and stashes are those of the receipts
   pub counters_are : state.counters ≡ map counters_of receipts
@@ -157,10 +161,13 @@ pub record AreOfOne (states : List ShardState) : Type 0 where
 
 -- the parts of receipts, each kind by itself
 pub record ArePartsOf (receipts : List WorkerState) (journals : List JournalView)
-    (stashes : List StashState) (keys : List KeyState) (counters : List Counters)
-    (slices : List (List (Object × Hot))) : Type 0 where
+    (stashes : List StashState) (keys : List KeyState) (counters : List Counters) : Type 0 where
   pub journals_are : journals ≡ map journal_of receipts
   pub stashes_are : stashes ≡ map stash_of receipts
   pub keys_are : keys ≡ map key_of receipts
   pub counters_are : counters ≡ map counters_of receipts
-  pub slices_are : slices ≡ map sliced_of receipts
+
+-- the slices of receipts: none is kept of a joined phase
+abbrev pub slices_kept : Bool → List WorkerState → List (List (Object × Hot))
+slices_kept true receipts = []
+slices_kept false receipts = map sliced_of receipts

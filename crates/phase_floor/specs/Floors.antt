@@ -1,5 +1,5 @@
 -- A phase that is open, and what it begins with.
-use Rattle.std.specs.Prelude.{◌≡◌, ℕ, ◌+◌, ◌<◌, ◌^◌, List, [], Option, length, slice_index, slice_index_or}
+use Rattle.std.specs.Prelude.{◌≡◌, ℕ, ◌+◌, ◌<◌, ◌≤◌, ◌^◌, List, [], Option, length, slice_index, slice_index_or}
 use Rattle.std.specs.List.{AllByRecursion, IsDistinct}
 use Rattle.auction_rows.specs.declared.requests.Object.{Object}
 use Rattle.auction_rows.specs.declared.values.Opening.{Opening}
@@ -24,6 +24,8 @@ Stocks = List (Object × Option (Facts × ℕ))
 pub record FloorState : Type 0 where
   -- the users and categories
   pub opening : Opening
+  -- how many requests each worker may commit
+  pub limit : ℕ
   -- the phase's number
   pub phase : ℕ
   -- the counters with which each worker begins
@@ -44,7 +46,7 @@ pub record AreStocksOf (opening : Opening) (states : List ShardState) (stocks : 
 -- an open phase keeps what was kept before it, and has a box for each shard
 pub record IsOpen (states : List ShardState) (workers : ℕ) (floor : FloorState) : Type 0 where
   -- it has what a phase needs to begin
-  pub kept : IsKept floor.opening states floor.counters
+  pub kept : IsKept floor.opening floor.limit states floor.counters
   -- there is a box for each shard
   pub boxes_are : length floor.boxes ≡ length states
   -- and counters for each worker
@@ -61,11 +63,14 @@ new_permit floor worker quota stash key =
     (empty_journal floor.phase worker (length stash.requests + quota)) stash
     (slices_of floor.stocks []) quota 0
 
--- the worker's permit is such a new one, with a new key to the phase's boxes
+-- the worker's permit is such a new one, with a new key to the phase's boxes, and asks for no more
+-- commits than the limit
 pub record IsNewPermit (floor : FloorState) (worker quota : ℕ) (stash : StashState)
     (permit : WorkerState) : Type 0 where
   pub new : permit ≡ new_permit floor worker quota stash permit.key
   pub key : IsNewKey floor.boxes worker permit.key
+  pub fits :
+      (counters_at floor.counters worker).commits + length stash.requests + quota ≤ floor.limit
 
 abbrev pub no_stash : StashState
 no_stash = record { requests = []; done = []; room = 0 }

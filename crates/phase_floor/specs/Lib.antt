@@ -5,3 +5,4 @@ pub mod Begins
 pub mod Closings
 pub mod Resuming
 pub mod NextRun
+pub mod Adding

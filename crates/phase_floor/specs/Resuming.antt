@@ -4,7 +4,6 @@ use Rattle.std.specs.List.{AllByRecursion}
 use Rattle.auction_rows.specs.declared.requests.ItemId.{ItemId}
 use Rattle.auction_rows.specs.declared.requests.Object.{Object}
 use Rattle.auction_rows.specs.declared.requests.Object.TheVariants as object
-use Rattle.auction_rows.specs.declared.limits.TheConstants.{MOST_ROWS}
 use Rattle.auction_rows.specs.declared.values.Opening.{Opening}
 use Rattle.auction_rows.specs.declared.rows.Row.{Row}
 use Rattle.auction_rows.specs.declared.rows.Row.TheVariants as row
@@ -19,6 +18,7 @@ use Rattle.item_shards.specs.OpeningRows.{rows_by}
 use Rattle.item_shards.specs.Contents.{after_acts}
 use Rattle.item_shards.specs.ShardContents.{HasItemRoom}
 use Rattle.item_shards.specs.Writing.{writes_of, is_done_on, done_on}
+use Rattle.shard_boxes.specs.declared.limits.TheConstants.{MOST_COMMITS}
 use Rattle.shard_boxes.specs.States.{ShardState, state_at, state_of}
 use Rattle.phase_permits.specs.declared.worker.Counters.{Counters}
 use Rattle.phase_permits.specs.Performing.{HaveOpening}
@@ -84,11 +84,11 @@ with_row (row.Buy r) counters =
 
 -- so few that one more fits
 pub record HaveRoom (counters : Counters) : Type 0 where
-  pub items : counters.items < MOST_ROWS
-  pub bids : counters.bids < MOST_ROWS
-  pub comments : counters.comments < MOST_ROWS
-  pub buys : counters.buys < MOST_ROWS
-  pub commits : counters.commits < MOST_ROWS
+  pub items : counters.items < MOST_COMMITS
+  pub bids : counters.bids < MOST_COMMITS
+  pub comments : counters.comments < MOST_COMMITS
+  pub buys : counters.buys < MOST_COMMITS
+  pub commits : counters.commits < MOST_COMMITS
 
 -- each shard has its place for number, and is one of as many as there are
 abbrev pub AreNumbered : List ShardState → Type 0

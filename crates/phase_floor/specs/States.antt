@@ -1,7 +1,7 @@
 -- The state between two phases, and the books for which it stands.
 use Rattle.std.specs.Prelude.{ℕ, ◌<◌, ◌≤◌, List, [], All, IsSome, length, map}
 use Rattle.std.specs.List.{AllByRecursion}
-use Rattle.auction_rows.specs.declared.limits.TheConstants.{MOST_OF_A_WORKER, MOST_SHARDS, MOST_WORKERS}
+use Rattle.auction_rows.specs.declared.limits.TheConstants.{MOST_SHARDS, MOST_WORKERS}
 use Rattle.auction_rows.specs.declared.requests.Object.{Object}
 use Rattle.auction_rows.specs.declared.requests.Object.TheVariants.{Item, User, Category}
 use Rattle.auction_rows.specs.declared.values.Opening.{Opening}
@@ -9,17 +9,20 @@ use Rattle.auction_rows.specs.Book.{Book, worker_of}
 use Rattle.auction_rows.specs.History.{IsBook}
 use Rattle.item_shards.specs.declared.shard.Shard.{Shard}
 use Rattle.item_shards.specs.Values.{stock}
+use Rattle.shard_boxes.specs.declared.limits.TheConstants.{MOST_COMMITS}
 use Rattle.shard_boxes.specs.States.{ShardState, state_of, AreInitial}
 use Rattle.phase_permits.specs.declared.worker.Counters.{Counters}
 use Rattle.phase_permits.specs.Performing.{HaveOpening}
 use Rattle.closing_laws.specs.Phases.{value_on}
 use Rattle.closing_laws.specs.Standing.{StandFor, AreOfWorkers, counters_at, stores}
 
--- the users and categories, the number of the next phase, the shards, and the counters of each
--- worker
+-- the users and categories, how many requests each worker may commit, the number of the next phase,
+-- the shards, and the counters of each worker
 pub record JoinedState : Type 0 where
   -- the users and categories
   pub opening : Opening
+  -- how many requests each worker may commit
+  pub limit : ℕ
   -- the number of the next phase
   pub phase : ℕ
   -- the shards
@@ -27,9 +30,14 @@ pub record JoinedState : Type 0 where
   -- each worker's counters
   pub counters : List Counters
 
-abbrev pub joined_of : Opening → ℕ → List Shard → List Counters → JoinedState
-joined_of opening phase shards counters =
-    record { opening = opening; phase = phase; shards = shards; counters = counters }
+abbrev pub joined_of : Opening → ℕ → ℕ → List Shard → List Counters → JoinedState
+joined_of opening limit phase shards counters = record {
+  opening = opening;
+  limit = limit;
+  phase = phase;
+  shards = shards;
+  counters = counters;
+}
 
 -- what the shards show
 abbrev pub states_of : JoinedState → List ShardState
@@ -57,13 +65,14 @@ DoesExist opening states (Category category) = category < opening.categories
 abbrev pub DoAllExist : Opening → List ShardState → List Object → Type 0
 DoAllExist opening states objects = AllByRecursion (DoesExist opening states) objects
 
--- no more stores of a worker than commits, and at most 1,000,000 of these
-pub record IsWithinLimit (counters : Counters) : Type 0 where
+-- no more stores of a worker than commits, and no more of these than the limit
+pub record IsWithinLimit (limit : ℕ) (counters : Counters) : Type 0 where
   pub stored : stores counters ≤ counters.commits
-  pub commits : counters.commits ≤ MOST_OF_A_WORKER
+  pub commits : counters.commits ≤ limit
 
-abbrev pub AreWithinLimit : List Counters → Type 0
-AreWithinLimit counters = (w : ℕ) → w < length counters → IsWithinLimit (counters_at counters w)
+abbrev pub AreWithinLimit : ℕ → List Counters → Type 0
+AreWithinLimit limit counters =
+    (w : ℕ) → w < length counters → IsWithinLimit limit (counters_at counters w)
 
 -- It is not so that they stand for no book of their workers' rows. Whatever can be tested of them,
 -- and holds if they stand for such a book, holds here.
@@ -74,8 +83,8 @@ AreOfABook opening states counters =
 
 -- what is kept between phases: 1 to 64 shards with which a phase may open, 1 to 16 workers within
 -- limits, and that they are of a book
-pub record IsKept (opening : Opening) (states : List ShardState) (counters : List Counters)
-    : Type 0 where
+pub record IsKept (opening : Opening) (limit : ℕ) (states : List ShardState)
+    (counters : List Counters) : Type 0 where
   -- there are 1 to 64 shards
   pub some_shards : 0 < length states
   pub few_shards : length states ≤ MOST_SHARDS
@@ -86,7 +95,9 @@ pub record IsKept (opening : Opening) (states : List ShardState) (counters : Lis
   pub opened : AreInitial states
   -- they are of the opening
   pub opening_is : HaveOpening states opening
-  -- nobody has more than 1,000,000 commits
-  pub limits : AreWithinLimit counters
+  -- no limit is above that of all auctions
+  pub last : limit ≤ MOST_COMMITS
+  -- nobody has more commits than the limit
+  pub limits : AreWithinLimit limit counters
   -- it is not so that they stand for no book of their workers' rows
   pub of_a_book : AreOfABook opening states counters

@@ -1,13 +1,13 @@
 //! How a phase closes: its receipts and their parts; the slices of all workers, merged into the
 //! shards in which their objects lie; and the shards' clocks, which are at 0 between phases.
-ghost use Rattle.std.specs.Prelude.{length, IfOk, OnOk, ◌≡◌, map, fold, ◌++◌, true, OnErr};
+ghost use Rattle.std.specs.Prelude.{length, IfOk, OnOk, ◌≡◌, ◌≤◌, ◌<◌, ◌+◌, [], ◌∷◌, map, fold, ◌++◌, true, false, OnErr, vec_len, vec_capacity};
 ghost use Rattle.std.specs.List.{AllByRecursion, flat_map};
 ghost use Rattle.phase_laws.specs.Replay.{SawInTurn};
 ghost use Rattle.closing_laws.specs.Merging.{CanMerge, CanMergeInto, after_merge, with_slice};
 ghost use Rattle.item_shards.specs.ShardContents.{LiesIn, contents, opening};
 ghost use Rattle.worker_journals.specs.Merged.{added, merged};
 ghost use Rattle.shard_boxes.specs.States.{state_of};
-ghost use Rattle.phase_floor.specs.Closings.{ArePartsOf, IsFinished, AreOfOne, AreKnown, IsKnown, opening_in, from_the_last, at_start, AreReceiptsOf, HasSettled, HasReconciled, Leaves};
+ghost use Rattle.phase_floor.specs.Closings.{ArePartsOf, IsFinished, AreOfOne, AreKnown, IsKnown, opening_in, from_the_last, at_start, slices_kept, AreReceiptsOf, HasSettled, HasReconciled, Leaves};
 ghost use Rattle.phase_floor.specs.States.{states_of};
 
 use crate::floor::{Floor, FloorFault};
@@ -32,14 +32,19 @@ pub(crate) struct Parts<N: PhaseName> {
 }
 
 impl<N: PhaseName> Parts<N> {
-    /// Those of receipts. All memory is asked for before a receipt is opened.
+    /// Those of receipts, the counters in a list that has room for them. All memory is asked for
+    /// before a receipt is opened. In a joined phase no worker has a slice, and no list of them is
+    /// made.
     pub(crate) fn of<K: Kind>(
         alloc: Global,
         receipts: Vec<Receipt<N, K>>,
+        mut counters: Vec<Counters>,
     ) -> Result<Parts<N>, AllocError>
+        requires room { vec_len receipts ≤ vec_capacity counters }
         ensures parts { IfOk result (λ parts. ArePartsOf receipts.items
-            parts.journals.items parts.stashes.items parts.keys.items parts.counters.items
-            parts.slices.items) }
+            parts.journals.items parts.stashes.items parts.keys.items parts.counters.items) }
+        ensures slices { IfOk result (λ parts.
+            parts.slices.items ≡ slices_kept K.IS_JOINED receipts.items) }
         ensures finished { OnOk result
             (AllByRecursion (IsFinished (length N.initial)) receipts.items) }
     {
@@ -47,15 +52,15 @@ impl<N: PhaseName> Parts<N> {
         let mut journals = Vec::with_capacity(alloc, workers)?;
         let mut stashes = Vec::with_capacity(alloc, workers)?;
         let mut keys = Vec::with_capacity(alloc, workers)?;
-        let mut counters = Vec::with_capacity(alloc, workers)?;
-        let mut slices = Vec::with_capacity(alloc, workers)?;
+        let mut slices = Vec::with_capacity(alloc, room_for_slices::<K>(workers))?;
+        counters.clear();
         for receipt in receipts {
             let (journal, own, stash, key, counted) = receipt.parts();
             journals.push_reserved(journal);
             stashes.push_reserved(stash);
             keys.push_reserved(key);
             counters.push_reserved(counted);
-            slices.push_reserved(own);
+            keep_slices::<K>(&mut slices, own);
         }
         Ok(Parts {
             journals,
@@ -64,6 +69,26 @@ impl<N: PhaseName> Parts<N> {
             counters,
             slices,
         })
+    }
+}
+
+// For the slices of how many workers there is to be room.
+fn room_for_slices<K: Kind>(workers: usize) -> usize
+    ensures { K.IS_JOINED ≡ false → result ≡ workers }
+{
+    if K::IS_JOINED { 0 } else { workers }
+}
+
+// Keeps the slices of a worker, but in a joined phase.
+fn keep_slices<K: Kind>(kept: &mut Vec<Slices>, own: Slices)
+    requires room { K.IS_JOINED ≡ false → vec_len kept.old < vec_capacity kept.old }
+    ensures none { K.IS_JOINED ≡ true → kept.new.items ≡ kept.old.items }
+    ensures one { K.IS_JOINED ≡ false → kept.new.items ≡ kept.old.items ++ own ∷ [] }
+    ensures len { K.IS_JOINED ≡ false → vec_len kept.new ≡ vec_len kept.old + 1 }
+    ensures capacity { vec_capacity kept.new ≡ vec_capacity kept.old }
+{
+    if !K::IS_JOINED {
+        kept.push_reserved(own);
     }
 }
 
@@ -164,7 +189,9 @@ impl<N: PhaseName, K: Kind> Floor<N, K> {
     {
         let Floor {
             opening,
+            limit,
             phase,
+            counters,
             boxes,
             ..
         } = self;
@@ -174,13 +201,14 @@ impl<N: PhaseName, K: Kind> Floor<N, K> {
             keys,
             counters,
             slices,
-        } = Parts::of(alloc, receipts)?;
+        } = Parts::of(alloc, receipts, counters)?;
         history.add_phase(journals)?;
         let mut shards = boxes.close(rt, keys);
         merge_all(&mut shards, slices);
         reset_clocks(&mut shards);
         let state = Joined {
             opening,
+            limit,
             phase: phase + 1,
             shards,
             counters,

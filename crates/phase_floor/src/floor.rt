@@ -16,7 +16,8 @@ pub enum BeginFault {
     /// A hot object does not exist.
     #[error("no such hot object")]
     UnknownHot,
-    /// What a worker has committed, what waits in its stash and its quota are more than 1,000,000.
+    /// What a worker has committed, what waits in its stash and its quota are more than it may
+    /// commit: 1,000,000 requests, unless the auction is a lasting one.
     #[error("more than 1000000 requests for a worker")]
     TooLong,
     /// No memory was left.
@@ -46,6 +47,7 @@ impl From<AllocError> for FloorFault {
 #[derive(Drop)]
 pub struct Floor<N: PhaseName, K: Kind> {
     pub(crate) opening: Opening,
+    pub(crate) limit: u64,
     pub(crate) phase: u64,
     pub(crate) counters: Vec<Counters>,
     pub(crate) stocks: Stocks,
@@ -67,6 +69,7 @@ impl<N: PhaseName, K: Kind> Model for Floor<N, K> {
 
     ghost view = { λ f. record {
       opening = f.opening;
+      limit = f.limit;
       phase = f.phase;
       counters = f.counters.items;
       stocks = f.stocks.items;
@@ -76,6 +79,7 @@ impl<N: PhaseName, K: Kind> Model for Floor<N, K> {
     ghost invariant = { λ f. IsEmptyIf K.IS_JOINED f.stocks.items
         × IsOpen N.initial N.workers (record {
           opening = f.opening;
+          limit = f.limit;
           phase = f.phase;
           counters = f.counters.items;
           stocks = f.stocks.items;

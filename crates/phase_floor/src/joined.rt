@@ -4,16 +4,18 @@ ghost use Rattle.std.specs.List.{AllByRecursion};
 ghost use Rattle.closing_laws.specs.Standing.{counters_at, stores};
 ghost use Rattle.phase_floor.specs.NextRun.{stores_as_commits};
 
-use auction_rows::{MOST_OF_A_WORKER, MOST_WORKERS, Object, Opening, Reply, Request, shard_of};
+use auction_rows::{MOST_WORKERS, Object, Opening, Reply, Request, shard_of};
 use item_shards::Shard;
 use phase_permits::Counters;
+use shard_boxes::MOST_COMMITS;
 use std::marker::Model;
 
-/// An auction between two phases: its 1 to 64 shards, and what each of 1 to 16 workers has
-/// committed.
+/// An auction between two phases: its 1 to 64 shards, what each of 1 to 16 workers has committed,
+/// and how many requests it may commit.
 #[derive(Drop)]
 pub struct Joined {
     pub(crate) opening: Opening,
+    pub(crate) limit: u64,
     pub(crate) phase: u64,
     pub(crate) shards: Vec<Shard>,
     pub(crate) counters: Vec<Counters>,
@@ -30,9 +32,10 @@ impl Model for Joined {
 
     ghost coded = { Prim.hlevel (codes, shard.the_row.coded) };
 
-    ghost view = { λ j. joined_of j.opening j.phase j.shards.items j.counters.items };
+    ghost view = { λ j. joined_of j.opening j.limit j.phase j.shards.items j.counters.items };
 
-    ghost invariant = { λ j. IsKept j.opening (map state_of j.shards.items) j.counters.items };
+    ghost invariant = { λ j.
+        IsKept j.opening j.limit (map state_of j.shards.items) j.counters.items };
 }
 
 impl Joined {
@@ -86,8 +89,8 @@ impl Joined {
 
 impl Joined {
     ghost use Rattle.auction_rows.specs.Book.{Book};
-    ghost use Rattle.phase_floor.specs.NextRun.{for_next_run};
-    ghost use Rattle.phase_floor.specs.States.{StandsFor, HasNoBook};
+    ghost use Rattle.phase_floor.specs.NextRun.{for_next_run, lasting};
+    ghost use Rattle.phase_floor.specs.States.{StandsFor, HasNoBook, IsBookOf};
 
     /// How many shards there are.
     pub fn shards(&self) -> u32
@@ -104,11 +107,19 @@ impl Joined {
         self.counters.len() as u32
     }
 
+    /// How many requests each worker may commit: 1,000,000, or `MOST_COMMITS` if the auction lasts.
+    pub fn limit(&self) -> u64
+        ensures limit { result ≡ self.now.limit }
+        ensures most { result ≤ MOST_COMMITS }
+    {
+        self.limit
+    }
+
     /// How many rows a worker has stored.
     pub fn stored_by(&self, worker: usize) -> u32
         requires { worker < length self.now.counters }
         ensures stored { result ≡ stores (counters_at self.now.counters worker) }
-        ensures limit { result ≤ MOST_OF_A_WORKER }
+        ensures limit { result ≤ self.now.limit }
     {
         stores(&self.counters[worker])
     }
@@ -122,6 +133,7 @@ impl Joined {
     {
         let Joined {
             opening,
+            limit,
             phase: _,
             shards,
             mut counters,
@@ -129,16 +141,29 @@ impl Joined {
         set_commits(&mut counters);
         Joined {
             opening,
+            limit,
             phase: 0,
             shards,
             counters,
+        }
+    }
+
+    /// The same auction, which lasts: each worker may commit `MOST_COMMITS` requests, in place of
+    /// 1,000,000. It stands for the same books.
+    pub fn lasting(self) -> Joined
+        ensures lasts { result ≡ lasting self }
+        ensures books { (book : Book) → IsBookOf self book → IsBookOf result book }
+    {
+        Joined {
+            limit: MOST_COMMITS,
+            ..self
         }
     }
 }
 
 // How many stores of all kinds were accepted.
 fn stores(counters: &Counters) -> u32
-    requires { stores counters.now ≤ MOST_OF_A_WORKER }
+    requires { stores counters.now ≤ MOST_COMMITS }
     ensures { result ≡ stores counters.now }
 {
     counters.items + counters.bids + counters.comments + counters.buys
@@ -146,7 +171,7 @@ fn stores(counters: &Counters) -> u32
 
 // Counts the accepted stores of each worker as its commits, and nothing else.
 fn set_commits(counters: &mut Vec<Counters>)
-    requires { AllByRecursion (λ c. stores c ≤ MOST_OF_A_WORKER) counters.old.items }
+    requires { AllByRecursion (λ c. stores c ≤ MOST_COMMITS) counters.old.items }
     ensures { counters.new.items ≡ map stores_as_commits counters.old.items }
 {
     for worker in 0..counters.len() {

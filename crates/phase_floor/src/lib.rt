@@ -2,6 +2,7 @@
 //! is a phase that is open. That state is resumed from an opening book, and answers views.
 #![tactic(auto)]
 
+mod adding;
 mod close;
 mod floor;
 mod joined;
@@ -9,5 +10,6 @@ mod resumption;
 mod split;
 mod start;
 
+pub use adding::AddFault;
 pub use floor::{BeginFault, Floor, FloorFault, JoinedFloor, SplitFloor};
 pub use joined::Joined;

@@ -1,23 +1,21 @@
 //! How an auction is made, and how it is resumed from an opening book.
-ghost use Rattle.std.specs.Prelude.{◌≡◌, ◌<◌, ◌≤◌, [], length, map, vec_len, replicate, IfOk, ℕ, ◌∷◌, All, Some, OnOk};
-ghost use Rattle.closing_laws.specs.Standing.{ShardsStandFor, counters_at};
+ghost use Rattle.std.specs.Prelude.{◌≡◌, ◌<◌, ◌≤◌, [], length, map, vec_len, replicate, IfOk, ℕ, ◌∷◌, All, Some, OnOk, OnErr};
+ghost use Rattle.closing_laws.specs.Standing.{counters_at};
 ghost use Rattle.auction_rows.specs.declared.rows.Row.TheVariants.{Item};
-ghost use Rattle.auction_rows.specs.History.{IsBook};
 ghost use Rattle.auction_rows.specs.Book.{worker_of};
 ghost use Rattle.item_shards.specs.Contents.{target};
-ghost use Rattle.item_shards.specs.Limits.{IsWithinLimits};
 ghost use Rattle.item_shards.specs.OpeningBooks.{opening_of, rows_of_book};
 ghost use Rattle.item_shards.specs.Writing.{writes_of};
 ghost use Rattle.shard_boxes.specs.States.{state_of};
 ghost use Rattle.phase_permits.specs.Workers.{no_counters};
 ghost use Rattle.phase_floor.specs.Making.{AreBlank};
 ghost use Rattle.phase_floor.specs.States.{StandsFor, IsBookOf};
-ghost use Rattle.phase_floor.specs.Resuming.{counters_in, with_row, HaveRoom, AreNumbered, AreReady, CanWriteOn, CanActIn, HasRoomIn, HaveDone, event_on};
+ghost use Rattle.phase_floor.specs.Resuming.{counters_in, with_row, HaveRoom, AreNumbered, CanWriteOn, CanActIn, HasRoomIn, HaveDone, event_on};
 
 use crate::joined::Joined;
 use auction_rows::{
-    BidEntry, ItemEntry, ItemId, ItemRow, MOST_ROWS, MOST_SHARDS, MOST_WORKERS, Object, Opening,
-    Row, shard_of,
+    BidEntry, ItemEntry, ItemId, ItemRow, MOST_OF_A_WORKER, MOST_SHARDS, MOST_WORKERS, Object,
+    Opening, Row, shard_of,
 };
 use item_shards::{Act, OpeningBook, Shard};
 use phase_permits::Counters;
@@ -35,6 +33,7 @@ impl Joined {
         requires workers { (0 < workers) × (workers ≤ MOST_WORKERS) }
         requires shards { (0 < shards) × (shards ≤ MOST_SHARDS) }
         ensures opening { IfOk result (λ joined. joined.opening ≡ opening) }
+        ensures limit { IfOk result (λ joined. joined.limit ≡ MOST_OF_A_WORKER) }
         ensures phase { IfOk result (λ joined. joined.phase ≡ 0) }
         ensures shards { IfOk result (λ joined. length joined.shards ≡ shards) }
         ensures counters { IfOk result (λ joined. joined.counters ≡ replicate workers no_counters) }
@@ -44,6 +43,7 @@ impl Joined {
         let shards = new_shards(alloc, opening, shards)?;
         Ok(Joined {
             opening,
+            limit: MOST_OF_A_WORKER,
             phase: 0,
             shards,
             counters,
@@ -93,6 +93,7 @@ impl Joined {
         requires shards { (0 < shards) × (shards ≤ MOST_SHARDS) }
         requires own { All (λ row. worker_of row < workers) (rows_of_book book.now) }
         ensures opening { IfOk result (λ joined. joined.opening ≡ opening_of book.now) }
+        ensures limit { IfOk result (λ joined. joined.limit ≡ MOST_OF_A_WORKER) }
         ensures phase { IfOk result (λ joined. joined.phase ≡ 0) }
         ensures shards { IfOk result (λ joined. length joined.shards ≡ shards) }
         ensures workers { IfOk result (λ joined. length joined.counters ≡ workers) }
@@ -101,36 +102,16 @@ impl Joined {
         ensures stands { IfOk result (λ joined. StandsFor joined (rows_of_book book.now)) }
         ensures book { IfOk result (λ joined. IsBookOf joined (rows_of_book book.now)) }
     {
-        let rows = book.rows();
-        let counters = count_rows(alloc, workers, rows)?;
-        let shards = write_rows(alloc, book.opening(), shards, rows)?;
-        Ok(Joined {
-            opening: book.opening(),
-            phase: 0,
-            shards,
-            counters,
-        })
+        let mut joined = Joined::new(alloc, book.opening(), workers, shards)?;
+        for row in book.rows() {
+            joined.add_row(row)?;
+        }
+        Ok(joined)
     }
-}
-
-// The counters of so many workers for the rows of a book.
-fn count_rows(alloc: Global, workers: u32, rows: &[Row]) -> Result<Vec<Counters>, AllocError>
-    requires own { All (λ row. worker_of row < workers) rows.now }
-    requires few { length rows.now ≤ MOST_ROWS }
-    ensures len { IfOk result (λ counters. length counters.items ≡ workers) }
-    ensures each { IfOk result (λ counters. (w : ℕ) → w < workers →
-        counters_at counters.items w ≡ counters_in rows.now w) }
-{
-    let mut counters = nothing_counted(alloc, workers)?;
-    for row in rows {
-        let worker = row.worker() as usize;
-        count_row(&mut counters[worker], row);
-    }
-    Ok(counters)
 }
 
 // Counts a row, which was one commit.
-fn count_row(counters: &mut Counters, row: &Row)
+pub(crate) fn count_row(counters: &mut Counters, row: &Row)
     requires { HaveRoom counters.old }
     ensures { counters.new ≡ with_row row.now counters.old }
 {
@@ -143,35 +124,17 @@ fn count_row(counters: &mut Counters, row: &Row)
     }
 }
 
-// So many shards on which the rows of a book are written.
-fn write_rows(
-    alloc: Global,
-    opening: Opening,
-    count: u32,
-    rows: &[Row],
-) -> Result<Vec<Shard>, AllocError>
-    requires some { 0 < count }
-    requires book { IsBook opening rows.now }
-    requires limits { IsWithinLimits rows.now }
-    ensures len { IfOk result (λ shards. length shards.items ≡ count) }
-    ensures ready { IfOk result (λ shards. AreReady opening (map state_of shards.items)) }
-    ensures stand { IfOk result (λ shards. ShardsStandFor (map state_of shards.items) rows.now []) }
-{
-    let mut shards = new_shards(alloc, opening, count)?;
-    for row in rows {
-        write(&mut shards, count, row)?;
-    }
-    Ok(shards)
-}
-
 // Does the acts that write a row, each on the shard where its object lies.
-fn write(shards: &mut Vec<Shard>, count: u32, row: &Row) -> Result<(), AllocError>
+pub(crate) fn write(shards: &mut Vec<Shard>, count: u32, row: &Row) -> Result<(), AllocError>
     requires some { 0 < count }
     requires count { length shards.old.items ≡ count }
     requires numbered { AreNumbered (map state_of shards.old.items) }
     requires can { CanWriteOn (map state_of shards.old.items) row.now }
-    ensures { OnOk result (HaveDone (map state_of shards.old.items) (map state_of shards.new.items)
+    ensures done { OnOk result
+        (HaveDone (map state_of shards.old.items) (map state_of shards.new.items)
         (writes_of row.now)) }
+    ensures same { OnErr result
+        (map state_of shards.new.items ≡ map state_of shards.old.items) }
 {
     match *row {
         Row::Item(row) => write_item(shards, count, row)?,
@@ -215,8 +178,11 @@ fn write_item(shards: &mut Vec<Shard>, count: u32, row: ItemRow) -> Result<(), A
     requires count { length shards.old.items ≡ count }
     requires numbered { AreNumbered (map state_of shards.old.items) }
     requires can { CanWriteOn (map state_of shards.old.items) (Item row) }
-    ensures { OnOk result (HaveDone (map state_of shards.old.items) (map state_of shards.new.items)
+    ensures done { OnOk result
+        (HaveDone (map state_of shards.old.items) (map state_of shards.new.items)
         (writes_of (Item row))) }
+    ensures same { OnErr result
+        (map state_of shards.new.items ≡ map state_of shards.old.items) }
 {
     let entry = ItemEntry {
         time: row.time,

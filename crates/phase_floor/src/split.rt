@@ -21,7 +21,7 @@ impl Joined {
     /// Begins a split phase: a permit for each worker to perform its quota, with a slice of each
     /// hot object. The phase is of this state's shards and workers, and its number is below 2^64 -
     /// 1. If it does not begin, the state comes back unchanged: `UnknownHot` if a hot object does
-    /// not exist, then `TooLong` if some worker's commits and quota are more than 1,000,000
+    /// not exist, then `TooLong` if some worker's commits and quota are more than the state's limit
     /// together, then `Memory` if none is left.
     pub fn begin_split<N: PhaseName, R: Wait>(
         self,
@@ -40,7 +40,7 @@ impl Joined {
         if !self.do_exist(objects) {
             return Err((self, BeginFault::UnknownHot));
         }
-        if is_too_long(&self.counters, &[], quotas) {
+        if is_too_long(self.limit, &self.counters, &[], quotas) {
             return Err((self, BeginFault::TooLong));
         }
         let Ok(stocks) = self.stocks_of(alloc, objects) else {

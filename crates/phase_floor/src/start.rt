@@ -11,31 +11,35 @@ ghost use Rattle.phase_floor.specs.Floors.{stash_at, AreBegun};
 
 use crate::floor::{BeginFault, Floor, JoinedFloor};
 use crate::joined::Joined;
-use auction_rows::{Facts, MOST_OF_A_WORKER, MOST_WORKERS, Object};
+use auction_rows::{Facts, MOST_WORKERS, Object};
 use phase_permits::{Counters, JoinedPermit, Kind, Permit, Slices, Stash, WorkerStart};
-use shard_boxes::{Boxes, Key, PhaseName};
+use shard_boxes::{Boxes, Key, MOST_COMMITS, PhaseName};
 use std::alloc::{AllocError, Global};
 use std::marker::PhantomData;
 use std::sync::Wait;
 use worker_journals::Journal;
 
-// Whether these are more than 1,000,000 together.
-pub(crate) fn is_over(commits: u32, waiting: usize, quota: u32) -> bool
-    ensures { IsTrue result ↔ (MOST_OF_A_WORKER < commits + waiting + quota) }
+// Whether these are more than a limit together.
+pub(crate) fn is_over(limit: u64, commits: u32, waiting: usize, quota: u32) -> bool
+    ensures { IsTrue result ↔ (limit < commits + waiting + quota) }
 {
-    waiting as u64 > MOST_OF_A_WORKER
-        || commits as u64 + waiting as u64 + quota as u64 > MOST_OF_A_WORKER
+    waiting as u64 > limit || commits as u64 + quota as u64 > limit - waiting as u64
 }
 
-// Whether some worker has committed and shall perform more than 1,000,000 requests. Past the
-// stashes nothing waits.
-pub(crate) fn is_too_long(counters: &[Counters], stashes: &[Stash], quotas: &[u32]) -> bool
+// Whether some worker has committed and shall perform more requests than a limit. Past the stashes
+// nothing waits.
+pub(crate) fn is_too_long(
+    limit: u64,
+    counters: &[Counters],
+    stashes: &[Stash],
+    quotas: &[u32],
+) -> bool
     requires quotas { length quotas.now ≡ length counters.now }
-    ensures { IsTrue result ↔ IsTooLong counters.now stashes.now quotas.now }
+    ensures { IsTrue result ↔ IsTooLong limit counters.now stashes.now quotas.now }
 {
     for w in 0..counters.len() {
         let waiting = stashes.get(w).map_or(0, Stash::len);
-        if is_over(counters[w].commits, waiting, quotas[w]) {
+        if is_over(limit, counters[w].commits, waiting, quotas[w]) {
             return true;
         }
     }
@@ -63,7 +67,7 @@ pub(crate) fn new_kits(
     requires stashes { length stashes.now ≡ length quotas.now }
     requires few { length quotas.now ≤ MOST_WORKERS }
     requires fit { (w : ℕ) → w < length quotas.now →
-        length (stash_at stashes.now w).requests + slice_index quotas.now w ≤ MOST_OF_A_WORKER }
+        length (stash_at stashes.now w).requests + slice_index quotas.now w ≤ MOST_COMMITS }
     requires distinct { IsDistinct same_object (hot_objects stocks.now.items) }
     requires stocked { AllByRecursion IsStocked stocks.now.items }
     ensures len { IfOk result (λ kits. vec_len kits ≡ length quotas.now) }
@@ -96,7 +100,7 @@ impl Joined {
     /// Begins a joined phase: a permit for each worker to perform what waits in its stash and its
     /// quota. The phase is of this state's shards and workers, and its number is below 2^64 - 1. If
     /// it does not begin, the state and the stashes come back unchanged: `TooLong` if some worker's
-    /// commits, stash and quota are more than 1,000,000 together, `Memory` if none is left.
+    /// commits, stash and quota are more than the state's limit together, `Memory` if none is left.
     pub fn begin_joined<N: PhaseName, R: Wait>(
         self,
         rt: &R,
@@ -111,7 +115,7 @@ impl Joined {
         ensures refused { IfErr result (λ refused.
             HasRefusedJoined self stashes quotas.now refused.0 refused.1 refused.2) }
     {
-        if is_too_long(&self.counters, &stashes, quotas) {
+        if is_too_long(self.limit, &self.counters, &stashes, quotas) {
             return Err((self, stashes, BeginFault::TooLong));
         }
         match self.begin(rt, alloc, Vec::new(alloc), quotas, stashes) {
@@ -149,6 +153,7 @@ impl Joined {
             Ok((boxes, keys)) => {
                 let floor = Floor {
                     opening: self.opening,
+                    limit: self.limit,
                     phase: self.phase,
                     counters: self.counters,
                     stocks,
@@ -184,7 +189,7 @@ impl<N: PhaseName, K: Kind> Floor<N, K> {
         requires kits { AreKits self.now.phase self.now.stocks stashes.items quotas.now N.workers
             kits.items }
         requires fits { (w : ℕ) → w < N.workers →
-            asked_in_all self.now.counters stashes.items quotas.now w ≤ MOST_OF_A_WORKER }
+            asked_in_all self.now.counters stashes.items quotas.now w ≤ self.now.limit }
         requires rooms { HaveStashRoom self.now.stocks stashes.items quotas.now }
         ensures { AreBegun self.now quotas.now stashes.items result.items }
     {

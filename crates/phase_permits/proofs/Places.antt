@@ -64,10 +64,10 @@ write_seen object change hots seen now place old new is unique at there written 
     set ∙ placed object change hots place old new (distinct_objects (hot_objects hots) unique) (subst (λ hs. IsAt hs place object) (sym is) at) there written ∙ ap (with_slice_changed object change) is
 
 -- and that slice is one of few operations
-pub few_there : (hots : List (Object × Hot)) (place : ℕ) (hot : Hot) → HaveAtMost 1000000 hots → Some hot ≡ slice_get (map (λ hot. hot.1) hots) place → HasAtMost 1000000 hot.slice
-few_there [] place hot few is = absurd (cc)
-few_there (first ∷ hots) zero hot few is = let same : first.1 ≡ hot = cc in subst (λ (h : Hot). HasAtMost 1000000 h.slice) same few.0
-few_there (first ∷ hots) (suc place) hot few is = few_there hots place hot few.1 is
+pub few_there : (n : ℕ) (hots : List (Object × Hot)) (place : ℕ) (hot : Hot) → HaveAtMost n hots → Some hot ≡ slice_get (map (λ hot. hot.1) hots) place → HasAtMost n hot.slice
+few_there n [] place hot few is = absurd (cc)
+few_there n (first ∷ hots) zero hot few is = let same : first.1 ≡ hot = cc in subst (λ (h : Hot). HasAtMost n h.slice) same few.0
+few_there n (first ∷ hots) (suc place) hot few is = few_there n hots place hot few.1 is
 
 -- an object that is found is hot
 found_here : (object : Object) (hot : Object × Hot) (hots : List (Object × Hot)) (b : Bool) → b ≡ same_object hot.0 object → is_some (lookup (object_eq.it object) hots) ≡ is_hot (hot_objects hots) object

@@ -4,7 +4,6 @@ use Rattle.phase_laws.specs.Numbers.{last_by}
 use Rattle.auction_rows.specs.declared.requests.ItemId.{ItemId}
 use Rattle.auction_rows.specs.declared.requests.Object.{Object}
 use Rattle.auction_rows.specs.declared.requests.Object.TheVariants.{Item}
-use Rattle.auction_rows.specs.declared.limits.TheConstants.{MOST_OF_A_WORKER}
 use Rattle.auction_rows.specs.declared.values.Opening.{Opening}
 use Rattle.auction_rows.specs.declared.replies.Reply.{Reply}
 use Rattle.auction_rows.specs.declared.requests.Request.{Request}
@@ -12,6 +11,7 @@ use Rattle.auction_rows.specs.declared.rows.Entry.{Entry}
 use Rattle.auction_rows.specs.Footprint.{is_hot}
 use Rattle.auction_rows.specs.Replies.{row_of}
 use Rattle.item_shards.specs.Writing.{writes_if}
+use Rattle.shard_boxes.specs.declared.limits.TheConstants.{MOST_COMMITS}
 use Rattle.shard_boxes.specs.Keys.{KeyState, lines_at, holds_at}
 use Rattle.worker_journals.specs.Journals.{JournalView, entry_number, commit_in, with_commit}
 use Rattle.phase_permits.specs.declared.worker.Counters.{Counters}
@@ -87,7 +87,7 @@ pub record AreCounted (counters : Counters) : Type 0 where
 -- has not gone back
 pub record HasRoom (w : WorkerState) : Type 0 where
   pub counted : AreCounted w.counters
-  pub limit : w.counters.commits + length w.stash.requests + w.left ≤ MOST_OF_A_WORKER
+  pub limit : w.counters.commits + length w.stash.requests + w.left ≤ MOST_COMMITS
   pub room : length w.journal.entries + length w.stash.requests + w.left ≤ w.journal.room
   pub latest : last_by entry_number 0 w.journal.entries ≤ w.clock
 
@@ -222,7 +222,7 @@ pub record CanStart (w : WorkerState) : Type 0 where
   -- the stash has room for the quota, where something is hot
   pub stash_room : HasStashRoom w.slices w.left w.stash.room
   -- the counters have room for both, and count no more stores of a kind than commits
-  pub limit : w.counters.commits + length w.stash.requests + w.left ≤ MOST_OF_A_WORKER
+  pub limit : w.counters.commits + length w.stash.requests + w.left ≤ MOST_COMMITS
   pub counted : AreCounted w.counters
   -- no hot item is one that it has still to store
   pub stored : AreStored w.journal.worker w.counters w.slices

@@ -7,9 +7,9 @@ use crate::slices::Slices;
 use crate::stash::Stash;
 use crate::transaction::PermitFault;
 use crate::worker::{Counters, Worker, WorkerStart};
-use auction_rows::{MOST_OF_A_WORKER, MOST_TRIES, Object, Request};
+use auction_rows::{MOST_TRIES, Object, Request};
 use ghost_log::GhostList;
-use shard_boxes::{Boxes, Key, PhaseName};
+use shard_boxes::{Boxes, Key, MOST_COMMITS, PhaseName};
 use std::marker::{Model, PhantomData};
 use std::sync::Wait;
 use worker_journals::Journal;
@@ -220,8 +220,9 @@ impl<N: PhaseName, K: Kind> Receipt<N, K> {
         ensures key { result.3 ≡ self.key }
         ensures counters { result.4 ≡ self.counters }
         ensures explained { IsExplained (length N.initial) self }
-        ensures limit { self.counters.commits ≤ MOST_OF_A_WORKER }
-        ensures few { HaveAtMost MOST_OF_A_WORKER self.slices }
+        ensures room { length self.journal.entries ≤ self.journal.room }
+        ensures limit { self.counters.commits ≤ MOST_COMMITS }
+        ensures few { HaveAtMost MOST_COMMITS self.slices }
         ensures kind { IsEmptyIf K.IS_JOINED self.slices }
     {
         let Receipt { worker, kind: _ } = self;

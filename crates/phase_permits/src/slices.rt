@@ -7,11 +7,10 @@ ghost use Rattle.phase_permits.specs.declared.slices.Hot.{Hot as HotValue};
 ghost use Rattle.phase_permits.specs.Slicing.{hot_objects, slices_of, stocks_of, stock_of, slices_in, with_slice_changed, slices_after_acts, IsAt, IsStocked, HasAtMost, HaveAtMost, slice_with_bid, slice_with_comment, slice_with_item, slice_of};
 
 use crate::homes::{Home, Homes};
-use auction_rows::{
-    BidEntry, Facts, ItemEntry, MOST_OF_A_WORKER, Object, Request, Stars, StoreReply, shard_of,
-};
+use auction_rows::{BidEntry, Facts, ItemEntry, Object, Request, Stars, StoreReply, shard_of};
 use indexmap::IndexMap;
 use item_shards::{CategorySlice, ItemSlice, Slice, UserSlice};
+use shard_boxes::MOST_COMMITS;
 use split_records::Splittable;
 use std::alloc::{AllocError, Global};
 use std::marker::Model;
@@ -23,7 +22,7 @@ pub(crate) trait Operation: Copy {
 
     /// Applies it, where the slice is of its kind.
     fn apply_to(self, slice: &mut Slice)
-        requires { HasAtMost MOST_OF_A_WORKER slice.old }
+        requires { HasAtMost MOST_COMMITS slice.old }
         ensures { slice.new ≡ applied self slice.old };
 }
 
@@ -198,7 +197,7 @@ impl Slices {
     // Applies an operation to the slice at a home, where there is one of the operation's kind.
     #[inline(always)]
     fn apply_at<O: Operation>(&mut self, home: Home, operation: O)
-        requires { HaveAtMost MOST_OF_A_WORKER self.old }
+        requires { HaveAtMost MOST_COMMITS self.old }
         ensures { (object : ObjectValue) → (shards : ℕ) → IsHomeOf self.old shards object home →
             self.new ≡ with_slice_changed object (O.applied operation) self.old }
     {
@@ -214,7 +213,7 @@ impl Slices {
     /// Applies what an accepted store writes to the slice of its object, where that is hot.
     #[inline(always)]
     pub(crate) fn store(&mut self, request: &Request, reply: StoreReply, homes: &Homes)
-        requires few { HaveAtMost MOST_OF_A_WORKER self.old }
+        requires few { HaveAtMost MOST_COMMITS self.old }
         requires home { IsWrittenAt self.old request.now homes.now }
         ensures written { (worker : ℕ) → IsOwn worker (reply_of reply) →
             self.new

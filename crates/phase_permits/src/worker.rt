@@ -12,11 +12,9 @@ ghost use Rattle.phase_permits.specs.Workers.{WorkerState, AreCounted, next_item
 use crate::deeds::{Call, Store};
 use crate::slices::Slices;
 use crate::stash::Stash;
-use auction_rows::{
-    ItemId, MOST_OF_A_WORKER, MOST_TRIES, Object, Opening, Reply, Request, StoreReply,
-};
+use auction_rows::{ItemId, MOST_TRIES, Object, Opening, Reply, Request, StoreReply};
 use ghost_log::GhostList;
-use shard_boxes::{Key, PhaseName};
+use shard_boxes::{Key, MOST_COMMITS, PhaseName};
 use std::marker::Model;
 use worker_journals::{Answer, Journal, ReplyForm};
 
@@ -186,7 +184,7 @@ impl<N: PhaseName> Worker<N> {
 }
 
 /// How many items, bids, comments and purchases a worker has had accepted over the whole run, and
-/// how many requests it has committed: each at most 1,000,000.
+/// how many requests it has committed: each at most `MOST_COMMITS`.
 #[derive(Clone, Copy, PartialEq, Eq, Debug, Default)]
 pub struct Counters {
     pub items: u32,
@@ -201,7 +199,7 @@ impl Counters {
     #[inline(always)]
     pub(crate) fn count(&mut self, reply: &Answer<'_>)
         requires counted { AreCounted self.old }
-        requires limit { self.old.commits < MOST_OF_A_WORKER }
+        requires limit { self.old.commits < MOST_COMMITS }
         ensures { self.new ≡ counters_after self.old reply.now }
     {
         match reply.form {
@@ -217,7 +215,7 @@ impl Counters {
     #[inline(always)]
     fn count_store(&mut self, reply: StoreReply)
         requires counted { AreCounted self.old }
-        requires limit { self.old.commits < MOST_OF_A_WORKER }
+        requires limit { self.old.commits < MOST_COMMITS }
         ensures { self.new ≡ counters_after self.old (reply_of reply) }
     {
         self.commits += 1;

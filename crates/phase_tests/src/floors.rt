@@ -1,4 +1,5 @@
 //! Tests of `phase_floor`: phases begun and closed by hand.
+mod adding_tests;
 mod begins;
 mod begins_tests;
 mod joined;

@@ -28,7 +28,7 @@ use Rattle.phase_workers.specs.Tasks.{task, HasDoneTask}
 use Rattle.phase_workers.specs.Working.{calls_from, committed, stashed, taken, still_waiting, hot_for, put_off, not_put_off, IsSamePermit, HasDealtWithNext, HasPerformedWaiting, HasStopped}
 
 pub same : (permit : WorkerState) → IsSamePermit permit permit
-same permit = record { boxes = refl; worker = refl; opening = refl; begun = refl; phase = refl; writer = refl; hot = refl; stocks = refl; own = λ are. are }
+same permit = record { boxes = refl; worker = refl; opening = refl; begun = refl; phase = refl; writer = refl; room = refl; hot = refl; stocks = refl; own = λ are. are }
 
 pub same_after : (old mid new : WorkerState) → IsSamePermit old mid → IsSamePermit mid new → IsSamePermit old new
 same_after old mid new a b = record {
@@ -38,16 +38,17 @@ same_after old mid new a b = record {
   begun = b.begun ∙ a.begun;
   phase = b.phase ∙ a.phase;
   writer = b.writer ∙ a.writer;
+  room = b.room ∙ a.room;
   hot = b.hot ∙ a.hot;
   stocks = b.stocks ∙ a.stocks;
   own = λ are. b.own (a.own are);
 }
 
 tried : (permit : WorkerState) → IsSamePermit permit (with_try permit)
-tried permit = record { boxes = refl; worker = refl; opening = refl; begun = refl; phase = refl; writer = refl; hot = refl; stocks = refl; own = λ are. are }
+tried permit = record { boxes = refl; worker = refl; opening = refl; begun = refl; phase = refl; writer = refl; room = refl; hot = refl; stocks = refl; own = λ are. are }
 
 called : (permit : WorkerState) → IsSamePermit permit (with_first_unstashed permit)
-called permit = record { boxes = refl; worker = refl; opening = refl; begun = refl; phase = refl; writer = refl; hot = refl; stocks = refl; own = λ are. are }
+called permit = record { boxes = refl; worker = refl; opening = refl; begun = refl; phase = refl; writer = refl; room = refl; hot = refl; stocks = refl; own = λ are. are }
 
 -- the entries of a journal are of its phase
 abbrev AreOfPhaseIn : JournalView → Type 0
@@ -62,6 +63,7 @@ module _ (initial : List ShardState) (old new : WorkerState) (request : Request)
     begun = ap (λ (d : WorkerState). d.begun) h.worker;
     phase = ap (λ (d : WorkerState). d.journal.phase) h.worker;
     writer = ap (λ (d : WorkerState). d.journal.worker) h.worker;
+    room = ap (λ (d : WorkerState). d.journal.room) h.worker;
     hot = ap (λ (d : WorkerState). hot_objects d.slices) h.worker ∙ objects-acts old.slices (writes_if (row_of old.journal.worker request answer));
     stocks = ap (λ (d : WorkerState). stocks_of d.slices) h.worker ∙ stocks-acts old.slices (writes_if (row_of old.journal.worker request answer));
     own = λ are. subst (λ (d : WorkerState). AreOfPhaseIn d.journal) (sym h.worker)
@@ -94,6 +96,7 @@ dealt_same initial old new request index false h = record {
   begun = ap (λ (d : WorkerState). d.begun) h.worker;
   phase = ap (λ (d : WorkerState). d.journal.phase) h.worker;
   writer = ap (λ (d : WorkerState). d.journal.worker) h.worker;
+  room = ap (λ (d : WorkerState). d.journal.room) h.worker;
   hot = ap (λ (d : WorkerState). hot_objects d.slices) h.worker;
   stocks = ap (λ (d : WorkerState). stocks_of d.slices) h.worker;
   own = λ are. subst (λ (d : WorkerState). AreOfPhaseIn d.journal) (sym h.worker) are;

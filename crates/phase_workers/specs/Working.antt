@@ -59,8 +59,8 @@ ArePermitsOf phase worker (permit ∷ more) =
 abbrev pub AreOfPhase : WorkerState → Type 0
 AreOfPhase permit = AllByRecursion (λ e. e.phase ≡ permit.journal.phase) permit.journal.entries
 
--- What a permit is of (boxes, worker, phase, users and categories, hot objects) is unchanged, and
--- entries that are added are of its phase.
+-- What a permit is of (boxes, worker, phase, users and categories, hot objects) is unchanged, as is
+-- its journal's room, and entries that are added are of its phase.
 pub record IsSamePermit (old new : WorkerState) : Type 0 where
   pub boxes : new.key.boxes ≡ old.key.boxes
   pub worker : new.key.worker ≡ old.key.worker
@@ -68,6 +68,7 @@ pub record IsSamePermit (old new : WorkerState) : Type 0 where
   pub begun : new.begun ≡ old.begun
   pub phase : new.journal.phase ≡ old.journal.phase
   pub writer : new.journal.worker ≡ old.journal.worker
+  pub room : new.journal.room ≡ old.journal.room
   pub hot : hot_for new ≡ hot_for old
   pub stocks : stocks_of new.slices ≡ stocks_of old.slices
   pub own : AreOfPhase old → AreOfPhase new

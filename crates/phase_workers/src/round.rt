@@ -5,7 +5,7 @@ ghost use Rattle.std.specs.List.{AllByRecursion, AllZip};
 ghost use Rattle.phase_workers.specs.Tasks.{task, tasks, CanBeDone, HasDoneTask, HasMetFault, without_fault, first_fault, IsFirstFault, IsFaultBy};
 ghost use Rattle.phase_workers.specs.Working.{IsPermitOf, ArePermitsOf};
 
-use crate::threads::{Job, work};
+use crate::threads::{Job, work_all};
 use crate::worker::{Gate, Post, perform_task, waiting};
 use auction_rows::MOST_WORKERS;
 use phase_permits::{Kind, Permit, PermitFault, Receipt};
@@ -164,20 +164,77 @@ where
         (IsFirstFault K.IS_JOINED N.initial
         (tasks permits.items round.entry.scripts.now round.entry.first))) }
 {
-    let gate = round.gate;
+    if !round.gate.needs_threads() && requests_of(&permits) <= SHORT_PHASE {
+        return serve_in_turn(rt, alloc, boxes, permits, round);
+    }
     let own_tasks = own_tasks(rt, alloc, boxes, permits, round)?;
     let room = Vec::with_capacity(alloc, own_tasks.len())?;
-    let in_turn = !gate.needs_threads() && requests_of(&own_tasks) <= SHORT_PHASE;
-    let answers = work(rt, alloc, own_tasks, in_turn)?;
+    let answers = work_all(rt, alloc, own_tasks)?;
     Ok(receipts_of(answers, room)?)
 }
 
-// How many requests the tasks are to perform.
-fn requests_of<N: PhaseName, K: Kind, R, G>(tasks: &[WorkerTask<'_, N, K, R, G>]) -> u64 {
+// The same on the thread that calls, one worker after the other up to the first fault. All memory
+// is asked for before the first request is performed.
+fn serve_in_turn<N: PhaseName, K: Kind, R: Wait, G: Gate>(
+    rt: &R,
+    alloc: Global,
+    boxes: &Boxes<N>,
+    permits: Vec<Permit<N, K>>,
+    round: Round<'_, G>,
+) -> Result<Vec<Receipt<N, K>>, ServingFault>
+    requires workers { vec_len permits ≡ length round.scripts.now }
+    requires few { length round.scripts.now ≤ MOST_WORKERS }
+    requires can { AllByRecursion (CanBeDone N.initial boxes.now)
+        (tasks permits.items round.scripts.now round.first) }
+    requires of { ArePermitsOf round.phase 0 permits.items }
+    ensures done { IfOk result (λ receipts.
+        AllZip (HasDoneTask K.IS_JOINED)
+        (tasks permits.items round.entry.scripts.now round.entry.first)
+        receipts.items) }
+    ensures fault { IfErr result (IsFaultBy (length round.entry.scripts.now)
+        (IsFirstFault K.IS_JOINED N.initial
+        (tasks permits.items round.entry.scripts.now round.entry.first))) }
+{
+    let mut permits = permits.into_iter();
+    let Ok(mut receipts) = Vec::with_capacity(alloc, round.scripts.len()) else {
+        spend_all(permits);
+        return Err(ServingFault::Memory);
+    };
+    while let Some(permit) = permits.next() {
+        let worker = receipts.len();
+        let script = &round.scripts[worker];
+        let own = WorkerTask {
+            rt,
+            post: Post {
+                boxes,
+                gate: round.gate,
+                phase: round.phase,
+                worker: worker as u32,
+            },
+            permit,
+            script,
+            first: round.first as usize,
+        };
+        let WorkerAnswer { receipt, done } = own.work();
+        match done {
+            Ok(()) => receipts.push_reserved(receipt),
+            Err(fault) => {
+                drop(receipt);
+                spend_all(permits);
+                return Err(ServingFault::Worker(fault));
+            }
+        }
+    }
+    permits.destroy_empty();
+    Ok(receipts)
+}
+
+// How many requests are to be performed by these permits.
+fn requests_of<N: PhaseName, K: Kind>(permits: &[Permit<N, K>]) -> u64 {
     let mut requests = 0u64;
-    for own in tasks {
-        requests = requests.saturating_add(waiting(&own.permit) as u64);
-        requests = requests.saturating_add(u64::from(own.permit.left()));
+    for permit in permits {
+        requests = requests.saturating_add(waiting(permit) as u64);
+        requests = requests.saturating_add(u64::from(permit.left()));
     }
     requests
 }

@@ -1,10 +1,10 @@
-//! Work done in turn, or by real threads.
+//! Work done by real threads.
 ghost use Rattle.std.specs.Prelude.{◌≡◌, ◌≤◌, ◌+◌, ◌++◌, List, length, map, vec_len, vec_capacity, IfOk, IfErr};
 ghost use Rattle.std.specs.List.{AllByRecursion, AllZip};
 ghost use Rattle.phase_workers.specs.Threads.{job_of, IsUnstarted};
 
 use crate::round::ServingFault;
-use std::alloc::{AllocError, Global};
+use std::alloc::Global;
 use std::snapshot::Snapshot;
 use std::sync::Wait;
 use std::thread;
@@ -37,46 +37,10 @@ impl<J: Job> Promise<J::Answer> for JobPromise<J> {
     ghost kept_by = { λ promise answer. J.keeps promise.job.value answer };
 }
 
-/// Does the jobs: in turn on the thread that calls, or side by side, each but the first by a thread
-/// of its own.
-pub(crate) fn work<J: Job + Send, R: Threads + Wait + Sync>(
-    rt: &R,
-    alloc: Global,
-    jobs: Vec<J>,
-    in_turn: bool,
-) -> Result<Vec<J::Answer>, ServingFault>
-where
-    J::Answer: Send + Drop,
-    requires { AllByRecursion J.can_work jobs.items }
-    ensures answers { IfOk result (λ answers. AllZip J.keeps jobs.items answers.items) }
-    ensures fault { IfErr result (IsUnstarted (length jobs.items)) }
-{
-    if in_turn {
-        Ok(work_in_turn(alloc, jobs)?)
-    } else {
-        work_all(rt, alloc, jobs)
-    }
-}
-
-// The jobs one after the other, on the thread that calls. All memory is asked for before the first
-// is begun.
-fn work_in_turn<J: Job>(alloc: Global, jobs: Vec<J>) -> Result<Vec<J::Answer>, AllocError>
-where
-    J::Answer: Drop,
-    requires { AllByRecursion J.can_work jobs.items }
-    ensures { IfOk result (λ answers. AllZip J.keeps jobs.items answers.items) }
-{
-    let mut answers = Vec::with_capacity(alloc, jobs.len())?;
-    for job in jobs {
-        answers.push_reserved(job.work());
-    }
-    Ok(answers)
-}
-
-// The first job on the thread that calls, and each other by a thread of its own; it waits for them
-// all. All memory is asked for before a thread is started. Where one can't be started, whatever the
-// cause, it, those after it and the first are let go.
-fn work_all<J: Job + Send, R: Threads + Wait + Sync>(
+/// Does the first job on the thread that calls, and each other by a thread of its own; it waits for
+/// them all. All memory is asked for before a thread is started. Where one can't be started,
+/// whatever the cause, it, those after it and the first are let go.
+pub(crate) fn work_all<J: Job + Send, R: Threads + Wait + Sync>(
     rt: &R,
     alloc: Global,
     jobs: Vec<J>,

@@ -2,9 +2,12 @@
 //! the replies.
 #![tactic(auto)]
 
+ghost use Rattle.std.specs.Prelude.{[]};
+ghost use Rattle.phase_floor.specs.Adding.{HasBook, IsStartOf};
+
 use auction_program::{
-    Fault, LiveTeller, Log, LogFileFault, LoggedInput, NoLog, OpenedLog, OpeningBook, Options,
-    Teller, UntilEnd, execute, open_log, read_options, serve, serve_live, status, write_fault,
+    Fault, Joined, LiveTeller, Log, LogFileFault, LoggedInput, NoLog, OpenedLog, Options, Teller,
+    UntilEnd, execute, new_auction, open_log, read_options, serve, status, write_fault,
 };
 use program_options::program_words;
 use std::alloc::Global;
@@ -43,13 +46,14 @@ where
     if options.report {
         return Err(Fault::Report);
     }
+    let auction = new_auction(alloc, &options)?;
     match &options.log {
-        Some(path) => serve_logged(rt, errors, path.as_str(), &options),
-        None => serve_unlogged(rt, errors, &options),
+        Some(path) => serve_logged(rt, errors, auction, path.as_str(), &options),
+        None => serve_unlogged(rt, errors, auction, &options),
     }
 }
 
-// Serves an input: a line with a fault is answered, or ends it, as the options say.
+// Serves an input.
 fn serve_input<R, E, I, L>(
     rt: &R,
     errors: &mut E,
@@ -62,28 +66,37 @@ where
     I: Read + Drop,
     L: Log + Drop,
     R: Print + Alloc<A = Global> + Threads + Wait + Sync,
+    requires { HasBook source.auction }
 {
-    let mut teller = Teller {
+    let teller = Teller {
         log,
         writer: io::writer(rt),
     };
-    if options.live == 0 || options.ends_at_fault {
-        return serve(rt, rt.alloc(), source, &mut teller, options);
-    }
-    let mut teller = LiveTeller { teller, errors };
-    serve_live(rt, rt.alloc(), source, &mut teller, options)
+    serve(
+        rt,
+        rt.alloc(),
+        source,
+        &mut LiveTeller { teller, errors },
+        options,
+    )
 }
 
 // Serves standard input, and keeps no log.
-fn serve_unlogged<R, E>(rt: &R, errors: &mut E, options: &Options) -> Result<(), Fault>
+fn serve_unlogged<R, E>(
+    rt: &R,
+    errors: &mut E,
+    auction: Joined,
+    options: &Options,
+) -> Result<(), Fault>
 where
     E: Write,
     R: Input + Print + Alloc<A = Global> + Threads + Wait + Sync,
+    requires { HasBook auction }
 {
     // The reader is large, and what is left of the input moves from part to part.
     let mut reader = UntilEnd::of(rt.reader());
     let source = LoggedInput {
-        logged: OpeningBook::empty(options.opening()),
+        auction,
         reader: &mut reader,
     };
     serve_input(rt, errors, source, NoLog, options)
@@ -99,16 +112,28 @@ fn held_places<R: Files<File = File>>(rt: &R) -> io::Result<(File, File, File)> 
 }
 
 // Serves standard input after the rows of the log at a path, and logs those that are added.
-fn serve_logged<R, E>(rt: &R, errors: &mut E, path: &str, options: &Options) -> Result<(), Fault>
+fn serve_logged<R, E>(
+    rt: &R,
+    errors: &mut E,
+    auction: Joined,
+    path: &str,
+    options: &Options,
+) -> Result<(), Fault>
 where
     E: Write,
     R: Files<File = File> + Input + Print + Alloc<A = Global> + Threads + Wait + Sync,
+    requires { IsStartOf auction [] }
 {
     let alloc = rt.alloc();
     let Ok(_places) = held_places(rt) else {
         return Err(Fault::OpenLog(LogFileFault::Read));
     };
-    let OpenedLog { rows, log, cut } = open_log(rt, alloc, path, options)?;
+    let opened = if options.rows {
+        open_log(rt, alloc, path, auction, &mut io::writer(rt))?
+    } else {
+        open_log(rt, alloc, path, auction, &mut io::sink())?
+    };
+    let OpenedLog { auction, log, cut } = opened;
     if cut > 0 {
         // A note that can't be written changes nothing.
         let _ = writeln!(
@@ -118,7 +143,7 @@ where
     }
     let mut reader = UntilEnd::of(rt.reader());
     let source = LoggedInput {
-        logged: rows,
+        auction,
         reader: &mut reader,
     };
     serve_input(rt, errors, source, log, options)

@@ -6,6 +6,7 @@ use Rattle.auction_rows.specs.declared.values.Opening.{Opening}
 use Rattle.item_shards.specs.declared.shard.Shard.{Shard}
 use Rattle.item_shards.specs.ShardContents.{clock, IsNewShard}
 use Rattle.item_shards.specs.Values.{Value}
+use Rattle.shard_boxes.specs.declared.limits.TheConstants.{MOST_KEPT}
 use Rattle.shard_boxes.specs.States.{state_of, IsInitial}
 
 -- a new shard may open a phase
@@ -15,8 +16,8 @@ new_is_opened n count start shard h = record {
   shards_is = h.shards_is;
   clock_is = h.clock_is;
   within = record {
-    bids = λ id. subst (λ (v : Value). v.bids.bids ≤ 16000000 + 2 * clock shard) (sym (h.nothing (Item id))) (omega arith);
-    comments = λ user. subst (λ (v : Value). v.comments.comments ≤ 16000000 + 2 * clock shard) (sym (h.nothing (User user))) (omega arith);
-    ratings = λ user. subst (λ (v : Value). unsigned_abs v.comments.rating ≤ 80000000 + 10 * clock shard) (sym (h.nothing (User user))) (omega (arith, ints));
+    bids = λ id. subst (λ (v : Value). v.bids.bids ≤ MOST_KEPT + 2 * clock shard) (sym (h.nothing (Item id))) (omega arith);
+    comments = λ user. subst (λ (v : Value). v.comments.comments ≤ MOST_KEPT + 2 * clock shard) (sym (h.nothing (User user))) (omega arith);
+    ratings = λ user. subst (λ (v : Value). unsigned_abs v.comments.rating ≤ 5 * MOST_KEPT + 10 * clock shard) (sym (h.nothing (User user))) (omega (arith, ints));
   };
 }

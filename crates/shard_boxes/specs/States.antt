@@ -1,6 +1,5 @@
 -- What a shard shows.
 use Rattle.std.specs.Prelude.{◌≡◌, ℕ, ◌+◌, ◌*◌, ◌<◌, ◌≤◌, List, length, slice_index_or, unsigned_abs}
-use Rattle.auction_rows.specs.declared.limits.TheConstants.{MOST_ROWS}
 use Rattle.auction_rows.specs.declared.requests.ItemId.{ItemId}
 use Rattle.auction_rows.specs.declared.requests.Object.TheVariants.{Item, User}
 use Rattle.auction_rows.specs.declared.values.Opening.{Opening}
@@ -8,6 +7,7 @@ use Rattle.item_shards.specs.declared.shard.Shard.{Shard}
 use Rattle.item_shards.specs.Values.{blank}
 use Rattle.item_shards.specs.Contents.{Contents}
 use Rattle.item_shards.specs.ShardContents.{shard_number, shard_count, opening as opening_of, clock as clock_of, contents as contents_of}
+use Rattle.shard_boxes.specs.declared.limits.TheConstants.{MOST_KEPT}
 
 -- what a shard shows
 pub record ShardState : Type 0 where
@@ -32,16 +32,17 @@ state_of shard = record {
   contents = contents_of shard;
 }
 
--- counts and ratings are no larger than two acts of each commit up to the clock can have made them
+-- counts and ratings are no larger than the rows before the phase, and two acts of each commit up to
+-- the clock, can have made them
 pub record IsWithin (state : ShardState) : Type 0 where
   -- the bids on each item
-  pub bids : (id : ItemId) → (state.contents (Item id)).bids.bids ≤ MOST_ROWS + 2 * state.clock
+  pub bids : (id : ItemId) → (state.contents (Item id)).bids.bids ≤ MOST_KEPT + 2 * state.clock
   -- the comments about each user
   pub comments : (user : ℕ) →
-      (state.contents (User user)).comments.comments ≤ MOST_ROWS + 2 * state.clock
+      (state.contents (User user)).comments.comments ≤ MOST_KEPT + 2 * state.clock
   -- the rating of each user
   pub ratings : (user : ℕ) →
-      unsigned_abs (state.contents (User user)).comments.rating ≤ 80000000 + 10 * state.clock
+      unsigned_abs (state.contents (User user)).comments.rating ≤ 5 * MOST_KEPT + 10 * state.clock
 
 -- a shard with which a phase may open: of this number, of so many, at clock 0
 pub record IsInitial (shards number : ℕ) (state : ShardState) : Type 0 where

@@ -7,9 +7,11 @@
 mod boxes;
 mod grants;
 mod key;
+mod limits;
 mod line;
 mod shard_box;
 
 pub use boxes::{Boxes, PhaseName};
 pub use key::{Held, Key, sums_fit};
+pub use limits::{MOST_COMMITS, MOST_KEPT};
 pub use line::{Line, Trace};

@@ -6,11 +6,9 @@ ghost use Rattle.auction_text.specs.declared.reading.plain_text.TheConstants.{RO
 use crate::reading::ReadFault;
 use crate::reading::plain_text::{ROOM_TO_READ, read_more};
 use std::alloc::Global;
-use std::io;
 use std::io::Read;
 
-/// A reader, and what was read of it and not taken yet. As a reader it gives a line at a time, and
-/// so nothing of the next one.
+/// A reader, and what was read of it and not taken yet.
 #[derive(Drop)]
 pub struct LineBuffer<R> {
     reader: R,
@@ -20,17 +18,6 @@ pub struct LineBuffer<R> {
     ghost in_order: { at ≤ filled },
     ghost within: { filled ≤ vec_len buffer },
     ghost whole_room: { vec_len buffer ≡ ROOM_TO_READ },
-}
-
-// How many bytes the first line of a text has with its end: all, if none ends.
-fn line_len(text: &[u8]) -> usize
-    ensures within { result ≤ length text.now }
-    ensures some { 0 < length text.now → 0 < result }
-{
-    match text.iter().position(|byte| *byte == b'\n') {
-        Some(place) => place + 1,
-        None => text.len(),
-    }
 }
 
 impl<R> LineBuffer<R> {
@@ -71,19 +58,6 @@ impl<R> LineBuffer<R> {
         self.buffer.copy_within(self.at..self.filled, 0);
         self.filled -= self.at;
         self.at = 0;
-    }
-
-    /// Whether it holds a line that is not blank, to its end.
-    pub fn has_line(&self) -> bool {
-        let mut is_blank = true;
-        for byte in self.held() {
-            if *byte != b'\n' && *byte != b'\r' {
-                is_blank = false;
-            } else if !is_blank {
-                return true;
-            }
-        }
-        false
     }
 }
 
@@ -128,40 +102,5 @@ impl<R: Read> LineBuffer<R> {
         let is_more = now > self.filled;
         self.filled = now;
         Ok(is_more)
-    }
-}
-
-impl<R: Read> LineBuffer<R> {
-    ghost use Rattle.std.specs.Io.KnownBytes.{IsAtEnd, Keeps};
-    ghost use Rattle.auction_text.specs.LineBuffers.{held, lines_left, underneath};
-
-    // Reads more, if it holds nothing.
-    fn fill(&mut self) -> io::Result<()>
-        ensures keeps { Keeps (lines_left R.remaining self.old) (lines_left R.remaining self.new) }
-        ensures end { OnOk result (held self.new ≡ [] →
-            IsAtEnd (R.remaining (underneath self.new))) }
-    {
-        if self.at < self.filled {
-            return Ok(());
-        }
-        self.at = 0;
-        self.filled = 0;
-        self.filled = self.reader.read(&mut self.buffer)?;
-        Ok(())
-    }
-}
-
-impl<R: Read> Read for LineBuffer<R> {
-    ghost use Rattle.auction_text.specs.LineBuffers.{lines_left};
-
-    ghost remaining = { λ l. lines_left R.remaining l };
-
-    fn read(&mut self, buf: &mut [u8]) -> io::Result<usize> {
-        self.fill()?;
-        let line = line_len(self.held());
-        let mut rest = &self.held()[..line];
-        let given = rest.read(buf)?;
-        self.at += given;
-        Ok(given)
     }
 }

@@ -1,26 +1,29 @@
 //! The lines of an input that are taken for a part of it, each a text of its own.
-ghost use Rattle.std.specs.Prelude.{ℕ, ◌≡◌, ◌<◌, ◌≤◌, ◌+◌, ◌-◌, ◌^◌, ◌++◌, drop, length, vec_len, IfNone, IfOk, IfErr, IfSome, List, Some, OnOk, true, false};
+ghost use Rattle.std.specs.Prelude.{ℕ, ◌≡◌, ◌<◌, ◌≤◌, ◌+◌, ◌-◌, ◌^◌, ◌++◌, drop, length, vec_len, IfNone, IfOk, IfErr, IfSome, IsTrue, List, Some, OnOk, true, false};
 ghost use Rattle.std.specs.Io.KnownBytes.{IsAtEnd};
 ghost use Rattle.csv.specs.Reading.{strip_bom};
 ghost use Rattle.auction_text.specs.Lines.{has_no_feed};
 ghost use Rattle.auction_text.specs.LineBuffers.{held, lines_left, underneath};
 ghost use Rattle.auction_text.specs.LiveLines.{is_long, line_says};
-ghost use Rattle.auction_text.specs.LiveReading.{IsWhole, PassesLine, TakesFrom, TakesSaid, TakesText, stop_at};
+ghost use Rattle.auction_text.specs.LiveReading.{HasRoom, IsWhole, MayEnd, PassesLine, TakesFrom, TakesSaid, TakesText, stop_at};
 ghost use Rattle.auction_text.specs.Reading.{IsInputFault};
+ghost use Rattle.auction_text.specs.declared.reading.TheConstants.{MOST_ROWS_OF_A_PART};
 ghost use Rattle.auction_text.specs.declared.reading.plain_text.TheConstants.{ROOM_TO_READ};
 
 use crate::reading::line_buffer::LineBuffer;
-use crate::reading::live_lines::{LineFault, Said, first_worker, line_len, plain_record, said_of};
+use crate::reading::live_lines::{
+    LineFault, Said, first_worker, line_len, plain_bid, plain_record, said_of,
+};
 use crate::reading::part_records::{Taken, add_taken};
 use crate::reading::plain_text::ROOM_TO_READ;
-use crate::reading::{Cause, ReadFault};
+use crate::reading::{Cause, MOST_ROWS_OF_A_PART, ReadFault};
 use std::alloc::Global;
 use std::io::Read;
 
 /// Where the taking of a part stopped.
 #[derive(Clone, Copy, Drop)]
 pub enum LineStop {
-    /// At its most requests, or where more would have to be waited for.
+    /// At its most requests or rows, or where more would have to be waited for.
     Full,
     /// At the input's end.
     End,
@@ -63,8 +66,8 @@ fn take_read(
 }
 
 // Takes what a whole line says, and returns its fault, if it has one: in place if it is plain.
-#[inline(always)]
-fn take_line(
+#[inline(never)]
+fn take_other(
     alloc: Global,
     taken: &mut Taken,
     line: &[u8],
@@ -89,8 +92,36 @@ fn take_line(
     }
 }
 
-// Takes the whole lines of a text, up to so many requests and to the first fault, and returns the
-// place behind them, and the fault.
+// Takes what a whole line says, and returns its fault, if it has one: a bid, of which there are
+// most, in place.
+#[inline(always)]
+fn take_line(
+    alloc: Global,
+    taken: &mut Taken,
+    line: &[u8],
+    workers: u32,
+) -> Result<Option<LineFault>, ReadFault>
+    requires whole { IsWhole line.now }
+    requires long { length line.now ≤ ROOM_TO_READ }
+    requires count { vec_len taken.old.input.scripts ≡ workers }
+    requires room { taken.old.requests < 2 ^ 32 - 1 }
+    ensures takes { IfOk result (λ fault. TakesSaid workers taken.old
+        (line_says workers (taken.old.count + 1) taken.old.begun line.now) taken.new fault) }
+    ensures count { OnOk result (vec_len taken.new.input.scripts ≡ workers) }
+    ensures requests { OnOk result (taken.new.requests ≤ taken.old.requests + 1) }
+    ensures fails { IfErr result (λ fault. IsInputFault fault → ⊥) }
+{
+    match plain_bid(line, workers, taken.begun) {
+        Some(one) => {
+            add_taken(taken, &one)?;
+            Ok(None)
+        }
+        None => take_other(alloc, taken, line, workers),
+    }
+}
+
+// Takes the whole lines of a text, up to so many requests or as many rows as a part has, and to the
+// first fault, and returns the place behind them, and the fault.
 #[inline(never)]
 fn take_text(
     alloc: Global,
@@ -102,16 +133,18 @@ fn take_text(
     requires long { length text.now ≤ ROOM_TO_READ }
     requires count { vec_len taken.old.input.scripts ≡ workers }
     requires room { taken.old.requests ≤ most }
+    requires few_rows { vec_len taken.old.input.rows ≤ MOST_ROWS_OF_A_PART }
     ensures within { IfOk result (λ p. p.0 ≤ length text.now) }
     ensures takes { IfOk result (λ p.
         TakesText workers taken.old text.now taken.new (stop_at p.1) (drop p.0 text.now)) }
     ensures room { OnOk result (taken.new.requests ≤ most) }
-    ensures up { IfOk result (λ p. IfNone p.1 (taken.new.requests < most →
+    ensures few_rows { OnOk result (vec_len taken.new.input.rows ≤ MOST_ROWS_OF_A_PART) }
+    ensures up { IfOk result (λ p. IfNone p.1 (HasRoom most taken.new →
         has_no_feed (drop p.0 text.now) ≡ true)) }
     ensures fails { IfErr result (λ fault. IsInputFault fault → ⊥) }
 {
     let mut at = 0;
-    while taken.requests < most {
+    while taken.requests < most && taken.input.rows.len() < MOST_ROWS_OF_A_PART {
         let rest = &text[at..];
         let Some(len) = line_len(rest) else {
             break;
@@ -125,8 +158,8 @@ fn take_text(
     Ok((at, None))
 }
 
-// Takes the whole lines of what a buffer holds, up to so many requests and to the first fault,
-// which it returns.
+// Takes the whole lines of what a buffer holds, up to so many requests or as many rows as a part
+// has, and to the first fault, which it returns.
 fn take_held<R>(
     alloc: Global,
     lines: &mut LineBuffer<R>,
@@ -136,11 +169,13 @@ fn take_held<R>(
 ) -> Result<Option<LineFault>, ReadFault>
     requires count { vec_len taken.old.input.scripts ≡ workers }
     requires room { taken.old.requests ≤ most }
+    requires few_rows { vec_len taken.old.input.rows ≤ MOST_ROWS_OF_A_PART }
     ensures takes { IfOk result (λ fault.
         TakesText workers taken.old (held lines.old) taken.new (stop_at fault) (held lines.new)) }
     ensures underneath { OnOk result (underneath lines.new ≡ underneath lines.old) }
     ensures room { OnOk result (taken.new.requests ≤ most) }
-    ensures up { IfOk result (λ fault. IfNone fault (taken.new.requests < most →
+    ensures few_rows { OnOk result (vec_len taken.new.input.rows ≤ MOST_ROWS_OF_A_PART) }
+    ensures up { IfOk result (λ fault. IfNone fault (HasRoom most taken.new →
         has_no_feed (held lines.new) ≡ true)) }
     ensures fails { IfErr result (λ fault. IsInputFault fault → ⊥) }
 {
@@ -181,6 +216,7 @@ fn take_long<R: Read>(
     ensures takes { IfOk result (λ fault. TakesFrom R.remaining workers lines.old taken.old
         lines.new taken.new (LineStop.Fault fault)) }
     ensures requests { OnOk result (taken.new.requests ≡ taken.old.requests) }
+    ensures rows { OnOk result (vec_len taken.new.input.rows ≡ vec_len taken.old.input.rows) }
     ensures fails { IfErr result (λ fault. IsInputFault fault → ⊥) }
 {
     let Some(place) = taken.count.checked_add(1) else {
@@ -208,9 +244,11 @@ fn take_last<R: Read>(
     requires no_feed { has_no_feed (held lines.old) ≡ true }
     requires count { vec_len taken.old.input.scripts ≡ workers }
     requires none { taken.old.requests ≡ 0 }
+    requires few_rows { vec_len taken.old.input.rows < MOST_ROWS_OF_A_PART }
     ensures takes { IfOk result (λ stop. TakesFrom R.remaining workers lines.old taken.old
         lines.new taken.new stop) }
     ensures requests { OnOk result (taken.new.requests ≤ 1) }
+    ensures few_rows { OnOk result (vec_len taken.new.input.rows ≤ MOST_ROWS_OF_A_PART) }
     ensures stops { IfOk result (λ stop. stop ≡ LineStop.Full → ⊥) }
     ensures fails { IfErr result (λ fault. IsInputFault fault → ⊥) }
 {
@@ -226,8 +264,18 @@ fn take_last<R: Read>(
     }
 }
 
-/// Takes lines for a part: up to so many requests, or all that are whole of what was read, if a
-/// request is among them; and to the first fault.
+// Whether a part may end after whole lines.
+#[inline(always)]
+fn may_end(taken: &Taken) -> bool
+    ensures ends { IsTrue result → MayEnd taken.now }
+    ensures requests { result ≡ false → taken.now.requests ≡ 0 }
+    ensures rows { result ≡ false → vec_len taken.now.input.rows < MOST_ROWS_OF_A_PART }
+{
+    taken.requests > 0 || taken.input.rows.len() >= MOST_ROWS_OF_A_PART
+}
+
+/// Takes lines for a part: up to so many requests or as many rows as a part has, or all that are
+/// whole of what was read, if a request is among them; and to the first fault.
 pub fn take_lines<R: Read>(
     alloc: Global,
     lines: &mut LineBuffer<R>,
@@ -238,10 +286,12 @@ pub fn take_lines<R: Read>(
     requires some { 1 ≤ most }
     requires count { vec_len taken.old.input.scripts ≡ workers }
     requires none { taken.old.requests ≡ 0 }
+    requires few_rows { vec_len taken.old.input.rows ≤ MOST_ROWS_OF_A_PART }
     ensures takes { IfOk result (λ stop. TakesFrom R.remaining workers lines.old taken.old
         lines.new taken.new stop) }
     ensures room { OnOk result (taken.new.requests ≤ most) }
-    ensures some { IfOk result (λ stop. stop ≡ LineStop.Full → 0 < taken.new.requests) }
+    ensures few_rows { OnOk result (vec_len taken.new.input.rows ≤ MOST_ROWS_OF_A_PART) }
+    ensures some { IfOk result (λ stop. stop ≡ LineStop.Full → MayEnd taken.new) }
     ensures fails { IfErr result (λ fault. IsInputFault fault → ⊥) }
 {
     for _ in 0..u64::MAX {
@@ -249,7 +299,7 @@ pub fn take_lines<R: Read>(
         if let Some(fault) = fault {
             return Ok(LineStop::Fault(fault));
         }
-        if taken.requests > 0 {
+        if may_end(taken) {
             return Ok(LineStop::Full);
         }
         if !lines.read_on()? {
@@ -260,7 +310,7 @@ pub fn take_lines<R: Read>(
 }
 
 // How long the byte order mark in front of a text is; none if it takes more of the text to know.
-#[tactic(auto, using(crate::proofs::MarkLemmas::no_mark_first, crate::proofs::MarkLemmas::no_mark_second, crate::proofs::MarkLemmas::no_mark_third, crate::proofs::MarkLemmas::is_mark, crate::proofs::MarkLemmas::short_no_mark))]
+#[tactic(auto, using(crate::proofs::MarkLemmas::no_mark_first, crate::proofs::MarkLemmas::no_mark_second, crate::proofs::MarkLemmas::no_mark_third, crate::proofs::MarkLemmas::short_no_mark))]
 fn mark_len(text: &[u8]) -> Option<usize>
     ensures within { IfSome result (λ len. len ≤ length text.now) }
     ensures mark { IfSome result (λ len. (more : List ℕ) →

@@ -5,14 +5,14 @@ ghost use Rattle.std.specs.Prelude.{ℕ, ◌≡◌, ◌+◌, ◌<◌, ◌≤◌,
 ghost use Rattle.std.specs.Io.Chain.{chain_remaining};
 ghost use Rattle.csv.specs.Reading.{default_config, records};
 ghost use Rattle.csv.specs.Records.{fields_of};
-ghost use Rattle.auction_text.specs.Lines.{has_no_feed};
+ghost use Rattle.auction_text.specs.Lines.{IsLine, has_no_feed};
 ghost use Rattle.auction_text.specs.LiveLines.{first_worker, line_says, one_says, records_say, worker_of};
 ghost use Rattle.auction_text.specs.LiveReading.{HasLeft, IsOneOf, IsWhole};
 ghost use Rattle.auction_text.specs.Reading.{IsInputFault};
 ghost use Rattle.auction_text.specs.declared.reading.plain_text.TheConstants.{ROOM_TO_READ};
 
 use crate::reading::fields::read_u32;
-use crate::reading::part_records::said_at;
+use crate::reading::plain_lines::{bid_at, line_at};
 use crate::reading::record::{Record, field_of, front_of, read_next, read_record};
 use crate::reading::{Cause, ReadFault};
 use csv::{ByteRecord, Reader, ReaderBuilder};
@@ -110,6 +110,46 @@ pub fn said_of(
     Ok(Some(said_by(worker, said)))
 }
 
+// What a line says that begins with this plain line, if it is this to its end and its record has no
+// fault.
+#[inline(always)]
+fn whole_record(
+    first: Option<(Record, usize)>,
+    line: &[u8],
+    workers: u32,
+    begun: bool,
+) -> Option<Record>
+    requires whole { IsWhole line.now }
+    requires room { length line.now ≤ ROOM_TO_READ }
+    requires first { IfSome first (λ p. IsLine line.now 0 p.0 p.1) }
+    ensures says { IfSome result (λ one. (place : ℕ) →
+        line_says workers place begun line.now ≡ Some (Said.Record one)) }
+    ensures worker { IfSome result (λ one. one.worker < workers) }
+{
+    let Some((one, next)) = first else {
+        return None;
+    };
+    if next < line.len() || one.worker >= workers {
+        return None;
+    }
+    if one.is_row && begun {
+        return None;
+    }
+    Some(one)
+}
+
+/// The bid that a line says, if it is plain and its record has no fault.
+#[inline(always)]
+pub fn plain_bid(line: &[u8], workers: u32, begun: bool) -> Option<Record>
+    requires whole { IsWhole line.now }
+    requires room { length line.now ≤ ROOM_TO_READ }
+    ensures says { IfSome result (λ one. (place : ℕ) →
+        line_says workers place begun line.now ≡ Some (Said.Record one)) }
+    ensures worker { IfSome result (λ one. one.worker < workers) }
+{
+    whole_record(bid_at(line, 0), line, workers, begun)
+}
+
 /// What a line says, if it is plain and its record has no fault.
 #[inline(always)]
 pub fn plain_record(line: &[u8], workers: u32, begun: bool) -> Option<Record>
@@ -119,14 +159,7 @@ pub fn plain_record(line: &[u8], workers: u32, begun: bool) -> Option<Record>
         line_says workers place begun line.now ≡ Some (Said.Record one)) }
     ensures worker { IfSome result (λ one. one.worker < workers) }
 {
-    let (one, next) = said_at(line, 0)?;
-    if next < line.len() || one.worker >= workers {
-        return None;
-    }
-    if one.is_row && begun {
-        return None;
-    }
-    Some(one)
+    whole_record(line_at(line, 0), line, workers, begun)
 }
 
 /// How long the first line of a text is, with its line feed; none if it has no line feed.

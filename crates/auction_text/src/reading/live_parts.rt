@@ -124,8 +124,8 @@ impl<R: Read + Drop> LiveInput<R> {
 
     /// Reads the next part: rows, if no request was read yet, and at most so many requests. Once it
     /// has one it ends where no whole line is left of what was read, and does not wait for more. It
-    /// also ends before a line with a fault, and the next part begins behind that. Only a read that
-    /// failed, or refused memory, ends the input, with no part.
+    /// also ends after `MOST_ROWS_OF_A_PART` rows, and before a line with a fault, behind which the
+    /// next part begins. Only a read that failed, or refused memory, ends the input, with no part.
     pub fn next_part(self, alloc: Global, most: u32) -> Result<LivePart<R>, ReadFault>
         requires { 1 ≤ most }
         ensures part { IfOk result (λ part. (all : List Says) → HasToSay R.remaining self all →

@@ -1,5 +1,5 @@
 //! The plain lines at the front of an input, read where they lie.
-ghost use Rattle.std.specs.Prelude.{ℕ, ◌≡◌, ◌<◌, ◌≤◌, ◌++◌, ◌⊎◌, drop, length, take, Some, vec_len, IfOk, IfErr, List, OnOk};
+ghost use Rattle.std.specs.Prelude.{ℕ, ◌≡◌, ◌<◌, ◌≤◌, ◌++◌, ◌⊎◌, drop, false, length, take, Some, vec_len, IfOk, IfErr, List, OnOk};
 ghost use Rattle.std.specs.Io.KnownBytes.{IsAtEnd};
 ghost use Rattle.auction_text.specs.Lines.{EndsLine, IsLine};
 ghost use Rattle.auction_text.specs.Progress.{HasAdded, ReadsOn};
@@ -174,6 +174,7 @@ fn take_lines(
     requires room { progress.old.count ≤ MOST_RECORDS }
     ensures len { length buffer.new ≡ length buffer.old }
     ensures within { IfOk result (λ p. p.0 ≤ filled) }
+    ensures some { IfOk result (λ p. p.1 ≡ false → 0 < p.0) }
     ensures reads { IfOk result (λ p.
         ReadsOn progress.old (take filled buffer.old) progress.new (take p.0 buffer.new)) }
     ensures fails { IfErr result (λ fault. IsInputFault fault → ⊥) }
@@ -188,7 +189,7 @@ fn take_lines(
 }
 
 /// Reads plain lines as long as they come, and returns how much of the buffer holds what was read
-/// after them.
+/// after them: nothing if the input has ended with them.
 pub fn read_lines<R: Read>(
     progress: &mut Progress,
     buffer: &mut [u8],
@@ -196,6 +197,8 @@ pub fn read_lines<R: Read>(
 ) -> Result<usize, ReadFault>
     requires room { progress.old.count ≤ MOST_RECORDS }
     ensures within { IfOk result (λ filled. filled ≤ length buffer.new) }
+    ensures end { IfOk result (λ filled. filled ≡ 0 → filled < length buffer.new →
+        IsAtEnd (R.remaining reader.new)) }
     ensures workers { OnOk result
         (vec_len progress.new.input.scripts ≡ vec_len progress.old.input.scripts) }
     ensures room { OnOk result (progress.new.count ≤ MOST_RECORDS) }
@@ -208,13 +211,13 @@ pub fn read_lines<R: Read>(
     for _ in 0..u64::MAX {
         let now = read_more(buffer, filled, reader)?;
         if now == filled {
-            break;
+            return Ok(filled);
         }
         let (left, goes_on) = take_lines(progress, buffer, filled, now)?;
         filled = left;
         if !goes_on {
-            break;
+            return Ok(filled);
         }
     }
-    Ok(filled)
+    Err(ReadFault::Read)
 }

@@ -124,6 +124,9 @@ fn read_input<R: Read + Drop>(
     let mut reader = reader;
     let mut buffer = [0u8; ROOM_TO_READ];
     let filled = read_lines(progress, &mut buffer, &mut reader)?;
+    if filled == 0 {
+        return Ok(());
+    }
     hand_over(alloc, &buffer[..filled], reader, workers, progress)
 }
 

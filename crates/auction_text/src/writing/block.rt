@@ -145,6 +145,9 @@ pub struct Block<const N: usize> {
     serial: Numeral,
 }
 
+/// A block of lines that are written.
+pub type TextBlock = Block<ROOM>;
+
 impl<const N: usize> Model for Block<N> {
     ghost use Rattle.std.specs.Prelude.{◌≤◌, ℕ, List, take};
 

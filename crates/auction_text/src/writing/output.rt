@@ -7,7 +7,7 @@ ghost use Rattle.auction_text.specs.Report.{report_text};
 ghost use Rattle.auction_text.specs.RowLines.{rows_text};
 ghost use Rattle.auction_text.specs.Writing.{IsPartWritten, PutsText, WritesText};
 
-use crate::writing::block::{Block, ROOM};
+use crate::writing::block::{Block, ROOM, TextBlock};
 use crate::writing::reply_order::{all_late_entries, put_all_replies, worker_texts};
 use crate::writing::report::{
     ReportLines, push_category_lines, push_counts, push_hot_lines, push_user_lines,
@@ -134,11 +134,27 @@ pub fn write_replies_on<W: Write>(
     ensures { WritesText W.contents writer.old writer.new
         (replies_text (all_moved (gone_by before.now) history.now.entries)) result }
 {
+    let mut block = TextBlock::new();
+    write_replies_by(alloc, writer, history, before, &mut block)
+}
+
+/// Writes the replies of a part of a run as `write_replies_on` does, by a block that the caller
+/// keeps from part to part: to clear one takes longer than to write a few lines.
+pub fn write_replies_by<W: Write>(
+    alloc: Global,
+    writer: &mut W,
+    history: &History,
+    before: &Before,
+    block: &mut TextBlock,
+) -> Result<(), WriteFault>
+    ensures { WritesText W.contents writer.old writer.new
+        (replies_text (all_moved (gone_by before.now) history.now.entries)) result }
+{
     let Ok(delayed) = all_late_entries(alloc, history) else {
         return Err(WriteFault::Memory);
     };
-    let mut block = Block::<ROOM>::new();
-    put_all_replies(writer, &mut block, history, delayed.as_slice(), before)?;
+    block.clear();
+    put_all_replies(writer, block, history, delayed.as_slice(), before)?;
     write_last(writer, block.bytes())
 }
 

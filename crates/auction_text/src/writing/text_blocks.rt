@@ -1,6 +1,8 @@
 //! Texts that are written a block at a time.
-ghost use Rattle.std.specs.Prelude.{◌≡◌, ◌+◌, ◌≤◌, [], length, IfErr, OnOk, ◌<◌, Ok};
-ghost use Rattle.std.specs.Io.KnownBytes.{Appends};
+ghost use Rattle.std.specs.Prelude.{◌≡◌, ◌≢◌, ◌+◌, ◌≤◌, [], length, IfErr, OnOk, ◌<◌, Ok};
+ghost use Rattle.std.specs.Io.{WritesAtMost};
+ghost use Rattle.std.specs.Io.KnownBytes.{Appends, WriteAppends};
+ghost use Rattle.std.specs.IoError.{error_kind};
 ghost use Rattle.std.specs.List.{flat_map};
 ghost use Rattle.auction_text.specs.Moved.{gone_by, line_after, moved};
 ghost use Rattle.auction_text.specs.Replies.{history_line};
@@ -9,10 +11,28 @@ ghost use Rattle.auction_text.specs.Writing.{IsPartWritten, PutsText};
 use crate::writing::block::{Block, ROOM};
 use crate::writing::replies::{MOST_OF_A_LINE, put_history_line, put_reply_line};
 use crate::writing::{Before, WriteFault};
-use std::io::Write;
+use std::io;
+use std::io::{ErrorKind, Write};
 use worker_journals::EntryRef;
 
+// One write, tried again as often as a signal interrupts it.
+#[inline(always)]
+fn write_through<W: Write>(writer: &mut W, part: &[u8]) -> io::Result<usize>
+    ensures bound { WritesAtMost result part.now }
+    ensures bytes { WriteAppends (W.contents writer.old) (W.contents writer.new) result part.now }
+    ensures retried { IfErr result (λ e. error_kind e ≢ ErrorKind.Interrupted) }
+{
+    for _ in 0..u64::MAX {
+        match writer.write(part) {
+            Err(e) if e.kind() == ErrorKind::Interrupted => {}
+            done => return done,
+        }
+    }
+    Err(io::Error::from(ErrorKind::TimedOut))
+}
+
 /// Writes a part of a text by calls of `write` on the rest that is left.
+#[inline(always)]
 pub fn write_part<W: Write>(writer: &mut W, part: &[u8]) -> Result<(), WriteFault>
     ensures whole { OnOk result (Appends (W.contents writer.old) (W.contents writer.new) part.now) }
     ensures part { IfErr result (λ fault. (fault ≡ WriteFault.Write) ×
@@ -20,7 +40,7 @@ pub fn write_part<W: Write>(writer: &mut W, part: &[u8]) -> Result<(), WriteFaul
 {
     let mut written = 0;
     while written < part.len() {
-        match writer.write(&part[written..]) {
+        match write_through(writer, &part[written..]) {
             Ok(0) | Err(_) => return Err(WriteFault::Write),
             Ok(count) => written += count,
         }

@@ -10,6 +10,7 @@ use auction_run::{
 };
 use item_shards::{Opened, OpeningBook};
 use phase_floor::Joined;
+use shard_boxes::MOST_COMMITS;
 use std::alloc::{AllocError, Global};
 use std::sync::Wait;
 use std::test::Fail;
@@ -182,20 +183,49 @@ impl Board for Full {
     }
 }
 
-// What a worker looks at is not counted from part to part: after a view a part of 1,000,000 views
-// is begun. Its board refuses the first phase: so no more of them are performed.
+// The fault of a part of 1,000,000 views, and whether the part was begun. Its board refuses the first
+// phase: so no more of them are performed.
+fn million_views<R: Threads + Wait + Sync>(
+    rt: &R,
+    alloc: Global,
+    state: Joined,
+) -> Result<Option<(bool, RunFault)>, Fail> {
+    let long = views(alloc, 1_000_000)?;
+    let policy = policy_of(2, 2);
+    let stopped = run_on_shown(rt, alloc, state, long, policy, &FreeGate, &mut Full);
+    Ok(
+        stopped.err().map(|stopped| match stopped {
+            Stopped::Refused(_state, fault) => (false, fault),
+            Stopped::Failed(fault) => (true, fault),
+        }),
+    )
+}
+
+// What a worker looks at is not counted from part to part.
 #[test]
 fn views_of_earlier_parts_are_not_counted(rt: HostRuntime) -> Result<(), Fail> {
     let alloc = rt.alloc();
     let state = Joined::new(alloc, OPENING, 1, 4)?;
     let state = part_of(&rt, alloc, state, &[&[LOOK]], &FreeGate)?.state;
+    let begun = million_views(&rt, alloc, state)?;
+    assert_same(&rt, &begun, &Some((true, RunFault::Memory)));
+    Ok(())
+}
+
+// A worker of one row may have 1,000,000 requests more only if its auction lasts.
+#[test]
+fn a_lasting_auction_goes_on_past_a_million(rt: HostRuntime) -> Result<(), Fail> {
+    let alloc = rt.alloc();
+    let state = Joined::new(alloc, OPENING, 1, 4)?;
+    let store = put_up(vases(3)?);
+    let state = part_of(&rt, alloc, state, &[&[store]], &FreeGate)?.state;
     let long = views(alloc, 1_000_000)?;
-    let policy = policy_of(2, 2);
-    let stopped = run_on_shown(&rt, alloc, state, long, policy, &FreeGate, &mut Full);
-    let begun = stopped.err().map(|stopped| match stopped {
-        Stopped::Refused(_state, fault) => (false, fault),
-        Stopped::Failed(fault) => (true, fault),
-    });
+    let fault = RunFault::TooLong;
+    let (state, _shown) = shown_after(&rt, alloc, state, long, policy_of(2, 2), fault)?;
+    assert_same(&rt, &state.limit(), &1_000_000);
+    let lasting = part_of(&rt, alloc, state.lasting(), &[&[bid(1, 10, 1)]], &FreeGate)?.state;
+    assert_same(&rt, &lasting.limit(), &MOST_COMMITS);
+    let begun = million_views(&rt, alloc, lasting)?;
     assert_same(&rt, &begun, &Some((true, RunFault::Memory)));
     Ok(())
 }

@@ -115,9 +115,11 @@ fn a_million_requests_are_not_too_many(rt: HostRuntime) -> Result<(), Fail> {
     begins_joined(&rt, rt.alloc(), state, 1_000_000)
 }
 
-#[test]
-fn rows_count_as_requests(rt: HostRuntime) -> Result<(), Fail> {
-    let alloc = rt.alloc();
+// An auction with three rows of its worker.
+fn of_three_rows<R: Abort>(rt: &R, alloc: Global) -> Result<Joined, Fail>
+    ensures one { IfOk result (λ state. length state.counters ≡ 1) }
+    ensures phase { IfOk result (λ state. state.phase ≡ 0) }
+{
     let row = Opened {
         worker: 0,
         request: put_up(10)?,
@@ -125,8 +127,31 @@ fn rows_count_as_requests(rt: HostRuntime) -> Result<(), Fail> {
     let rows = vec![in alloc; row, row, row]?;
     let book = OpeningBook::new(alloc, OPENING, rows).map_err(Fail::new)?;
     assert!(rt; are_of_the_first(book.rows()));
-    let state = Joined::resume(alloc, &book, 1, 4)?;
-    begins_joined(&rt, alloc, state, 999_997)
+    Ok(Joined::resume(alloc, &book, 1, 4)?)
+}
+
+#[test]
+fn rows_count_as_requests(rt: HostRuntime) -> Result<(), Fail> {
+    let state = of_three_rows(&rt, rt.alloc())?;
+    begins_joined(&rt, rt.alloc(), state, 999_997)
+}
+
+// A joined phase with a quota that is one too great for three rows and 2^31 commits, and one with
+// more than a million.
+fn begins_lasting<R: Wait + Abort>(rt: &R, alloc: Global, state: Joined) -> Result<(), Fail>
+    requires one { length state.counters ≡ 1 }
+    requires phase { state.phase ≡ 0 }
+{
+    let (state, stashes) = refuses_joined(rt, alloc, state, 2_147_483_646)?;
+    let begun = begin_joined::<Brand, R>(rt, alloc, state, 1_000_001, stashes);
+    assert_same(rt, &begun.ok(), &Some(1_000_001));
+    Ok(())
+}
+
+#[test]
+fn a_lasting_auction_begins_past_a_million(rt: HostRuntime) -> Result<(), Fail> {
+    let state = of_three_rows(&rt, rt.alloc())?;
+    begins_lasting(&rt, rt.alloc(), state.lasting())
 }
 
 // A look at a user is one of the requests of its run, and of no later run.

@@ -44,6 +44,14 @@ impl AppendFile for MemFile {
 
     ghost synced = { λ f. Some (take f.synced f.bytes.items) };
 
+    fn read_at(&self, at: u64, buffer: &mut [u8]) -> io::Result<usize> {
+        let bytes = self.bytes.as_slice();
+        let rest = &bytes[(at as usize).min(bytes.len())..];
+        let given = rest.len().min(buffer.len());
+        buffer[..given].copy_from_slice(&rest[..given]);
+        Ok(given)
+    }
+
     fn append(&mut self, bytes: &[u8]) -> io::Result<()> {
         if self.fails() {
             self.bytes.extend_from_slice(&bytes[..bytes.len() / 2])?;

@@ -1,9 +1,19 @@
 //! Which texts of a log are opened, what is cut off them, and why the others are refused.
+ghost use Rattle.std.specs.Prelude.{[], IfOk};
+ghost use Rattle.phase_floor.specs.Adding.{HasBook, IsStartOf};
+
 use crate::comparing::assert_same;
-use auction_program::{Cause, ReadFault, ResumeFault};
+use crate::logs::mem_file::MemFile;
 use auction_rows::Opening;
-use log_opening::{MOST_OF_A_ROW, OpenFault, is_cut_row, open_text, whole_lines};
+use auction_text::{Cause, ReadFault};
+use log_opening::{
+    LoggedAuction, MOST_OF_A_ROW, OpenFault, cut_log, is_cut_row, open_parts, read_log, whole_lines,
+};
+use part_log::AppendFile;
+use phase_floor::Joined;
 use std::alloc::Global;
+use std::io;
+use std::io::Write;
 use std::process::Abort;
 use std::test::Fail;
 
@@ -11,35 +21,48 @@ const ITEM: &[u8] = b"0,+item,0,0,\"Vase\",10,100,1,1\n";
 
 const BID: &[u8] = b"1,+bid,1,0.0,20,5\n";
 
-// What a text opens to, of two workers and ten users and categories: how many rows there are, and
-// how many bytes are kept.
-fn opened(alloc: Global, text: &[u8]) -> Result<(usize, usize), OpenFault> {
+// An auction of two workers and ten users and categories, in which nothing is stored.
+fn auction(alloc: Global) -> Result<Joined, Fail>
+    ensures start { IfOk result (λ auction. IsStartOf auction []) }
+    ensures has { IfOk result HasBook }
+{
     let opening = Opening {
         users: 10,
         categories: 10,
     };
-    let opened = open_text(alloc, text, 2, opening)?;
-    Ok((opened.book.rows().len(), opened.kept))
+    match Joined::new(alloc, opening, 2, 4) {
+        Ok(auction) => Ok(auction.lasting()),
+        Err(_) => Err(Fail::from("no memory")),
+    }
+}
+
+// What a text opens to: how many rows there are, and how many bytes are kept.
+fn opened(alloc: Global, text: &[u8]) -> Result<Result<(u64, u64), OpenFault>, Fail> {
+    let mut reader = text;
+    match open_parts(alloc, &mut reader, auction(alloc)?, &mut io::sink()) {
+        Ok(opened) => Ok(Ok((opened.rows, opened.kept))),
+        Err(fault) => Ok(Err(fault)),
+    }
 }
 
 // Asserts what an item, then a bid, and then these bytes open to.
 fn assert_after_rows(
     rt: &(impl Abort + Alloc<A = Global>),
     tail: &[u8],
-    wanted: Result<(usize, usize), OpenFault>,
+    wanted: Result<(u64, u64), OpenFault>,
 ) -> Result<(), Fail> {
     let mut text = Vec::new(rt.alloc());
     text.extend_from_slice(ITEM)?;
     text.extend_from_slice(BID)?;
     text.extend_from_slice(tail)?;
-    assert_same(rt, &opened(rt.alloc(), text.as_slice()), &wanted);
+    assert_same(rt, &opened(rt.alloc(), text.as_slice())?, &wanted);
     Ok(())
 }
 
 #[test]
 fn a_log_opens_to_its_whole_rows(rt: HostRuntime) -> Result<(), Fail> {
-    assert_same(&rt, &opened(rt.alloc(), b""), &Ok((0, 0)));
-    assert_same(&rt, &opened(rt.alloc(), b"0,+it"), &Ok((0, 0)));
+    assert_same(&rt, &opened(rt.alloc(), b"")?, &Ok((0, 0)));
+    assert_same(&rt, &opened(rt.alloc(), b"0,+it")?, &Ok((0, 0)));
     for tail in [b"".as_slice(), b"1", b"1,+bid,1,0.0,2", b"15,+comment,1"] {
         assert_after_rows(&rt, tail, Ok((2, 48)))?;
     }
@@ -55,7 +78,7 @@ fn what_is_no_cut_row_is_not_cut(rt: HostRuntime) -> Result<(), Fail> {
         b"\0\0",
         b"0,item",
     ] {
-        assert_same(&rt, &opened(rt.alloc(), text), &Err(OpenFault::Tail(1)));
+        assert_same(&rt, &opened(rt.alloc(), text)?, &Err(OpenFault::Tail(1)));
     }
     for tail in [b"\0".as_slice(), b"x", b"1,+bid,1\r", b"1,bid"] {
         assert_after_rows(&rt, tail, Err(OpenFault::Tail(3)))?;
@@ -82,7 +105,7 @@ fn a_line_that_is_no_row_as_written_is_named(rt: HostRuntime) -> Result<(), Fail
     assert_after_rows(&rt, b"1,+bid,x,0.0,30,6\n", Err(number))?;
     let worker = OpenFault::Record(ReadFault::Worker(3));
     assert_after_rows(&rt, b"2,+bid,1,0.0,30,6\n", Err(worker))?;
-    let low = OpenFault::Resume(ResumeFault::BadRow(3));
+    let low = OpenFault::BadRow(3);
     assert_after_rows(&rt, b"1,+bid,1,0.0,9,6\n", Err(low))?;
     for line in [
         b"1,+buynow,2,0.0,1,5\r\n".as_slice(),
@@ -110,4 +133,60 @@ fn a_line_that_was_cut_is_not_whole(rt: HostRuntime) {
     for (text, whole) in texts {
         assert_same(&rt, &whole_lines(text), &whole);
     }
+}
+
+// So many rows: an item, and then bids of which each is higher than the last.
+fn many_rows(alloc: Global, count: u64) -> Result<Vec<u8>, Fail> {
+    let mut text = Vec::new(alloc);
+    text.extend_from_slice(ITEM)?;
+    for row in 1..count {
+        write!(text, "1,+bid,1,0.0,{},5\n", row.saturating_add(20))?;
+    }
+    Ok(text)
+}
+
+#[test]
+fn rows_are_counted_through_all_parts(rt: HostRuntime) -> Result<(), Fail> {
+    let alloc = rt.alloc();
+    let mut text = many_rows(alloc, 10_000)?;
+    let len = text.len() as u64;
+    assert_same(&rt, &opened(alloc, text.as_slice())?, &Ok((10_000, len)));
+    text.extend_from_slice(b"1,+bid,1,0.0,9,5\n")?;
+    let low = Err(OpenFault::BadRow(10_001));
+    assert_same(&rt, &opened(alloc, text.as_slice())?, &low);
+    Ok(())
+}
+
+#[test]
+fn rows_are_told_as_they_are_read(rt: HostRuntime) -> Result<(), Fail> {
+    let alloc = rt.alloc();
+    let text = many_rows(alloc, 10_000)?;
+    let mut told = Vec::new(alloc);
+    let mut reader = text.as_slice();
+    let opened = open_parts(alloc, &mut reader, auction(alloc)?, &mut told);
+    assert_same(&rt, &opened.is_ok(), &true);
+    assert_same(&rt, &(told.as_slice() == text.as_slice()), &true);
+    Ok(())
+}
+
+#[test]
+fn a_file_is_cut_to_its_rows(rt: HostRuntime) -> Result<(), Fail> {
+    let alloc = rt.alloc();
+    let mut file = MemFile::new(alloc, 99);
+    file.append(ITEM)?;
+    file.append(b"1,+bi")?;
+    let empty = auction(alloc)?;
+    let Ok(logged) = read_log(alloc, &file, empty, &mut io::sink()) else {
+        return Err(Fail::from("the log is refused"));
+    };
+    let LoggedAuction {
+        rows,
+        kept,
+        tail,
+        ..
+    } = &logged;
+    assert_same(&rt, &(*rows, *kept), &(1, 30));
+    assert_same(&rt, &(tail.as_slice() == b"1,+bi".as_slice()), &true);
+    assert_same(&rt, &cut_log(file, &logged).is_ok(), &true);
+    Ok(())
 }

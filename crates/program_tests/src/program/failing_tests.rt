@@ -1,7 +1,7 @@
 //! Faults to which the built program can't be brought. The others stand in tests/limits.py, ends.py
 //! and refused_memory.py.
 use crate::comparing::assert_same;
-use auction_program::{Fault, status, write_fault};
+use auction_program::{AddFault, Fault, status, write_fault};
 use auction_run::RunFault;
 use auction_text::WriteFault;
 use auction_window::MakeFault;
@@ -37,6 +37,15 @@ fn faults_have_their_status_and_line(rt: HostRuntime) {
     for (fault, text) in faults {
         assert_told(&rt, rt.alloc(), Fault::Run(fault), text);
     }
+    let refused = Fault::Row(3, AddFault::BadRow);
+    assert_told(&rt, rt.alloc(), refused, b"rubis_auction: row 3: refused\n");
+    let no_memory = Fault::Row(3, AddFault::Memory);
+    assert_told(
+        &rt,
+        rt.alloc(),
+        no_memory,
+        b"rubis_auction: row 3: no memory\n",
+    );
 }
 
 // Takes nothing.

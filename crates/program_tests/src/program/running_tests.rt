@@ -61,12 +61,35 @@ fn words_give_options(rt: HostRuntime) -> Result<(), Fail> {
     Ok(())
 }
 
+// Whether words are refused for what they say.
+fn are_refused(alloc: Global, after: &[&str]) -> Result<bool, Fail> {
+    let refused = read_options(alloc, &words(alloc, after)?).err();
+    Ok(matches!(refused, Some(UsageFault::Text(_))))
+}
+
 #[test]
 fn numbers_past_their_limits_are_refused(rt: HostRuntime) -> Result<(), Fail> {
     for word in ["--workers=17", "--shards=0", "--hot=65", "--users=1000001"] {
-        let refused = read_options(rt.alloc(), &words(rt.alloc(), &[word])?).err();
-        let is_text = matches!(refused, Some(UsageFault::Text(_)));
-        assert_same(&rt, &(word, is_text), &(word, true));
+        let refused = are_refused(rt.alloc(), &[word])?;
+        assert_same(&rt, &(word, refused), &(word, true));
+    }
+    Ok(())
+}
+
+#[test]
+fn a_fault_is_answered_or_ends_the_input(rt: HostRuntime) -> Result<(), Fail> {
+    let alloc = rt.alloc();
+    for (how, ends) in [("--faults=answer", false), ("--faults=end", true)] {
+        let options = options_of(alloc, &["--live=1", how])?;
+        assert_same(&rt, &(how, options.ends_at_fault), &(how, ends));
+    }
+    for (word, ends) in [("--live=1", false), ("--faults=end", true)] {
+        let options = options_of(alloc, &[word])?;
+        assert_same(&rt, &(word, options.ends_at_fault), &(word, ends));
+    }
+    for how in ["--faults=stop", "--faults=answer"] {
+        let refused = are_refused(alloc, &["--live=0", how])?;
+        assert_same(&rt, &(how, refused), &(how, true));
     }
     Ok(())
 }

@@ -4,7 +4,8 @@ ghost use Rattle.std.specs.Prelude.{◌≤◌};
 use crate::comparing::assert_same;
 use crate::text::part_tests::Pieces;
 use auction_text::{
-    Cause, LineFault, LiveEnd, LiveInput, LivePart, ReadFault, UntilEnd, push_fault_line,
+    Cause, LineFault, LiveEnd, LiveInput, LivePart, MOST_ROWS_OF_A_PART, ReadFault, UntilEnd,
+    push_fault_line,
 };
 use std::alloc::Global;
 use std::io;
@@ -23,6 +24,23 @@ impl<'a> Read for Slowly<'a> {
     fn read(&mut self, buf: &mut [u8]) -> io::Result<usize> {
         let room = self.most.min(buf.len());
         self.text.read(&mut buf[..room])
+    }
+}
+
+// Is interrupted at every second read, the first among them.
+#[derive(Drop)]
+struct Interrupted<R> {
+    reader: R,
+    is_next: bool,
+}
+
+impl<R: Read> Read for Interrupted<R> {
+    fn read(&mut self, buf: &mut [u8]) -> io::Result<usize> {
+        self.is_next = !self.is_next;
+        if self.is_next {
+            return Err(io::Error::from(io::ErrorKind::Interrupted));
+        }
+        self.reader.read(buf)
     }
 }
 
@@ -156,6 +174,36 @@ fn rows_may_come_around_a_fault(rt: HostRuntime) -> Result<(), Fail> {
         b"0,+comment,0,1,0.0,1\n0,+comment\n1,+comment,0,1,0.0,1\n0,viewuser,0\n0,+comment,0,1,0.0,1\n",
         "1 0: 0 0\nSome(0) record 2: wrong number of fields\n1 1: 1 0\nSome(0) record 5: row after a request\n0 0: 0 0\n",
     )
+}
+
+#[test]
+fn rows_end_a_part_too(rt: HostRuntime) -> Result<(), Fail> {
+    let alloc = rt.alloc();
+    let mut text = Vec::new(alloc);
+    for _ in 0..MOST_ROWS_OF_A_PART + 1 {
+        text.extend_from_slice(b"0,+comment,0,1,0.0,1\n")?;
+    }
+    text.extend_from_slice(b"0,viewuser,0\n")?;
+    let wanted = "65536 0: 0 0\n1 1: 1 0\n0 0: 0 0\n";
+    for at_a_time in [999, 100_000] {
+        let found = told(alloc, text.as_slice(), at_a_time, 9)?;
+        assert_same(&rt, &(at_a_time, found.as_str()), &(at_a_time, wanted));
+    }
+    Ok(())
+}
+
+#[test]
+fn a_read_that_a_signal_interrupts_is_tried_again(rt: HostRuntime) -> Result<(), Fail> {
+    let pieces: &[&[u8]] = &[b"0,view", b"user"];
+    let mut reader = UntilEnd::of(Interrupted {
+        reader: Pieces { pieces, at: 0 },
+        is_next: false,
+    });
+    let mut buf = [0; 20];
+    for given in [6, 4, 0, 0] {
+        assert_same(&rt, &reader.read(&mut buf)?, &given);
+    }
+    Ok(())
 }
 
 #[test]

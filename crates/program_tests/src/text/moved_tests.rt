@@ -3,7 +3,8 @@ use crate::comparing::assert_same;
 use crate::testing::FIRST;
 use auction_rows::{Refusal, Reply, Request};
 use auction_text::{
-    Before, WriteFault, write_history, write_history_on, write_replies, write_replies_on,
+    Before, TextBlock, WriteFault, write_history, write_history_on, write_replies,
+    write_replies_by, write_replies_on,
 };
 use std::alloc::{AllocError, Global};
 use std::test::Fail;
@@ -44,6 +45,19 @@ fn replies_of_a_part_go_on_counting(rt: HostRuntime) -> Result<(), Fail> {
     let mut text = Vec::new(alloc);
     write_replies_on(alloc, &mut text, &history, &one_part(alloc)?)?;
     let wanted = b"0,9,refused 5 Closed\n0,10,refused 5 Closed\n2,0,refused 5 Closed\n";
+    assert_same(&rt, &text.as_slice(), &wanted.as_slice());
+    Ok(())
+}
+
+#[test]
+fn nothing_is_left_in_a_block_that_is_kept(rt: HostRuntime) -> Result<(), Fail> {
+    let alloc = rt.alloc();
+    let history = one_phase(alloc)?;
+    let (mut text, mut block) = (Vec::new(alloc), TextBlock::new());
+    write_replies_by(alloc, &mut text, &history, &Before::none(), &mut block)?;
+    write_replies_by(alloc, &mut text, &history, &one_part(alloc)?, &mut block)?;
+    let wanted =
+        b"0,0,refused 5 Closed\n0,1,refused 5 Closed\n2,0,refused 5 Closed\n0,9,refused 5 Closed\n0,10,refused 5 Closed\n2,0,refused 5 Closed\n";
     assert_same(&rt, &text.as_slice(), &wanted.as_slice());
     Ok(())
 }

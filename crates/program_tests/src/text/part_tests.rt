@@ -2,7 +2,7 @@
 ghost use Rattle.std.specs.Prelude.{◌≤◌};
 
 use crate::comparing::assert_same;
-use auction_text::{Cause, InputLeft, Part, PartEnd, ReadFault};
+use auction_text::{Cause, LineFault, LiveEnd, LiveInput, LivePart, ReadFault};
 use std::alloc::Global;
 use std::io;
 use std::io::Read;
@@ -29,7 +29,7 @@ impl Read for Pieces {
     }
 }
 
-// How many requests each part has, of at most so many, and the fault that ends them.
+// How many requests each part has, of at most so many, up to the first fault, and that.
 fn parts_of(
     alloc: Global,
     pieces: &'static [&'static [u8]],
@@ -38,15 +38,19 @@ fn parts_of(
     requires { 1 ≤ most }
 {
     let mut counts = Vec::new(alloc);
-    let mut left = InputLeft::of(alloc, Pieces { pieces, at: 0 }, 1)?;
+    let mut left = LiveInput::of(alloc, Pieces { pieces, at: 0 }, 1)?;
     for _ in 0..u64::MAX {
-        let Part { input, end } = left.next_part(alloc, most)?;
+        let LivePart {
+            input,
+            requests: _,
+            end,
+        } = left.next_part(alloc, most)?;
         let script = input.scripts.first().ok_or("a script")?;
         counts.push(script.len())?;
         left = match end {
-            PartEnd::More(left) => left,
-            PartEnd::All => return Ok((counts, None)),
-            PartEnd::Fault(fault) => return Ok((counts, Some(fault))),
+            LiveEnd::More(left) => left,
+            LiveEnd::All => return Ok((counts, None)),
+            LiveEnd::Fault(LineFault { worker: _, fault }, _) => return Ok((counts, Some(fault))),
         };
     }
     Err(Fail::new("an input without end"))
@@ -72,14 +76,15 @@ fn assert_parts(
 fn a_part_ends_where_more_would_have_to_be_waited_for(rt: HostRuntime) -> Result<(), Fail> {
     let alloc = rt.alloc();
     let halves: &[&[u8]] = &[b"0,viewuser,0\n0,view", b"user,1\n", b"0,viewuser,2"];
-    assert_parts(&rt, alloc, halves, 9, &[1, 1, 1, 0], None)?;
+    assert_parts(&rt, alloc, halves, 9, &[1, 1, 1], None)?;
     let quoted: &[&[u8]] = &[
         b"0,\"viewuser\",0\r\n0,viewuser,0\r\n",
         b"\r\n0,viewuser,1\r\n",
     ];
     assert_parts(&rt, alloc, quoted, 9, &[2, 1, 0], None)?;
     let returns: &[&[u8]] = &[b"0,viewuser,0\r", b"0,viewuser,1\r0,viewuser,2\r"];
-    assert_parts(&rt, alloc, returns, 9, &[1, 1, 1, 0], None)
+    let fault = Some(ReadFault::Line(1, Cause::Fields));
+    assert_parts(&rt, alloc, returns, 9, &[0], fault)
 }
 
 #[test]
@@ -97,7 +102,7 @@ fn what_stands_before_a_fault_is_read(rt: HostRuntime) -> Result<(), Fail> {
     let alloc = rt.alloc();
     let bad: &[&[u8]] = &[b"0,viewuser,0\n0,viewuser,0\nbad\n0,viewuser,0\n"];
     let fault = Some(ReadFault::Line(3, Cause::Number));
-    assert_parts(&rt, alloc, bad, 9, &[2, 0], fault)?;
+    assert_parts(&rt, alloc, bad, 9, &[2], fault)?;
     assert_parts(&rt, alloc, bad, 1, &[1, 1, 0], fault)?;
     let late: &[&[u8]] = &[
         b"0,+comment,0,1,0.0,1\n0,viewuser,0\n",

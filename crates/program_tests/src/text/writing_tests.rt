@@ -6,16 +6,17 @@ use auction_rows::{Refusal, Reply, Request};
 use auction_text::{WriteFault, write_replies};
 use std::alloc::{AllocError, Global};
 use std::io;
-use std::io::Write;
+use std::io::{ErrorKind, Write};
 use std::test::Fail;
 use worker_journals::{History, Journal};
 
-// Takes one byte a call, but fails at one call of `write`, and takes more after it. Its flush fails
-// where `is_stuck` says so. Counts what is called.
+// Takes one byte a call, but one call of `write` has an error, and it takes more after it. Its flush
+// fails where `is_stuck` says so. Counts what is called.
 #[derive(Drop)]
 struct Lapse {
     held: Vec<u8>,
     fails_at: usize,
+    error: ErrorKind,
     is_stuck: bool,
     writes: usize,
     flushes: usize,
@@ -26,7 +27,7 @@ impl Write for Lapse {
         let call = self.writes;
         self.writes = call.saturating_add(1);
         if call == self.fails_at {
-            return Err(io::Error::from(io::ErrorKind::Interrupted));
+            return Err(io::Error::from(self.error));
         }
         let most = buf.len().min(1);
         self.held.extend_from_slice(&buf[..most])?;
@@ -36,7 +37,7 @@ impl Write for Lapse {
     fn flush(&mut self) -> io::Result<()> {
         self.flushes = self.flushes.saturating_add(1);
         if self.is_stuck {
-            return Err(io::Error::from(io::ErrorKind::BrokenPipe));
+            return Err(io::Error::from(ErrorKind::BrokenPipe));
         }
         Ok(())
     }
@@ -46,6 +47,7 @@ fn lapse_at(alloc: Global, fails_at: usize, is_stuck: bool) -> Lapse {
     Lapse {
         held: Vec::new(alloc),
         fails_at,
+        error: ErrorKind::BrokenPipe,
         is_stuck,
         writes: 0,
         flushes: 0,
@@ -96,6 +98,20 @@ fn a_write_that_fails_is_the_last_call(rt: HostRuntime) -> Result<(), Fail> {
     for call in 0..OUTPUT.len() {
         let writer = lapse_at(alloc, call, false);
         let right = replies_leave(alloc, &history, writer, cut, &OUTPUT[..call], (call + 1, 0));
+        assert_same(&rt, &(call, right), &(call, true));
+    }
+    Ok(())
+}
+
+#[test]
+fn a_write_that_a_signal_interrupts_is_tried_again(rt: HostRuntime) -> Result<(), Fail> {
+    let alloc = rt.alloc();
+    let history = two_replies(alloc)?;
+    for call in 0..OUTPUT.len() {
+        let mut writer = lapse_at(alloc, call, false);
+        writer.error = ErrorKind::Interrupted;
+        let calls = (OUTPUT.len() + 1, 1);
+        let right = replies_leave(alloc, &history, writer, Ok(()), OUTPUT, calls);
         assert_same(&rt, &(call, right), &(call, true));
     }
     Ok(())

@@ -1,10 +1,11 @@
-use Rattle.std.proofs.Common.{◌≡◌, List, ℕ, map, string_bytes, sym, subst}
+use Rattle.std.proofs.Common.{◌≡◌, Bool, List, ℕ, codes, map, string_bytes, sym, subst}
 use Rattle.std.proofs.lemmas.Result.{IfErr-weaker, IfOk-weaker}
 use Rattle.clap.specs.Matches.{first_value, found_of, one_text}
 use Rattle.clap.specs.Simple.{app_of}
+use Rattle.program_options.specs.Options.{number_of}
 use Rattle.program_options.specs.Words.{AreTaken, HaveNumbers, text_in, value_in}
 use Rattle.program_options.specs.declared.words.UsageFault.TheVariants.{Memory}
-use Rattle.auction_program.specs.Words.{SayOptions, program}
+use Rattle.auction_program.specs.Words.{SayOptions, SaysEnd, program}
 use Rattle.auction_program.proofs.Answering.{error_is}
 use Rattle.auction_program.proofs.ProgramWords.{is_free}
 use Rattle.auction_program.proofs.options.read_options.Goals as goal
@@ -25,11 +26,14 @@ returns c =
           (subst (λ value. SayOptions (one_text found) value options) (λ i id. values id i) (said numbers))) c.options_of.ensures.given;
       range = c.options_of.ensures.range;
       taken = IfOk-weaker c.options_of.result _ _ (λ options range. taken) c.options_of.ensures.range;
-      memory = IfErr-weaker c.options_of.result _ _ (λ fault is taken. is) c.options_of.ensures.memory;
+      memory = IfErr-weaker c.options_of.result _ (λ fault. AreTaken program words → (ends : Bool) → SaysEnd (value_in program words (codes "faults")) (number_of (text_in program words (codes "live"))) ends → fault ≡ Memory)
+          (λ fault is taken ends says. is numbers ends (subst (λ how. SaysEnd how (number_of (one_text found (codes "live"))) ends) (sym (values (codes "faults")))
+          (subst (λ live. SaysEnd (value_in program words (codes "faults")) (number_of live) ends) (sym (texts (codes "live"))) says))) c.options_of.ensures.memory;
     }
 
 pub returns-in_err-matches-clause-memory : goal.returns-in_err-matches-clause-memory
 returns-in_err-matches-clause-memory c =
     let words = map string_bytes c.args.words.now in
-    error_is c.from_residual.result c.in_err-matches.field-0.0 (λ fault. AreTaken program words → fault ≡ Memory) c.from_residual.ensures
-    (λ taken. c.in_err-matches.ensures.memory (is_free (app_of c.in-Ok.command) c.in-Ok.ensures) (subst (λ a. AreTaken a words) (sym c.in-Ok.ensures) taken))
+    error_is c.from_residual.result c.in_err-matches.field-0.0 (λ fault. AreTaken program words → (ends : Bool) → SaysEnd (value_in program words (codes "faults")) (number_of (text_in program words (codes "live"))) ends → fault ≡ Memory)
+    c.from_residual.ensures
+    (λ taken ends says. c.in_err-matches.ensures.memory (is_free (app_of c.in-Ok.command) c.in-Ok.ensures) (subst (λ a. AreTaken a words) (sym c.in-Ok.ensures) taken))

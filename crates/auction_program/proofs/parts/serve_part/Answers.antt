@@ -1,65 +1,94 @@
-use Rattle.std.proofs.Common.{◌∙◌, ◌+◌, ℕ, [], ap, ap₂, inl, inr, length, sym, slice_index, slice_index_or}
+use Rattle.std.proofs.Common.{◌∙◌, ◌+◌, ℕ, [], ap, ap₂, inr, length, sym, slice_index, slice_index_or}
 use Rattle.std.proofs.lemmas.List.{length-map}
 use Rattle.auction_rows.specs.Book.{Book}
 use Rattle.auction_run.specs.Phases.{hot_sets}
 use Rattle.auction_text.specs.Moved.{gone_by}
+use Rattle.auction_text.specs.Scripts.{asked_of}
 use Rattle.auction_program.specs.PartRuns.{BeginsAt, gone_with}
 use Rattle.auction_program.specs.ServeFaults.{IsPartFault}
 use Rattle.auction_program.specs.declared.faults.Fault.{Fault}
 use Rattle.auction_program.specs.declared.faults.Fault.TheVariants.{Run}
 use Rattle.auction_program.proofs.Answering.{error_is}
-use Rattle.auction_program.proofs.FaultLemmas.{nothing_told}
-use Rattle.auction_program.proofs.ToldLemmas.{run_told, same_gone}
+use Rattle.auction_program.proofs.ServedParts.{begins_behind, behind, next_has, not_taken, part_adds, refused_untold, start}
+use Rattle.auction_program.proofs.ToldLemmas.{same_gone}
 use Rattle.auction_program.proofs.parts.serve_part.Goals as goal
 
 pub returns-clause-serves : goal.returns-clause-serves
-returns-clause-serves g c = λ book at.
+returns-clause-serves g c = λ book begins.
+    let options = c.args.options.now in
+    let state = c.args.part.served.auction in
     let outcome = c.in_ok-outcome.outcome in
     let gone = gone_by c.args.part.served.before in
-    let scripts = c.args.part.scripts.items in
+    let scripts = c.args.part.input.scripts.items in
+    let next = c.for_next_run-auction.ensures in
+    let added = c.in_ok-added.added.items in
+    let adds = part_adds options state c.for_next_run-auction.result book scripts begins next.next next.stands c.add_part.new.auction c.as_slice-2.result.now c.args.part.input.rows.items c.as_slice-2.ensures.value added c.add_part.ensures.same c.in_ok-added.ensures.adds in
+    let from = begins_behind options state c.for_next_run-auction.result book scripts begins next.next next.stands c.add_part.new.auction c.as_slice-2.result.now c.args.part.input.rows.items c.as_slice-2.ensures.value added c.add_part.ensures.same c.in_ok-added.ensures.adds in
     record {
-      runs = record { hot = hot_sets outcome.hot.items; history = outcome.history.entries; answer = c.in_ok-outcome.ensures.answers book at; holds = c.in_ok-tell_part.ensures.told };
-      starts = c.in_ok-outcome.ensures.left book at;
+      runs = record { added = added; hot = hot_sets outcome.hot.items; history = outcome.history.entries; adds = adds; answer = c.in_ok-outcome.ensures.answers _ from; holds = c.in_ok-tell_part.ensures.told };
+      start = record { fits = c.in_ok-outcome.ensures.fits _ from; of = c.in_ok-outcome.ensures.left _ from };
       before = same_gone (gone_by c.in-Some-with_phases.next) (gone_with gone (length (hot_sets outcome.hot.items)) scripts)
-          (c.in-Some-with_phases.ensures.phases ∙ ap₂ (λ (a b : ℕ). a + b) c.in-Some.ensures.phases (c.len.ensures ∙ outcome.hot.ok.0 ∙ sym (length-map outcome.hot.items (λ set. set.keys))))
-          (λ worker. c.in-Some-with_phases.ensures.requests worker ∙ c.in-Some.ensures.requests worker
+          (c.in-Some-with_phases.ensures.phases ∙ ap₂ (λ (a b : ℕ). a + b) c.in-Some-with_scripts.ensures.phases (c.len-2.ensures ∙ outcome.hot.ok.0 ∙ sym (length-map outcome.hot.items (λ set. set.keys))))
+          (λ worker. c.in-Some-with_phases.ensures.requests worker ∙ c.in-Some-with_scripts.ensures.requests worker
           ∙ ap (λ xs. slice_index c.args.part.served.before.requests worker + length (slice_index_or xs worker [])) c.as_slice.ensures.value);
     }
 
-pub returns-in_err-tell_part-clause-first : goal.returns-in_err-tell_part-clause-first
-returns-in_err-tell_part-clause-first g c = λ book at.
-    let outcome = c.in_ok-outcome.outcome in
-    run_told g.L.Log.accepted g.W.Write.contents c.args.teller.now c.tell_part.new.teller c.args.options.now book (gone_by c.args.part.served.before) c.args.part.scripts.items
-    (hot_sets outcome.hot.items) outcome.history.entries (c.in_ok-outcome.ensures.answers book at) c.tell_part.ensures.part
+pub add_part-requires-clause-start : goal.add_part-requires-clause-start
+add_part-requires-clause-start g c = next_has c.args.part.served.auction c.for_next_run-auction.result c.for_next_run-auction.ensures.next c.for_next_run-auction.ensures.stands c.requires
+
+pub returns-in_err-added-clause-cause : goal.returns-in_err-added-clause-cause
+returns-in_err-added-clause-cause g c =
+    let options = c.args.options.now in
+    let state = c.args.part.served.auction in
+    let scripts = c.args.part.input.scripts.items in
+    let next = c.for_next_run-auction.ensures in
+    let fault = c.in_err-added.field-0.0 in
+    refused_untold g.L.Log.accepted g.W.Write.contents c.args.teller.now options state scripts (gone_by c.args.part.served.before) c.args.part.served.rows (asked_of c.args.part.input) c.from_residual.result fault
+    c.from_residual.ensures (λ book begins.
+    not_taken options state c.for_next_run-auction.result book scripts begins next.next next.stands c.args.part.served.rows (asked_of c.args.part.input) c.as_slice-2.result.now c.as_slice-2.ensures.value fault
+    (c.in_err-added.ensures.refused book (start options state c.for_next_run-auction.result book scripts begins next.next next.stands)))
 
 pub returns-in_err-outcome-clause-cause : goal.returns-in_err-outcome-clause-cause
 returns-in_err-outcome-clause-cause g c =
-    let accepted = g.L.Log.accepted in
-    let contents = g.W.Write.contents in
     let options = c.args.options.now in
-    let teller = c.args.teller.now in
-    let scripts = c.args.part.scripts.items in
+    let state = c.args.part.served.auction in
+    let scripts = c.args.part.input.scripts.items in
+    let asked = c.args.part.input.rows.items in
+    let next = c.for_next_run-auction.ensures in
+    let added = c.in_ok-added.added.items in
     let fault = c.in_err-outcome.field-0.0 in
-    error_is c.from_residual.result (Run fault) (λ (f : Fault). (book : Book) → BeginsAt options c.args.part.served.start scripts book
-    → IsPartFault accepted contents teller teller options book (gone_by c.args.part.served.before) scripts f) c.from_residual.ensures
-    (λ book begins. inl (nothing_told accepted contents teller, c.in_err-outcome.ensures.refused book begins))
+    refused_untold g.L.Log.accepted g.W.Write.contents c.args.teller.now options state scripts (gone_by c.args.part.served.before) c.args.part.served.rows (asked_of c.args.part.input) c.from_residual-in_err-outcome.result
+    (Run fault) c.from_residual-in_err-outcome.ensures (λ book begins.
+    behind options state c.for_next_run-auction.result book scripts begins next.next next.stands c.add_part.new.auction c.as_slice-2.result.now asked c.as_slice-2.ensures.value added c.add_part.ensures.same c.in_ok-added.ensures.adds fault
+    (c.in_err-outcome.ensures.refused _ (begins_behind options state c.for_next_run-auction.result book scripts begins next.next next.stands c.add_part.new.auction c.as_slice-2.result.now asked c.as_slice-2.ensures.value added c.add_part.ensures.same
+    c.in_ok-added.ensures.adds)))
 
 pub returns-in_err-tell_part-clause-cause : goal.returns-in_err-tell_part-clause-cause
 returns-in_err-tell_part-clause-cause g c =
     let accepted = g.L.Log.accepted in
     let contents = g.W.Write.contents in
     let options = c.args.options.now in
-    let scripts = c.args.part.scripts.items in
+    let state = c.args.part.served.auction in
+    let scripts = c.args.part.input.scripts.items in
+    let asked = c.args.part.input.rows.items in
     let outcome = c.in_ok-outcome.outcome in
+    let next = c.for_next_run-auction.ensures in
+    let added = c.in_ok-added.added.items in
     let fault = c.in_err-tell_part.field-0.0 in
-    error_is c.from_residual-in_err-tell_part.result fault (λ (f : Fault). (book : Book) → BeginsAt options c.args.part.served.start scripts book
-    → IsPartFault accepted contents c.args.teller.now c.tell_part.new.teller options book (gone_by c.args.part.served.before) scripts f) c.from_residual-in_err-tell_part.ensures
+    error_is c.from_residual-in_err-tell_part.result fault (λ (f : Fault). (book : Book) → BeginsAt options state scripts book
+    → IsPartFault accepted contents c.args.teller.now c.tell_part.new.teller options book (gone_by c.args.part.served.before) c.args.part.served.rows (asked_of c.args.part.input) f)
+    c.from_residual-in_err-tell_part.ensures
     (λ book begins. inr (record {
+      added = added;
       hot = hot_sets outcome.hot.items;
       history = outcome.history.entries;
-      answer = c.in_ok-outcome.ensures.answers book begins.starts;
+      adds = part_adds options state c.for_next_run-auction.result book scripts begins next.next next.stands c.add_part.new.auction c.as_slice-2.result.now asked c.as_slice-2.ensures.value added c.add_part.ensures.same c.in_ok-added.ensures.adds;
+      answer = c.in_ok-outcome.ensures.answers _ (begins_behind options state c.for_next_run-auction.result book scripts begins next.next next.stands c.add_part.new.auction c.as_slice-2.result.now asked c.as_slice-2.ensures.value added c.add_part.ensures.same
+          c.in_ok-added.ensures.adds);
       holds = c.in_err-tell_part.ensures.so_far;
     }))
 
-pub returns-clause-fits : goal.returns-clause-fits
-returns-clause-fits g c = λ book begins. c.in_ok-outcome.ensures.fits book begins
+pub returns-clause-has : goal.returns-clause-has
+returns-clause-has g c =
+    let begun = next_has c.args.part.served.auction c.for_next_run-auction.result c.for_next_run-auction.ensures.next c.for_next_run-auction.ensures.stands c.requires in
+    c.in_ok-outcome.ensures.has (record { book = _; is_of = (c.in_ok-added.ensures.adds begun.0 begun.1).start.is_of })

@@ -37,6 +37,7 @@ returns-in-Err-clause-answer g c = record {
   ready = tt;
   outcome = tt;
   left = tt;
+  limit = tt;
   stopped = (
     refl,
     subst (λ scripts. IsCheckedOn {T = Unit {0}} (Err c.in-Err.fault) c.args.state c.args.policy scripts) c.as_slice.ensures.value

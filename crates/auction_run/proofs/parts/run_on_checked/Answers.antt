@@ -1,8 +1,8 @@
-use Rattle.std.proofs.Common.{List, length, refl, subst, sym}
+use Rattle.std.proofs.Common.{◌≤◌, ◌∙◌, List, ap, length, refl, subst, sym}
 use Rattle.auction_rows.specs.declared.rows.Row.{Row}
 use Rattle.auction_rows.specs.Book.{Book}
 use Rattle.auction_window.specs.Published.{book_of}
-use Rattle.phase_floor.specs.States.{IsBookOf}
+use Rattle.phase_floor.specs.States.{JoinedState, IsBookOf}
 use Rattle.phase_workers.proofs.WorkLemmas.{err_as}
 use Rattle.auction_run.specs.declared.checks.Stopped.TheVariants.{Failed}
 use Rattle.auction_run.specs.Boards.{HasShownAfter}
@@ -27,6 +27,7 @@ run_from-requires-clause-board g c κs within = λ watched.
       begins = begins_of c.args.state c.for_next_run-state.result (book_of is.rows is.phases) c.args.work.policy _ c.args.work.scripts.now is.book
           refl c.requires.few c.requires.ready next.next next.stands;
       has_them = subst (λ state. g.B.Board.has c.args.board.now state.opening is.rows is.phases) (sym next.next) is.has_them;
+      few = subst (λ state. state.limit ≤ 1000000) (sym next.next) is.few;
     }
 
 pub returns-clause-answer : goal.returns-clause-answer
@@ -41,6 +42,7 @@ returns-clause-answer g c =
       ready = c.requires.ready;
       outcome = is;
       left = λ book of. left_book state.opening book policy scripts of.is_book (begins book of).own outcome (is book of);
+      limit = c.in_ok-outcome.ensures.limit ∙ ap (λ (s : JoinedState). s.limit) next.next;
       stopped = tt;
     }
 
@@ -61,7 +63,7 @@ returns-clause-up_to_date g c = λ is.
     let answer = returns-clause-answer g c in
     let answers = answer.outcome book is.book in
     up_to_date g.B.Board.has c.args.state.opening is.rows is.phases (length outcome.hot.items) outcome.history.entries c.run_from.new.board outcome.state
-    (returns-clause-board g c is.rows is.phases is.has_them is.book) answers.replays answers.opening_is (answer.left book is.book)
+    (returns-clause-board g c is.rows is.phases is.has_them is.book) answers.replays answers.opening_is (subst (λ n. n ≤ 1000000) (sym answer.limit) is.few) (answer.left book is.book)
 
 pub returns-in_err-outcome-clause-answer : goal.returns-in_err-outcome-clause-answer
 returns-in_err-outcome-clause-answer g c =

@@ -59,6 +59,7 @@ returns-in-Err-clause-answer g c = record {
   ready = tt;
   outcome = tt;
   left = tt;
+  limit = tt;
   stopped = (
     refl,
     subst (λ scripts. IsCheckedOn {T = Unit {0}} (Err c.in-Err.fault) c.args.state c.args.policy (lists scripts)) c.as_slice.ensures.value c.in-Err.ensures.checked,

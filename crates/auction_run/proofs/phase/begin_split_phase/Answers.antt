@@ -25,6 +25,7 @@ returns-in-Ok-clause-begun g c =
     let start = c.in-Ok.ensures.begun in
     record {
       opening_is = start.opens.opening;
+      limit_is = start.opens.limit;
       phase_is = start.opens.phase;
       counters_are = start.opens.counters;
       hot_are = start.hot;

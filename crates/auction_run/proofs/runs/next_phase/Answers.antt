@@ -28,3 +28,6 @@ pub returns-clause-grown : goal.returns-clause-grown
 returns-clause-grown g c =
     let phase = c.in_ok-next.ensures.performed in
     phase.history ∙ ap (λ (es : List Entry). c.args.running.history.entries ++ es) (sym phase.last)
+
+pub returns-clause-limit : goal.returns-clause-limit
+returns-clause-limit g c = c.in_ok-next.ensures.performed.closed.limit_is

@@ -1,9 +1,11 @@
-use Rattle.std.proofs.Common.{[], refl, subst, sym}
+use Rattle.std.proofs.Common.{◌≡◌, ◌∙◌, [], arith, refl, subst, sym}
+use Rattle.auction_rows.specs.declared.limits.TheConstants.{MOST_OF_A_WORKER}
 use Rattle.std.specs.Prelude.{IfOk}
 use Rattle.std.proofs.lemmas.Result.{IfErr-weaker, IfOk-weaker}
 use Rattle.phase_workers.proofs.WorkLemmas.{err_as}
 use Rattle.item_shards.specs.OpeningBooks.{opening_of, rows_of_book}
 use Rattle.auction_run.specs.declared.checks.RunFault.TheVariants.{Memory}
+use Rattle.auction_run.specs.declared.runs.Outcome.{Outcome}
 use Rattle.auction_run.specs.GoingOn.{BeginsWith}
 use Rattle.auction_run.specs.Outcomes.{HasShownAll, HasShownFirst, IsOutcome}
 use Rattle.auction_run.proofs.AnswerLemmas.{answered, answered_memory}
@@ -17,7 +19,7 @@ pub run_from-requires-clause-begins : goal.run_from-requires-clause-begins
 run_from-requires-clause-begins g c κs within = λ cannot.
     let made = c.in_ok-state.ensures in let book = c.args.book.now in
     cannot (rows_of_book book) (begins_resumed (opening_of book) (rows_of_book book) c.args.work.policy c.args.work.scripts.now c.in_ok-state.state _
-    made.opening made.phase made.shards made.workers refl made.counters made.stands book.is_book c.requires.workers c.requires.short)
+    made.opening made.limit made.phase made.shards made.workers refl made.counters made.stands book.is_book c.requires.workers c.requires.short)
 
 pub run_from-requires-clause-board : goal.run_from-requires-clause-board
 run_from-requires-clause-board g c κs within = λ watched.
@@ -25,8 +27,9 @@ run_from-requires-clause-board g c κs within = λ watched.
       rows = rows_of_book book;
       before = [];
       begins = begins_resumed (opening_of book) (rows_of_book book) c.args.work.policy c.args.work.scripts.now c.in_ok-state.state _
-          made.opening made.phase made.shards made.workers refl made.counters made.stands book.is_book c.requires.workers c.requires.short;
+          made.opening made.limit made.phase made.shards made.workers refl made.counters made.stands book.is_book c.requires.workers c.requires.short;
       has_them = subst (λ o. g.B.Board.has c.args.board.now o (rows_of_book book) []) (sym made.opening) c.requires.board;
+      few = omega (arith, made.limit);
     }
 
 module _ (g : given.Over) (c : After-run_from g) where
@@ -34,7 +37,7 @@ module _ (g : given.Over) (c : After-run_from g) where
   begins =
       let made = c.in_ok-state.ensures in let book = c.args.book.now in
       begins_resumed (opening_of book) (rows_of_book book) c.args.work.policy c.args.work.scripts.now c.in_ok-state.state _
-      made.opening made.phase made.shards made.workers refl made.counters made.stands book.is_book c.requires.workers c.requires.short
+      made.opening made.limit made.phase made.shards made.workers refl made.counters made.stands book.is_book c.requires.workers c.requires.short
 
   has_none : g.B.Board.has c.args.board.now c.in_ok-state.state.opening (rows_of_book c.args.book.now) []
   has_none = subst (λ o. g.B.Board.has c.args.board.now o (rows_of_book c.args.book.now) []) (sym c.in_ok-state.ensures.opening) c.requires.board
@@ -45,11 +48,14 @@ module _ (g : given.Over) (c : After-run_from g) where
       IfOk-weaker c.run_from.result _ (IsOutcome (opening_of c.args.book.now) rows c.args.work.policy scripts)
       (λ outcome each. subst (λ o. IsOutcome o rows c.args.work.policy scripts outcome) c.in_ok-state.ensures.opening (each rows begins)) c.run_from.ensures.outcome
 
+  limit_is : IfOk c.run_from.result (λ outcome. outcome.state.limit ≡ MOST_OF_A_WORKER)
+  limit_is = IfOk-weaker c.run_from.result _ _ (λ outcome same. same ∙ c.in_ok-state.ensures.limit) c.run_from.ensures.limit
+
 pub returns-clause-answer : goal.returns-clause-answer
 returns-clause-answer g c =
     let book = c.args.book.now in
     answered (opening_of book) (rows_of_book book) c.args.work.policy c.args.work.scripts.now book.is_book
-    (c.requires.workers, (c.requires.shards, (c.requires.quotas, c.requires.short))) c.run_from.result (outcome_is g c) c.run_from.ensures.fault
+    (c.requires.workers, (c.requires.shards, (c.requires.quotas, c.requires.short))) c.run_from.result (outcome_is g c) (limit_is g c) c.run_from.ensures.fault
 
 pub returns-clause-board : goal.returns-clause-board
 returns-clause-board g c =
@@ -60,10 +66,12 @@ returns-clause-board g c =
 pub returns-clause-up_to_date : goal.returns-clause-up_to_date
 returns-clause-up_to_date g c =
     let book = c.args.book.now in
-    of_both c.run_from.result _ _ _
-    (λ outcome is shown. up_to_date g.B.Board.has (opening_of book) (rows_of_book book) [] _ outcome.history.entries c.run_from.new.board outcome.state shown is.replays is.opening_is
-    (left_book (opening_of book) (rows_of_book book) c.args.work.policy c.args.work.scripts.now book.is_book c.requires.workers.own outcome is))
-    (outcome_is g c) (returns-clause-board g c)
+    let Shown : Outcome → Type 0 = HasShownAll g.B.Board.has (opening_of book) (rows_of_book book) c.run_from.new.board in
+    let Limited : Outcome → Type 0 = λ outcome. outcome.state.limit ≡ MOST_OF_A_WORKER in
+    of_both c.run_from.result _ (λ outcome. Shown outcome × Limited outcome) _
+    (λ outcome is rest. up_to_date g.B.Board.has (opening_of book) (rows_of_book book) [] _ outcome.history.entries c.run_from.new.board outcome.state rest.0 is.replays is.opening_is
+    (omega (arith, rest.1)) (left_book (opening_of book) (rows_of_book book) c.args.work.policy c.args.work.scripts.now book.is_book c.requires.workers.own outcome is))
+    (outcome_is g c) (of_both c.run_from.result Shown Limited (λ outcome. Shown outcome × Limited outcome) (λ outcome shown limit. (shown, limit)) (returns-clause-board g c) (limit_is g c))
 
 pub returns-clause-board_after_fault : goal.returns-clause-board_after_fault
 returns-clause-board_after_fault g c =

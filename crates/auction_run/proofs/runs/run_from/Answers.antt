@@ -19,7 +19,7 @@ use Rattle.auction_run.proofs.runs.run_from.Goals as goal
 
 pub returns-then-not-is_left-clause-outcome : goal.returns-then-not-is_left-clause-outcome
 returns-then-not-is_left-clause-outcome g c = λ rows begins.
-    ended c.args.state.opening rows c.args.work.policy (some_given c.requires.quotas) c.args.work.scripts.now begins.short c.loop-phase._phase c.loop-phase.running
+    ended c.args.state.opening rows c.args.work.policy (some_given c.requires.quotas) c.args.work.scripts.now c.args.state.limit begins.short c.loop-phase._phase c.loop-phase.running
     (c.loop-phase.invariant.running rows begins) c.new-plan.result.round.first
     (c.new-plan.ensures.plan.1 ∙ ap (first_index c.new-plan.result.policy) (c.phase.ensures ∙ (c.loop-phase.invariant.running rows begins).phase_is)
     ∙ ap (λ policy. first_index policy c.loop-phase._phase) c.new-plan.ensures.policy)
@@ -29,9 +29,12 @@ returns-then-not-is_left-clause-outcome g c = λ rows begins.
 pub returns-then-not-is_left-clause-board : goal.returns-then-not-is_left-clause-board
 returns-then-not-is_left-clause-board g c = λ rows before begins has.
     let running = c.loop-phase.invariant.running (book_of rows before) begins in
-    let counted = phases_counted c.args.state.opening (book_of rows before) c.args.work.policy (some_given c.requires.quotas) c.args.work.scripts.now begins.short c.loop-phase._phase c.loop-phase.running running in
+    let counted = phases_counted c.args.state.opening (book_of rows before) c.args.work.policy (some_given c.requires.quotas) c.args.work.scripts.now c.args.state.limit begins.short c.loop-phase._phase c.loop-phase.running running in
     subst (λ n. HasShownAfter g.B.Board.has c.args.state.opening rows before n c.loop-phase.running.history.entries c.loop-phase.board) (sym running.phase_is ∙ counted)
     (c.loop-phase.invariant.shown rows before begins has)
+
+pub returns-then-not-is_left-clause-limit : goal.returns-then-not-is_left-clause-limit
+returns-then-not-is_left-clause-limit g c = c.loop-phase.invariant.limit
 
 pub new-plan-requires : goal.new-plan-requires
 new-plan-requires g c =
@@ -60,7 +63,7 @@ next_phase-requires-clause-plan g c κs within =
 pub next_phase-requires-clause-running : goal.next_phase-requires-clause-running
 next_phase-requires-clause-running g c κs within =
     let same = c.new-plan.ensures in
-    still_goes_on c.args.state c.args.work.policy c.args.work.scripts.now c.requires.begins c.loop-phase._phase c.loop-phase.running c.loop-phase.invariant.running same.policy same.scripts
+    still_goes_on c.args.state c.args.work.policy c.args.work.scripts.now c.requires.begins c.loop-phase._phase c.loop-phase.running c.loop-phase.invariant.running c.loop-phase.invariant.limit same.policy same.scripts
 
 pub next_phase-requires-clause-left : goal.next_phase-requires-clause-left
 next_phase-requires-clause-left g c κs within =
@@ -76,6 +79,7 @@ next_phase-requires-clause-left g c κs within =
 
 pub loop-phase-init : goal.loop-phase-init
 loop-phase-init g c = record {
+  limit = c.in_ok-running.ensures.limit;
   running = λ rows begins. c.in_ok-running.ensures.running rows c.args.work.policy begins;
   shown = λ rows before begins has. begins_shown g.B.Board.has c.args.state.opening rows before c.args.work.policy c.args.work.scripts.now c.in_ok-running.running c.args.board.now
       (c.in_ok-running.ensures.running (book_of rows before) c.args.work.policy begins) has;
@@ -88,8 +92,9 @@ show_phase-requires g c = λ watched.
     let rows = book_of can.rows can.before in
     let next = next_runs c.args.state.opening rows can.begins.is_book c.args.work.policy c.new-plan.result.policy c.args.work.scripts.now c.new-plan.result.round.scripts.now c.loop-phase._phase
     c.loop-phase.running c.in_ok-running-2.running same.policy same.scripts (c.loop-phase.invariant.running rows can.begins) c.in_ok-running-2.ensures.running in
-    can_show c.args.state.opening rows can.begins.is_book c.args.work.policy c.args.work.scripts.now can.begins.few can.begins.own can.begins.short c.loop-phase._phase c.in_ok-running-2.running next
+    can_show c.args.state.opening rows can.begins.is_book c.args.work.policy c.args.work.scripts.now can.begins.few can.begins.own c.loop-phase._phase c.in_ok-running-2.running next
     c.loop-phase.running.history.entries c.in_ok-running-2.ensures.grown g.B.Board.has c.loop-phase.board can.rows can.before refl (c.loop-phase.invariant.shown can.rows can.before can.begins can.has_them)
+    c.args.state.limit can.few can.begins.short
 
 pub loop-phase-preserved : goal.loop-phase-preserved
 loop-phase-preserved g c =
@@ -100,9 +105,10 @@ loop-phase-preserved g c =
     λ rows begins. next_runs c.args.state.opening rows begins.is_book c.args.work.policy c.new-plan.result.policy scripts c.new-plan.result.round.scripts.now c.loop-phase._phase c.loop-phase.running
     c.in_ok-running-2.running same.policy same.scripts (c.loop-phase.invariant.running rows begins) c.in_ok-running-2.ensures.running in
     record {
+      limit = c.in_ok-running-2.ensures.limit ∙ c.loop-phase.invariant.limit;
       running = λ rows begins. subst (λ n. IsRunning c.args.state.opening rows c.args.work.policy scripts n c.in_ok-running-2.running) one_more (next rows begins);
       shown = λ rows before begins has. subst (λ n. HasShownAfter g.B.Board.has c.args.state.opening rows before n c.in_ok-running-2.running.history.entries c.show_phase.new.board) one_more
-          (has_shown c.args.state.opening (book_of rows before) begins.is_book c.args.work.policy scripts begins.few begins.own begins.short c.loop-phase._phase c.in_ok-running-2.running
+          (has_shown c.args.state.opening (book_of rows before) begins.is_book c.args.work.policy scripts begins.few begins.own c.loop-phase._phase c.in_ok-running-2.running
           (next (book_of rows before) begins) c.loop-phase.running.history.entries c.in_ok-running-2.ensures.grown g.B.Board.has c.loop-phase.board rows before refl
           (c.loop-phase.invariant.shown rows before begins has) c.show_phase.new.board c.in_ok-show_phase.ensures.shown);
     }

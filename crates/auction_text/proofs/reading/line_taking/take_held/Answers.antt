@@ -1,7 +1,7 @@
-use Rattle.std.proofs.Common.{◌≡◌, ◌<◌, ◌∙◌, IfNone, ap, drop, subst, sym, true}
+use Rattle.std.proofs.Common.{◌≡◌, ◌∙◌, IfNone, ap, drop, subst, sym, true}
 use Rattle.auction_text.specs.LineBuffers.{held}
 use Rattle.auction_text.specs.Lines.{has_no_feed}
-use Rattle.auction_text.specs.LiveReading.{TakesText, stop_at}
+use Rattle.auction_text.specs.LiveReading.{HasRoom, TakesText, stop_at}
 use Rattle.auction_text.proofs.reading.line_taking.take_held.Goals as goal
 
 pub returns-clause-takes : goal.returns-clause-takes
@@ -14,5 +14,5 @@ returns-clause-takes g c =
 
 pub returns-clause-up : goal.returns-clause-up
 returns-clause-up g c =
-    subst (λ xs. IfNone c.in_ok-at.fault (c.take_text.new.taken.requests < c.args.most → has_no_feed xs ≡ true)) (ap (drop c.in_ok-at.at) c.held.ensures.value ∙ sym c.take.ensures.held)
+    subst (λ xs. IfNone c.in_ok-at.fault (HasRoom c.args.most c.take_text.new.taken → has_no_feed xs ≡ true)) (ap (drop c.in_ok-at.at) c.held.ensures.value ∙ sym c.take.ensures.held)
     c.in_ok-at.ensures.up

@@ -1,4 +1,4 @@
-use Rattle.std.proofs.Common.{arith, ◌∙◌, subst}
+use Rattle.std.proofs.Common.{◌∙◌, subst}
 use Rattle.std.proofs.lemmas.Result.{IfOk-weaker}
 use Rattle.auction_text.specs.LineBuffers.{held}
 use Rattle.auction_text.specs.LiveReading.{TakesText, stop_at}
@@ -7,7 +7,7 @@ use Rattle.auction_text.proofs.LiveTakingLemmas.{from_held, from_none, from_read
 use Rattle.auction_text.proofs.reading.line_taking.take_lines.Goals as goal
 
 pub loop-init : goal.loop-init
-loop-init g c = record { takes = from_none g.R.Read.remaining c.args.workers c.args.lines.now c.args.taken.now; count = c.requires.count; none = c.requires.none }
+loop-init g c = record { takes = from_none g.R.Read.remaining c.args.workers c.args.lines.now c.args.taken.now; count = c.requires.count; none = c.requires.none; few_rows = c.requires.few_rows }
 
 pub loop-preserved : goal.loop-preserved
 loop-preserved g c =
@@ -23,7 +23,8 @@ loop-preserved g c =
     record {
       takes = from_read rem workers c.args.lines.now mid c.read_on.new.self c.args.taken.now new all c.in_ok-read_on.ensures.reads;
       count = c.in_ok-fault.ensures.takes.count ∙ c.loop.invariant.count;
-      none = omega (arith, c.if-taken-gt0.false);
+      none = c.may_end.ensures.requests c.if-may_end.false;
+      few_rows = c.in_ok-fault.ensures.few_rows;
     }
 
 pub returns-in-Some-clause-takes : goal.returns-in-Some-clause-takes
@@ -38,8 +39,8 @@ returns-in-Some-clause-takes g c =
     let text = subst (λ f. TakesText workers old (held lines) new (stop_at f) (held mid)) c.in-Some.is c.in_ok-fault.ensures.takes in
     from_then rem workers c.args.lines.now lines mid c.args.taken.now old new how c.loop.invariant.takes (from_held rem workers lines mid old new how c.in_ok-fault.ensures.underneath text)
 
-pub returns-then-taken-gt0-clause-takes : goal.returns-then-taken-gt0-clause-takes
-returns-then-taken-gt0-clause-takes g c =
+pub returns-then-may_end-clause-takes : goal.returns-then-may_end-clause-takes
+returns-then-may_end-clause-takes g c =
     let rem = g.R.Read.remaining in
     let workers = c.args.workers in
     let lines = c.loop.lines in

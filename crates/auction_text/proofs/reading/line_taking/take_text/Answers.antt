@@ -1,7 +1,7 @@
 use Rattle.std.proofs.Common.{arith, ◌+◌, ◌-◌, ◌∙◌, drop, length, subst, sym, take}
 use Rattle.std.proofs.lemmas.List.{take_rest}
 use Rattle.auction_text.specs.LiveReading.{TakesText, stop_at}
-use Rattle.auction_text.proofs.LiveTakingLemmas.{text_more, within_more}
+use Rattle.auction_text.proofs.LiveTakingLemmas.{rows_step, text_more, within_more}
 use Rattle.auction_text.proofs.reading.line_taking.take_text.Goals as goal
 
 pub loop-taken-preserved : goal.loop-taken-preserved
@@ -19,7 +19,8 @@ loop-taken-preserved c =
           (text_more c.args.workers c.args.taken.now old new text rest at len c.in_ok-fault.fault (take_rest text at) c.loop-taken.invariant.takes c.in-Some.ensures.len line.takes
           (line.count ∙ sym c.loop-taken.invariant.count));
       count = line.count;
-      room = omega (arith, line.requests, c.loop-taken-test.true);
+      room = omega (arith, line.requests);
+      few_rows = omega (arith, rows_step c.args.workers old new _ c.in_ok-fault.fault line.takes);
     }
 
 pub returns-in_default-fault-clause-takes : goal.returns-in_default-fault-clause-takes

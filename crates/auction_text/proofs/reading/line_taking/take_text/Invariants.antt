@@ -1,5 +1,6 @@
 use Rattle.std.proofs.Common.{◌≡◌, ◌≤◌, ◌-◌, drop, length, vec_len}
 use Rattle.auction_text.specs.LiveReading.{TakesText}
+use Rattle.auction_text.specs.declared.reading.TheConstants.{MOST_ROWS_OF_A_PART}
 use Rattle.auction_text.specs.declared.reading.line_taking.LineStop.TheVariants.{Full}
 use Rattle.auction_text.proofs.reading.line_taking.take_text.Given as goal
 
@@ -9,6 +10,7 @@ invariant-loop-taken l = record {
   takes : TakesText l.workers l.fn.taken l.text l.taken Full (drop l.at l.text);
   count : vec_len l.taken.input.scripts ≡ l.workers;
   room : l.taken.requests ≤ l.most;
+  few_rows : vec_len l.taken.input.rows ≤ MOST_ROWS_OF_A_PART;
 }
 
 abbrev pub decreases-loop-taken : goal.decreases-loop-taken

@@ -21,3 +21,11 @@ returns-clause-reads c =
     let tail = take (filled - end) (drop end buffer) in
     rw (held buffer filled end within, c.copy_within.ensures.after, ← moved buffer at end filled before within c.requires.filled)
     (reads_on_before c.args.progress.now c.read_plain.new.progress (take end buffer) (drop at (take end buffer)) tail c.in_ok-at.ensures.reads)
+
+pub returns-clause-some : goal.returns-clause-some
+returns-clause-some c =
+    let end = c.args.from + c.lines_end.result in
+    let at = c.in_ok-at.at in
+    let within : end ≤ c.args.filled = grind (arith, common_steps) in
+    let before : at ≤ end = grind (arith, common_steps) in
+    λ goes_no_further. grind arith

@@ -11,9 +11,14 @@ use Rattle.phase_floor.specs.Closings.{at_start}
 use Rattle.phase_floor.specs.Floors.{FloorState, IsOpen}
 use Rattle.phase_permits.specs.Workers.{IsEmptyIf}
 use Rattle.phase_floor.proofs.Closings.{nothing_added, in_order, are_spent}
-use Rattle.phase_floor.proofs.Cold.{has_settled}
+use Rattle.phase_floor.proofs.Cold.{all_kept, has_settled}
 use Rattle.phase_floor.proofs.Leaving.{shards_one, slices_known, slices_can, reconciled, kept_left, leaves}
 use Rattle.phase_floor.proofs.floor.Floor.close.Goals as goal
+
+pub of-requires : goal.of-requires
+of-requires g c =
+    let own = c.self.inside.counters.ok in
+    omega (arith, c.requires.0, ap (λ (f : FloorState). length f.counters) c.self.view_is, own.0, own.1, c.args.receipts.ok.0)
 
 pub add_phase-requires-clause-few : goal.add_phase-requires-clause-few
 add_phase-requires-clause-few g c =
@@ -39,37 +44,42 @@ merge_all-requires-clause-shards g c =
     let initial = g.N.PhaseName.initial in let workers = g.N.PhaseName.workers in let receipts = c.args.receipts.items in
     let e = c.in_ok-journals.ensures in let h = c.in_ok-add_phase.ensures in let parts = c.in_ok-journals.field-0 in
     let is_open = subst (IsOpen initial workers) c.self.view_is c.self.invariant.1 in
-    shards_one initial workers c.args.self is_open receipts c.requires e.finished (map state_of c.close-shards.result.items) c.args.history.now c.add_phase.new.self parts.journals.items parts.stashes.items parts.keys.items parts.counters.items parts.slices.items e.parts h.added h.lawful c.close-shards.ensures
+    let same = all_kept g.K.Kind.IS_JOINED c.args.self receipts parts.slices.items (subst (IsEmptyIf g.K.Kind.IS_JOINED) (ap (λ (f : FloorState). f.stocks) c.self.view_is) c.self.invariant.0) c.requires e.slices in
+    shards_one initial workers c.args.self is_open receipts c.requires e.finished (map state_of c.close-shards.result.items) c.args.history.now c.add_phase.new.self parts.journals.items parts.stashes.items parts.keys.items parts.counters.items parts.slices.items e.parts same h.added h.lawful c.close-shards.ensures
 
 pub merge_all-requires-clause-known : goal.merge_all-requires-clause-known
 merge_all-requires-clause-known g c =
     let initial = g.N.PhaseName.initial in let workers = g.N.PhaseName.workers in let receipts = c.args.receipts.items in
     let e = c.in_ok-journals.ensures in let h = c.in_ok-add_phase.ensures in let parts = c.in_ok-journals.field-0 in
     let is_open = subst (IsOpen initial workers) c.self.view_is c.self.invariant.1 in
-    slices_known initial workers c.args.self is_open receipts c.requires e.finished (map state_of c.close-shards.result.items) c.args.history.now c.add_phase.new.self parts.journals.items parts.stashes.items parts.keys.items parts.counters.items parts.slices.items e.parts h.added h.lawful c.close-shards.ensures
+    let same = all_kept g.K.Kind.IS_JOINED c.args.self receipts parts.slices.items (subst (IsEmptyIf g.K.Kind.IS_JOINED) (ap (λ (f : FloorState). f.stocks) c.self.view_is) c.self.invariant.0) c.requires e.slices in
+    slices_known initial workers c.args.self is_open receipts c.requires e.finished (map state_of c.close-shards.result.items) c.args.history.now c.add_phase.new.self parts.journals.items parts.stashes.items parts.keys.items parts.counters.items parts.slices.items e.parts same h.added h.lawful c.close-shards.ensures
 
 pub merge_all-requires-clause-can : goal.merge_all-requires-clause-can
 merge_all-requires-clause-can g c =
     let initial = g.N.PhaseName.initial in let workers = g.N.PhaseName.workers in let receipts = c.args.receipts.items in
     let e = c.in_ok-journals.ensures in let h = c.in_ok-add_phase.ensures in let parts = c.in_ok-journals.field-0 in
     let is_open = subst (IsOpen initial workers) c.self.view_is c.self.invariant.1 in
-    slices_can initial workers c.args.self is_open receipts c.requires e.finished (map state_of c.close-shards.result.items) c.args.history.now c.add_phase.new.self parts.journals.items parts.stashes.items parts.keys.items parts.counters.items parts.slices.items e.parts h.added h.lawful c.close-shards.ensures
+    let same = all_kept g.K.Kind.IS_JOINED c.args.self receipts parts.slices.items (subst (IsEmptyIf g.K.Kind.IS_JOINED) (ap (λ (f : FloorState). f.stocks) c.self.view_is) c.self.invariant.0) c.requires e.slices in
+    slices_can initial workers c.args.self is_open receipts c.requires e.finished (map state_of c.close-shards.result.items) c.args.history.now c.add_phase.new.self parts.journals.items parts.stashes.items parts.keys.items parts.counters.items parts.slices.items e.parts same h.added h.lawful c.close-shards.ensures
 
 pub invariant_of-state : goal.invariant_of-state
 invariant_of-state g c =
     let initial = g.N.PhaseName.initial in let workers = g.N.PhaseName.workers in let receipts = c.args.receipts.items in
     let e = c.in_ok-journals.ensures in let h = c.in_ok-add_phase.ensures in let parts = c.in_ok-journals.field-0 in
     let is_open = subst (IsOpen initial workers) c.self.view_is c.self.invariant.1 in
+    let same = all_kept g.K.Kind.IS_JOINED c.args.self receipts parts.slices.items (subst (IsEmptyIf g.K.Kind.IS_JOINED) (ap (λ (f : FloorState). f.stocks) c.self.view_is) c.self.invariant.0) c.requires e.slices in
     kept_left initial workers c.args.self is_open receipts c.requires e.finished (added c.args.history.now.entries c.add_phase.new.self.entries)
-    c.reset_clocks.new.shards.items (reconciled initial workers c.args.self is_open receipts c.requires e.finished (map state_of c.close-shards.result.items) c.args.history.now c.add_phase.new.self parts.journals.items parts.stashes.items parts.keys.items parts.counters.items parts.slices.items e.parts h.added h.lawful c.close-shards.ensures (map state_of c.reset_clocks.new.shards.items) (c.reset_clocks.ensures ∙ ap (map at_start) c.merge_all.ensures))
-    c.self.inside.opening parts.counters.items (ap (λ (f : FloorState). f.opening) c.self.view_is) e.parts.counters_are
+    c.reset_clocks.new.shards.items (reconciled initial workers c.args.self is_open receipts c.requires e.finished (map state_of c.close-shards.result.items) c.args.history.now c.add_phase.new.self parts.journals.items parts.stashes.items parts.keys.items parts.counters.items parts.slices.items e.parts same h.added h.lawful c.close-shards.ensures (map state_of c.reset_clocks.new.shards.items) (c.reset_clocks.ensures ∙ ap (map at_start) c.merge_all.ensures))
+    c.self.inside.opening c.self.inside.limit parts.counters.items (ap (λ (f : FloorState). f.opening) c.self.view_is) (ap (λ (f : FloorState). f.limit) c.self.view_is) e.parts.counters_are
 
 pub returns-clause-closed : goal.returns-clause-closed
 returns-clause-closed g c =
     let initial = g.N.PhaseName.initial in let workers = g.N.PhaseName.workers in let receipts = c.args.receipts.items in
     let e = c.in_ok-journals.ensures in let h = c.in_ok-add_phase.ensures in let parts = c.in_ok-journals.field-0 in
     let is_open = subst (IsOpen initial workers) c.self.view_is c.self.invariant.1 in
-    reconciled initial workers c.args.self is_open receipts c.requires e.finished (map state_of c.close-shards.result.items) c.args.history.now c.add_phase.new.self parts.journals.items parts.stashes.items parts.keys.items parts.counters.items parts.slices.items e.parts h.added h.lawful c.close-shards.ensures
+    let same = all_kept g.K.Kind.IS_JOINED c.args.self receipts parts.slices.items (subst (IsEmptyIf g.K.Kind.IS_JOINED) (ap (λ (f : FloorState). f.stocks) c.self.view_is) c.self.invariant.0) c.requires e.slices in
+    reconciled initial workers c.args.self is_open receipts c.requires e.finished (map state_of c.close-shards.result.items) c.args.history.now c.add_phase.new.self parts.journals.items parts.stashes.items parts.keys.items parts.counters.items parts.slices.items e.parts same h.added h.lawful c.close-shards.ensures
     (map state_of c.reset_clocks.new.shards.items) (c.reset_clocks.ensures ∙ ap (map at_start) c.merge_all.ensures)
 
 pub returns-clause-joined : goal.returns-clause-joined
@@ -77,10 +87,11 @@ returns-clause-joined g c joined =
     let initial = g.N.PhaseName.initial in let workers = g.N.PhaseName.workers in let receipts = c.args.receipts.items in
     let e = c.in_ok-journals.ensures in let h = c.in_ok-add_phase.ensures in let parts = c.in_ok-journals.field-0 in
     let is_open = subst (IsOpen initial workers) c.self.view_is c.self.invariant.1 in
+    let same = all_kept g.K.Kind.IS_JOINED c.args.self receipts parts.slices.items (subst (IsEmptyIf g.K.Kind.IS_JOINED) (ap (λ (f : FloorState). f.stocks) c.self.view_is) c.self.invariant.0) c.requires e.slices in
     let cold = ap (λ (f : FloorState). f.stocks) (sym c.self.view_is) ∙ subst (λ (b : Bool). IsEmptyIf b c.self.inside.stocks.items) joined c.self.invariant.0 in
     let states = map state_of c.reset_clocks.new.shards.items in
     has_settled initial c.args.self receipts states (added c.args.history.now.entries c.add_phase.new.self.entries) cold c.requires
-    (reconciled initial workers c.args.self is_open receipts c.requires e.finished (map state_of c.close-shards.result.items) c.args.history.now c.add_phase.new.self parts.journals.items parts.stashes.items parts.keys.items parts.counters.items parts.slices.items e.parts h.added h.lawful c.close-shards.ensures
+    (reconciled initial workers c.args.self is_open receipts c.requires e.finished (map state_of c.close-shards.result.items) c.args.history.now c.add_phase.new.self parts.journals.items parts.stashes.items parts.keys.items parts.counters.items parts.slices.items e.parts same h.added h.lawful c.close-shards.ensures
     states (c.reset_clocks.ensures ∙ ap (map at_start) c.merge_all.ensures))
 
 pub returns-clause-leaves : goal.returns-clause-leaves
@@ -88,9 +99,10 @@ returns-clause-leaves g c =
     let initial = g.N.PhaseName.initial in let workers = g.N.PhaseName.workers in let receipts = c.args.receipts.items in
     let e = c.in_ok-journals.ensures in let h = c.in_ok-add_phase.ensures in let parts = c.in_ok-journals.field-0 in
     let is_open = subst (IsOpen initial workers) c.self.view_is c.self.invariant.1 in
+    let same = all_kept g.K.Kind.IS_JOINED c.args.self receipts parts.slices.items (subst (IsEmptyIf g.K.Kind.IS_JOINED) (ap (λ (f : FloorState). f.stocks) c.self.view_is) c.self.invariant.0) c.requires e.slices in
     leaves initial workers c.args.self is_open receipts c.requires e.finished (added c.args.history.now.entries c.add_phase.new.self.entries)
-    c.reset_clocks.new.shards.items (reconciled initial workers c.args.self is_open receipts c.requires e.finished (map state_of c.close-shards.result.items) c.args.history.now c.add_phase.new.self parts.journals.items parts.stashes.items parts.keys.items parts.counters.items parts.slices.items e.parts h.added h.lawful c.close-shards.ensures (map state_of c.reset_clocks.new.shards.items) (c.reset_clocks.ensures ∙ ap (map at_start) c.merge_all.ensures))
-    c.self.inside.opening parts.counters.items (ap (λ (f : FloorState). f.opening) c.self.view_is) e.parts.counters_are
+    c.reset_clocks.new.shards.items (reconciled initial workers c.args.self is_open receipts c.requires e.finished (map state_of c.close-shards.result.items) c.args.history.now c.add_phase.new.self parts.journals.items parts.stashes.items parts.keys.items parts.counters.items parts.slices.items e.parts same h.added h.lawful c.close-shards.ensures (map state_of c.reset_clocks.new.shards.items) (c.reset_clocks.ensures ∙ ap (map at_start) c.merge_all.ensures))
+    c.self.inside.opening c.self.inside.limit parts.counters.items (ap (λ (f : FloorState). f.opening) c.self.view_is) (ap (λ (f : FloorState). f.limit) c.self.view_is) e.parts.counters_are
     (c.self.inside.phase + 1) parts.stashes.items (ap (λ (f : FloorState). f.phase + 1) c.self.view_is) e.parts.stashes_are
 
 pub returns-clause-history : goal.returns-clause-history

@@ -23,10 +23,10 @@ from_start-requires-clause-can g c =
     let counts : c.index-counters.result.now ≡ counters_at floor.counters w =
     get_or_read c.self.inside.counters.items _ _ (omega (arith, below, c.self.invariant.1.workers_are)) c.index-counters.ensures no_counters
     ∙ ap (λ (f : FloorState). counters_at f.counters w) c.self.view_is in
-    can_start g.N.PhaseName.initial workers floor (subst (IsOpen g.N.PhaseName.initial workers) c.self.view_is c.self.invariant.1) w _ (stash_at c.args.stashes.items w) _ below (c.requires.fits w below) (c.requires.rooms w (omega (arith, below, c.requires.lens)))
+    can_start g.N.PhaseName.initial workers floor (subst (IsOpen g.N.PhaseName.initial workers) c.self.view_is c.self.invariant.1) w _ (stash_at c.args.stashes.items w) _ below (c.requires.rooms w (omega (arith, below, c.requires.lens)))
     (begun_next floor workers w c.args.quotas.now c.args.keys.items (into_iter_items c.next.new.self) c.args.kits.items (into_iter_items c.next-in-loop-key.new.self)
     c.args.stashes.items (into_iter_items c.next-in-loop-key-2.new.self) c.requires.keys c.requires.kits below c.in-Some.key c.in-Some-next.field-0 c.in-Some-next-2.stash
-    (sym step.0 ∙ was.keys) (sym c.in-Some-next.ensures.cases.0 ∙ was.kits) (sym c.in-Some-next-2.ensures.cases.0 ∙ was.stashes)
+    (sym step.0 ∙ was.keys) (sym c.in-Some-next.ensures.cases.0 ∙ was.kits) (sym c.in-Some-next-2.ensures.cases.0 ∙ was.stashes) (c.requires.fits w below)
     c.self.inside.opening c.index-counters.result.now (ap (λ (f : FloorState). f.opening) c.self.view_is) counts)
 
 pub loop-key-preserved : goal.loop-key-preserved
@@ -40,7 +40,7 @@ loop-key-preserved g c =
     get_or_read c.self.inside.counters.items _ _ (omega (arith, below, c.self.invariant.1.workers_are)) c.index-counters.ensures no_counters
     ∙ ap (λ (f : FloorState). counters_at f.counters w) c.self.view_is in
     let begun = begun_next floor workers w c.args.quotas.now c.args.keys.items (into_iter_items c.next.new.self) c.args.kits.items (into_iter_items c.next-in-loop-key.new.self)
-    c.args.stashes.items (into_iter_items c.next-in-loop-key-2.new.self) c.requires.keys c.requires.kits below key kit stash next_key next_kit next_stash
+    c.args.stashes.items (into_iter_items c.next-in-loop-key-2.new.self) c.requires.keys c.requires.kits below key kit stash next_key next_kit next_stash (c.requires.fits w below)
     c.self.inside.opening counters (ap (λ (f : FloorState). f.opening) c.self.view_is) counts in record {
       len = omega (arith, p.len, was.len);
       room = omega (arith, p.capacity, was.room);

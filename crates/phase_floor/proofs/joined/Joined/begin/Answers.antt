@@ -1,4 +1,5 @@
 use Rattle.std.proofs.Common.{◌≡◌, ◌+◌, ◌<◌, ◌≤◌, ◌^◌, List, get_or, map, length, refl, sym, ap, ◌∙◌, subst}
+use Rattle.shard_boxes.specs.declared.limits.TheConstants.{MOST_COMMITS}
 use Rattle.shard_boxes.specs.States.{ShardState, AreInitial, state_of}
 use Rattle.phase_permits.specs.Stashes.{StashState}
 use Rattle.phase_floor.specs.Begins.{AreKits, asked_in_all}
@@ -9,8 +10,8 @@ use Rattle.phase_floor.proofs.joined.Joined.begin.Goals as goal
 
 pub new_kits-requires-clause-fit : goal.new_kits-requires-clause-fit
 new_kits-requires-clause-fit g c = λ w low.
-    subst (λ (stashes : List StashState). length (stash_at stashes w).requests + get_or c.args.quotas.now w 0 ≤ 1000000) (sym c.deref.ensures.value)
-    (waiting_within c.args.self.counters c.args.stashes.items c.args.quotas.now c.requires.given.fits w (subst (λ n. w < n) (c.requires.can.quotas ∙ sym c.requires.can.workers) low))
+    subst (λ (stashes : List StashState). length (stash_at stashes w).requests + get_or c.args.quotas.now w 0 ≤ MOST_COMMITS) (sym c.deref.ensures.value)
+    (waiting_within c.args.self.limit c.args.self.counters c.args.stashes.items c.args.quotas.now (subst (λ (s : JoinedState). s.limit ≤ MOST_COMMITS) c.self.view_is c.self.invariant.last) c.requires.given.fits w (subst (λ n. w < n) (c.requires.can.quotas ∙ sym c.requires.can.workers) low))
 
 pub new_kits-requires-clause-distinct : goal.new_kits-requires-clause-distinct
 new_kits-requires-clause-distinct g c = c.requires.given.stocks.distinct
@@ -24,7 +25,7 @@ invariant_of-floor g c =
     let states : map state_of c.self.inside.shards.items ≡ g.N.PhaseName.initial = ap states_of is ∙ c.requires.can.shards in (
       c.requires.cold,
       record {
-        kept = subst (λ s. IsKept c.self.inside.opening s c.self.inside.counters.items) states c.self.invariant;
+        kept = subst (λ s. IsKept c.self.inside.opening c.self.inside.limit s c.self.inside.counters.items) states c.self.invariant;
         boxes_are = c.in-Ok-new.ensures.boxes;
         workers_are = ap (λ (s : JoinedState). length s.counters) is ∙ c.requires.can.workers;
         stocks_are = subst (λ o. AreStocksOf o g.N.PhaseName.initial c.args.stocks.items) (sym (ap (λ (s : JoinedState). s.opening) is))
@@ -35,8 +36,8 @@ invariant_of-floor g c =
 
 pub give-permits-requires-clause-fits : goal.give-permits-requires-clause-fits
 give-permits-requires-clause-fits g c = λ w below.
-    subst (λ cs. asked_in_all cs c.args.stashes.items c.args.quotas.now w ≤ 1000000) (sym (ap (λ (s : JoinedState). s.counters) c.self.view_is))
-    (within c.args.self.counters c.args.stashes.items c.args.quotas.now c.requires.given.fits w (subst (λ n. w < n) (sym c.requires.can.workers) below))
+    subst (λ (s : JoinedState). asked_in_all s.counters c.args.stashes.items c.args.quotas.now w ≤ s.limit) (sym c.self.view_is)
+    (within c.args.self.limit c.args.self.counters c.args.stashes.items c.args.quotas.now c.requires.given.fits w (subst (λ n. w < n) (sym c.requires.can.workers) below))
 
 pub new_kits-requires-clause-stashes : goal.new_kits-requires-clause-stashes
 new_kits-requires-clause-stashes g c = ap length c.deref.ensures.value ∙ sym c.args.stashes.ok.0 ∙ c.requires.stashes ∙ sym c.requires.can.quotas
@@ -72,15 +73,16 @@ give-permits-requires-clause-kits g c =
 
 pub invariant_of-result : goal.invariant_of-result
 invariant_of-result g c =
-    subst (λ (states : List ShardState). IsKept c.self.inside.opening states c.self.inside.counters.items) (ap (λ shards. map state_of shards.items) (sym c.in-Err.ensures.err)) c.self.invariant
+    subst (λ (states : List ShardState). IsKept c.self.inside.opening c.self.inside.limit states c.self.inside.counters.items) (ap (λ shards. map state_of shards.items) (sym c.in-Err.ensures.err)) c.self.invariant
 
 pub returns-in-Err-clause-refused : goal.returns-in-Err-clause-refused
 returns-in-Err-clause-refused g c =
-    (ap (λ shards. joined_of c.self.inside.opening c.self.inside.phase shards.items c.self.inside.counters.items) c.in-Err.ensures.err ∙ c.self.view_is, refl)
+    (ap (λ shards. joined_of c.self.inside.opening c.self.inside.limit c.self.inside.phase shards.items c.self.inside.counters.items) c.in-Err.ensures.err ∙ c.self.view_is, refl)
 
 pub returns-in-Ok-new-clause-begun : goal.returns-in-Ok-new-clause-begun
 returns-in-Ok-new-clause-begun g c = record {
   opening = ap (λ (s : JoinedState). s.opening) c.self.view_is;
+  limit = ap (λ (s : JoinedState). s.limit) c.self.view_is;
   phase = ap (λ (s : JoinedState). s.phase) c.self.view_is;
   counters = ap (λ (s : JoinedState). s.counters) c.self.view_is;
   permits = c.give-permits.ensures;

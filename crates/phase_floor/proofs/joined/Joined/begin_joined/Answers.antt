@@ -13,7 +13,7 @@ no_two = tt
 pub begin-requires-clause-given : goal.begin-requires-clause-given
 begin-requires-clause-given g c = record {
   stocks = subst (AreStocksOf c.args.self.opening (states_of c.args.self)) (sym c.new.ensures.items) (record { exist = tt; distinct = no_two; stocked = tt; read = tt });
-  fits = fits c.is_too_long.result c.args.self.counters c.deref.result.now c.args.stashes.items c.deref-2.result.now c.args.quotas.now
+  fits = fits c.is_too_long.result c.args.self.limit c.self.inside.limit c.args.self.counters c.deref.result.now c.args.stashes.items c.deref-2.result.now c.args.quotas.now (ap (λ (s : JoinedState). s.limit) c.self.view_is)
       (c.deref.ensures.value ∙ ap (λ (s : JoinedState). s.counters) c.self.view_is) c.deref-2.ensures.value c.is_too_long.ensures.1 c.if-is_too_long.false;
   rooms = no_stashes c.new.result.items c.args.stashes.items c.args.quotas.now c.new.ensures.items;
 }
@@ -26,18 +26,18 @@ returns-in-Ok-clause-begun g c =
     let e = c.in-Ok.ensures in record {
       opens = e.begun;
       cold = e.stocks ∙ c.new.ensures.items;
-      fits = fits c.is_too_long.result c.args.self.counters c.deref.result.now c.args.stashes.items c.deref-2.result.now c.args.quotas.now
+      fits = fits c.is_too_long.result c.args.self.limit c.self.inside.limit c.args.self.counters c.deref.result.now c.args.stashes.items c.deref-2.result.now c.args.quotas.now (ap (λ (s : JoinedState). s.limit) c.self.view_is)
           (c.deref.ensures.value ∙ ap (λ (s : JoinedState). s.counters) c.self.view_is) c.deref-2.ensures.value c.is_too_long.ensures.1 c.if-is_too_long.false;
     }
 
 pub returns-then-is_too_long-clause-refused : goal.returns-then-is_too_long-clause-refused
 returns-then-is_too_long-clause-refused g c =
     joined_too_long c.args.self c.args.stashes c.args.quotas.now c.args.self c.args.stashes refl refl
-    (too_long c.is_too_long.result c.args.self.counters c.deref.result.now c.args.stashes.items c.deref-2.result.now c.args.quotas.now
+    (too_long c.is_too_long.result c.args.self.limit c.self.inside.limit c.args.self.counters c.deref.result.now c.args.stashes.items c.deref-2.result.now c.args.quotas.now (ap (λ (s : JoinedState). s.limit) c.self.view_is)
     (c.deref.ensures.value ∙ ap (λ (s : JoinedState). s.counters) c.self.view_is) c.deref-2.ensures.value c.is_too_long.ensures.0 c.if-is_too_long.true)
 
 pub returns-in-Err-clause-refused : goal.returns-in-Err-clause-refused
 returns-in-Err-clause-refused g c =
     joined_memory c.args.self c.args.stashes c.args.quotas.now _ _ c.in-Err.ensures.refused.0 c.in-Err.ensures.refused.1
-    (fits c.is_too_long.result c.args.self.counters c.deref.result.now c.args.stashes.items c.deref-2.result.now c.args.quotas.now
+    (fits c.is_too_long.result c.args.self.limit c.self.inside.limit c.args.self.counters c.deref.result.now c.args.stashes.items c.deref-2.result.now c.args.quotas.now (ap (λ (s : JoinedState). s.limit) c.self.view_is)
     (c.deref.ensures.value ∙ ap (λ (s : JoinedState). s.counters) c.self.view_is) c.deref-2.ensures.value c.is_too_long.ensures.1 c.if-is_too_long.false)

@@ -8,12 +8,12 @@ use Rattle.phase_floor.proofs.NextRunLemmas.{kept_next, stand_next, stores_withi
 use Rattle.phase_floor.proofs.joined.Joined.for_next_run.Goals as goal
 
 pub set_commits-requires : goal.set_commits-requires
-set_commits-requires c = stores_within c.self.inside.counters.items c.self.invariant.limits
+set_commits-requires c = stores_within c.self.inside.limit c.self.invariant.last c.self.inside.counters.items c.self.invariant.limits
 
 pub invariant_of-result : goal.invariant_of-result
 invariant_of-result c =
     let states = map state_of c.self.inside.shards.items in
-    subst (λ counters. IsKept c.self.inside.opening states counters) (sym c.set_commits.ensures) (kept_next c.self.inside.counters.items c.self.inside.opening states c.self.invariant)
+    subst (λ counters. IsKept c.self.inside.opening c.self.inside.limit states counters) (sym c.set_commits.ensures) (kept_next c.self.inside.counters.items c.self.inside.opening c.self.inside.limit states c.self.invariant)
 
 pub returns-clause-stands : goal.returns-clause-stands
 returns-clause-stands c = λ book stands.

@@ -1,39 +1,48 @@
-use Rattle.std.proofs.Common.{◌≡◌, ℕ, ◌<◌, [], All, map, sym, subst, ◌∙◌, arith}
-use Rattle.std.proofs.lemmas.List.Elements.{recursion_from_All}
-use Rattle.auction_rows.specs.History.{IsBook}
-use Rattle.auction_rows.specs.Book.{worker_of}
-use Rattle.item_shards.specs.OpeningBooks.{rows_of_book}
-use Rattle.shard_boxes.specs.States.{state_of}
-use Rattle.closing_laws.specs.Standing.{ShardsStandFor, counters_at}
-use Rattle.phase_floor.specs.Resuming.{counters_in, AreReady}
-use Rattle.phase_floor.proofs.ResumeKept.{stand_for, kept_of}
+use Rattle.std.proofs.Common.{◌<◌, ◌≤◌, ◌∷◌, [], All, take, sym, ap, subst, ◌∙◌, arith}
+use Rattle.std.proofs.lemmas.List.Elements.{All-get_or}
+use Rattle.auction_rows.specs.Book.{Book, worker_of}
+use Rattle.auction_rows.specs.History.{GoOn, IsBook}
+use Rattle.item_shards.specs.OpeningRows.{rows_by}
+use Rattle.item_shards.proofs.SerialLemmas.{next_goes_on, one_more}
+use Rattle.phase_permits.specs.declared.worker.Counters.{Counters}
+use Rattle.closing_laws.specs.Standing.{counters_at}
+use Rattle.phase_floor.specs.Resuming.{counters_in}
+use Rattle.phase_floor.specs.States.{IsBookOf}
+use Rattle.phase_floor.proofs.ResumeLemmas.{before_fewer, each_next}
 use Rattle.phase_floor.proofs.joined.Joined.resume.Goals as goal
 
-pub returns-clause-stands : goal.returns-clause-stands
-returns-clause-stands c =
-    let book = c.args.book.now in let rows = rows_of_book book in let shards = c.in_ok-shards.shards in let counters = c.in_ok-counters.counters in
-    let same = c.rows-rows.ensures.rows in
-    let own = recursion_from_All (λ one. worker_of one < c.args.workers) rows c.requires.own in
-    let each = subst (λ b. (w : ℕ) → w < c.args.workers → counters_at counters.items w ≡ counters_in b w) same c.in_ok-counters.ensures.each in
-    let stand = subst (λ b. ShardsStandFor (map state_of shards.items) b []) same c.in_ok-shards.ensures.stand in
-    stand_for c.opening-2.result rows shards.items counters.items c.args.workers c.in_ok-counters.ensures.len each own stand
+pub add_row-requires : goal.add_row-requires
+add_row-requires c =
+    let rows = c.rows-row-items.result.now in let given = c.rows-row-items.ensures in let i = c.loop-row.row-index in let r = c.row-item.result in let low = c.loop-row-test.true in
+    let was = c.loop-row.invariant in let start = c.args.book.now.opening in
+    let all = subst (All (λ row. worker_of row < c.args.workers)) (sym given.rows) c.requires.own in
+    let own : worker_of r < c.args.workers = subst (λ row. worker_of row < c.args.workers) (sym c.row-item.is) (All-get_or (λ row. worker_of row < c.args.workers) rows i r low all) in
+    let counted = ap (λ (counters : Counters). counters.commits) (was.counters (worker_of r) own) in
+    let few = subst (λ (b : Book). rows_by b (worker_of r) ≤ 1000000) (sym given.rows) (given.few (worker_of r) (omega (arith, own, c.requires.workers))) in
+    record {
+      book = take i rows;
+      is_of = was.book;
+      goes_on = subst (λ o. GoOn o (take i rows) (r ∷ [])) (sym was.opening) (next_goes_on [] rows i r low c.row-item.is start (subst (IsBook start) (sym given.rows) given.book));
+      own = omega (arith, own, was.workers);
+      room = omega (arith, counted, before_fewer rows i r low c.row-item.is, few, was.limit);
+    }
 
-pub invariant_of-result : goal.invariant_of-result
-invariant_of-result c =
-    let book = c.args.book.now in let rows = rows_of_book book in let shards = c.in_ok-shards.shards in let counters = c.in_ok-counters.counters in
-    let same = c.rows-rows.ensures.rows in
-    let own = recursion_from_All (λ one. worker_of one < c.args.workers) rows c.requires.own in
-    let each = subst (λ b. (w : ℕ) → w < c.args.workers → counters_at counters.items w ≡ counters_in b w) same c.in_ok-counters.ensures.each in
-    let stand = subst (λ b. ShardsStandFor (map state_of shards.items) b []) same c.in_ok-shards.ensures.stand in
-    let ready = subst (λ o. AreReady o (map state_of shards.items)) (c.opening.ensures ∙ sym c.opening-2.ensures) c.in_ok-shards.ensures.ready in
-    kept_of c.opening-2.result rows shards.items counters.items c.args.workers c.in_ok-counters.ensures.len each own stand
-    (subst (λ o. IsBook o rows) (sym c.opening-2.ensures) c.rows-rows.ensures.book) c.rows-rows.ensures.few ready c.requires.workers
-    (omega (arith, c.in_ok-shards.ensures.len, c.requires.shards), omega (arith, c.in_ok-shards.ensures.len, c.requires.shards))
-
-pub returns-clause-book : goal.returns-clause-book
-returns-clause-book c =
-    let rows = rows_of_book c.args.book.now in record {
-      is_book = subst (λ o. IsBook o rows) (sym c.opening-2.ensures) c.rows-rows.ensures.book;
-      own = subst (λ n. All (λ one. worker_of one < n) rows) (sym c.in_ok-counters.ensures.len) c.requires.own;
-      stands = returns-clause-stands c;
+pub loop-row-preserved : goal.loop-row-preserved
+loop-row-preserved c =
+    let rows = c.rows-row-items.result.now in let given = c.rows-row-items.ensures in let i = c.loop-row.row-index in let r = c.row-item.result in let low = c.loop-row-test.true in
+    let was = c.loop-row.invariant in let start = c.args.book.now.opening in let added = c.in_ok-add_row.ensures in
+    let all = subst (All (λ row. worker_of row < c.args.workers)) (sym given.rows) c.requires.own in
+    let own : worker_of r < c.args.workers = subst (λ row. worker_of row < c.args.workers) (sym c.row-item.is) (All-get_or (λ row. worker_of row < c.args.workers) rows i r low all) in
+    let goes_on = next_goes_on [] rows i r low c.row-item.is start (subst (IsBook start) (sym given.rows) given.book) in
+    let more = one_more [] rows i r low c.row-item.is in
+    record {
+      opening = added.same.opening ∙ was.opening;
+      limit = added.same.limit ∙ was.limit;
+      phase = added.same.phase ∙ was.phase;
+      shards = added.same.shards ∙ was.shards;
+      workers = added.same.workers ∙ was.workers;
+      counters = λ w known.
+          ap (λ counters. counters_at counters w) added.counters ∙ each_next (take i rows) r c.loop-row.joined.counters c.args.workers was.workers was.counters own w known
+          ∙ ap (λ b. counters_in b w) (sym more);
+      book = subst (IsBookOf c.add_row.new.self) (sym more) (added.book (take i rows) was.book (subst (λ o. GoOn o (take i rows) (r ∷ [])) (sym was.opening) goes_on));
     }

@@ -12,19 +12,19 @@ found c =
     c.index.ensures ∙ ap (λ n. get_or c.self.inside.shards.items n c.index.result.now) (c.shard_of.ensures.shard ∙ ap (shard_of c.args.object) len)
 
 pub returns-clause-here : goal.returns-clause-here
-returns-clause-here c = lies (joined_of c.self.inside.opening c.self.inside.phase c.self.inside.shards.items c.self.inside.counters.items) c.self.invariant c.args.object c.index.result.now (found c)
+returns-clause-here c = lies (joined_of c.self.inside.opening c.self.inside.limit c.self.inside.phase c.self.inside.shards.items c.self.inside.counters.items) c.self.invariant c.args.object c.index.result.now (found c)
 
 pub returns-clause-opening : goal.returns-clause-opening
 returns-clause-opening c =
-    opening_is (joined_of c.self.inside.opening c.self.inside.phase c.self.inside.shards.items c.self.inside.counters.items) c.self.invariant c.args.object c.index.result.now (found c)
+    opening_is (joined_of c.self.inside.opening c.self.inside.limit c.self.inside.phase c.self.inside.shards.items c.self.inside.counters.items) c.self.invariant c.args.object c.index.result.now (found c)
     ∙ ap (λ (s : JoinedState). s.opening) c.self.view_is
 
 pub returns-clause-books : goal.returns-clause-books
 returns-clause-books c = λ book h.
-    stands (joined_of c.self.inside.opening c.self.inside.phase c.self.inside.shards.items c.self.inside.counters.items) c.self.invariant c.args.object c.index.result.now (found c) book
+    stands (joined_of c.self.inside.opening c.self.inside.limit c.self.inside.phase c.self.inside.shards.items c.self.inside.counters.items) c.self.invariant c.args.object c.index.result.now (found c) book
     (subst (λ (s : JoinedState). StandsFor s book) (sym c.self.view_is) h)
 
 pub returns-clause-value : goal.returns-clause-value
 returns-clause-value c =
-    value_is (joined_of c.self.inside.opening c.self.inside.phase c.self.inside.shards.items c.self.inside.counters.items) c.self.invariant c.args.object c.index.result.now (found c)
+    value_is (joined_of c.self.inside.opening c.self.inside.limit c.self.inside.phase c.self.inside.shards.items c.self.inside.counters.items) c.self.invariant c.args.object c.index.result.now (found c)
     ∙ ap (λ (s : JoinedState). value_on (states_of s) c.args.object) c.self.view_is

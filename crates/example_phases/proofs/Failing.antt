@@ -1,0 +1,26 @@
+-- A permit stays its worker's if a call fails.
+use Rattle.std.proofs.Common.{ℕ, List, ap, ◌∙◌, arith}
+use Rattle.auction_rows.specs.declared.requests.Request.{Request}
+use Rattle.shard_boxes.specs.States.{ShardState}
+use Rattle.phase_permits.specs.Performing.{HasFailed, HasFailedFirst}
+use Rattle.phase_permits.specs.Slicing.{stocks_of}
+use Rattle.phase_permits.specs.Workers.{WorkerState, with_try}
+use Rattle.phase_permits.specs.declared.transaction.PermitFault.{PermitFault}
+use Rattle.phase_floor.specs.Closings.{IsReceipt}
+use Rattle.phase_floor.specs.Floors.{FloorState}
+
+pub failed : {initial : List ShardState} {floor : FloorState} {w : ℕ} {old new : WorkerState} {request : Request} {fault : PermitFault} → IsReceipt floor w old
+    → HasFailed initial (with_try old) new request fault → IsReceipt floor w new
+failed was is = record {
+  boxes_are = is.lines.boxes ∙ was.boxes_are;
+  worker_is = is.lines.worker ∙ was.worker_is;
+  opening_is = ap (λ (s : WorkerState). s.opening) is.worker ∙ was.opening_is;
+  phase_is = ap (λ (s : WorkerState). s.journal.phase) is.worker ∙ was.phase_is;
+  stocks_are = ap (λ (s : WorkerState). stocks_of s.slices) is.worker ∙ was.stocks_are;
+  begun = ap (λ (s : WorkerState). s.begun) is.worker ∙ was.begun;
+  fits = omega (arith, was.fits, ap (λ (s : WorkerState). s.journal.room) is.worker);
+}
+
+pub failed_first : {initial : List ShardState} {floor : FloorState} {w : ℕ} {old new : WorkerState} {fault : PermitFault} → IsReceipt floor w old
+    → HasFailedFirst initial (with_try old) new fault → IsReceipt floor w new
+failed_first was is = failed was is.failed

@@ -1,0 +1,70 @@
+use Rattle.std.proofs.Common.{arith, ◌≡◌, ◌++◌, [], ℕ, List, length, drop, take, sym, ap, subst}
+use Rattle.log_opening.specs.Opening.{TellsFirst}
+use Rattle.log_opening.specs.Parts.{HasNoEnd, IsReadTo}
+use Rattle.log_opening.specs.declared.opening.OpenFault.TheVariants as fault
+use Rattle.log_opening.specs.declared.parts.ReadRows.{ReadRows}
+use Rattle.log_opening.proofs.ReadingLemmas.{any_error, begins, end_opens, end_refused, end_same, no_memory, none_read, refilled, refused_after, same_again, told_first}
+use Rattle.log_opening.proofs.opening.open_parts.Goals as goal
+
+pub returns-in_default-clause-refused : goal.returns-in_default-clause-refused
+returns-in_default-clause-refused g c =
+    let auction = c.args.auction in
+    let text = g.R.Read.remaining c.args.reader.now in
+    let told = g.W.Write.contents c.args.told.now in
+    let reading : ReadRows = record { auction = auction; rows = 0; kept = 0 } in
+    let was = none_read text told reading (begins auction c.requires) in
+    refused_after text text told told reading [] fault.Memory auction (same_again auction) was (λ left known. no_memory auction.limit (length auction.counters) auction.opening was.book left)
+
+pub read_parts-requires-clause-start : goal.read_parts-requires-clause-start
+read_parts-requires-clause-start g c = begins c.args.auction c.requires
+
+pub end-requires-clause-no_end : goal.end-requires-clause-no_end
+end-requires-clause-no_end g c =
+    let buffer = c.in-Ok.buffer in
+    let new = c.read_parts.new.buffer in
+    let same : length new ≡ length buffer.items = omega (arith, c.read_parts.ensures.len, ap length c.deref_mut.ensures.value) in
+    subst (λ (b : List ℕ). HasNoEnd (take c.in_ok-filled.filled b)) (sym (refilled buffer.len new buffer.items same (sym buffer.ok.0))) c.in_ok-filled.ensures.no_end
+
+pub returns-clause-opens : goal.returns-clause-opens
+returns-clause-opens g c =
+    let text = g.R.Read.remaining c.args.reader.now in
+    let left = g.R.Read.remaining c.read_parts.new.reader in
+    let told = g.W.Write.contents c.args.told.now in
+    let next = g.W.Write.contents c.read_parts.new.told in
+    let buffer = c.in-Ok.buffer in
+    let new = c.read_parts.new.buffer in
+    let filled = c.in_ok-filled.filled in
+    let reading = c.read_parts.new.self in
+    let same : length new ≡ length buffer.items = omega (arith, c.read_parts.ensures.len, ap length c.deref_mut.ensures.value) in
+    let is = sym (refilled buffer.len new buffer.items same (sym buffer.ok.0)) in
+    let held = take filled (take buffer.len (new ++ drop (length new) buffer.items)) in
+    let was : IsReadTo text left told next reading held = subst (λ (b : List ℕ). IsReadTo text left told next reading (take filled b)) is c.in_ok-filled.ensures.read in
+    end_opens text left told next reading held was c.in_ok-filled.ensures.end c.end.result (subst (λ (b : List ℕ). HasNoEnd (take filled b)) is c.in_ok-filled.ensures.no_end)
+    c.end.ensures.auction c.end.ensures.rows c.end.ensures.kept c.end.ensures.tail c.end.ensures.cut
+
+pub returns-clause-same : goal.returns-clause-same
+returns-clause-same g c = end_same c.args.auction c.read_parts.new.self c.end.result c.in_ok-filled.ensures.same c.end.ensures.auction
+
+pub returns-clause-refused : goal.returns-clause-refused
+returns-clause-refused g c =
+    let text = g.R.Read.remaining c.args.reader.now in
+    let left = g.R.Read.remaining c.read_parts.new.reader in
+    let told = g.W.Write.contents c.args.told.now in
+    let next = g.W.Write.contents c.read_parts.new.told in
+    let buffer = c.in-Ok.buffer in
+    let new = c.read_parts.new.buffer in
+    let filled = c.in_ok-filled.filled in
+    let reading = c.read_parts.new.self in
+    let same : length new ≡ length buffer.items = omega (arith, c.read_parts.ensures.len, ap length c.deref_mut.ensures.value) in
+    let held = take filled (take buffer.len (new ++ drop (length new) buffer.items)) in
+    let was : IsReadTo text left told next reading held =
+    subst (λ (b : List ℕ). IsReadTo text left told next reading (take filled b)) (sym (refilled buffer.len new buffer.items same (sym buffer.ok.0))) c.in_ok-filled.ensures.read in
+    end_refused text left told next reading held was c.in_ok-filled.ensures.end c.args.auction c.end.result c.in_ok-filled.ensures.same c.end.ensures.refused
+
+pub returns-clause-told : goal.returns-clause-told
+returns-clause-told g c =
+    let text = g.R.Read.remaining c.args.reader.now in
+    let told = g.W.Write.contents c.args.told.now in
+    let next = g.W.Write.contents c.read_parts.new.told in
+    any_error c.end.result (TellsFirst text told next)
+    (told_first text (g.R.Read.remaining c.read_parts.new.reader) told next c.read_parts.new.self (take c.in_ok-filled.filled c.read_parts.new.buffer) c.in_ok-filled.ensures.read)

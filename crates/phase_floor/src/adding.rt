@@ -1,0 +1,156 @@
+//! How a row is added to an auction between two phases. The auction keeps no rows: only an item
+//! takes memory.
+ghost use Rattle.std.specs.Prelude.{◌≡◌, ◌<◌, ◌++◌, ◌∷◌, [], ◌↔◌, length, IfOk, OnOk, OnErr, IsErrOf, MatchOption, true, false};
+ghost use Rattle.auction_rows.specs.Book.{Book};
+ghost use Rattle.auction_rows.specs.History.{GoOn};
+ghost use Rattle.auction_rows.specs.Refusals.{refusal};
+ghost use Rattle.auction_rows.specs.Replies.{answer, reply, row_of};
+ghost use Rattle.auction_rows.specs.Requests.{is_view};
+ghost use Rattle.auction_rows.specs.StoreReplies.{reply_of};
+ghost use Rattle.item_shards.specs.OpeningRows.{IsRow, with_opened};
+ghost use Rattle.phase_permits.specs.Replying.{CountsOf};
+ghost use Rattle.phase_floor.specs.Adding.{CanTake, HasBook, IsFull, IsOwn, IsSameAuction, IsStartOf, KeepsBooks, with_counted};
+ghost use Rattle.phase_floor.specs.States.{IsBookOf, StandsFor};
+
+use crate::joined::Joined;
+use crate::resumption::{count_row, write};
+use auction_rows::{
+    BidId, BuyId, CommentId, ItemId, Object, Refusal, Request, Row, StoreReply, item_of,
+    number_refusal, row_of_store,
+};
+use item_shards::{Opened, refusal_with};
+use phase_permits::Counters;
+use std::alloc::AllocError;
+use thiserror::Error;
+
+/// Why a row is not added.
+#[derive(Clone, Copy, Debug, PartialEq, Eq, Drop, Error)]
+pub enum AddFault {
+    /// Its worker has as many commits as the state's limit.
+    #[error("more than 1000000 requests for a worker")]
+    TooLong,
+    /// Its request is a view, is refused at its place or is of none of the auction's workers.
+    #[error("refused")]
+    BadRow,
+    /// No memory was left.
+    #[error("no memory")]
+    Memory,
+}
+
+impl From<AllocError> for AddFault {
+    ghost use Rattle.phase_floor.specs.declared.adding.AddFault.TheVariants.{Memory};
+
+    ghost from_gives = { λ _ fault. fault ≡ Memory };
+
+    fn from(_refused: AllocError) -> AddFault {
+        AddFault::Memory
+    }
+}
+
+impl Joined {
+    ghost use Rattle.phase_floor.specs.declared.adding.AddFault.TheVariants.{TooLong, BadRow};
+
+    /// Adds the row of a request that is handed in, as a commit of its worker, and gives the row.
+    /// Of two faults `TooLong` is told. After a fault the auction stands for the books that it
+    /// stood for.
+    pub fn add(&mut self, opened: &Opened) -> Result<Row, AddFault>
+        requires { HasBook self.old }
+        ensures row { IfOk result (λ row. (book : Book) → IsBookOf self.old book →
+            IsRow self.old.opening book opened.now
+            × (with_opened self.old.opening book opened.now ≡ book ++ row ∷ [])) }
+        ensures book { OnOk result ((book : Book) → IsBookOf self.old book →
+            IsBookOf self.new (with_opened self.old.opening book opened.now)) }
+        ensures start { OnOk result ((book : Book) → IsStartOf self.old book →
+            IsStartOf self.new (with_opened self.old.opening book opened.now)) }
+        ensures counters { IfOk result (λ row.
+            self.new.counters ≡ with_counted row self.old.counters) }
+        ensures same { IsSameAuction self.old self.new }
+        ensures kept { OnErr result (KeepsBooks self.old self.new) }
+        ensures too_long { IsErrOf result TooLong ↔ IsFull self.old opened.now }
+        ensures bad_row { IsErrOf result BadRow → (book : Book) → IsBookOf self.old book →
+            ¬ (IsOwn self.old opened.now × IsRow self.old.opening book opened.now) }
+    {
+        let Some(counters) = self.counters.get(opened.worker as usize) else {
+            return Err(AddFault::BadRow);
+        };
+        if counters.commits as u64 >= self.limit {
+            return Err(AddFault::TooLong);
+        }
+        let Some(row) = self.row_at(opened) else {
+            return Err(AddFault::BadRow);
+        };
+        self.add_row(&row)?;
+        Ok(row)
+    }
+
+    // The row of a request at its place, if it is one.
+    fn row_at(&self, opened: &Opened) -> Option<Row>
+        requires { IsOwn self.now opened.now }
+        ensures { (book : Book) → StandsFor self.now book →
+            result ≡ row_of opened.now.worker opened.now.request
+            (reply self.now.opening book opened.now.worker opened.now.request) }
+    {
+        let Opened { worker, request } = *opened;
+        if self.refusal(&request).is_some() {
+            return None;
+        }
+        let stored = answer_to_store(worker, &self.counters[worker as usize], &request)?;
+        row_of_store(worker, request, stored)
+    }
+
+    // The first reason to refuse a request.
+    fn refusal(&self, request: &Request) -> Option<Refusal>
+        ensures { (book : Book) → StandsFor self.now book →
+            result ≡ refusal self.now.opening book request.now }
+    {
+        if let Some(reason) = number_refusal(self.opening, *request) {
+            return Some(reason);
+        }
+        let item = item_of(*request)?;
+        refusal_with(&self.shard(Object::Item(item)).stock(item), request)
+    }
+
+    // Adds a row of one of its workers that goes on the rows stored.
+    pub(crate) fn add_row(&mut self, row: &Row) -> Result<(), AllocError>
+        requires { CanTake self.old row.now }
+        ensures book { OnOk result ((book : Book) → IsBookOf self.old book →
+            GoOn self.old.opening book (row.now ∷ []) →
+            IsBookOf self.new (book ++ row.now ∷ [])) }
+        ensures counters { OnOk result (self.new.counters ≡ with_counted row.now self.old.counters) }
+        ensures same { IsSameAuction self.old self.new }
+        ensures kept { OnErr result (KeepsBooks self.old self.new) }
+    {
+        let count = self.shards();
+        write(&mut self.shards, count, row)?;
+        let worker = row.worker() as usize;
+        count_row(&mut self.counters[worker], row);
+        Ok(())
+    }
+}
+
+// The answer to a worker's store, by what it has stored: none to a view.
+fn answer_to_store(worker: u32, counters: &Counters, request: &Request) -> Option<StoreReply>
+    ensures { (book : Book) → CountsOf book worker counters.now →
+        MatchOption result (is_view request.now ≡ true)
+        (λ told. (is_view request.now ≡ false) × (reply_of told ≡ answer book worker request.now)) }
+{
+    match *request {
+        Request::StoreItem { .. } => Some(StoreReply::ItemStored(ItemId {
+            worker,
+            serial: counters.items,
+        })),
+        Request::StoreBid { .. } => Some(StoreReply::BidStored(BidId {
+            worker,
+            serial: counters.bids,
+        })),
+        Request::StoreComment { .. } => Some(StoreReply::CommentStored(CommentId {
+            worker,
+            serial: counters.comments,
+        })),
+        Request::BuyNow { .. } => Some(StoreReply::Bought(BuyId {
+            worker,
+            serial: counters.buys,
+        })),
+        _ => None,
+    }
+}
