@@ -19,7 +19,7 @@ beside="second_opinion tutorial must_be_spent"
 for script in $beside; do
     python3 -B "tests/$script.py" > "$said/$script" 2>&1 &
 done
-for script in documents surface worked ends live lasting limits refused_memory library_calls checking loads tools postgres; do
+for script in documents surface worked ends live logs lasting limits refused_memory library_calls checking loads tools postgres; do
     echo "== tests/$script.py"
     python3 -B "tests/$script.py" 2>&1 | tee "$said/$script" || true
 done

@@ -18,13 +18,12 @@ from subprocess import SubprocessError
 
 from checks import SEEN, VIEW, Tester, each_output, main, with_shim
 from model import Options, Outcome, expected
-from program import fault, run
+from program import become_nobody, fault, run
 from records import BYTE_ORDER_MARK
 
 UNREAD = fault(2, "input cannot be read")
 UNSTARTED = fault(3, "thread not started")
 FULL = "/dev/full"
-NOBODY = 65534
 
 
 def unwritten(taken: bytes) -> Outcome:
@@ -178,11 +177,8 @@ def users_without_threads(tester: Tester) -> None:
 
 
 def allow_no_thread() -> None:
-    """Forbids this process to start another. Root, whom no limit holds, becomes another user."""
-    if os.geteuid() == 0:
-        os.setgroups([])
-        os.setresgid(NOBODY, NOBODY, NOBODY)
-        os.setresuid(NOBODY, NOBODY, NOBODY)
+    """Forbids this process to start another."""
+    become_nobody()
     resource.setrlimit(resource.RLIMIT_NPROC, (0, 0))
     require_no_fork()
 

@@ -10,8 +10,7 @@ from pathlib import Path
 from typing import Iterator
 
 from checks import MILLION, Tester, main
-from live import in_little_memory
-from program import described, run
+from program import described, in_little_memory, run
 from sessions import Auction, Refused
 
 ITEM = b'0,+item,0,0,"Vase",10,1000,1,3\n'

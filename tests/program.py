@@ -1,6 +1,7 @@
 """Running the program under test, and counting what passed and what failed."""
 
 import os
+import resource
 import shutil
 import signal
 import sys
@@ -14,6 +15,10 @@ TESTS = Path(__file__).resolve().parent
 CRATES = TESTS.parent / "crates"
 EXAMPLES = TESTS.parent / "examples"
 DOCUMENTS = TESTS.parent / "docs"
+
+# What a program may map whose memory does not grow with its input.
+LITTLE_MEMORY = 64 << 20
+NOBODY = 65534
 
 # What runs so long hangs. No run takes a tenth of it, so that a busy machine fails no test.
 SECONDS = 600
@@ -65,6 +70,18 @@ def build_shim(name: str, folder: Path) -> Path | None:
     shim = folder / f"{name}.so"
     check_call([compiler, "-Wall", "-Wextra", "-Werror", "-shared", "-fPIC", "-O1", "-o", shim, TESTS / f"{name}.c", "-ldl"])
     return shim
+
+
+def in_little_memory() -> None:
+    resource.setrlimit(resource.RLIMIT_AS, (LITTLE_MEMORY, LITTLE_MEMORY))
+
+
+def become_nobody() -> None:
+    """Root, whom no permission and no limit holds, becomes another user."""
+    if os.geteuid() == 0:
+        os.setgroups([])
+        os.setresgid(NOBODY, NOBODY, NOBODY)
+        os.setresuid(NOBODY, NOBODY, NOBODY)
 
 
 def fault(status: int, text: str) -> Outcome:

@@ -1,12 +1,14 @@
 """Sessions of a client of `--live` and `--log`: what it asks for, and an auction over several of them, each of which is killed, held against the model as one."""
 
+import itertools
 import random
 import signal
 import sys
 import threading
+import time
 from contextlib import suppress
 from pathlib import Path
-from typing import Iterator
+from typing import Callable, Iterable, Iterator
 
 from checks import Tester
 from model import Options, expected
@@ -15,6 +17,8 @@ from program import EXAMPLES
 sys.path.append(str(EXAMPLES))
 from client import Auction, Refused
 
+IN_USE = ("rubis_auction: log is in use", 5)
+SECONDS = 60
 STORES = ("item", "bid", "comment", "buynow")
 # What the first items are sold in, so that some purchases are refused.
 ITEMS, PIECES = 8, 3
@@ -43,6 +47,30 @@ def is_stored(reply: str) -> bool:
 def whole_lines(log: Path) -> bytes:
     text = log.read_bytes() if log.exists() else b""
     return text[: text.rfind(b"\n") + 1]
+
+
+def fault_of(program, log: Path, *words: str, **how) -> tuple | None:
+    """The fault and status of a program with this log that has one request, or nothing if it is answered."""
+    try:
+        auction = Auction(program, *words, "--log", str(log), **how)
+        auction.one("viewuser,0")
+        auction.close()
+    except Refused as refused:
+        return refused.args
+    return None
+
+
+def rows_of(requests: Iterable[str], workers: Iterable[int] = itertools.repeat(0)) -> bytes:
+    """The rows of these requests of these workers, as a log has them."""
+    rows = "".join(f"{worker},+{request}\n" for request, worker in zip(requests, workers))
+    return expected(rows.encode(), Options(rows=True, workers=16)).stdout
+
+
+def wait_until(holds: Callable[[], bool]) -> None:
+    for _ in range(SECONDS * 100):
+        if holds():
+            return
+        time.sleep(0.01)
 
 
 class Told(Auction):

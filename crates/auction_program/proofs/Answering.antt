@@ -21,7 +21,7 @@ use Rattle.auction_run.specs.Phases.{hot_sets}
 use Rattle.auction_run.specs.declared.checks.RunFault.{RunFault}
 use Rattle.auction_run.specs.declared.checks.RunFault.TheVariants as run
 use Rattle.auction_program.specs.declared.faults.Fault.{Fault}
-use Rattle.auction_program.specs.declared.faults.Fault.TheVariants.{Usage, Read, Resume, Row, Make, Run, Write, Report, OpenLog, Log}
+use Rattle.auction_program.specs.declared.faults.Fault.TheVariants.{Usage, Read, Resume, Row, Make, Run, Limit, Write, Report, OpenLog, Log}
 use Rattle.auction_program.specs.declared.options.Options.{Options}
 use Rattle.auction_program.specs.declared.execution.Performed.{Performed}
 
@@ -87,6 +87,7 @@ module _ (options : Options) (rows : List Opened) (scripts : List (List Request)
   not_performed (Make fault) are why =
       IfSome_then remaining (of_input (λ rs ss. AreRows (opening_asked options) rs) are) (λ input holds. (why, holds))
   not_performed (Run fault) are why = of_input (λ rs ss. AreRows (opening_asked options) rs × IsNotRun (policy_of options) fault (opening_rows (opening_asked options) rs) ss) (are, why)
+  not_performed (Limit most) are why = absurd why
   not_performed (Write fault) are why = absurd why
   not_performed Report are why = absurd why
   not_performed (OpenLog fault) are why = absurd why

@@ -13,7 +13,7 @@ use Rattle.auction_program.specs.declared.options.Options.{Options}
 
 module _ {L W : Type 0} (accepted : L → Option (List ℕ)) (contents : W → Option (List ℕ)) (old new : Teller L W) (options : Options) (book : Book) (gone : Gone) (before : ℕ) (rest : List Said) where
   -- a line is not answered
-  pub answer_stops : (fault : Fault) → StopsAtAnswer options gone rest (AreToldAt accepted contents old new fault) → IsStop accepted contents old new options book gone before rest fault
+  pub answer_stops : (fault : Fault) → StopsAtAnswer options book gone rest (AreToldAt accepted contents old new fault) → IsStop accepted contents old new options book gone before rest fault
   answer_stops (Read fault) stops = absurd stops.holds
   answer_stops fault stops = inl stops
 

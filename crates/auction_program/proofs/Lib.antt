@@ -8,7 +8,9 @@ pub mod StoppedRuns
 pub mod ToldLemmas
 pub mod FaultLemmas
 pub mod ServedParts
-pub mod Sessions
-pub mod ServedBook
 pub mod OneHistory
 pub mod RowsBefore
+pub mod PastLimits
+pub mod Sessions
+pub mod PartSteps
+pub mod ServedBook

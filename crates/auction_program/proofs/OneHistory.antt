@@ -8,8 +8,10 @@ use Rattle.auction_rows.specs.History.{ReplaysFrom, after_entry, book_after}
 use Rattle.auction_text.specs.Moved.{Gone, all_moved}
 use Rattle.auction_text.specs.Replies.{history_line, history_text, replies_text}
 use Rattle.auction_text.specs.RowLines.{rows_text}
+use Rattle.auction_text.specs.declared.reading.live_lines.Said.TheVariants as says
+use Rattle.shard_boxes.specs.declared.limits.TheConstants.{MOST_COMMITS}
 use Rattle.auction_program.specs.Options.{opening_asked}
-use Rattle.auction_program.specs.Serving.{AreStepRuns, Part, Answer, RowsComeFirst, Step, added_rows, book_past, gone_past, named_answer, served_history, served_text, step_history, step_text}
+use Rattle.auction_program.specs.Serving.{AreStepRuns, Part, Answer, RowsComeFirst, Step, added_rows, book_past, gone_past, limit_line, named_answer, served_history, served_text, step_history, step_text}
 use Rattle.auction_program.specs.declared.options.Options.{Options}
 
 -- phases and indexes don't matter to a replay
@@ -30,7 +32,7 @@ pub one_history : (options : Options) (gone : Gone) (book : Book) (steps : List 
     → ReplaysFrom (opening_asked options) (book ++ added_rows steps) (served_history options gone steps)
 unfolding AreStepRuns RowsComeFirst served_history
 one_history options gone book [] are first = tt
-one_history options gone book (Answer met ∷ steps) are first = one_history options gone book steps are.1 first.1
+one_history options gone book (Answer line ∷ steps) are first = one_history options gone book steps are.1 first.1
 one_history options gone book (Part part ∷ steps) are (inl none, first) =
     let opening : Opening = opening_asked options in
     let next : Gone = gone_past options gone (Part part) in
@@ -58,7 +60,10 @@ step_asked options gone (Part part) off on =
     let own : List Entry = all_moved gone part.history in
     ap (λ b. if b then rows_text part.added own else if options.history then history_text own else replies_text own) off
     ∙ ap (λ b. if b then history_text own else replies_text own) on
-step_asked options gone (Answer met) off on =
+step_asked options gone (Answer (says.Record one)) off on =
+    let line : List ℕ = limit_line one.worker (gone.requests one.worker) MOST_COMMITS in
+    ap (λ b. if b || options.history then [] else line) off ∙ ap (λ b. if b then [] else line) on
+step_asked options gone (Answer (says.Fault met)) off on =
     let named : List ℕ = named_answer gone met.worker met.fault in
     ap (λ b. if b || options.history then [] else named) off ∙ ap (λ b. if b then [] else named) on
 

@@ -10,11 +10,12 @@ use Rattle.auction_rows.specs.declared.rows.Entry.{Entry}
 use Rattle.auction_rows.specs.declared.values.Opening.{Opening}
 use Rattle.auction_rows.specs.Book.{Book}
 use Rattle.auction_text.specs.LiveLines.{begun_after, line_says, lines_say, then_say}
-use Rattle.auction_text.specs.LiveParts.{row_said, rows_said}
+use Rattle.auction_text.specs.LiveParts.{HasToSay, row_said, rows_said}
 use Rattle.auction_text.specs.LiveReading.{records_said}
 use Rattle.auction_text.specs.Scripts.{requests_in, row_in, rows, script}
 use Rattle.auction_text.specs.declared.reading.live_lines.Said.{Said}
 use Rattle.auction_text.specs.declared.reading.live_lines.Said.TheVariants as says
+use Rattle.auction_text.specs.declared.reading.live_parts.LiveInput.{LiveInput}
 use Rattle.auction_text.specs.declared.reading.record.Record.{Record}
 use Rattle.auction_text.proofs.LivePartLemmas.{no_rows_said}
 use Rattle.item_shards.specs.declared.openings.Opened.{Opened}
@@ -30,7 +31,7 @@ HasNoLateRow (one ∷ more) = ((begun_after false one ≡ false) ⊎ (rows_said 
 
 -- ---- lines say no late row
 
-request_begins : (begun : Bool) (one : Record) → one.is_row ≡ false → begun_after begun (says.Record one) ≡ true
+pub request_begins : (begun : Bool) (one : Record) → one.is_row ≡ false → begun_after begun (says.Record one) ≡ true
 request_begins true one request = refl
 request_begins false one request = ap not request
 
@@ -53,6 +54,11 @@ lines_have_no_late_row workers place begun (line ∷ rest) =
       | inr request ↦ inr (subst (λ (b : Bool). rows_said (lines_say workers (place + 1) b rest) ≡ []) (sym (request_begins begun one request)) (no_rows_said workers (place + 1) rest))
     ]
 
+-- nor does what an input has yet to say
+pub no_late_row : {R : Type 0} (remaining : R → Option (List ℕ)) (left : LiveInput R) (rest : List Said) → HasToSay remaining left rest → HasNoLateRow rest
+no_late_row remaining left rest has =
+    subst HasNoLateRow (sym has.all_is) (lines_have_no_late_row left.workers (left.count + 1) left.begun _)
+
 -- ---- what is behind records
 
 behind : (xs ys : List Said) → HasNoLateRow (xs ++ ys) → HasNoLateRow ys
@@ -67,12 +73,12 @@ first_none : {X : Type 0} (xs ys : List X) → xs ++ ys ≡ [] → xs ≡ []
 first_none [] ys none = refl
 first_none (x ∷ xs) ys none = absurd (cc none)
 
-rows_of_both : (xs ys : List Said) → rows_said (xs ++ ys) ≡ [] → (rows_said xs ≡ []) × (rows_said ys ≡ [])
+pub rows_of_both : (xs ys : List Said) → rows_said (xs ++ ys) ≡ [] → (rows_said xs ≡ []) × (rows_said ys ≡ [])
 rows_of_both xs ys none =
     let both : rows_said xs ++ rows_said ys ≡ [] = sym (filter_map-append row_said xs ys) ∙ none in
     (first_none (rows_said xs) (rows_said ys) both, second_none (rows_said xs) (rows_said ys) both)
 
-one_more : (one : Record) (said : List Record) → requests_in (one ∷ said) ≡ cond (not one.is_row) 1 0 + requests_in said
+pub one_more : (one : Record) (said : List Record) → requests_in (one ∷ said) ≡ cond (not one.is_row) 1 0 + requests_in said
 one_more one said = sum_by-cons (λ (r : Record). cond (not r.is_row) 1 0) one said
 
 -- no row is said behind records with a request
@@ -94,7 +100,7 @@ one_none one said none = elim (cases_Bool one.is_row) [
   | inr request ↦ absurd (omega (arith, sym (one_more one said ∙ ap (λ (b : Bool). cond (not b) 1 0 + requests_in said) request) ∙ none))
 ]
 
-no_script : (worker : ℕ) (said : List Record) → requests_in said ≡ 0 → script worker said ≡ []
+pub no_script : (worker : ℕ) (said : List Record) → requests_in said ≡ 0 → script worker said ≡ []
 no_script worker [] none = refl
 no_script worker (one ∷ said) none =
     let (row, others) = one_none one said none in
@@ -108,14 +114,14 @@ none_of_all f none (w ∷ ws) (suc n) = none_of_all f none ws n
 none_asked : (xs : List Request) (i : ℕ) (request : Request) → xs ≡ [] → slice_get xs i ≡ Some request → ⊥
 none_asked xs i request none is = let no : slice_get {X = Request} [] i ≡ Some request = subst (λ (l : List Request). slice_get l i ≡ Some request) none is in cc no
 
-no_entries : (scripts : List (List Request)) → ((worker : ℕ) → script_of scripts worker ≡ []) → (history : List Entry)
+pub no_entries : (scripts : List (List Request)) → ((worker : ℕ) → script_of scripts worker ≡ []) → (history : List Entry)
     → AllByRecursion (λ e. slice_get (script_of scripts e.worker) e.index ≡ Some e.request) history → history ≡ []
 no_entries scripts none [] are = refl
 no_entries scripts none (e ∷ history) are = absurd (none_asked (script_of scripts e.worker) e.index e.request (none e.worker) are.0)
 
 -- ---- the rows that steps add
 
-same_rows : (records : List Record) → rows_said (records_said records) ≡ rows records
+pub same_rows : (records : List Record) → rows_said (records_said records) ≡ rows records
 same_rows [] = refl
 same_rows (one ∷ records) = ap (cons_option (row_in one)) (same_rows records)
 
@@ -127,7 +133,9 @@ none_added opening book asked added none adds =
 none_by_steps : (options : Options) (book : Book) (steps : List Step) (rest : List Said) → AreStepRuns options book steps → rows_said (flat_map step_said steps ++ rest) ≡ [] → added_rows steps ≡ []
 unfolding AreStepRuns
 none_by_steps options book [] rest are none = refl
-none_by_steps options book (Answer met ∷ steps) rest are none = none_by_steps options book steps rest are.1 none
+none_by_steps options book (Answer (says.Fault met) ∷ steps) rest are none = none_by_steps options book steps rest are.1 none
+none_by_steps options book (Answer (says.Record one) ∷ steps) rest are none =
+    none_by_steps options book steps rest are.1 ((rows_of_both (says.Record one ∷ []) (flat_map step_said steps ++ rest) none).1)
 none_by_steps options book (Part part ∷ steps) rest are none =
     let said : List Said = records_said part.said in
     let later : List Said = flat_map step_said steps ++ rest in
@@ -139,7 +147,7 @@ none_by_steps options book (Part part ∷ steps) rest are none =
 pub rows_first : (options : Options) (book : Book) (steps : List Step) (rest : List Said) → AreStepRuns options book steps → HasNoLateRow (flat_map step_said steps ++ rest) → RowsComeFirst steps
 unfolding AreStepRuns RowsComeFirst
 rows_first options book [] rest are free = tt
-rows_first options book (Answer met ∷ steps) rest are free = (inl refl, rows_first options book steps rest are.1 free.1)
+rows_first options book (Answer line ∷ steps) rest are free = (inl refl, rows_first options book steps rest are.1 free.1)
 rows_first options book (Part part ∷ steps) rest are free =
     (first (requests_in part.said) refl, rows_first options next steps rest are.1 (behind said later parted))
   where

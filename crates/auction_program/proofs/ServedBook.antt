@@ -17,16 +17,16 @@ use Rattle.auction_program.specs.Options.{opening_asked}
 use Rattle.phase_floor.specs.States.{JoinedState}
 use Rattle.auction_program.specs.PartRuns.{IsStart, rows_before}
 use Rattle.auction_program.specs.ServeFaults.{AreToldAt, IsPartFault, IsServeFault, IsStop, StopsAtAnswer, StopsAtPart}
-use Rattle.auction_program.specs.Serving.{AreStepRuns, ArePartTold, AreTold, HasServedBook, IsLoggedBefore, IsNothingTold, IsStepRun, LogHasBook, Part, Answer, PartRun, ServesAll, ServesFirst, Step, book_left, book_past, fault_answer, gone_after, nothing_gone, served_rows, served_text, step_rows, step_said, step_text}
+use Rattle.auction_program.specs.Serving.{AreStepRuns, ArePartTold, AreTold, HasServedBook, IsLoggedBefore, IsNothingTold, IsStepRun, LogHasBook, Part, Answer, PartRun, ServesAll, ServesFirst, Step, book_left, book_past, gone_after, line_answer, nothing_gone, served_rows, served_text, step_rows, step_said, step_text}
 use Rattle.auction_program.specs.declared.faults.Fault.{Fault}
-use Rattle.auction_program.specs.declared.faults.Fault.TheVariants.{Usage, Read, Resume, Row, Make, Run, Write, Report, OpenLog, Log}
+use Rattle.auction_program.specs.declared.faults.Fault.TheVariants.{Usage, Read, Resume, Row, Make, Run, Limit, Write, Report, OpenLog, Log}
 use Rattle.auction_program.specs.declared.options.Options.{Options}
 use Rattle.auction_program.proofs.Sessions.{all_more, each_more, runs_more, text_more}
 use Rattle.auction_program.proofs.ToldLemmas.{part_kept, part_more, told_at, whole_part}
 
 -- the rows of a book and those that a step adds
 step_told : (options : Options) (book : Book) (step : Step) → IsStepRun options book step → rows_text book [] ++ step_rows step ≡ rows_text (book_past options book step) []
-step_told options book (Answer met) run = append-nil (rows_text book [])
+step_told options book (Answer line) run = append-nil (rows_text book [])
 step_told options book (Part part) run =
     let opening : Opening = opening_asked options in
     let from : Book = book ++ part.added in
@@ -96,9 +96,9 @@ module _ {L W : Type 0} (accepted : L → Option (List ℕ)) (contents : W → O
     abbrev gone : Gone
     gone = gone_after options told.steps
 
-    answer_told : StopsAtAnswer options gone told.rest (AreToldAt accepted contents between new fault) → IsLoggedBefore accepted contents old new options book all
+    answer_told : StopsAtAnswer options at gone told.rest (AreToldAt accepted contents between new fault) → IsLoggedBefore accepted contents old new options book all
     answer_told stops =
-        told_step told (Answer stops.met) stops.behind stops.rest_is stops.goes_on (told_at accepted contents between new fault [] (fault_answer options gone stops.met) stops.holds)
+        told_step told (Answer stops.line) stops.behind stops.rest_is (stops.goes_on, stops.turned_away) (told_at accepted contents between new fault [] (line_answer options gone stops.line) stops.holds)
 
     part_told : (stops : StopsAtPart accepted contents between new options at gone (rows_before told.steps) told.rest fault)
         → IsPartFault accepted contents between new options at gone (rows_before told.steps) (asked_in options.workers stops.next) fault → IsLoggedBefore accepted contents old new options book all
@@ -108,7 +108,7 @@ module _ {L W : Type 0} (accepted : L → Option (List ℕ)) (contents : W → O
         told_step told (Part part) stops.behind stops.rest_is (record { few = stops.few; adds = runs.adds; answer = runs.answer })
         (told_at accepted contents between new fault (step_rows (Part part)) (step_text options gone (Part part)) runs.holds)
 
-    told_either : StopsAtAnswer options gone told.rest (AreToldAt accepted contents between new fault) ⊎ StopsAtPart accepted contents between new options at gone (rows_before told.steps) told.rest fault
+    told_either : StopsAtAnswer options at gone told.rest (AreToldAt accepted contents between new fault) ⊎ StopsAtPart accepted contents between new options at gone (rows_before told.steps) told.rest fault
         → IsLoggedBefore accepted contents old new options book all
     told_either (inl stops) = answer_told stops
     told_either (inr stops) = part_told stops stops.stops
@@ -121,6 +121,7 @@ module _ {L W : Type 0} (accepted : L → Option (List ℕ)) (contents : W → O
   told_stop told (Row number fault) stops = told_either told (Row number fault) stops
   told_stop told (Make fault) stops = told_either told (Make fault) stops
   told_stop told (Run fault) stops = told_either told (Run fault) stops
+  told_stop told (Limit most) stops = told_either told (Limit most) stops
   told_stop told (Write fault) stops = told_either told (Write fault) stops
   told_stop told Report stops = told_either told Report stops
   told_stop told (OpenLog fault) stops = told_either told (OpenLog fault) stops

@@ -1,12 +1,15 @@
 -- A part that is served, or is not.
-use Rattle.std.proofs.Common.{◌≡◌, ◌+◌, ◌++◌, ℕ, List, Option, IfErr, Result, inl, length, sym, subst}
+use Rattle.std.proofs.Common.{◌≡◌, ◌+◌, ◌++◌, ◌∙◌, ℕ, Bool, true, false, List, [], Option, None, Some, IfErr, IfNone, IfSome, Result, ap, arith, inl, length, map, refl, sym, subst}
+use Rattle.std.proofs.lemmas.List.{length-map}
 use Rattle.std.specs.Result.{IsErr, IsErrAnd}
 use Rattle.auction_rows.specs.declared.requests.Request.{Request}
 use Rattle.auction_rows.specs.declared.values.Opening.{Opening}
 use Rattle.auction_rows.specs.Book.{Book}
-use Rattle.auction_run.specs.declared.checks.RunFault.{RunFault}
+use Rattle.auction_run.specs.Beginning.{AreShortFor}
+use Rattle.auction_run.specs.GoingOn.{AreShortOn, HasScripts}
 use Rattle.auction_text.specs.Moved.{Gone}
 use Rattle.auction_text.specs.Scripts.{Asked}
+use Rattle.item_shards.specs.OpeningRows.{rows_by}
 use Rattle.item_shards.specs.declared.openings.Opened.{Opened}
 use Rattle.log_opening.specs.Parts.{HasAdded, rows_from}
 use Rattle.part_log.specs.declared.log.Teller.{Teller}
@@ -15,19 +18,24 @@ use Rattle.phase_floor.specs.NextRun.{for_next_run}
 use Rattle.phase_floor.specs.States.{JoinedState, StandsFor}
 use Rattle.shard_boxes.specs.declared.limits.TheConstants.{MOST_COMMITS}
 use Rattle.auction_program.specs.Options.{opening_asked}
-use Rattle.auction_program.specs.PartRuns.{BeginsAt, FitsOptions}
-use Rattle.auction_program.specs.ServeFaults.{IsFirstBadRow, IsFirstNotAdded, IsNotRunOn, IsPartFault, IsPartRefused}
-use Rattle.auction_program.specs.Serving.{AddsRows}
+use Rattle.auction_program.specs.PartRuns.{AreDoneOf, BeginsAt, FitsOptions, IsPastOn, done_of}
+use Rattle.auction_program.specs.ServeFaults.{AreNotRunOn, FailsPart, IsFirstBadRow, IsFirstNotAdded, IsPartRefused}
+use Rattle.auction_program.specs.Serving.{AddsRows, ends_at_fault}
 use Rattle.auction_program.specs.declared.faults.Fault.{Fault}
-use Rattle.auction_program.specs.declared.faults.Fault.TheVariants.{Usage, Read, Resume, Row, Make, Run, Write, Report, OpenLog, Log}
+use Rattle.auction_program.specs.declared.faults.Fault.TheVariants.{Usage, Read, Resume, Row, Make, Run, Limit, Write, Report, OpenLog, Log}
 use Rattle.auction_program.specs.declared.options.Options.{Options}
 use Rattle.auction_program.proofs.Answering.{error_is}
-use Rattle.auction_program.proofs.StoppedRuns.{added_fits, next_fits, next_start}
+use Rattle.auction_program.proofs.StoppedRuns.{added_fits, next_fits, next_start, short_behind, stored}
 use Rattle.auction_program.proofs.ToldLemmas.{nothing_told}
 
 -- before another run an auction has its book yet
 pub next_has : (state next : JoinedState) → next ≡ for_next_run state → ((b : Book) → StandsFor state b → StandsFor next b) → HasBook state → (book : Book) × IsStartOf next book
 next_has state next is stands has = (has.book, next_start state next has.book is stands has.is_of)
+
+-- as many scripts are run
+same_count : (past : Option ℕ) (asked : Asked) → length (done_of past asked).scripts ≡ length asked.scripts
+same_count None asked = refl
+same_count (Some worker) asked = length-map asked.scripts (λ script. [])
 
 module _ (options : Options) (state next : JoinedState) (book : Book) (scripts : List (List Request)) (begins : BeginsAt options state scripts book) (is : next ≡ for_next_run state)
     (stands : (b : Book) → StandsFor state b → StandsFor next b) where
@@ -48,8 +56,73 @@ module _ (options : Options) (state next : JoinedState) (book : Book) (scripts :
     pub begins_behind : BeginsAt options mid scripts (book ++ added)
     begins_behind = record { start = record { fits = added_fits options next mid same fits; of = (has book start).start.is_of }; workers = begins.workers }
 
-    pub behind : (fault : RunFault) → IsNotRunOn options fault (book ++ added) scripts → IsNotRunOn options fault (rows_from (opening_asked options) book asked) scripts
-    behind fault why = subst (λ (b : Book). IsNotRunOn options fault b scripts) (sym part_adds.adds) why
+    module _ (all : List (List Request)) (past : Option ℕ) (run : List (List Request)) (counted : length all ≡ length scripts)
+        (none : IfNone past (run ≡ all)) (some : IfSome past (λ worker. (ends_at_fault options ≡ false) × (IsPastOn mid all worker × (run ≡ map (λ script. []) all)))) where
+      -- what is done of what is asked for
+      pub done_is : record { rows = asked; scripts = run } ≡ done_of past (record { rows = asked; scripts = all })
+      done_is = each past none some
+        where
+          each : (past : Option ℕ) → IfNone past (run ≡ all) → IfSome past (λ worker. (ends_at_fault options ≡ false) × (IsPastOn mid all worker × (run ≡ map (λ script. []) all)))
+              → record { rows = asked; scripts = run } ≡ done_of past (record { rows = asked; scripts = all })
+          each None none some = λ i. record { rows = asked; scripts = none i }
+          each (Some worker) none some = λ i. record { rows = asked; scripts = some.1.1 i }
+
+      -- and why it is not all
+      pub are_done : AreDoneOf options book (record { rows = asked; scripts = all }) past
+      are_done = each past some
+        where
+          each : (past : Option ℕ) → IfSome past (λ worker. (ends_at_fault options ≡ false) × (IsPastOn mid all worker × (run ≡ map (λ script. []) all))) → AreDoneOf options book (record { rows = asked; scripts = all }) past
+          each None some = tt
+          each (Some worker) some = (
+            some.0,
+            record {
+              some = some.1.0.some;
+              past = λ short. some.1.0.past (
+                short.0,
+                omega (
+                  arith,
+                  short.1,
+                  begins_behind.start.fits.limit,
+                  stored mid (book ++ added) begins_behind.start.of.stands worker some.1.0.own,
+                  ap (λ (b : Book). rows_by b worker) part_adds.adds,
+                ),
+              );
+            },
+          )
+
+      -- its scripts begin behind the rows
+      pub run_begins : BeginsAt options mid run (book ++ added)
+      run_begins = record {
+        start = begins_behind.start;
+        workers = ap length (ap (λ (a : Asked). a.scripts) done_is) ∙ same_count past (record { rows = asked; scripts = all }) ∙ counted ∙ begins.workers;
+      }
+
+      -- why they are not run
+      pub run_refused : (before : ℕ) (fault : Fault) → (ends_at_fault options ≡ false → mid.limit ≡ MOST_COMMITS → HasScripts mid all → AreShortOn mid run) → AreNotRunOn options fault (book ++ added) run
+          → IsPartRefused options book before (done_of past (record { rows = asked; scripts = all })) fault
+      run_refused before fault short why = subst (λ (a : Asked). IsPartRefused options book before a fault) done_is (refused fault why)
+        where
+          behind_rows : (fault : Fault) → AreNotRunOn options fault (book ++ added) run → AreNotRunOn options fault (rows_from (opening_asked options) book asked) run
+          behind_rows fault why = subst (λ (b : Book). AreNotRunOn options fault b run) (sym part_adds.adds) why
+
+          is_end : (ends : Bool) → ends_at_fault options ≡ ends → ¬ AreShortFor MOST_COMMITS (book ++ added) run → ends_at_fault options ≡ true
+          is_end true is not_short = is
+          is_end false is not_short =
+              absurd (not_short (short_behind mid (book ++ added) run MOST_COMMITS begins_behind.start.fits.limit (run_begins.workers ∙ sym begins_behind.start.fits.workers) begins_behind.start.of.stands
+              (short is begins_behind.start.fits.limit (counted ∙ begins.workers ∙ sym begins_behind.start.fits.workers))))
+
+          refused : (fault : Fault) → AreNotRunOn options fault (book ++ added) run → IsPartRefused options book before (record { rows = asked; scripts = run }) fault
+          refused (Run fault) why = behind_rows (Run fault) why
+          refused (Limit most) why = (is_end (ends_at_fault options) refl why.1.1, behind_rows (Limit most) why)
+          refused (Usage fault) why = absurd why
+          refused (Read fault) why = absurd why
+          refused (Resume fault) why = absurd why
+          refused (Row number fault) why = absurd why
+          refused (Make fault) why = absurd why
+          refused (Write fault) why = absurd why
+          refused Report why = absurd why
+          refused (OpenLog fault) why = absurd why
+          refused (Log fault) why = absurd why
 
   taken : (before : ℕ) (asked : Asked) (fault : Fault) → IsFirstNotAdded next book asked.rows before fault → IsPartRefused options book before asked fault
   taken before asked (Row number fault) why =
@@ -61,6 +134,7 @@ module _ (options : Options) (state next : JoinedState) (book : Book) (scripts :
   taken before asked (Resume fault) why = absurd why
   taken before asked (Make fault) why = absurd why
   taken before asked (Run fault) why = absurd why
+  taken before asked (Limit most) why = absurd why
   taken before asked (Write fault) why = absurd why
   taken before asked Report why = absurd why
   taken before asked (OpenLog fault) why = absurd why
@@ -72,9 +146,9 @@ module _ (options : Options) (state next : JoinedState) (book : Book) (scripts :
 
 -- a part is refused, and nothing of it is told
 pub refused_untold : {L W T : Type 0} (accepted : L → Option (List ℕ)) (contents : W → Option (List ℕ)) (teller : Teller L W) (options : Options) (auction : JoinedState) (scripts : List (List Request)) (gone : Gone)
-    (before : ℕ) (asked : Asked) (result : Result T Fault) (fault : Fault) → IsErr result × IsErrAnd result (λ f. f ≡ fault)
-    → ((book : Book) → BeginsAt options auction scripts book → IsPartRefused options book before asked fault)
-    → IfErr result (λ f. (book : Book) → BeginsAt options auction scripts book → IsPartFault accepted contents teller teller options book gone before asked f)
-refused_untold accepted contents teller options auction scripts gone before asked result fault is why =
-    error_is result fault (λ f. (book : Book) → BeginsAt options auction scripts book → IsPartFault accepted contents teller teller options book gone before asked f) is
-    (λ book begins. inl (nothing_told accepted contents teller, why book begins))
+    (before : ℕ) (asked : Asked) (past : Option ℕ) (result : Result T Fault) (fault : Fault) → IsErr result × IsErrAnd result (λ f. f ≡ fault)
+    → ((book : Book) → BeginsAt options auction scripts book → AreDoneOf options book asked past × IsPartRefused options book before (done_of past asked) fault)
+    → IfErr result (λ f. (book : Book) → BeginsAt options auction scripts book → FailsPart accepted contents teller teller options book gone before asked f)
+refused_untold accepted contents teller options auction scripts gone before asked past result fault is why =
+    error_is result fault (λ f. (book : Book) → BeginsAt options auction scripts book → FailsPart accepted contents teller teller options book gone before asked f) is
+    (λ book begins. record { past = past; are = (why book begins).0; fails = inl (nothing_told accepted contents teller, (why book begins).1) })

@@ -1,18 +1,17 @@
 -- An input that is served step by step: one part or one answer more.
-use Rattle.std.proofs.Common.{◌≡◌, ◌≤◌, ◌+◌, ◌++◌, ◌∷◌, ◌∙◌, false, ℕ, List, [], Option, None, Some, IfSome, flat_map, fold, length, refl, sym, ap, subst, append_assoc, append-nil, arith}
+use Rattle.std.proofs.Common.{◌≡◌, ◌≤◌, ◌+◌, ◌++◌, ◌∷◌, ◌∙◌, Bool, false, ℕ, List, [], Option, None, Some, IfSome, MatchOption, flat_map, fold, if◌then◌else◌, length, refl, sym, ap, subst, append_assoc, append-nil, arith}
 use Rattle.std.proofs.lemmas.Grind.{flat_map-append}
 use Rattle.std.proofs.lemmas.List.{length-append}
 use Rattle.std.proofs.lemmas.List.Elements.{filter_map-append}
-use Rattle.std.proofs.lemmas.List.FromFn.{length-map-range_with_len}
 use Rattle.std.proofs.lemmas.List.Sums.{fold-append}
 use Rattle.std.specs.List.{cons_option}
+use Rattle.auction_rows.specs.declared.requests.Request.{Request}
 use Rattle.auction_rows.specs.Book.{Book}
 use Rattle.auction_text.specs.LiveParts.{GoesOnAfter, IsLivePart, KeepsLiveWorkers, row_said, rows_said}
 use Rattle.auction_text.specs.LiveReading.{records_said}
 use Rattle.auction_text.specs.Moved.{Gone, gone_by}
 use Rattle.auction_text.specs.Reading.{IsInputFault}
-use Rattle.auction_text.specs.Scripts.{Asked, asked_in, asked_of, requests_in, row_in, rows, script}
-use Rattle.auction_text.specs.declared.reading.CompactInput.{CompactInput}
+use Rattle.auction_text.specs.Scripts.{Asked, asked_in, asked_of, requests_in}
 use Rattle.auction_text.specs.declared.reading.ReadFault.{ReadFault}
 use Rattle.auction_text.specs.declared.reading.live_lines.LineFault.{LineFault}
 use Rattle.auction_text.specs.declared.reading.live_lines.Said.{Said}
@@ -22,14 +21,21 @@ use Rattle.auction_text.specs.declared.reading.live_parts.LiveEnd.TheVariants.{M
 use Rattle.auction_text.specs.declared.reading.live_parts.LiveInput.{LiveInput}
 use Rattle.auction_text.specs.declared.reading.live_parts.LivePart.{LivePart}
 use Rattle.auction_text.specs.declared.reading.record.Record.{Record}
+use Rattle.item_shards.specs.OpeningRows.{rows_by}
+use Rattle.item_shards.specs.declared.openings.Opened.{Opened}
 use Rattle.part_log.specs.declared.log.Teller.{Teller}
-use Rattle.auction_program.specs.PartRuns.{BeginsAt, GoesOnTo, IsSession, IsStart, MayHaveToSay, PassesFault, ServesPart, answer_to, fault_said, rows_before}
-use Rattle.auction_program.specs.ServeFaults.{IsPartFault, IsServeFault, IsStop, StopsAtPart}
-use Rattle.auction_program.specs.Serving.{AreStepRuns, AreTold, IsStepRun, Part, Answer, PartRun, ServesAll, Step, book_left, book_past, ends_at_fault, gone_past, nothing_gone, served_rows, served_text, step_rows, step_said, step_text}
+use Rattle.shard_boxes.specs.declared.limits.TheConstants.{MOST_COMMITS}
+use Rattle.auction_program.specs.PartRuns.{AreDoneOf, BeginsAt, GoesOnTo, IsNextPast, IsSession, IsStart, LeftBehind, MayHaveToSay, PassesFault, ServesPart, answer_to, fault_said, past_answer, rows_before}
+use Rattle.auction_program.specs.ServeFaults.{AreToldAt, IsPartFault, IsServeFault, IsStop, StopsAtPart}
+use Rattle.auction_program.specs.Serving.{AreStepRuns, AreTold, IsStepRun, Part, Answer, PartRun, ServesAll, Step, book_left, book_past, ends_at_fault, gone_past, limit_answer, line_answer, nothing_gone, served_rows, served_text, step_rows, step_said, step_text}
 use Rattle.auction_program.specs.declared.faults.Fault.{Fault as AnyFault}
 use Rattle.auction_program.specs.declared.faults.Fault.TheVariants.{Read}
 use Rattle.auction_program.specs.declared.options.Options.{Options}
 use Rattle.auction_program.specs.declared.parts.Served.{Served}
+use Rattle.auction_program.proofs.FaultLemmas.{answer_stops}
+use Rattle.auction_program.proofs.PastLimits.{ReadsPart}
+use Rattle.auction_program.proofs.RowsBefore.{same_rows}
+use Rattle.auction_program.proofs.StoppedRuns.{stored}
 use Rattle.auction_program.proofs.ToldLemmas.{nothing_told, told_more, told_none}
 
 -- what each step gives, with one more
@@ -57,11 +63,6 @@ all_more all rest behind steps step is more =
     let said : List Said = flat_map step_said steps in
     is ∙ ap (λ (xs : List Said). said ++ xs) more ∙ sym (append_assoc said (step_said step) behind) ∙ ap (λ (xs : List Said). xs ++ behind) (sym (each_more step_said steps step))
 
--- what records say
-same_rows : (records : List Record) → rows_said (records_said records) ≡ rows records
-same_rows [] = refl
-same_rows (one ∷ records) = ap (cons_option (row_in one)) (same_rows records)
-
 rows_more : (steps : List Step) (step : Step) → rows_before (steps ++ step ∷ []) ≡ rows_before steps + length (rows_said (step_said step))
 rows_more steps step =
     let said : List Said = flat_map step_said steps in
@@ -79,25 +80,19 @@ goes_on_to remaining workers all said (More left) on keeps = (on.0, (on.1.1.0, (
 goes_on_to remaining workers all said (Fault met left) on keeps = (says.Fault met ∷ on.0, (on.1.0, (on.0, (refl, (keeps, on.1.1.left_is)))))
 goes_on_to remaining workers all said All on keeps = ([], (on ∙ sym (append-nil (records_said said)), refl))
 
--- A part is read of what an input has yet to say.
-pub record ReadsPart {R : Type 0} (remaining : R → Option (List ℕ)) (options : Options) (rest : List Said) (input : CompactInput) (end : LiveEnd R) : Type 0 where
-  pub said : List Record
-  pub behind : List Said
-  pub rest_is : rest ≡ records_said said ++ behind
-  pub asked : asked_of input ≡ asked_in options.workers said
-  pub few : 1 ≤ options.live → requests_in said ≤ options.live
-  pub goes_on : GoesOnTo remaining options.workers end behind
-
-pub part_read : {R : Type 0} (remaining : R → Option (List ℕ)) (options : Options) (workers most : ℕ) → (1 ≤ options.live → most ≡ options.live) → workers ≡ options.workers → (rest : List Said) (part : LivePart R)
-    → IsLivePart remaining workers most rest part → KeepsLiveWorkers workers part.end → ReadsPart remaining options rest part.input part.end
+-- a part is read of what an input has yet to say
+pub part_read : {R : Type 0} (remaining : R → Option (List ℕ)) (options : Options) (workers most : ℕ) → (1 ≤ options.live → most ≤ options.live) → workers ≡ options.workers → (rest : List Said) (part : LivePart R)
+    → IsLivePart remaining workers most rest part → KeepsLiveWorkers workers part.end → ReadsPart options most rest (asked_of part.input) (GoesOnTo remaining options.workers part.end)
 part_read remaining options workers most asked same rest part read keeps =
     let on = goes_on_to remaining options.workers rest read.said part.end read.goes_on (subst (λ (n : ℕ). KeepsLiveWorkers n part.end) same keeps) in
     record {
       said = read.said;
       behind = on.0;
       rest_is = on.1.0;
-      asked = read.asked ∙ ap (λ (n : ℕ). asked_in n read.said) same;
-      few = λ some. subst (λ (n : ℕ). requests_in read.said ≤ n) (asked some) read.few;
+      asked_is = read.asked ∙ ap (λ (n : ℕ). asked_in n read.said) same;
+      few = λ some. omega (arith, read.few, asked some);
+      most_few = read.few;
+      few_rows = read.few_rows;
       goes_on = on.1.1;
     }
 
@@ -196,35 +191,100 @@ module _ {L W : Type 0} (accepted : L → Option (List ℕ)) (contents : W → O
               (append-nil (served_rows session.steps)) (append-nil (served_text options nothing_gone session.steps)) session.holds told;
         }
         passed (Some met) goes_on behind is has told =
-            session_step (Answer met) behind served (MayHaveToSay remaining options.workers left) is goes_on session.start (omega arith) refl has told
+            session_step (Answer (says.Fault met)) behind served (MayHaveToSay remaining options.workers left) is (goes_on, tt) session.start (omega arith) refl has told
 
-    module _ (input : CompactInput) (end : LiveEnd R) (reads : ReadsPart remaining options session.rest input end) where
-      scripts_are : input.scripts.items ≡ (asked_in options.workers reads.said).scripts
-      scripts_are = ap (λ (a : Asked). a.scripts) reads.asked
+  -- a part begins here
+  pub part_begins : (scripts : List (List Request)) → length scripts ≡ options.workers → BeginsAt options served.auction scripts now
+  part_begins scripts workers = record { start = session.start; workers = workers }
 
-      -- the part begins here
-      pub part_begins : BeginsAt options served.auction input.scripts.items now
-      part_begins = record { start = session.start; workers = ap length scripts_are ∙ length-map-range_with_len (λ w. script w reads.said) 0 options.workers }
+  -- one part more
+  pub session_part : (most : ℕ) (asked : Asked) (Next : List Said → Type 0) → ReadsPart options most session.rest asked Next → (next : Served) → next.rows ≡ served.rows + length asked.rows
+      → ServesPart options now (gone_by served.before) asked next (AreTold accepted contents old new) → IsSession options book all next Next (AreTold accepted contents start new)
+  session_part most asked Next reads next counted serves =
+      let more : ServesPart options now (gone_by served.before) (asked_in options.workers reads.said) next (AreTold accepted contents old new)
+      = subst (λ (a : Asked). ServesPart options now (gone_by served.before) a next (AreTold accepted contents old new)) reads.asked_is serves in
+      let part : PartRun = record { said = reads.said; added = more.runs.added; hot = more.runs.hot; history = more.runs.history } in
+      session_step (Part part) reads.behind next Next reads.rest_is (record { few = reads.few; adds = more.runs.adds; answer = more.runs.answer }) more.start
+      (counted ∙ ap (λ (n : ℕ). served.rows + n) (ap (λ (a : Asked). length a.rows) reads.asked_is ∙ sym (ap length (same_rows reads.said)))) more.before reads.goes_on more.runs.holds
 
-      -- one part more
-      pub session_part : (next : Served) → next.rows ≡ served.rows + length input.rows.items
-          → ((b : Book) → BeginsAt options served.auction input.scripts.items b → ServesPart options b (gone_by served.before) (asked_of input) next (AreTold accepted contents old new))
-          → IsSession options book all next (GoesOnTo remaining options.workers end) (AreTold accepted contents start new)
-      session_part next counted serves =
-          let more : ServesPart options now (gone_by served.before) (asked_in options.workers reads.said) next (AreTold accepted contents old new)
-          = subst (λ (a : Asked). ServesPart options now (gone_by served.before) a next (AreTold accepted contents old new)) reads.asked (serves now part_begins) in
-          let part : PartRun = record { said = reads.said; added = more.runs.added; hot = more.runs.hot; history = more.runs.history } in
-          session_step (Part part) reads.behind next (GoesOnTo remaining options.workers end) reads.rest_is (record { few = reads.few; adds = more.runs.adds; answer = more.runs.answer }) more.start
-          (counted ∙ ap (λ (n : ℕ). served.rows + n) (ap (λ (a : Asked). length a.rows) reads.asked ∙ sym (ap length (same_rows reads.said)))) more.before reads.goes_on more.runs.holds
+  -- a part that is not served
+  pub part_stops : (most : ℕ) (asked : Asked) (Next : List Said → Type 0) → ReadsPart options most session.rest asked Next → (fault : AnyFault)
+      → IsPartFault accepted contents old new options now (gone_by served.before) served.rows asked fault
+      → StopsAtPart accepted contents old new options now (gone_by served.before) served.rows session.rest fault
+  part_stops most asked Next reads fault why = record {
+    next = reads.said;
+    behind = reads.behind;
+    rest_is = reads.rest_is;
+    few = reads.few;
+    stops = subst (λ (a : Asked). IsPartFault accepted contents old new options now (gone_by served.before) served.rows a fault) reads.asked_is why;
+  }
 
-      -- a part that is not served
-      pub part_stops : (fault : AnyFault)
-          → ((b : Book) → BeginsAt options served.auction input.scripts.items b → IsPartFault accepted contents old new options b (gone_by served.before) served.rows (asked_of input) fault)
-          → StopsAtPart accepted contents old new options now (gone_by served.before) served.rows session.rest fault
-      part_stops fault why = record {
-        next = reads.said;
-        behind = reads.behind;
-        rest_is = reads.rest_is;
-        few = reads.few;
-        stops = subst (λ (a : Asked). IsPartFault accepted contents old new options now (gone_by served.before) served.rows a fault) reads.asked (why now part_begins);
-      }
+-- ---- a request past a limit
+
+module _ {L W : Type 0} (accepted : L → Option (List ℕ)) (contents : W → Option (List ℕ)) (options : Options) (book : Book) (all : List Said) (start old new : Teller L W)
+    (served : Served) (Left : List Said → Type 0) (worker : ℕ) (session : IsSession options book all served (IsNextPast served.auction Left worker) (AreTold accepted contents start old))
+    (goes_on : ends_at_fault options ≡ false) where
+  -- the book to which the rows of its part led
+  abbrev here : Book
+  here = book_left options book session.steps
+
+  -- it is past its limit behind that book
+  past_it : (session.left.one.is_row ≡ false) × (MOST_COMMITS ≤ rows_by here session.left.one.worker)
+  past_it =
+      let next = session.left in
+      (next.request, subst (λ (w : ℕ). MOST_COMMITS ≤ rows_by here w) (sym next.worker_is) (omega (arith, next.full, stored served.auction here session.start.of.stands worker next.own)))
+
+  -- its answer
+  answer_is : limit_answer options (gone_by served.before) served.auction.limit worker ≡ line_answer options (gone_by served.before) (says.Record session.left.one)
+  answer_is =
+      ap (λ (limit : ℕ). limit_answer options (gone_by served.before) limit worker) session.start.fits.limit
+      ∙ ap (λ (w : ℕ). limit_answer options (gone_by served.before) MOST_COMMITS w) (sym session.left.worker_is)
+
+  pub past_answered : AreTold accepted contents old new [] (limit_answer options (gone_by served.before) served.auction.limit worker) → IsSession options book all served Left (AreTold accepted contents start new)
+  past_answered told =
+      session_step accepted contents options book all start old new served (IsNextPast served.auction Left worker) session (Answer (says.Record session.left.one)) session.left.behind served Left session.left.rest_is
+      (goes_on, past_it) session.start (omega (arith, no_row session.left.one session.left.request)) refl session.left.left (subst (AreTold accepted contents old new []) answer_is told)
+    where
+      no_row : (one : Record) → one.is_row ≡ false → length (rows_said (says.Record one ∷ [])) ≡ 0
+      no_row one request = ap (λ (b : Bool). length {A = Opened} (cons_option (if b then Some (record { worker = one.worker; request = one.request }) else None) [])) request
+
+  pub past_stops : (fault : AnyFault) → AreToldAt accepted contents old new fault [] (limit_answer options (gone_by served.before) served.auction.limit worker) → IsServeFault accepted contents start new options book all fault
+  past_stops fault told =
+      session_stops accepted contents options book all start old new served (IsNextPast served.auction Left worker) session fault
+      (answer_stops accepted contents old new options here (gone_by served.before) served.rows session.rest fault (record {
+        line = says.Record session.left.one;
+        behind = session.left.behind;
+        rest_is = session.left.rest_is;
+        goes_on = goes_on;
+        turned_away = past_it;
+        holds = subst (AreToldAt accepted contents old new fault []) answer_is told;
+      }))
+
+module _ {L W : Type 0} (accepted : L → Option (List ℕ)) (contents : W → Option (List ℕ)) (options : Options) (book : Book) (all : List Said) (start old new : Teller L W)
+    (served : Served) (Left : List Said → Type 0) where
+  -- a request that may be past a limit is answered
+  pub session_answered : (past : Option ℕ) → IsSession options book all served (LeftBehind served.auction Left past) (AreTold accepted contents start old) → IfSome past (λ worker. ends_at_fault options ≡ false)
+      → AreTold accepted contents old new [] (past_answer options (gone_by served.before) served.auction.limit past) → IsSession options book all served Left (AreTold accepted contents start new)
+  session_answered (Some worker) session goes_on told = past_answered accepted contents options book all start old new served Left worker session goes_on told
+  session_answered None session goes_on told = record {
+    steps = session.steps;
+    rest = session.rest;
+    so_far = session.so_far;
+    start = session.start;
+    rows = session.rows;
+    before = session.before;
+    left = session.left;
+    holds = told_more accepted contents start old new (served_rows session.steps) [] (served_rows session.steps) (served_text options nothing_gone session.steps) [] (served_text options nothing_gone session.steps)
+        (append-nil (served_rows session.steps)) (append-nil (served_text options nothing_gone session.steps)) session.holds told;
+  }
+
+  -- or it is not
+  pub answer_stops_all : (past : Option ℕ) → IsSession options book all served (LeftBehind served.auction Left past) (AreTold accepted contents start old) → IfSome past (λ worker. ends_at_fault options ≡ false) → (fault : AnyFault)
+      → MatchOption past ⊥ (λ worker. AreToldAt accepted contents old new fault [] (limit_answer options (gone_by served.before) served.auction.limit worker)) → IsServeFault accepted contents start new options book all fault
+  answer_stops_all None session goes_on fault told = absurd told
+  answer_stops_all (Some worker) session goes_on fault told = past_stops accepted contents options book all start old new served Left worker session goes_on fault told
+
+-- what is done of what is asked for is not all only if that does not end the input
+pub done_goes_on : (options : Options) (book : Book) (asked : Asked) (past : Option ℕ) → AreDoneOf options book asked past → IfSome past (λ worker. ends_at_fault options ≡ false)
+done_goes_on options book asked None are = tt
+done_goes_on options book asked (Some worker) are = are.0

@@ -7,7 +7,7 @@ use Rattle.auction_rows.specs.declared.values.Opening.{Opening}
 use Rattle.auction_rows.specs.Book.{Book, bids_stored, buys_stored, comments_stored, items_stored, worker_of}
 use Rattle.auction_rows.specs.History.{book_after}
 use Rattle.auction_run.specs.Beginning.{AreShortFor}
-use Rattle.auction_run.specs.GoingOn.{AreShortOn, IsStopped, fault_of}
+use Rattle.auction_run.specs.GoingOn.{AreShortOn, IsStopped}
 use Rattle.auction_run.specs.Outcomes.{IsOutcome}
 use Rattle.auction_run.specs.declared.checks.RunFault.TheVariants as run
 use Rattle.auction_run.specs.declared.checks.Stopped.{Stopped}
@@ -24,7 +24,7 @@ use Rattle.phase_floor.specs.States.{IsBookOf, JoinedState, StandsFor}
 use Rattle.auction_program.specs.Execution.{AnswersScripts}
 use Rattle.auction_program.specs.Options.{opening_asked, policy_of}
 use Rattle.auction_program.specs.PartRuns.{BeginsAt, FitsOptions}
-use Rattle.auction_program.specs.ServeFaults.{IsNotRunOn}
+use Rattle.auction_program.specs.ServeFaults.{AreNotRunOn, told_fault}
 use Rattle.auction_program.specs.declared.options.Options.{Options}
 
 -- each row is of one kind
@@ -37,7 +37,7 @@ rows_counted (one ∷ book) w =
     omega (arith, rest, more, rows)
 
 -- a worker's counters count its rows of each book of the state
-stored : (state : JoinedState) (book : Book) → StandsFor state book → (w : ℕ) → w < length state.counters → stores (counters_at state.counters w) ≡ rows_by book w
+pub stored : (state : JoinedState) (book : Book) → StandsFor state book → (w : ℕ) → w < length state.counters → stores (counters_at state.counters w) ≡ rows_by book w
 stored state book stands w below =
     let counts = stands.counts w below in
     omega (arith, rows_counted book w, counts.items, counts.bids, counts.comments, counts.buys)
@@ -49,6 +49,13 @@ short_on state book scripts limit is counted stands short = λ w below.
     let few = short w below in
     (few.0, omega (arith, is, few.1, stored state book stands w (omega (arith, below, counted))))
 
+-- and the other way
+pub short_behind : (state : JoinedState) (book : Book) (scripts : List (List Request)) (limit : ℕ) → state.limit ≡ limit → length scripts ≡ length state.counters → StandsFor state book
+    → AreShortOn state scripts → AreShortFor limit book scripts
+short_behind state book scripts limit is counted stands short = λ w below.
+    let few = short w below in
+    (few.0, omega (arith, is, few.1, stored state book stands w (omega (arith, below, counted))))
+
 module _ (options : Options) (state : JoinedState) (policy : Policy) (scripts : List (List Request)) (same : policy ≡ policy_of options) (book : Book) (begins : BeginsAt options state scripts book) where
   fits : FitsOptions options state
   fits = begins.start.fits
@@ -56,12 +63,12 @@ module _ (options : Options) (state : JoinedState) (policy : Policy) (scripts : 
   counted : length scripts ≡ length state.counters
   counted = begins.workers ∙ sym fits.workers
 
-  not_run_on : (stopped : Stopped) → IsStopped state (policy_of options) scripts stopped → IsNotRunOn options (fault_of stopped) book scripts
+  not_run_on : (stopped : Stopped) → IsStopped state (policy_of options) scripts stopped → AreNotRunOn options (told_fault stopped) book scripts
   not_run_on (Refused back run.Workers) is = absurd (is.1 counted)
   not_run_on (Refused back run.Shards) is = absurd (is.1.1 (sym fits.shards))
   not_run_on (Refused back run.Quota) is = is.1.1.1
   not_run_on (Refused back run.TooLong) is =
-      (is.1.1.1.0, λ short. is.1.1.1.1 (short_on state book scripts _ fits.limit counted begins.start.of.stands short))
+      (ap (λ (s : JoinedState). s.limit) is.0 ∙ fits.limit, (is.1.1.1.0, λ short. is.1.1.1.1 (short_on state book scripts _ fits.limit counted begins.start.of.stands short)))
   not_run_on (Refused back run.Spawn) is = absurd is.1
   not_run_on (Refused back run.Memory) is = tt
   not_run_on (Refused back run.NumberFull) is = tt
@@ -74,7 +81,7 @@ module _ (options : Options) (state : JoinedState) (policy : Policy) (scripts : 
   not_run_on (Failed run.NumberFull) is = tt
 
   -- a run stops for a cause that the book shows
-  pub run_refused : (stopped : Stopped) → IsStopped state policy scripts stopped → IsNotRunOn options (fault_of stopped) book scripts
+  pub run_refused : (stopped : Stopped) → IsStopped state policy scripts stopped → AreNotRunOn options (told_fault stopped) book scripts
   run_refused stopped why = not_run_on stopped (subst (λ (p : Policy). IsStopped state p scripts stopped) same why)
 
   -- what it answers

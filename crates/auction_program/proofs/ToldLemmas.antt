@@ -23,7 +23,7 @@ use Rattle.auction_program.specs.Faults.{of_telling}
 use Rattle.auction_program.specs.ServeFaults.{AreToldAt}
 use Rattle.auction_program.specs.Serving.{ArePartTold, AreTold, IsNothingTold}
 use Rattle.auction_program.specs.declared.faults.Fault.{Fault}
-use Rattle.auction_program.specs.declared.faults.Fault.TheVariants.{Usage, Read, Resume, Row, Make, Run, Write, Report, OpenLog, Log}
+use Rattle.auction_program.specs.declared.faults.Fault.TheVariants.{Usage, Read, Resume, Row, Make, Run, Limit, Write, Report, OpenLog, Log}
 use Rattle.auction_program.specs.declared.options.Options.{Options}
 use Rattle.auction_program.proofs.Answering.{error_is}
 use Rattle.auction_program.proofs.WrittenLemmas.{part_of_added}
@@ -113,5 +113,6 @@ module _ {L W : Type 0} (accepted : L → Option (List ℕ)) (contents : W → O
   told_at old new (Row number fault) rows text at = absurd at
   told_at old new (Make fault) rows text at = absurd at
   told_at old new (Run fault) rows text at = absurd at
+  told_at old new (Limit most) rows text at = absurd at
   told_at old new Report rows text at = absurd at
   told_at old new (OpenLog fault) rows text at = absurd at

@@ -27,7 +27,7 @@ use Rattle.auction_run.specs.declared.checks.RunFault.{RunFault}
 use Rattle.auction_run.specs.declared.checks.RunFault.TheVariants as run
 use Rattle.auction_run.specs.declared.runs.Outcome.{Outcome}
 use Rattle.auction_program.specs.declared.faults.Fault.{Fault}
-use Rattle.auction_program.specs.declared.faults.Fault.TheVariants.{Usage, Read, Resume, Row, Make, Run, Write, Report, OpenLog, Log}
+use Rattle.auction_program.specs.declared.faults.Fault.TheVariants.{Usage, Read, Resume, Row, Make, Run, Limit, Write, Report, OpenLog, Log}
 use Rattle.auction_program.specs.declared.options.Options.{Options}
 use Rattle.auction_program.specs.declared.execution.Performed.{Performed}
 
@@ -162,6 +162,7 @@ IsNotPerformed options (Resume fault) book scripts = ⊥
 IsNotPerformed options (Row number fault) book scripts = ⊥
 IsNotPerformed options (Make fault) book scripts = IsTrue options.report
 IsNotPerformed options (Run fault) book scripts = IsNotRun (policy_of options) fault book scripts
+IsNotPerformed options (Limit most) book scripts = ⊥
 IsNotPerformed options (Write fault) book scripts = ⊥
 IsNotPerformed options Report book scripts = ⊥
 IsNotPerformed options (OpenLog fault) book scripts = ⊥
@@ -176,6 +177,7 @@ IsUnwritten (Resume fault) = Unit {0}
 IsUnwritten (Row number fault) = Unit {0}
 IsUnwritten (Make fault) = Unit {0}
 IsUnwritten (Run fault) = Unit {0}
+IsUnwritten (Limit most) = Unit {0}
 IsUnwritten Report = Unit {0}
 IsUnwritten (OpenLog fault) = Unit {0}
 IsUnwritten (Log fault) = Unit {0}
@@ -194,6 +196,7 @@ IsCausedBy options input (Make fault) = IsTrue options.report
 IsCausedBy options input (Run fault) = OfInput options input (λ rows scripts.
     AreRows (opening_asked options) rows
     × IsNotRun (policy_of options) fault (opening_rows (opening_asked options) rows) scripts)
+IsCausedBy options input (Limit most) = ⊥
 IsCausedBy options input (Write fault) = Answers options input (λ text added. Unit {0})
 IsCausedBy options input Report = ⊥
 IsCausedBy options input (OpenLog fault) = ⊥

@@ -4,7 +4,7 @@ use Rattle.part_log.specs.declared.log.TellFault.{TellFault}
 use Rattle.part_log.specs.declared.log.TellFault.TheVariants as telling
 use Rattle.program_options.specs.Words.{usage_words}
 use Rattle.auction_program.specs.declared.faults.Fault.{Fault}
-use Rattle.auction_program.specs.declared.faults.Fault.TheVariants.{Usage, Read, Resume, Row, Make, Run, Write, Report, OpenLog, Log}
+use Rattle.auction_program.specs.declared.faults.Fault.TheVariants.{Usage, Read, Resume, Row, Make, Run, Limit, Write, Report, OpenLog, Log}
 
 abbrev pub status : Fault → ℕ
 status (Usage fault) = 1
@@ -13,6 +13,7 @@ status (Resume fault) = 3
 status (Row number fault) = 3
 status (Make fault) = 3
 status (Run fault) = 3
+status (Limit most) = 3
 status (Write fault) = 4
 status Report = 1
 status (OpenLog fault) = 5
@@ -26,6 +27,7 @@ parser_words (Resume fault) = None
 parser_words (Row number fault) = None
 parser_words (Make fault) = None
 parser_words (Run fault) = None
+parser_words (Limit most) = None
 parser_words (Write fault) = None
 parser_words Report = None
 parser_words (OpenLog fault) = None

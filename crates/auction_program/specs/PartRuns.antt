@@ -1,24 +1,32 @@
 -- What is known between two parts of an input.
-use Rattle.std.specs.Prelude.{ℕ, ◌≡◌, ◌+◌, ◌++◌, List, [], ◌∷◌, Option, None, Some, IfSome, false, flat_map, length, slice_index_or}
+use Rattle.std.specs.Prelude.{ℕ, ◌≡◌, ◌<◌, ◌≤◌, ◌+◌, ◌++◌, List, [], ◌∷◌, Option, None, Some, IfSome, false, flat_map, length, map, slice_index_or}
+use Rattle.auction_rows.specs.declared.limits.TheConstants.{MOST_OF_A_WORKER}
 use Rattle.auction_rows.specs.declared.requests.Object.{Object}
 use Rattle.auction_rows.specs.declared.requests.Request.{Request}
 use Rattle.auction_rows.specs.declared.rows.Entry.{Entry}
 use Rattle.auction_rows.specs.Book.{Book}
 use Rattle.auction_rows.specs.History.{book_after}
+use Rattle.auction_run.specs.GoingOn.{IsShortOn}
 use Rattle.auction_text.specs.LiveParts.{HasToSay, live_workers, rows_said}
 use Rattle.auction_text.specs.Moved.{Gone, gone_by}
 use Rattle.auction_text.specs.Scripts.{Asked}
+use Rattle.auction_text.specs.declared.reading.TheConstants.{MOST_ROWS_OF_A_PART}
 use Rattle.auction_text.specs.declared.reading.live_lines.LineFault.{LineFault}
 use Rattle.auction_text.specs.declared.reading.live_lines.Said.{Said}
 use Rattle.auction_text.specs.declared.reading.live_lines.Said.TheVariants as says
 use Rattle.auction_text.specs.declared.reading.live_parts.LiveEnd.{LiveEnd}
 use Rattle.auction_text.specs.declared.reading.live_parts.LiveEnd.TheVariants.{More, Fault, All}
 use Rattle.auction_text.specs.declared.reading.live_parts.LiveInput.{LiveInput}
+use Rattle.auction_text.specs.declared.reading.record.Record.{Record}
+use Rattle.closing_laws.specs.Standing.{counters_at, stores}
+use Rattle.item_shards.specs.OpeningRows.{rows_by}
+use Rattle.log_opening.specs.Parts.{rows_from}
 use Rattle.phase_floor.specs.States.{IsBookOf, JoinedState}
 use Rattle.run_laws.specs.Answers.{IsAnswer}
+use Rattle.run_laws.specs.Serving.{script_of}
 use Rattle.shard_boxes.specs.declared.limits.TheConstants.{MOST_COMMITS}
 use Rattle.auction_program.specs.Options.{opening_asked, policy_of}
-use Rattle.auction_program.specs.Serving.{AddsRows, IsServed, OfPart, Step, book_left, fault_answer, ends_at_fault, gone_after, nothing_gone, served_rows, served_text, step_said}
+use Rattle.auction_program.specs.Serving.{AddsRows, IsServed, OfPart, Step, book_left, fault_answer, ends_at_fault, gone_after, limit_answer, nothing_gone, served_rows, served_text, step_said}
 use Rattle.auction_program.specs.declared.options.Options.{Options}
 use Rattle.auction_program.specs.declared.parts.Served.{Served}
 
@@ -40,6 +48,42 @@ pub record BeginsAt (options : Options) (auction : JoinedState) (scripts : List 
   pub start : IsStart options auction book
   pub workers : length scripts ≡ options.workers
 
+-- each worker of an auction has room for all rows and requests that a part may have
+abbrev pub HasRoom : JoinedState → Type 0
+HasRoom auction = (worker : ℕ) → worker < length auction.counters →
+    stores (counters_at auction.counters worker) + (MOST_ROWS_OF_A_PART + MOST_OF_A_WORKER)
+    ≤ auction.limit
+
+-- no worker of an auction has more rows than its limit
+abbrev pub AreWithinLimit : JoinedState → Type 0
+AreWithinLimit auction = (worker : ℕ) → worker < length auction.counters →
+    stores (counters_at auction.counters worker) ≤ auction.limit
+
+-- a worker's script has requests, and too many for an auction
+pub record IsPastOn (auction : JoinedState) (scripts : List (List Request)) (worker : ℕ)
+    : Type 0 where
+  pub some : 1 ≤ length (script_of scripts worker)
+  pub past : ¬ IsShortOn auction worker (script_of scripts worker)
+  pub own : worker < length auction.counters
+
+-- a worker's script has requests, and too many behind a book
+pub record IsPastLimit (book : Book) (scripts : List (List Request)) (worker : ℕ) : Type 0 where
+  pub some : 1 ≤ length (script_of scripts worker)
+  pub past : ¬ ((length (script_of scripts worker) ≤ MOST_OF_A_WORKER)
+      × (rows_by book worker + length (script_of scripts worker) ≤ MOST_COMMITS))
+
+-- what is done of what is asked for: all; or if a worker's script is past its limit, no request
+abbrev pub done_of : Option ℕ → Asked → Asked
+done_of None asked = asked
+done_of (Some worker) asked = record asked { scripts = map (λ script. []) asked.scripts }
+
+-- if a worker is given, its script is past its limit behind the rows that are asked for, and this
+-- does not end the input
+abbrev pub AreDoneOf : Options → Book → Asked → Option ℕ → Type 0
+AreDoneOf options book asked None = Unit {0}
+AreDoneOf options book asked (Some worker) = (ends_at_fault options ≡ false)
+    × IsPastLimit (rows_from (opening_asked options) book asked.rows) asked.scripts worker
+
 -- what went before what follows a part: so many phases, and the requests of scripts
 abbrev pub gone_with : Gone → ℕ → List (List Request) → Gone
 gone_with gone phases scripts = record {
@@ -59,7 +103,8 @@ pub record RunsPart (options : Options) (book : Book) (gone : Gone) (asked : Ask
       hot history
   pub holds : OfPart options gone added history Holds
 
--- The same, and the next part begins here.
+-- What is asked for is done from a book, this holds of the rows that this adds and of the text, and
+-- the next part begins with what is served.
 pub record ServesPart (options : Options) (book : Book) (gone : Gone) (asked : Asked)
     (served : Served) (Holds : List ℕ → List ℕ → Type 0) : Type 0 where
   pub runs : RunsPart options book gone asked Holds
@@ -98,6 +143,29 @@ fault_said (Some met) = says.Fault met ∷ []
 abbrev pub answer_to : Options → Gone → Option LineFault → List ℕ
 answer_to options gone None = []
 answer_to options gone (Some met) = fault_answer options gone met
+
+-- Of a session that goes on, the next line is a request of this worker, which has as many rows as it
+-- may have; behind it, that is left.
+pub record IsNextPast (auction : JoinedState) (Left : List Said → Type 0) (worker : ℕ)
+    (rest : List Said) : Type 0 where
+  pub one : Record
+  pub behind : List Said
+  pub rest_is : rest ≡ says.Record one ∷ behind
+  pub request : one.is_row ≡ false
+  pub worker_is : one.worker ≡ worker
+  pub own : worker < length auction.counters
+  pub full : MOST_COMMITS ≤ stores (counters_at auction.counters worker)
+  pub left : Left behind
+
+-- what is left behind a part, if a worker's script was past its limit
+abbrev pub LeftBehind : JoinedState → (List Said → Type 0) → Option ℕ → List Said → Type 0
+LeftBehind auction Left None = Left
+LeftBehind auction Left (Some worker) = IsNextPast auction Left worker
+
+-- the answer to a request past a limit, if there is one
+abbrev pub past_answer : Options → Gone → ℕ → Option ℕ → List ℕ
+past_answer options gone limit None = []
+past_answer options gone limit (Some worker) = limit_answer options gone limit worker
 
 -- The next line is passed if it has a fault, which does not end the input, this holds of its
 -- answer, and that is left.

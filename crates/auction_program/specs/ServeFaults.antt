@@ -5,6 +5,8 @@ use Rattle.auction_rows.specs.declared.values.Opening.{Opening}
 use Rattle.auction_rows.specs.Book.{Book}
 use Rattle.auction_run.specs.Beginning.{AreShortFor, HasQuotas}
 use Rattle.auction_run.specs.declared.checks.RunFault.{RunFault}
+use Rattle.auction_run.specs.declared.checks.Stopped.{Stopped}
+use Rattle.auction_run.specs.declared.checks.Stopped.TheVariants.{Failed, Refused}
 use Rattle.auction_run.specs.declared.checks.RunFault.TheVariants as run
 use Rattle.auction_text.specs.LiveReading.{records_said}
 use Rattle.auction_text.specs.Moved.{Gone}
@@ -23,10 +25,10 @@ use Rattle.phase_floor.specs.States.{JoinedState}
 use Rattle.phase_floor.specs.declared.adding.AddFault.{AddFault}
 use Rattle.shard_boxes.specs.declared.limits.TheConstants.{MOST_COMMITS}
 use Rattle.auction_program.specs.Options.{opening_asked, policy_of}
-use Rattle.auction_program.specs.PartRuns.{RunsPart, rows_before}
-use Rattle.auction_program.specs.Serving.{ArePartTold, AreTold, IsNothingTold, ServesFirst, book_left, ends_at_fault, fault_answer, gone_after}
+use Rattle.auction_program.specs.PartRuns.{AreDoneOf, RunsPart, done_of, rows_before}
+use Rattle.auction_program.specs.Serving.{ArePartTold, AreTold, IsNothingTold, IsTurnedAway, ServesFirst, book_left, ends_at_fault, gone_after, line_answer}
 use Rattle.auction_program.specs.declared.faults.Fault.{Fault}
-use Rattle.auction_program.specs.declared.faults.Fault.TheVariants.{Read, Row, Run, Write, Log}
+use Rattle.auction_program.specs.declared.faults.Fault.TheVariants.{Read, Row, Run, Limit, Write, Log}
 use Rattle.auction_program.specs.declared.options.Options.{Options}
 
 -- how far rows and a text are told at a fault: not at all, or if the writer fails, the rows are
@@ -63,20 +65,36 @@ abbrev pub IsNotRunOn : Options → RunFault → Book → List (List Request) �
 IsNotRunOn options run.Workers book scripts = ⊥
 IsNotRunOn options run.Shards book scripts = ⊥
 IsNotRunOn options run.Quota book scripts = ¬ HasQuotas (policy_of options)
-IsNotRunOn options run.TooLong book scripts =
-    HasQuotas (policy_of options) × ¬ AreShortFor MOST_COMMITS book scripts
+IsNotRunOn options run.TooLong book scripts = ⊥
 IsNotRunOn options run.Spawn book scripts = 1 < length scripts
 IsNotRunOn options run.Memory book scripts = Unit {0}
 IsNotRunOn options run.NumberFull book scripts = Unit {0}
 
+-- the fault that is told of a run that stopped: past its limit, a state tells it
+abbrev pub told_fault : Stopped → Fault
+told_fault (Refused back run.TooLong) = Limit back.limit
+told_fault (Refused back fault) = Run fault
+told_fault (Failed fault) = Run fault
+
+-- why scripts are not run from a book: the limit is told if one is past it
+abbrev pub AreNotRunOn : Options → Fault → Book → List (List Request) → Type 0
+AreNotRunOn options (Run fault) book scripts = IsNotRunOn options fault book scripts
+AreNotRunOn options (Limit most) book scripts = (most ≡ MOST_COMMITS)
+    × (HasQuotas (policy_of options) × ¬ AreShortFor MOST_COMMITS book scripts)
+AreNotRunOn options _ book scripts = ⊥
+
 -- why what is asked for is not done from a book: a row is not added, for the first that is not, or
--- the scripts are not run behind the rows; so many rows were read before
+-- the scripts are not run behind the rows; a limit ends only an input that a fault ends; so many
+-- rows were read before
 abbrev pub IsPartRefused : Options → Book → ℕ → Asked → Fault → Type 0
 IsPartRefused options book before asked (Row number fault) =
     IsFirstBadRow options.workers MOST_COMMITS (opening_asked options) book asked.rows before number
     fault
 IsPartRefused options book before asked (Run fault) =
     IsNotRunOn options fault (rows_from (opening_asked options) book asked.rows) asked.scripts
+IsPartRefused options book before asked (Limit most) = (ends_at_fault options ≡ true)
+    × AreNotRunOn options (Limit most) (rows_from (opening_asked options) book asked.rows)
+    asked.scripts
 IsPartRefused options book before asked _ = ⊥
 
 -- why a part is not served from a book: it is not done, or it is and is not told
@@ -85,6 +103,15 @@ abbrev pub IsPartFault : {L W : Type 0} → (L → Option (List ℕ)) → (W →
 IsPartFault accepted contents old new options book gone before asked fault =
     (IsNothingTold accepted contents old new × IsPartRefused options book before asked fault)
     ⊎ RunsPart options book gone asked (AreToldAt accepted contents old new fault)
+
+-- Of what is asked for from a book, what is done is not served, for this fault.
+pub record FailsPart {L W : Type 0} (accepted : L → Option (List ℕ))
+    (contents : W → Option (List ℕ)) (old new : Teller L W) (options : Options) (book : Book)
+    (gone : Gone) (before : ℕ) (asked : Asked) (fault : Fault) : Type 0 where
+  pub past : Option ℕ
+  pub are : AreDoneOf options book asked past
+  pub fails : IsPartFault accepted contents old new options book gone before (done_of past asked)
+      fault
 
 -- ---- why serving ends
 
@@ -99,14 +126,15 @@ pub record StopsAtPart {L W : Type 0} (accepted : L → Option (List ℕ))
   pub stops : IsPartFault accepted contents old new options book gone before
       (asked_in options.workers next) fault
 
--- The next line has a fault that does not end the input, and this holds of its answer.
-pub record StopsAtAnswer (options : Options) (gone : Gone) (rest : List Said)
+-- The next line is turned away, which does not end the input, and this holds of its answer.
+pub record StopsAtAnswer (options : Options) (book : Book) (gone : Gone) (rest : List Said)
     (Holds : List ℕ → List ℕ → Type 0) : Type 0 where
-  pub met : LineFault
+  pub line : Said
   pub behind : List Said
-  pub rest_is : rest ≡ says.Fault met ∷ behind
+  pub rest_is : rest ≡ line ∷ behind
   pub goes_on : ends_at_fault options ≡ false
-  pub holds : Holds [] (fault_answer options gone met)
+  pub turned_away : IsTurnedAway book line
+  pub holds : Holds [] (line_answer options gone line)
 
 -- The next line has this fault, which ends the input.
 pub record EndsAtFault (options : Options) (rest : List Said) (fault : ReadFault) : Type 0 where
@@ -124,7 +152,7 @@ IsStop accepted contents old new options book gone before rest (Read fault) =
     IsNothingTold accepted contents old new
     × (IsInputFault fault → EndsAtFault options rest fault)
 IsStop accepted contents old new options book gone before rest fault =
-    StopsAtAnswer options gone rest (AreToldAt accepted contents old new fault)
+    StopsAtAnswer options book gone rest (AreToldAt accepted contents old new fault)
     ⊎ StopsAtPart accepted contents old new options book gone before rest fault
 
 -- Why serving ends: the first of what lines say is served from a book and told whole, and then it

@@ -1,5 +1,5 @@
 -- What the program answers while requests come.
-use Rattle.std.specs.Prelude.{ℕ, ◌≡◌, ◌==◌, ◌≤◌, ◌+◌, ◌++◌, ◌⊎◌, ◌||◌, Bool, false, List, [], ◌∷◌, Option, None, Some, flat_map, fold, length, slice_index_or, if◌then◌else◌}
+use Rattle.std.specs.Prelude.{ℕ, ◌≡◌, ◌==◌, ◌≤◌, ◌+◌, ◌++◌, ◌⊎◌, ◌||◌, Bool, false, List, [], ◌∷◌, Option, None, Some, codes, decimal, flat_map, fold, length, slice_index_or, if◌then◌else◌}
 use Rattle.std.specs.Io.KnownBytes.{Appends, Keeps}
 use Rattle.auction_rows.specs.declared.requests.Object.{Object}
 use Rattle.auction_rows.specs.declared.requests.Request.{Request}
@@ -10,6 +10,7 @@ use Rattle.auction_rows.specs.History.{book_after}
 use Rattle.auction_text.specs.FaultLines.{fault_line}
 use Rattle.auction_text.specs.LiveReading.{records_said}
 use Rattle.auction_text.specs.Moved.{Gone, all_moved}
+use Rattle.auction_text.specs.Replies.{labelled}
 use Rattle.auction_text.specs.RowLines.{rows_text}
 use Rattle.auction_text.specs.Scripts.{asked_in, requests_in, rows}
 use Rattle.auction_text.specs.Writing.{IsPartWritten}
@@ -18,10 +19,12 @@ use Rattle.auction_text.specs.declared.reading.live_lines.LineFault.{LineFault}
 use Rattle.auction_text.specs.declared.reading.live_lines.Said.{Said}
 use Rattle.auction_text.specs.declared.reading.live_lines.Said.TheVariants as says
 use Rattle.auction_text.specs.declared.reading.record.Record.{Record}
+use Rattle.item_shards.specs.OpeningRows.{rows_by}
 use Rattle.item_shards.specs.declared.openings.Opened.{Opened}
 use Rattle.log_opening.specs.Parts.{AreRowsFrom, rows_from}
 use Rattle.part_log.specs.declared.log.Teller.{Teller}
 use Rattle.run_laws.specs.Answers.{IsAnswer}
+use Rattle.shard_boxes.specs.declared.limits.TheConstants.{MOST_COMMITS}
 use Rattle.auction_program.specs.Execution.{commits_text}
 use Rattle.auction_program.specs.Options.{opening_asked, policy_of}
 use Rattle.auction_program.specs.declared.options.Options.{Options}
@@ -34,15 +37,15 @@ pub record PartRun : Type 0 where
   pub hot : List (List Object)
   pub history : List Entry
 
--- A part of an input is run, or a line with a fault is answered.
+-- A part of an input is run, or a line is answered that has a fault, or a request past a limit.
 pub data Step : Type 0 where
   Part : PartRun → Step
-  Answer : LineFault → Step
+  Answer : Said → Step
 
 -- what the lines say that are served so
 abbrev pub step_said : Step → List Said
 step_said (Part part) = records_said part.said
-step_said (Answer met) = says.Fault met ∷ []
+step_said (Answer line) = line ∷ []
 
 -- ---- what is run
 
@@ -64,20 +67,28 @@ pub record IsPartRun (options : Options) (book : Book) (part : PartRun) : Type 0
   pub answer : IsAnswer (opening_asked options) (book ++ part.added) (policy_of options)
       (scripts_in options part.said) part.hot part.history
 
--- whether a line with a fault ends the input
+-- whether a line that is turned away ends the input
 abbrev pub ends_at_fault : Options → Bool
 ends_at_fault options = options.ends_at_fault || (options.live == 0)
 
--- a step is taken from this book: a line with a fault is answered only if it does not end the input
+-- a line is turned away behind a book: it has a fault, or it is a request, and its worker has as
+-- many rows as it may have
+abbrev pub IsTurnedAway : Book → Said → Type 0
+IsTurnedAway book (says.Fault met) = Unit {0}
+IsTurnedAway book (says.Record one) =
+    (one.is_row ≡ false) × (MOST_COMMITS ≤ rows_by book one.worker)
+
+-- a step is taken from this book: a line is answered so only if it is turned away, and does not end
+-- the input
 abbrev pub IsStepRun : Options → Book → Step → Type 0
 IsStepRun options book (Part part) = IsPartRun options book part
-IsStepRun options book (Answer met) = ends_at_fault options ≡ false
+IsStepRun options book (Answer line) = (ends_at_fault options ≡ false) × IsTurnedAway book line
 
 -- the book that a step leaves: an answer changes nothing
 abbrev pub book_past : Options → Book → Step → Book
 book_past options book (Part part) =
     book_after (opening_asked options) (book ++ part.added) part.history
-book_past options book (Answer met) = book
+book_past options book (Answer line) = book
 
 -- each step is taken from the book that those before it leave
 unfoldable pub AreStepRuns : Options → Book → List Step → Type 0
@@ -108,7 +119,7 @@ gone_past options gone (Part part) = record {
   requests = λ worker. gone.requests worker
       + length (slice_index_or (scripts_in options part.said) worker []);
 }
-gone_past options gone (Answer met) = gone
+gone_past options gone (Answer line) = gone
 
 -- what went before what follows steps
 abbrev pub gone_after : Options → List Step → Gone
@@ -134,10 +145,31 @@ abbrev pub fault_answer : Options → Gone → LineFault → List ℕ
 fault_answer options gone met =
     if options.rows || options.history then [] else named_answer gone met.worker met.fault
 
+-- the words of a limit
+abbrev pub limit_text : ℕ → List ℕ
+limit_text limit = labelled (codes "more than ") limit ++ codes " requests for a worker"
+
+-- the line that tells a worker its limit, with the index of its next request
+abbrev pub limit_line : ℕ → ℕ → ℕ → List ℕ
+limit_line worker index limit =
+    decimal worker ++ labelled (codes ",") index ++ codes ",fault " ++ limit_text limit
+    ++ codes "\n"
+
+-- the answer to a worker's request past a limit, if the options ask for replies
+abbrev pub limit_answer : Options → Gone → ℕ → ℕ → List ℕ
+limit_answer options gone limit worker =
+    if options.rows || options.history then []
+    else limit_line worker (gone.requests worker) limit
+
+-- the answer to a line that is turned away
+abbrev pub line_answer : Options → Gone → Said → List ℕ
+line_answer options gone (says.Fault met) = fault_answer options gone met
+line_answer options gone (says.Record one) = limit_answer options gone MOST_COMMITS one.worker
+
 -- what is written of a step
 abbrev pub step_text : Options → Gone → Step → List ℕ
 step_text options gone (Part part) = part_text options gone part.added part.history
-step_text options gone (Answer met) = fault_answer options gone met
+step_text options gone (Answer line) = line_answer options gone line
 
 -- what is written of steps: phases and indexes go on counting
 unfoldable pub served_text : Options → Gone → List Step → List ℕ
@@ -148,7 +180,7 @@ served_text options gone (step ∷ more) =
 -- the rows that are logged of a step
 abbrev pub step_rows : Step → List ℕ
 step_rows (Part part) = rows_text part.added part.history
-step_rows (Answer met) = []
+step_rows (Answer line) = []
 
 -- the rows that are logged of steps
 abbrev pub served_rows : List Step → List ℕ
@@ -211,12 +243,12 @@ pub record HasServedBook (accepted : Option (List ℕ)) (options : Options) (boo
 -- the history of a step: an answer is none
 abbrev pub step_history : Step → List Entry
 step_history (Part part) = part.history
-step_history (Answer met) = []
+step_history (Answer line) = []
 
 -- the rows that a step adds
 abbrev pub step_added : Step → Book
 step_added (Part part) = part.added
-step_added (Answer met) = []
+step_added (Answer line) = []
 
 -- the rows that steps add
 abbrev pub added_rows : List Step → Book

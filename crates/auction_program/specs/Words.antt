@@ -29,7 +29,8 @@ option_rules =
 abbrev pub program : App
 program = fold with_rule (versioned_program (codes "rubis_auction")) option_rules
 
--- A word says whether a line with a fault ends the input. Without one it does not; it can be answered if requests are answered while they come.
+-- A word says whether a line with a fault ends the input. Without one it does not; it can be
+-- answered if requests are answered while they come.
 abbrev pub SaysEnd : Option (List ℕ) → ℕ → Bool → Type 0
 SaysEnd None live ends = ends ≡ false
 SaysEnd (Some how) live ends =

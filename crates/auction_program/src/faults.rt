@@ -24,7 +24,7 @@ pub enum Fault {
     /// The input could not be read.
     #[error("{0}")]
     Read(ReadFault),
-    /// The rows could not be opened.
+    /// The auction could not be opened with the rows.
     #[error("{0}")]
     Resume(ResumeFault),
     /// The row of the input with this number, from 1, could not be added.
@@ -36,6 +36,9 @@ pub enum Fault {
     /// The scripts could not be performed.
     #[error("{0}")]
     Run(RunFault),
+    /// A worker had more rows and requests than this, the auction's limit.
+    #[error("more than {0} requests for a worker")]
+    Limit(u64),
     /// A text could not be written.
     #[error("{0}")]
     Write(WriteFault),
@@ -141,7 +144,8 @@ pub fn status(fault: &Fault) -> u8
     match fault {
         Fault::Usage(_) | Fault::Report => 1,
         Fault::Read(_) => 2,
-        Fault::Resume(_) | Fault::Row(_, _) | Fault::Make(_) | Fault::Run(_) => 3,
+        Fault::Resume(_) | Fault::Row(_, _) | Fault::Make(_) => 3,
+        Fault::Run(_) | Fault::Limit(_) => 3,
         Fault::Write(_) => 4,
         Fault::OpenLog(_) | Fault::Log(_) => 5,
     }

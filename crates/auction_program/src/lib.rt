@@ -4,6 +4,7 @@
 
 mod execution;
 mod faults;
+mod limits;
 mod log_file;
 mod opening;
 mod options;
@@ -22,6 +23,7 @@ pub use log_opening::OpenFault;
 pub use opening::new_auction;
 pub use options::{Options, read_options};
 pub use part_log::{FileLog, Log, LogFault, NoLog, Teller};
+pub use parts::LiveTeller;
 pub use phase_floor::{AddFault, Joined};
 pub use program_options::UsageFault;
-pub use session::{LiveTeller, LoggedInput, parts_are_one_history, serve};
+pub use session::{LoggedInput, parts_are_one_history, serve};

@@ -1,6 +1,7 @@
 //! The file of a log: how it is opened and locked, and where what is cut off it is kept.
 ghost use Rattle.std.specs.Prelude.{[], IfOk};
-ghost use Rattle.phase_floor.specs.Adding.{HasBook, IsStartOf};
+ghost use Rattle.auction_rows.specs.Book.{Book};
+ghost use Rattle.phase_floor.specs.Adding.{HasBook, IsSameAuction, IsStartOf};
 
 use crate::faults::Fault;
 use auction_text::WriteFault;
@@ -17,7 +18,7 @@ use thiserror::Error;
 /// Why a log is not opened. Its bytes are as they were.
 #[derive(Debug, PartialEq, Eq, Drop, Error)]
 pub enum LogFileFault {
-    /// Its file could not be opened, read or cut.
+    /// Its file could not be opened, read or cut, or its folder not read.
     #[error("log cannot be read")]
     Read,
     /// It is a pipe or a device.
@@ -146,8 +147,8 @@ fn refused(alloc: Global, path: &str, fault: OpenFault) -> Fault {
     }
 }
 
-/// Opens the log at a path, which no other program may have open, and adds its rows to an auction.
-/// Their text is told meanwhile. The beginning of a row that was being written is cut off its end,
+/// Opens the log at a path, which no other program may have open, adds its rows to an auction, and
+/// writes their text to `told`. The beginning of a row that was being written is cut off its end,
 /// and kept in the file of that name with `.cut`. After a fault the log is as it was.
 pub fn open_log<R: Files<File = File>, W: Write>(
     rt: &R,
@@ -157,6 +158,8 @@ pub fn open_log<R: Files<File = File>, W: Write>(
     told: &mut W,
 ) -> Result<OpenedLog, Fault>
     requires { IsStartOf auction [] }
+    ensures same { IfOk result (λ opened. IsSameAuction auction opened.auction) }
+    ensures start { IfOk result (λ opened. (book : Book) × IsStartOf opened.auction book) }
     ensures has { IfOk result (λ opened. HasBook opened.auction) }
 {
     let file = open_locked(rt, alloc, path)?;

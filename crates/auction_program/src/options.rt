@@ -39,7 +39,7 @@ pub struct Options {
     /// How many requests are answered at a time at most, while more are to come: at most 1,000,000,
     /// and 0 if all are read first.
     pub live: u32,
-    /// Whether a line with a fault ends the input also then, in place of an answer to it.
+    /// Whether a line with a fault ends the input, even if requests are answered while more come.
     pub ends_at_fault: bool,
     /// The name of the log's file, if there is to be a log.
     pub log: Option<String>,
@@ -125,7 +125,7 @@ fn command<'a>(alloc: Global) -> Result<Command<'a>, AllocError>
     described_program(alloc, "rubis_auction", DESCRIPTION).args(options)
 }
 
-// Why a word for what a line with a fault does is refused.
+// Why a word for `--faults` is refused.
 fn refused_how(alloc: Global, how: &str) -> UsageFault {
     let text = if how == "answer" {
         format!(in alloc; "error: '--faults answer' needs '--live <N>' of at least 1\n{SEE_HELP}")
@@ -137,7 +137,8 @@ fn refused_how(alloc: Global, how: &str) -> UsageFault {
 
 // Whether a line with a fault ends the input. It can be answered only while requests come.
 fn is_end(alloc: Global, matches: &ArgMatches<'_>, live: u32) -> Result<bool, UsageFault>
-    ensures said { IfOk result (SaysEnd (first_value (found_of matches.now) (codes "faults")) live) }
+    ensures said { IfOk result
+        (SaysEnd (first_value (found_of matches.now) (codes "faults")) live) }
     ensures refused { IfErr result (λ fault. (ends : Bool) →
         SaysEnd (first_value (found_of matches.now) (codes "faults")) live ends →
         fault ≡ UsageFault.Memory) }
@@ -236,7 +237,7 @@ const LIVE_HELP: &str =
 const FAULTS_HELP: &str =
     "With --live, 'answer' each line with a fault (the default), or 'end' the input there";
 
-// What stands behind a word that is refused, as the parser of words has it.
+// The words that `--faults` takes, told as `clap` tells them.
 const HOWS: &str = "  [possible values: answer, end]\n";
 
 const SEE_HELP: &str = "\nFor more information, try '--help'.\n";

@@ -1,6 +1,6 @@
 //! Replies while requests come: the input is performed part by part; and what holds of an input
 //! that is served so.
-ghost use Rattle.std.specs.Prelude.{ℕ, ◌≡◌, ◌++◌, ◌≤◌, List, [], Option, false, true, IfErr, IfOk, IfSome, OnOk};
+ghost use Rattle.std.specs.Prelude.{ℕ, ◌≡◌, ◌++◌, ◌≤◌, List, [], Option, false, true, IfErr, IfOk, IfSome, MatchOption, OnOk};
 ghost use Rattle.auction_rows.specs.Book.{Book};
 ghost use Rattle.auction_rows.specs.History.{ReplaysFrom};
 ghost use Rattle.auction_text.specs.LiveLines.{live_says};
@@ -10,40 +10,33 @@ ghost use Rattle.auction_text.specs.declared.reading.live_lines.Said.{Said as Sa
 ghost use Rattle.part_log.specs.declared.log.Teller.{Teller as Told};
 ghost use Rattle.phase_floor.specs.Adding.{HasBook};
 ghost use Rattle.auction_program.specs.Options.{opening_asked};
-ghost use Rattle.auction_program.specs.PartRuns.{GoesOnTo, IsSession, IsStart, PassesFault};
+ghost use Rattle.auction_program.specs.PartRuns.{GoesOnTo, IsSession, IsStart, PassesFault, past_answer};
 ghost use Rattle.auction_program.specs.ServeFaults.{AreToldAt, IsServeFault, IsStop};
-ghost use Rattle.auction_program.specs.Serving.{AreStepRuns, AreTold, HasServedBook, IsLoggedBefore, IsServed, LogHasBook, RowsComeFirst, ServesAll, Step, added_rows, ends_at_fault, fault_answer, served_history, served_text};
+ghost use Rattle.auction_program.specs.Serving.{AreStepRuns, AreTold, HasServedBook, IsLoggedBefore, IsServed, LogHasBook, RowsComeFirst, ServesAll, Step, added_rows, ends_at_fault, fault_answer, limit_answer, limit_line, limit_text, served_history, served_text};
 ghost use Rattle.auction_program.specs.declared.options.Options.{Options as Asked};
 
 use crate::faults::{Fault, write_fault};
+use crate::limits::{ends_at_fault, most_of_a_part};
 use crate::options::Options;
-use crate::parts::{NextPart, Served, serve_part};
+use crate::parts::{LiveTeller, NextPart, Served, ServedPart, serve_part};
 use auction_text::{
     Before, LineFault, LiveEnd, LiveInput, LivePart, ReadFault, WriteFault, push_fault_line,
+    push_labelled, push_number, push_text,
 };
-use part_log::{Log, Teller};
+use part_log::Log;
 use phase_floor::Joined;
-use std::alloc::Global;
+use std::alloc::{AllocError, Global};
 use std::io::{Read, Write};
 use std::sync::Wait;
 use std::thread::Threads;
 
-/// What is served: an auction, with the rows that a log has, and then an input.
+/// What is served: an auction with the rows of a log, and then an input.
 #[derive(Drop)]
 pub struct LoggedInput<I> {
     /// The auction.
     pub auction: Joined,
     /// The reader of the input.
     pub reader: I,
-}
-
-/// A log and a writer, and where faults are told that have no place among the replies.
-#[derive(Drop)]
-pub struct LiveTeller<L, W, E> {
-    /// The log, and the writer of the replies.
-    pub teller: Teller<L, W>,
-    /// Where a fault is told of a line that names no worker, or if no replies are asked for.
-    pub errors: E,
 }
 
 // An input that is served so far, and how it goes on.
@@ -53,30 +46,13 @@ struct Session<I> {
     end: LiveEnd<I>,
 }
 
-// How many requests a part has at most: what is asked for, or as many as can be counted.
-fn most_of_a_part(options: &Options) -> u32
-    ensures some { 1 ≤ result }
-    ensures asked { 1 ≤ options.now.live → result ≡ options.now.live }
-{
-    if options.live == 0 {
-        return u32::MAX;
-    }
-    options.live
-}
-
-// Whether a line with a fault ends the input.
-fn ends_at_fault(options: &Options) -> bool
-    ensures { result ≡ ends_at_fault options.now }
-{
-    options.ends_at_fault || options.live == 0
-}
-
-/// Serves an input part by part: the rows of a part are added to the auction and its scripts
-/// performed, and what is asked for of it is written and flushed before more is read, and after its
-/// rows are logged. A line with a fault ends the input, after the parts before; or, as the options
-/// say, it is answered in its place, with the index of its worker's next request, and changes
-/// nothing. A log that had the auction's rows has the book of the served parts, also after a fault.
-/// A fault has its cause, and what went before it was told whole.
+/// Serves an input part by part: the rows of a part are added to the auction, its scripts are
+/// performed, all rows that this adds are logged, and then what is asked for is written and
+/// flushed, before more is read. A line with a fault, or a request past its worker's limit, ends
+/// the input, after the parts before it, or, as the options say, is answered in its place, with the
+/// index of its worker's next request, and changes nothing. A log that had the auction's rows has
+/// the book of the served parts, also after a fault. A fault has its cause, and what went before it
+/// was told whole.
 pub fn serve<R: Threads + Wait + Sync, I: Read + Drop, L: Log, W: Write, E: Write>(
     rt: &R,
     alloc: Global,
@@ -148,9 +124,11 @@ fn serve_lines<R: Threads + Wait + Sync, I: Read + Drop, L: Log, W: Write, E: Wr
             input,
             requests: _,
             end: next,
-        } = left.next_part(alloc, most_of_a_part(options))?;
+        } = left.next_part(alloc, most_of_a_part(options, &served.auction))?;
         let part = NextPart { served, input };
-        served = serve_part(rt, alloc, &mut teller.teller, part, options)?;
+        let done = serve_part(rt, alloc, teller, part, options)?;
+        tell_past(alloc, teller, options, &done)?;
+        served = done.served;
         end = next;
     }
     Err(Fault::Read(ReadFault::Read))
@@ -232,6 +210,94 @@ fn fault_answer(
         Ok(()) => Ok(text),
         Err(_) => Err(Fault::Write(WriteFault::Memory)),
     }
+}
+
+// Answers a request past its worker's limit behind the rest of its part, or tells it on `errors`.
+fn tell_past<L: Log, W: Write, E: Write>(
+    alloc: Global,
+    teller: &mut LiveTeller<L, W, E>,
+    options: &Options,
+    done: &ServedPart,
+) -> Result<(), Fault>
+    ensures told { OnOk result (AreTold L.accepted W.contents teller.old.teller teller.new.teller
+        [] (past_answer options.now (gone_by done.now.served.before)
+        done.now.served.auction.limit done.now.past)) }
+    ensures so_far { IfErr result (λ fault. MatchOption done.now.past ⊥ (λ worker.
+        AreToldAt L.accepted W.contents teller.old.teller teller.new.teller fault
+        [] (limit_answer options.now (gone_by done.now.served.before)
+        done.now.served.auction.limit worker))) }
+{
+    let Some(worker) = done.past else {
+        return Ok(());
+    };
+    let limit = done.served.auction.limit();
+    let line = limit_answer(alloc, options, &done.served.before, limit, worker)?;
+    tell_line(teller, line.as_slice(), &Fault::Limit(limit))
+}
+
+// Tells an answer, or if there is none its fault on `errors`.
+fn tell_line<L: Log, W: Write, E: Write>(
+    teller: &mut LiveTeller<L, W, E>,
+    line: &[u8],
+    fault: &Fault,
+) -> Result<(), Fault>
+    ensures told { OnOk result (AreTold L.accepted W.contents teller.old.teller teller.new.teller
+        [] line.now) }
+    ensures so_far { IfErr result (λ fault. AreToldAt L.accepted W.contents
+        teller.old.teller teller.new.teller fault [] line.now) }
+{
+    if line.is_empty() {
+        // A fault that can't be told changes nothing.
+        let _ = write_fault(&mut teller.errors, fault);
+    }
+    teller.teller.tell(&[], line)?;
+    Ok(())
+}
+
+// The answer to a worker's request past its limit: none if no replies are asked for.
+fn limit_answer(
+    alloc: Global,
+    options: &Options,
+    before: &Before,
+    limit: u64,
+    worker: u32,
+) -> Result<Vec<u8>, Fault>
+    ensures text { IfOk result (λ text.
+        text.items ≡ limit_answer options.now (gone_by before.now) limit worker) }
+    ensures memory { IfErr result (λ fault. fault ≡ Fault.Write WriteFault.Memory) }
+{
+    let mut text = Vec::new(alloc);
+    if options.rows || options.history {
+        return Ok(text);
+    }
+    match push_limit_line(&mut text, worker, before.requests_of(worker), limit) {
+        Ok(()) => Ok(text),
+        Err(_) => Err(Fault::Write(WriteFault::Memory)),
+    }
+}
+
+// Adds the line that tells a worker its limit, with the index of its next request.
+fn push_limit_line(
+    text: &mut Vec<u8>,
+    worker: u32,
+    index: u64,
+    limit: u64,
+) -> Result<(), AllocError>
+    ensures { OnOk result (text.new.items ≡ text.old.items ++ limit_line worker index limit) }
+{
+    push_number(text, u64::from(worker))?;
+    push_labelled(text, b",", index)?;
+    push_text(text, b",fault ")?;
+    push_limit(text, limit)?;
+    push_text(text, b"\n")
+}
+
+// Adds the words of a limit.
+fn push_limit(text: &mut Vec<u8>, limit: u64) -> Result<(), AllocError>
+    ensures { OnOk result (text.new.items ≡ text.old.items ++ limit_text limit) }
+{
+    push_labelled(text, b"more than ", limit)?;
+    push_text(text, b" requests for a worker")
 }
 
 /// The histories of parts, one after the other, are one history: it replays from the book with all

@@ -247,7 +247,6 @@ module _ {policy : Policy} {scripts : List (List Request)} {state : JoinedState}
             phase_is = journal_phase w less;
             stocks_are = (same w less).stocks ∙ ap (λ (p : WorkerState). stocks_of p.slices) (begins w less).new ∙ stocks_back floor.stocks;
             begun = (same w less).begun ∙ ap (λ (p : WorkerState). p.begun) (begins w less).new;
-            fits = omega (arith, (begins w less).fits, (same w less).room, ap (λ (p : WorkerState). p.journal.room) (begins w less).new);
           },
     )
 

@@ -230,7 +230,7 @@ fn is_short_on<S: Requests>(state: &Joined, worker: usize, script: &S) -> bool
 {
     let stored = u64::from(state.stored_by(worker));
     let asked = script.count() as u64;
-    asked <= MOST_OF_A_WORKER && asked <= state.limit() - stored
+    asked <= MOST_OF_A_WORKER && stored + asked <= state.limit()
 }
 
 // Whether there are 1 to 16 scripts, and each row is of a worker that has one.

@@ -30,4 +30,5 @@ pub mod SoFar
 pub mod SortLemmas
 pub mod TakingLemmas
 pub mod TurnLemmas
+pub mod WholeLineLemmas
 pub mod WorkerReplies

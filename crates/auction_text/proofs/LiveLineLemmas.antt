@@ -5,7 +5,7 @@ use Rattle.std.specs.List.{prefix_len}
 use Rattle.std.specs.Option.{option_map}
 use Rattle.std.proofs.lemmas.Bool.{and_parts}
 use Rattle.std.proofs.lemmas.Bool.Decides.{nat_tests}
-use Rattle.std.proofs.lemmas.List.{append-nil, drop_all, length-append}
+use Rattle.std.proofs.lemmas.List.{append-nil, drop-take, drop_all, length-append, length-drop, length-take-le}
 use Rattle.std.proofs.Math.Seq.{get_or-append_seam, take-append_seam}
 use Rattle.csv.specs.Machine.{next_record}
 use Rattle.csv.specs.Reading.{ReadRecord, default_config, records, records_from, source_of, strip_bom}
@@ -107,17 +107,39 @@ no_feed_in (b ∷ xs) none =
     let first : not (b == 10) ≡ true = not_so (b == 10) (none 0 (omega arith)) in
     rw first (no_feed_in xs (λ j less. none (suc j) (omega (arith, less))))
 
+-- a line says the one record that it has
+one_says_alone : (line : List ℕ) (fields : List (List ℕ)) (one : Record) (workers place : ℕ) (begun : Bool) → IsWhole line → length line ≤ ROOM_TO_READ → records default_config line ≡ fields ∷ []
+    → read_record workers place begun fields ≡ Ok one → line_says workers place begun line ≡ Some (says.Record one)
+unfolding line_says
+one_says_alone line fields one workers place begun whole fits alone read = rw (whole_is_short line whole fits, alone, read) refl
+
 -- a plain line is the one record of its line
 pub plain_says : (line : List ℕ) (one : Record) (next workers place : ℕ) (begun : Bool) → IsWhole line → length line ≤ ROOM_TO_READ → IsLine line 0 one next → length line ≤ next
     → one.worker < workers → (one.is_row && begun) ≡ false → line_says workers place begun line ≡ Some (says.Record one)
-unfolding line_says
 plain_says line one next workers place begun whole fits is ends below early =
     let nothing : drop next line ≡ [] = drop_all next line ends in
     let read : records default_config (line ++ []) ≡ is.fields ∷ records default_config (drop next line ++ []) = is.reads [] in
     let alone : records default_config line ≡ is.fields ∷ [] =
     ap (records default_config) (sym (append-nil line)) ∙ read ∙ ap (λ (left : List ℕ). is.fields ∷ records default_config (left ++ [])) nothing
     ∙ ap (λ (others : List (List (List ℕ))). is.fields ∷ others) none_in_none in
-    rw (whole_is_short line whole fits, alone, is.says workers place begun below early) refl
+    one_says_alone line is.fields one workers place begun whole fits alone (is.says workers place begun below early)
+
+-- and so is one in a text, from a place on
+pub bid_says : (text : List ℕ) (at : ℕ) (one : Record) (next workers place : ℕ) (begun : Bool) → IsWhole (take (next - at) (drop at text)) → length text ≤ ROOM_TO_READ
+    → IsLine (take next text) at one next → next ≤ length text → one.worker < workers → one.is_row ≡ false → line_says workers place begun (take (next - at) (drop at text)) ≡ Some (says.Record one)
+bid_says text at one next workers place begun whole fits is within below request =
+    let line = take (next - at) (drop at text) in
+    let front = take next text in
+    let to_next : at + (next - at) ≡ next = omega (arith, is.after) in
+    let cut : line ≡ drop at front = sym (drop-take at (next - at) text) ∙ ap (λ (n : ℕ). drop at (take n text)) to_next in
+    let long : length front ≡ next = length-take-le next text within in
+    let nothing : drop next front ≡ [] = drop_all next front (omega (arith, long)) in
+    let alone : records default_config line ≡ is.fields ∷ [] =
+    ap (records default_config) (sym (append-nil line) ∙ ap (λ (l : List ℕ). l ++ []) cut) ∙ is.reads [] ∙ ap (λ (left : List ℕ). is.fields ∷ records default_config (left ++ [])) nothing
+    ∙ ap (λ (others : List (List (List ℕ))). is.fields ∷ others) none_in_none in
+    let inside : next - at ≤ length (drop at text) = omega (arith, length-drop at text) in
+    let few : length line ≤ ROOM_TO_READ = omega (arith, length-take-le (next - at) (drop at text) inside, fits) in
+    one_says_alone line is.fields one workers place begun whole few alone (is.says workers place begun below (ap (λ (b : Bool). b && begun) request))
 
 -- no text says nothing
 pub nothing_says : (workers place : ℕ) (begun : Bool) → line_says workers place begun [] ≡ None

@@ -1,7 +1,7 @@
 -- What is taken of an input, line by line.
-use Rattle.std.proofs.Common.{arith, ◌≡◌, ◌<◌, ◌≤◌, ◌+◌, ◌∷◌, ◌++◌, ◌∙◌, ◌||◌, not, [], ℕ, Bool, List, Option, None, Some, true, false, drop, length, take, vec_len, refl, sym, ap, ap₂, subst, append_assoc, take-append-drop, if◌then◌else◌, inl, inr}
+use Rattle.std.proofs.Common.{arith, ◌≡◌, ◌<◌, ◌≤◌, ◌+◌, ◌-◌, ◌∷◌, ◌++◌, ◌∙◌, ◌||◌, not, [], ℕ, Bool, List, Option, None, Some, true, false, drop, length, take, vec_len, refl, sym, ap, ap₂, subst, append_assoc, take-append-drop, if◌then◌else◌, inl, inr}
 use Rattle.std.proofs.lemmas.Bool.{cases_Bool}
-use Rattle.std.proofs.lemmas.List.{append-nil, drop-drop, length-append, length-drop, map-append}
+use Rattle.std.proofs.lemmas.List.{append-nil, drop-append-le, drop-drop, length-append, length-drop, length-take-le, map-append}
 use Rattle.std.specs.Io.KnownBytes.{IsAtEnd, prepend_known}
 use Rattle.csv.specs.Reading.{default_config, records}
 use Rattle.auction_text.specs.declared.reading.Cause.TheVariants as cause
@@ -121,6 +121,47 @@ text_more workers first old new text rest at len fault is before whole takes cou
     let here = subst (λ (xs : List ℕ). TakesText workers old xs new (stop_at fault) (drop len xs)) is (text_line workers old new rest len fault whole takes count) in
     subst (λ (to : List ℕ). TakesText workers first text new (stop_at fault) to) (drop-drop len at text)
     (text_then workers first old new text (drop at text) (drop len (drop at text)) (stop_at fault) before here)
+
+-- what is taken of the front of a text is taken of the text
+in_front_of : (workers : ℕ) (old new : Taken) (x y tail : List ℕ) → TakesText workers old x new stop.Full y → TakesText workers old (x ++ tail) new stop.Full (y ++ tail)
+in_front_of workers old new x y tail takes = record {
+  count = takes.count;
+  begun = takes.begun;
+  takes = λ all more is.
+      subst (λ (bytes : List ℕ). StopsAt workers all new stop.Full bytes) (sym (append_assoc y tail more))
+      (takes.takes all (tail ++ more) (subst (λ (bytes : List ℕ). StopsAt workers all old stop.Full bytes) (append_assoc x tail more) is));
+}
+
+from_place : (text : List ℕ) (end at : ℕ) → end ≤ length text → at ≤ end → drop at text ≡ drop at (take end text) ++ drop end text
+from_place text end at within before =
+    ap (drop at) (sym (take-append-drop end text)) ∙ drop-append-le at (take end text) (drop end text) (let n = length-take-le end text within in omega (arith, n))
+
+-- more bids of the whole lines of a text
+pub bids_more : (workers : ℕ) (first old new : Taken) (text : List ℕ) (end at next : ℕ) → end ≤ length text → at < next → next ≤ end → TakesText workers first text old stop.Full (drop at text)
+    → TakesText workers old (drop at (take end text)) new stop.Full (drop next (take end text)) → TakesText workers first text new stop.Full (drop next text)
+bids_more workers first old new text end at next within after before so_far takes =
+    let here : TakesText workers old (drop at text) new stop.Full (drop next text) =
+    rw (from_place text end at within (omega arith), from_place text end next within before) (in_front_of workers old new _ _ (drop end text) takes) in
+    text_then workers first old new text (drop at text) (drop next text) stop.Full so_far here
+
+-- a bid's line of a text, from a place on
+pub bid_text : (workers : ℕ) (old new : Taken) (text : List ℕ) (at next : ℕ) (one : Record) → IsWhole (take (next - at) (drop at text)) → at < next
+    → line_says workers (old.count + 1) old.begun (take (next - at) (drop at text)) ≡ Some (says.Record one) → one.worker < workers → HasTaken old one new
+    → TakesText workers old (drop at text) new stop.Full (drop next text)
+bid_text workers old new text at next one whole after said below added =
+    let takes : TakesSaid workers old (line_says workers (old.count + 1) old.begun (take (next - at) (drop at text))) new None =
+    subst (λ (o : Option Said). TakesSaid workers old o new None) (sym said) (below, (added, refl)) in
+    let to_next : at + (next - at) ≡ next = omega arith in
+    subst (λ (to : List ℕ). TakesText workers old (drop at text) new stop.Full to) (drop-drop (next - at) at text ∙ ap (λ (n : ℕ). drop n text) to_next)
+    (text_line workers old new (drop at text) (next - at) None whole takes added.workers)
+
+-- a bid is one request more, and no row
+pub bid_counts : (old new : Taken) (one : Record) → HasTaken old one new → one.is_row ≡ false → (new.requests ≡ old.requests + 1) × (vec_len new.input.rows ≡ vec_len old.input.rows)
+bid_counts old new one added request =
+    let rows : length (with_record one (asked_of old.input)).rows ≡ length (asked_of old.input).rows = rw request refl in (
+      added.requests ∙ ap (λ (b : Bool). old.requests + (if b then 0 else 1)) request,
+      omega (arith, new.input.rows.ok.0, old.input.rows.ok.0, ap (λ (a : Asked). length a.rows) added.asked, rows),
+    )
 
 pub within_more : (text rest : List ℕ) (at len : ℕ) → rest ≡ drop at text → at ≤ length text → len ≤ length rest → at + len ≤ length text
 within_more text rest at len is within fits = omega (arith, length-drop at text, ap length is, within, fits)

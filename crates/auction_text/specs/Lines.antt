@@ -65,6 +65,12 @@ pub record IsFieldTo (text : List ℕ) (from : ℕ) (stop : ℕ) (next : ℕ)
   pub within : next ≤ length text
   pub stop_is : get_or text (next - 1) 0 ≡ stop
 
+-- From a place on, a text has the rest of a line and its feed, and then what is from `next` on.
+pub record HasLineTo (text : List ℕ) (from : ℕ) (next : ℕ) : Type 0 where
+  pub content : List ℕ
+  pub no_feed : has_no_feed content ≡ true
+  pub text_is : drop from text ≡ content ++ (line_feed ∷ drop next text)
+
 -- From a place on, a text has this field, then a line's end, and then what is from `next` on.
 pub record IsLastField (text : List ℕ) (from : ℕ) (next : ℕ) (field : List ℕ) : Type 0 where
   pub ends : List ℕ

@@ -1,5 +1,5 @@
 -- A permit stays its worker's if a call fails.
-use Rattle.std.proofs.Common.{ℕ, List, ap, ◌∙◌, arith}
+use Rattle.std.proofs.Common.{ℕ, List, ap, ◌∙◌}
 use Rattle.auction_rows.specs.declared.requests.Request.{Request}
 use Rattle.shard_boxes.specs.States.{ShardState}
 use Rattle.phase_permits.specs.Performing.{HasFailed, HasFailedFirst}
@@ -18,7 +18,6 @@ failed was is = record {
   phase_is = ap (λ (s : WorkerState). s.journal.phase) is.worker ∙ was.phase_is;
   stocks_are = ap (λ (s : WorkerState). stocks_of s.slices) is.worker ∙ was.stocks_are;
   begun = ap (λ (s : WorkerState). s.begun) is.worker ∙ was.begun;
-  fits = omega (arith, was.fits, ap (λ (s : WorkerState). s.journal.room) is.worker);
 }
 
 pub failed_first : {initial : List ShardState} {floor : FloorState} {w : ℕ} {old new : WorkerState} {fault : PermitFault} → IsReceipt floor w old

@@ -85,8 +85,8 @@ impl OpeningBook {
     }
 
     /// The rows of requests that are handed in, each with the id that its worker's store gets at its place. It takes
-    /// time in proportion to their number and to the users and categories. `TooLong` is looked at first; then, request
-    /// by request, `BadRow` or `Memory`, whichever comes first. An error leaves no book.
+    /// time in proportion to their number and, if there are any, to the users and categories. `TooLong` is looked at
+    /// first; then, request by request, `BadRow` or `Memory`, whichever comes first. An error leaves no book.
     pub fn new(
         alloc: Global,
         opening: Opening,
@@ -102,6 +102,9 @@ impl OpeningBook {
     {
         if is_too_long(&rows) {
             return Err(ResumeFault::TooLong);
+        }
+        if rows.is_empty() {
+            return Ok(OpeningBook::empty(opening));
         }
         let mut auction = SerialAuction::new(alloc, opening)?;
         let mut book = Vec::new(alloc);

@@ -55,7 +55,8 @@ pub fn read_log<F: AppendFile, W: Write>(
     open_parts(alloc, &mut reader, auction, told)
 }
 
-/// The log of a file that was read: it has accepted just the rows. What is behind them is cut off.
+/// The log of a file that was read: it has accepted just the rows. What is behind them is cut off,
+/// also if that is nothing, so a file that cannot be cut is no log.
 pub fn cut_log<F: AppendFile + Drop>(file: F, logged: &LoggedAuction) -> io::Result<FileLog<F>>
     requires { (book : Book) × OpensWith (F.held file) book logged.now }
     ensures accepted { IfOk result (λ log. (book : Book) →

@@ -46,7 +46,7 @@ pub struct LoggedAuction {
     pub auction: Joined,
     /// How many they are.
     pub rows: u64,
-    /// How many bytes of the text they are.
+    /// How many bytes of the text these rows have.
     pub kept: u64,
     /// The bytes behind them: a cut row.
     pub tail: Vec<u8>,
@@ -54,8 +54,8 @@ pub struct LoggedAuction {
 
 /// Adds the rows of a log to an auction while its text is read: its whole lines are rows as they
 /// are written, and what is behind them is the beginning of a row that was being written, or
-/// nothing. Any other text is refused. Of the text a part of 64 KiB is held at a time, and the text
-/// of its rows is then told: `io::sink()` is for those who do not want it.
+/// nothing. Any other text is refused. It holds 64 KiB of the text at a time, and writes the text
+/// of the rows to `told` as they are read: to `io::sink()` if nobody wants it.
 pub fn open_parts<R: Read, W: Write>(
     alloc: Global,
     reader: &mut R,

@@ -1,4 +1,4 @@
-//! Files that are read by places and at whose end bytes are added, and a log in such a file.
+//! Files that can be read at any place, added to at the end, and cut; and a log in such a file.
 ghost use Rattle.std.specs.Prelude.{◌≡◌, ◌≤◌, ◌<◌, ℕ, false, List, Option, None, IsErr, OnOk, length, take, IfErr, IfOk, IfSome};
 ghost use Rattle.std.specs.Option.{option_map};
 ghost use Rattle.std.specs.Io.KnownBytes.{append_known};
@@ -10,7 +10,7 @@ use std::io;
 use std::io::{Read, Seek, SeekFrom, Write};
 use std::marker::Model;
 
-/// A file that is read by places, at whose end bytes are added, and which can be cut.
+/// A file that can be read at any place, added to at the end, and cut.
 pub trait AppendFile {
     /// The bytes that it holds, if they are known: those that a read gives.
     ghost held: { Self → Option (List ℕ) };

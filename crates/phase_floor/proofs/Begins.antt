@@ -123,7 +123,7 @@ pub can_start : (initial : List ShardState) (workers : ℕ) (floor : FloorState)
     → HasStashRoom (slices_of floor.stocks []) quota stash.room → IsNewPermit floor w quota stash start → CanStart start
 can_start initial workers floor is_open w quota stash start below room begun =
     let low : w < length floor.counters = omega (arith, below, is_open.workers_are) in
-    let limit = is_open.kept.limits w low in
+    let most = is_open.kept.most w low in
     subst CanStart (sym begun.new) (record {
       key = λ s. (ap (λ (seat : SeatState). seat.holds) (begun.key.unused s), ap (λ (seat : SeatState). seat.lines) (begun.key.unused s));
       worker = sym begun.key.worker_is;
@@ -132,7 +132,7 @@ can_start initial workers floor is_open w quota stash start below room begun =
       room = omega arith;
       stash_room = room;
       limit = omega (arith, begun.fits, is_open.kept.last);
-      counted = record { items = omega (arith, limit.stored); bids = omega (arith, limit.stored); comments = omega (arith, limit.stored); buys = omega (arith, limit.stored) };
+      counted = record { items = omega (arith, most.stored); bids = omega (arith, most.stored); comments = omega (arith, most.stored); buys = omega (arith, most.stored) };
       stored = λ item hot own.
           let some = hot_is_stored initial floor.stocks is_open.stocks_are.stocked is_open.stocks_are.read item
           (sym (ap (λ os. is_hot os (Item item)) (objects_of_slices floor.stocks [])) ∙ hot) in

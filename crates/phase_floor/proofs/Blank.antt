@@ -15,7 +15,7 @@ use Rattle.phase_permits.specs.Replying.{CountsOf}
 use Rattle.phase_permits.specs.Workers.{no_counters}
 use Rattle.phase_floor.specs.Making.{IsBlank, AreBlank}
 use Rattle.closing_laws.specs.Standing.{counters_at}
-use Rattle.phase_floor.specs.States.{joined_of, StandsFor, IsWithinLimit, IsKept}
+use Rattle.phase_floor.specs.States.{joined_of, StandsFor, IsWithinMost, IsKept}
 
 pub blank_of_new : (opening : Opening) (count n : ℕ) (shard : Shard) → IsNewShard n count opening shard → IsBlank opening count n (state_of shard)
 blank_of_new opening count n shard new =
@@ -66,6 +66,6 @@ module _ (opening : Opening) (limit : ℕ) (shards : List Shard) (counters : Lis
     opened = λ s below. subst (λ n. IsInitial n s (state_at (map state_of shards) s)) (sym (same ∙ len)) (opened_of_blank opening count s (state_at (map state_of shards) s) (blank s (here s below)));
     opening_is = λ s below. (blank s (here s below)).opening_is;
     last = last;
-    limits = λ w below. subst (IsWithinLimit limit) (nothing w) (record { stored = omega arith; commits = omega arith });
+    most = λ w below. subst IsWithinMost (nothing w) (record { stored = omega arith; commits = omega arith });
     of_a_book = λ none. none [] tt tt blank_stands;
   }

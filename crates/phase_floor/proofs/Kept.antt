@@ -21,11 +21,11 @@ use Rattle.phase_permits.specs.declared.worker.Counters.{Counters}
 use Rattle.phase_permits.specs.Workers.{WorkerState}
 use Rattle.closing_laws.specs.Phases.{HasClosed, receipt_at, counters_of}
 use Rattle.closing_laws.specs.Standing.{StandFor, AreOfWorkers, counters_at}
-use Rattle.closing_laws.proofs.CommitLemmas.{book_left, commits_grow, stores_few, workers_go_on}
+use Rattle.closing_laws.proofs.CommitLemmas.{book_left, stores_few, workers_go_on}
 use Rattle.phase_floor.specs.Closings.{AreReceiptsOf, phase_of}
 use Rattle.phase_floor.specs.Floors.{FloorState, IsOpen}
 use Rattle.phase_floor.specs.Resuming.{AreReady}
-use Rattle.phase_floor.specs.States.{IsKept, IsWithinLimit, AreWithinLimit, AreOfABook}
+use Rattle.phase_floor.specs.States.{IsKept, IsWithinMost, AreWithinMost, AreOfABook}
 use Rattle.phase_floor.proofs.BookSize.{size_at_most}
 
 -- A shard keeps nothing of what lies elsewhere.
@@ -38,12 +38,12 @@ elsewhere (shard ∷ shards) zero below object apart = ap (λ b. cond b (kept sh
 elsewhere (shard ∷ shards) (suc s) below object apart = elsewhere shards s (omega (arith, below)) object apart
 
 module _ (opening : Opening) (shards : List Shard) (counters : List Counters) (ready : AreReady opening (map state_of shards))
-    (few : length counters ≤ 16) (most : ℕ) (last : most ≤ MOST_COMMITS) (limits : AreWithinLimit most counters) (of_a_book : AreOfABook opening (map state_of shards) counters) where
+    (few : length counters ≤ 16) (most : AreWithinMost counters) (of_a_book : AreOfABook opening (map state_of shards) counters) where
   -- of a book for which they stand
   size : (book : Book) → AreOfWorkers (length counters) book → StandFor (map state_of shards) counters book [] → length book ≤ MOST_KEPT
   size book own holds =
       let all = size_at_most book MOST_COMMITS (length counters) own (λ w low.
-      let counts = holds.counts w low in let limit = limits w low in omega (arith, counts.items, counts.bids, counts.comments, counts.buys, limit.stored, limit.commits, last)) in
+      let counts = holds.counts w low in let its = most w low in omega (arith, counts.items, counts.bids, counts.comments, counts.buys, its.stored, its.commits)) in
       omega (arith, all, few)
 
   -- what holds of blank values and of those of a book for which they stand holds of theirs
@@ -88,7 +88,7 @@ module _ (opening : Opening) (shards : List Shard) (counters : List Counters) (r
 
 module _ (initial : List ShardState) (workers : ℕ) (floor : FloorState) (is_open : IsOpen initial workers floor) (receipts : List WorkerState) (are : AreReceiptsOf floor receipts)
     (given : List ShardState) (entries : List Entry) (closed : HasClosed (phase_of initial floor receipts given entries))
-    (room : (w : ℕ) → w < length receipts → length (receipt_at receipts w).journal.entries ≤ (receipt_at receipts w).journal.room) where
+    (most : (w : ℕ) → w < length receipts → (counters_of (receipt_at receipts w)).commits ≤ MOST_COMMITS) where
   -- the counters of a worker after the phase
   pub counted : (w : ℕ) → w < length receipts → counters_of (receipt_at receipts w) ≡ counters_at (map counters_of receipts) w
   counted w below = sym (get_or-map counters_of receipts w _)
@@ -96,12 +96,12 @@ module _ (initial : List ShardState) (workers : ℕ) (floor : FloorState) (is_op
   many : length (map counters_of receipts) ≡ length receipts
   many = simp length-map
 
-  limits_after : AreWithinLimit floor.limit (map counters_of receipts)
-  limits_after w low =
+  most_after : AreWithinMost (map counters_of receipts)
+  most_after w low =
       let below : w < length receipts = omega (arith, low, many) in
-      subst (IsWithinLimit floor.limit) (counted w below) (record {
-        stored = stores_few (phase_of initial floor receipts given entries) closed w below (is_open.kept.limits w (omega (arith, below, are.0))).stored;
-        commits = omega (arith, commits_grow (phase_of initial floor receipts given entries) closed w below, room w below, (are.1 w (omega (arith, below, are.0))).fits);
+      subst IsWithinMost (counted w below) (record {
+        stored = stores_few (phase_of initial floor receipts given entries) closed w below (is_open.kept.most w (omega (arith, below, are.0))).stored;
+        commits = most w below;
       })
 
   module _ (shards : List Shard) (as_many : length (map state_of shards) ≡ length initial) (ready : AreReady floor.opening (map state_of shards))
@@ -119,9 +119,9 @@ module _ (initial : List ShardState) (workers : ℕ) (floor : FloorState) (is_op
           few_shards = omega (arith, as_many, is_open.kept.few_shards);
           some_workers = omega (arith, many, are.0, is_open.kept.some_workers);
           few_workers = few;
-          opened = are_opened floor.opening shards (map counters_of receipts) ready few floor.limit is_open.kept.last limits_after of_a_book_after;
+          opened = are_opened floor.opening shards (map counters_of receipts) ready few most_after of_a_book_after;
           opening_is = ready.opening_is;
           last = is_open.kept.last;
-          limits = limits_after;
+          most = most_after;
           of_a_book = of_a_book_after;
         }

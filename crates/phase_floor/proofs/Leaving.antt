@@ -1,5 +1,5 @@
 -- The state that a phase leaves.
-use Rattle.std.proofs.Common.{◌≡◌, ℕ, ◌+◌, List, [], map, fold, length, sym, ap, ◌∙◌, subst}
+use Rattle.std.proofs.Common.{◌≡◌, ℕ, ◌+◌, ◌<◌, List, [], map, fold, length, sym, ap, ◌∙◌, subst, arith}
 use Rattle.std.specs.List.{AllByRecursion, flat_map}
 use Rattle.phase_laws.specs.Replay.{SawInTurn}
 use Rattle.auction_rows.specs.declared.requests.Object.{Object}
@@ -20,7 +20,7 @@ use Rattle.phase_permits.specs.declared.slices.Hot.{Hot}
 use Rattle.phase_permits.specs.Stashes.{StashState}
 use Rattle.phase_permits.specs.Workers.{WorkerState}
 use Rattle.closing_laws.specs.Merging.{CanMerge, after_merge}
-use Rattle.closing_laws.specs.Phases.{HasClosed, counters_of}
+use Rattle.closing_laws.specs.Phases.{HasClosed, counters_of, journal_of, receipt_at}
 use Rattle.closing_laws.specs.Standing.{StandFor, counters_at}
 use Rattle.closing_laws.proofs.CommitLemmas.{commits_grow}
 use Rattle.closing_laws.proofs.ReplayLemmas.{entries_replay}
@@ -70,12 +70,19 @@ module _ (initial : List ShardState) (workers : ℕ) (floor : FloorState) (is_op
   pub kept_left : IsKept start limit (map state_of shards) counters
   kept_left =
       let states = map state_of shards in
-      let kept = kept_after initial workers floor is_open receipts are e.given entries e.closed (λ w below. (finished initial workers floor is_open receipts are all w below).room) shards
+      let kept = kept_after initial workers floor is_open receipts are e.given entries e.closed (λ w below. (finished initial workers floor is_open receipts are all w below).most) shards
       (as_many initial workers floor is_open receipts are e.given entries e.closed e.order e.each states e.states_are)
       (ready initial workers floor is_open receipts are e.given entries e.closed e.order e.each states e.states_are)
       (stand_after initial workers floor is_open receipts are e.given entries e.closed e.order e.each states e.states_are) in
       subst (λ (o : Opening). IsKept o limit states counters) (sym start_is) (subst (λ n. IsKept floor.opening n states counters) (sym limit_is)
       (subst (λ (cs : List Counters). IsKept floor.opening floor.limit states cs) (sym counters_are) kept))
+
+  -- each worker's commits grow by its journal
+  grown : (w : ℕ) → w < length receipts → (counters_at counters w).commits ≡ (counters_at floor.counters w).commits + length (journal_of (receipt_at receipts w)).entries
+  grown w below =
+      ap (λ (cs : List Counters). (counters_at cs w).commits) counters_are
+      ∙ sym (ap (λ (cs : Counters). cs.commits) (counted initial workers floor is_open receipts are e.given entries e.closed (λ v low. (finished initial workers floor is_open receipts are all v low).most) w below))
+      ∙ commits_grow (phase_of initial floor receipts e.given entries) e.closed w below
 
   pub leaves : (phase : ℕ) (stashes : List StashState) → phase ≡ floor.phase + 1 → stashes ≡ map stash_of receipts → Leaves initial floor receipts entries (joined_of start limit phase shards counters) stashes
   leaves phase stashes phase_is stashes_are = record {
@@ -85,10 +92,10 @@ module _ (initial : List ShardState) (workers : ℕ) (floor : FloorState) (is_op
     counters_are = counters_are;
     stashes_are = stashes_are;
     lawful = reconciled_lawful initial floor receipts (map state_of shards) entries e;
-    commits = λ w below.
-        ap (λ (cs : List Counters). (counters_at cs w).commits) counters_are
-        ∙ sym (ap (λ (cs : Counters). cs.commits) (counted initial workers floor is_open receipts are e.given entries e.closed (λ v low. (finished initial workers floor is_open receipts are all v low).room) w below))
-        ∙ commits_grow (phase_of initial floor receipts e.given entries) e.closed w below;
+    commits = grown;
+    within = λ w below room.
+        let more = grown w below in let entered = (finished initial workers floor is_open receipts are all w below).room in
+        omega (arith, more, entered, room, limit_is);
     replays = λ book holds. entries_replay (phase_of initial floor receipts e.given entries) e.closed book holds;
     stands = λ book holds. subst (λ (cs : List Counters). StandFor (map state_of shards) cs (book_after floor.opening book entries) []) (sym counters_are)
         (stand_after initial workers floor is_open receipts are e.given entries e.closed e.order e.each (map state_of shards) e.states_are book holds);

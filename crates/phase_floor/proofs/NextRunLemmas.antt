@@ -12,7 +12,7 @@ use Rattle.phase_permits.specs.Replying.{CountsOf}
 use Rattle.closing_laws.specs.Standing.{StandFor, AreOfWorkers, counters_at, stores}
 use Rattle.phase_permits.specs.Workers.{no_counters}
 use Rattle.phase_floor.specs.NextRun.{stores_as_commits}
-use Rattle.phase_floor.specs.States.{AreOfABook, AreWithinLimit, IsKept, IsWithinLimit}
+use Rattle.phase_floor.specs.States.{AreOfABook, AreWithinMost, IsKept, IsWithinMost}
 
 module _ (counters : List Counters) where
   abbrev pub new : List Counters
@@ -32,10 +32,10 @@ module _ (counters : List Counters) where
         subst (CountsOf book w) (sym (at_next w)) (record { items = own.items; bids = own.bids; comments = own.comments; buys = own.buys });
   }
 
-  limits_next : (limit : ℕ) → AreWithinLimit limit counters → AreWithinLimit limit new
-  limits_next limit limits = λ w low.
-      let own = limits w (omega (arith, low, many)) in
-      subst (IsWithinLimit limit) (sym (at_next w)) (record { stored = omega arith; commits = omega (arith, own.stored, own.commits) })
+  most_next : AreWithinMost counters → AreWithinMost new
+  most_next most = λ w low.
+      let own = most w (omega (arith, low, many)) in
+      subst IsWithinMost (sym (at_next w)) (record { stored = omega arith; commits = omega (arith, own.stored, own.commits) })
 
   of_a_book_next : (opening : Opening) (states : List ShardState) → AreOfABook opening states counters → AreOfABook opening states new
   of_a_book_next opening states of_a_book = λ none.
@@ -50,16 +50,16 @@ module _ (counters : List Counters) where
     opened = kept.opened;
     opening_is = kept.opening_is;
     last = kept.last;
-    limits = limits_next limit kept.limits;
+    most = most_next kept.most;
     of_a_book = of_a_book_next opening states kept.of_a_book;
   }
 
--- each worker's stores are within the limit
-pub stores_within : (limit : ℕ) → limit ≤ MOST_COMMITS → (counters : List Counters) → AreWithinLimit limit counters → AllByRecursion (λ c. stores c ≤ MOST_COMMITS) counters
-stores_within limit last [] limits = tt
-stores_within limit last (c ∷ cs) limits =
-    let first = limits 0 (omega arith) in
-    (omega (arith, first.stored, first.commits, last), stores_within limit last cs (λ w low. limits (suc w) (omega (arith, low))))
+-- each worker's stores are within what any auction allows
+pub stores_within : (counters : List Counters) → AreWithinMost counters → AllByRecursion (λ c. stores c ≤ MOST_COMMITS) counters
+stores_within [] most = tt
+stores_within (c ∷ cs) most =
+    let first = most 0 (omega arith) in
+    (omega (arith, first.stored, first.commits), stores_within cs (λ w low. most (suc w) (omega (arith, low))))
 
 -- a state that may last longer keeps what is kept between phases
 pub kept_longer : (opening : Opening) (limit : ℕ) (states : List ShardState) (counters : List Counters) → IsKept opening limit states counters → IsKept opening MOST_COMMITS states counters
@@ -71,6 +71,6 @@ kept_longer opening limit states counters kept = record {
   opened = kept.opened;
   opening_is = kept.opening_is;
   last = omega arith;
-  limits = λ w low. let own = kept.limits w low in record { stored = own.stored; commits = omega (arith, own.commits, kept.last) };
+  most = kept.most;
   of_a_book = kept.of_a_book;
 }

@@ -28,7 +28,7 @@ use Rattle.phase_permits.specs.Workers.{no_counters}
 use Rattle.closing_laws.specs.Standing.{StandFor, AreCountersOf, AreOfWorkers, counters_at, stores}
 use Rattle.phase_floor.specs.Adding.{CanTake, KeepsBooks, with_counted}
 use Rattle.phase_floor.specs.Resuming.{AreReady, CanWriteOn, HaveDone, HaveRoom, with_row}
-use Rattle.phase_floor.specs.States.{JoinedState, AreOfABook, AreWithinLimit, IsBookOf, IsKept, IsWithinLimit, joined_of, states_of}
+use Rattle.phase_floor.specs.States.{JoinedState, AreOfABook, AreWithinMost, IsBookOf, IsKept, IsWithinMost, joined_of, states_of}
 use Rattle.phase_floor.proofs.BookSize.{size_at_most}
 use Rattle.phase_floor.proofs.Kept.{are_opened}
 use Rattle.phase_floor.proofs.ResumeActs.{can_write, ready_next, stand_next}
@@ -100,17 +100,17 @@ module _ (counters : List Counters) (r : Row) (own : worker_of r < length counte
         subst (CountsOf (b ++ r ∷ []) w) (sym (at_next w false e)) (counts_of (b ++ r ∷ []) w (counters_at counters w)
         (stored_next b r w ∙ ap (λ t. cond t (counted r (stored_by b w)) (stored_by b w)) e ∙ told b w (counters_at counters w) of))
 
-  pub limits_next : (limit : ℕ) → AreWithinLimit limit counters → (counters_at counters (worker_of r)).commits < limit → AreWithinLimit limit next
-  limits_next limit limits room w low = at (worker_of r == w) refl where
-    was : IsWithinLimit limit (counters_at counters w)
-    was = limits w (omega (arith, low, as_many))
+  pub most_next : AreWithinMost counters → (counters_at counters (worker_of r)).commits < MOST_COMMITS → AreWithinMost next
+  most_next most room w low = at (worker_of r == w) refl where
+    was : IsWithinMost (counters_at counters w)
+    was = most w (omega (arith, low, as_many))
 
-    at : (t : Bool) → (worker_of r == w) ≡ t → IsWithinLimit limit (counters_at next w)
+    at : (t : Bool) → (worker_of r == w) ≡ t → IsWithinMost (counters_at next w)
     at true e =
-        let here : (counters_at counters w).commits < limit = subst (λ v. (counters_at counters v).commits < limit) (eqb-true (worker_of r) w e) room in
+        let here : (counters_at counters w).commits < MOST_COMMITS = subst (λ v. (counters_at counters v).commits < MOST_COMMITS) (eqb-true (worker_of r) w e) room in
         let more = stores_as r (counters_at counters w) in
-        subst (IsWithinLimit limit) (sym (at_next w true e)) (record { stored = omega (arith, more.0, more.1, was.stored); commits = omega (arith, more.1, here) })
-    at false e = subst (IsWithinLimit limit) (sym (at_next w false e)) was
+        subst IsWithinMost (sym (at_next w true e)) (record { stored = omega (arith, more.0, more.1, was.stored); commits = omega (arith, more.1, here) })
+    at false e = subst IsWithinMost (sym (at_next w false e)) was
 
 -- ---- shards and counters
 
@@ -134,7 +134,7 @@ module _ (opening : Opening) (limit : ℕ) (old : List ShardState) (counters : L
     few : length b < 2 ^ 59
     few =
         let most = size_at_most b MOST_COMMITS (length counters) of_workers (λ w low.
-        let of = stands.counts w low in let own_limit = kept.limits w low in omega (arith, of.items, of.bids, of.comments, of.buys, own_limit.stored, own_limit.commits, kept.last)) in
+        let of = stands.counts w low in let own_most = kept.most w low in omega (arith, of.items, of.bids, of.comments, of.buys, own_most.stored, own_most.commits)) in
         omega (arith, most, kept.few_workers)
 
     -- the row can be written on the shards
@@ -155,7 +155,7 @@ module _ (opening : Opening) (limit : ℕ) (old new : List Shard) (counters : Li
   kept_more room b is_book of_workers stands goes_on =
       let many = as_many counters r own in
       let now = ready_next opening (map state_of old) (map state_of new) r (ready opening limit (map state_of old) counters r kept) done in
-      let limits = limits_next counters r own limit kept.limits room in
+      let most = most_next counters r own kept.most (omega (arith, room, kept.last)) in
       let of_a_book : AreOfABook opening (map state_of new) (with_counted r counters) = λ none.
       none (b ++ r ∷ []) (longer opening limit (map state_of old) counters r kept b is_book of_workers stands goes_on own)
       (subst (λ n. AreOfWorkers n (b ++ r ∷ [])) (sym many) (workers_next opening limit (map state_of old) counters r kept b is_book of_workers stands goes_on own)) (stand_more b stands) in
@@ -164,10 +164,10 @@ module _ (opening : Opening) (limit : ℕ) (old new : List Shard) (counters : Li
         few_shards = omega (arith, done.len, kept.few_shards);
         some_workers = omega (arith, many, kept.some_workers);
         few_workers = few;
-        opened = are_opened opening new (with_counted r counters) now few limit kept.last limits of_a_book;
+        opened = are_opened opening new (with_counted r counters) now few most of_a_book;
         opening_is = now.opening_is;
         last = kept.last;
-        limits = limits;
+        most = most;
         of_a_book = of_a_book;
       }
 
@@ -188,7 +188,7 @@ module _ (state : JoinedState) (r : Row) (kept : IsKept state.opening state.limi
   writes = can state.opening state.limit (states_of state) state.counters r kept take.book take.is_of.is_book own_book take.is_of.stands take.goes_on take.own
 
   pub room : HaveRoom (counters_at state.counters (worker_of r))
-  room = have_room (counters_at state.counters (worker_of r)) (kept.limits (worker_of r) take.own).stored state.limit kept.last take.room
+  room = have_room (counters_at state.counters (worker_of r)) (kept.most (worker_of r) take.own).stored state.limit kept.last take.room
 
   module _ (new : List Shard) (done : HaveDone (states_of state) (map state_of new) (writes_of r)) where
     -- with the row it is kept

@@ -27,8 +27,8 @@ use Rattle.closing_laws.specs.Standing.{StandFor, counters_at}
 use Rattle.phase_floor.specs.Floors.{FloorState}
 use Rattle.phase_floor.specs.States.{JoinedState, states_of, StandsFor}
 
--- the worker's receipt of the phase: its key is to the phase's boxes, it began with the floor's
--- counters, at clock 0, and its journal had no room for more commits than the limit
+-- the worker's receipt of the phase: its key is to the phase's boxes, and it began with the floor's
+-- counters, at clock 0
 pub record IsReceipt (floor : FloorState) (worker : ℕ) (receipt : WorkerState) : Type 0 where
   -- its key is to the phase's boxes
   pub boxes_are : receipt.key.boxes ≡ floor.boxes
@@ -42,8 +42,6 @@ pub record IsReceipt (floor : FloorState) (worker : ℕ) (receipt : WorkerState)
   pub stocks_are : stocks_of receipt.slices ≡ floor.stocks
   -- it began with the floor's counters, at clock 0
   pub begun : receipt.begun ≡ (counters_at floor.counters worker, 0)
-  -- with its journal full it has no more commits than the limit
-  pub fits : (counters_at floor.counters worker).commits + receipt.journal.room ≤ floor.limit
 
 -- each worker's receipt of the phase, in order
 abbrev pub AreReceiptsOf : FloorState → List WorkerState → Type 0
@@ -57,7 +55,9 @@ pub record IsFinished (shards : ℕ) (receipt : WorkerState) : Type 0 where
   pub explained : IsExplained shards receipt
   -- its entries had room in its journal
   pub room : length receipt.journal.entries ≤ receipt.journal.room
-  -- no slice has more operations than a worker may ever commit
+  -- it has no more commits than a worker may ever have
+  pub most : (counters_of receipt).commits ≤ MOST_COMMITS
+  -- no slice has more operations than that
   pub few : HaveAtMost MOST_COMMITS receipt.slices
 
 abbrev pub stash_of : WorkerState → StashState
@@ -126,6 +126,10 @@ pub record Leaves (initial : List ShardState) (floor : FloorState) (receipts : L
   pub commits : (w : ℕ) → w < length receipts →
       (counters_at state.counters w).commits
       ≡ (counters_at floor.counters w).commits + length (journal_of (receipt_at receipts w)).entries
+  -- they are within the limit, if its journal had no room for more
+  pub within : (w : ℕ) → w < length receipts →
+      (counters_at floor.counters w).commits + (journal_of (receipt_at receipts w)).room
+      ≤ floor.limit → (counters_at state.counters w).commits ≤ state.limit
   -- the entries replay from each book for which the state before stood
   pub replays : (book : Book) → StandFor initial floor.counters book [] →
       ReplaysFrom floor.opening book entries

@@ -65,14 +65,13 @@ DoesExist opening states (Category category) = category < opening.categories
 abbrev pub DoAllExist : Opening → List ShardState → List Object → Type 0
 DoAllExist opening states objects = AllByRecursion (DoesExist opening states) objects
 
--- no more stores of a worker than commits, and no more of these than the limit
-pub record IsWithinLimit (limit : ℕ) (counters : Counters) : Type 0 where
+-- no more stores of a worker than commits, and no more of these than any auction allows
+pub record IsWithinMost (counters : Counters) : Type 0 where
   pub stored : stores counters ≤ counters.commits
-  pub commits : counters.commits ≤ limit
+  pub commits : counters.commits ≤ MOST_COMMITS
 
-abbrev pub AreWithinLimit : ℕ → List Counters → Type 0
-AreWithinLimit limit counters =
-    (w : ℕ) → w < length counters → IsWithinLimit limit (counters_at counters w)
+abbrev pub AreWithinMost : List Counters → Type 0
+AreWithinMost counters = (w : ℕ) → w < length counters → IsWithinMost (counters_at counters w)
 
 -- It is not so that they stand for no book of their workers' rows. Whatever can be tested of them,
 -- and holds if they stand for such a book, holds here.
@@ -82,7 +81,7 @@ AreOfABook opening states counters =
     StandFor states counters book [] → ⊥)
 
 -- what is kept between phases: 1 to 64 shards with which a phase may open, 1 to 16 workers within
--- limits, and that they are of a book
+-- what any auction allows, and that they are of a book
 pub record IsKept (opening : Opening) (limit : ℕ) (states : List ShardState)
     (counters : List Counters) : Type 0 where
   -- there are 1 to 64 shards
@@ -97,7 +96,7 @@ pub record IsKept (opening : Opening) (limit : ℕ) (states : List ShardState)
   pub opening_is : HaveOpening states opening
   -- no limit is above that of all auctions
   pub last : limit ≤ MOST_COMMITS
-  -- nobody has more commits than the limit
-  pub limits : AreWithinLimit limit counters
+  -- nobody has more commits than that
+  pub most : AreWithinMost counters
   -- it is not so that they stand for no book of their workers' rows
   pub of_a_book : AreOfABook opening states counters

@@ -203,7 +203,7 @@ impl<N: PhaseName, K: Kind> Floor<N, K> {
             slices,
         } = Parts::of(alloc, receipts, counters)?;
         history.add_phase(journals)?;
-        let mut shards = boxes.close(rt, keys);
+        let (mut shards, spare) = boxes.close_kept(rt, keys);
         merge_all(&mut shards, slices);
         reset_clocks(&mut shards);
         let state = Joined {
@@ -211,6 +211,7 @@ impl<N: PhaseName, K: Kind> Floor<N, K> {
             limit,
             phase: phase + 1,
             shards,
+            spare,
             counters,
         };
         Ok((state, stashes))

@@ -7,7 +7,7 @@ ghost use Rattle.phase_floor.specs.NextRun.{stores_as_commits};
 use auction_rows::{MOST_WORKERS, Object, Opening, Reply, Request, shard_of};
 use item_shards::Shard;
 use phase_permits::Counters;
-use shard_boxes::MOST_COMMITS;
+use shard_boxes::{MOST_COMMITS, Spare};
 use std::marker::Model;
 
 /// An auction between two phases: its 1 to 64 shards, what each of 1 to 16 workers has committed,
@@ -18,6 +18,7 @@ pub struct Joined {
     pub(crate) limit: u64,
     pub(crate) phase: u64,
     pub(crate) shards: Vec<Shard>,
+    pub(crate) spare: Spare,
     pub(crate) counters: Vec<Counters>,
 }
 
@@ -115,11 +116,13 @@ impl Joined {
         self.limit
     }
 
-    /// How many rows a worker has stored.
+    /// How many rows a worker has stored: no more than its commits, which are at most
+    /// `MOST_COMMITS`.
     pub fn stored_by(&self, worker: usize) -> u32
         requires { worker < length self.now.counters }
         ensures stored { result ≡ stores (counters_at self.now.counters worker) }
-        ensures limit { result ≤ self.now.limit }
+        ensures commits { result ≤ (counters_at self.now.counters worker).commits }
+        ensures most { (counters_at self.now.counters worker).commits ≤ MOST_COMMITS }
     {
         stores(&self.counters[worker])
     }
@@ -136,6 +139,7 @@ impl Joined {
             limit,
             phase: _,
             shards,
+            spare,
             mut counters,
         } = self;
         set_commits(&mut counters);
@@ -144,6 +148,7 @@ impl Joined {
             limit,
             phase: 0,
             shards,
+            spare,
             counters,
         }
     }

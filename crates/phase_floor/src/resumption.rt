@@ -19,6 +19,7 @@ use auction_rows::{
 };
 use item_shards::{Act, OpeningBook, Shard};
 use phase_permits::Counters;
+use shard_boxes::Spare;
 use std::alloc::{AllocError, Global};
 
 impl Joined {
@@ -46,6 +47,7 @@ impl Joined {
             limit: MOST_OF_A_WORKER,
             phase: 0,
             shards,
+            spare: Spare::none(alloc),
             counters,
         })
     }

@@ -13,7 +13,7 @@ use crate::floor::{BeginFault, Floor, JoinedFloor};
 use crate::joined::Joined;
 use auction_rows::{Facts, MOST_WORKERS, Object};
 use phase_permits::{Counters, JoinedPermit, Kind, Permit, Slices, Stash, WorkerStart};
-use shard_boxes::{Boxes, Key, MOST_COMMITS, PhaseName};
+use shard_boxes::{Boxes, Key, MOST_COMMITS, PhaseName, Spare};
 use std::alloc::{AllocError, Global};
 use std::marker::PhantomData;
 use std::sync::Wait;
@@ -149,7 +149,7 @@ impl Joined {
         let Ok(permits) = Vec::with_capacity(alloc, quotas.len()) else {
             return Err((self, stashes));
         };
-        match Boxes::new(rt, alloc, self.shards, quotas.len() as u32) {
+        match Boxes::open(rt, alloc, self.shards, quotas.len() as u32, self.spare) {
             Ok((boxes, keys)) => {
                 let floor = Floor {
                     opening: self.opening,
@@ -165,7 +165,12 @@ impl Joined {
             }
             Err((shards, _)) => {
                 permits.destroy_empty();
-                Err((Joined { shards, ..self }, stashes))
+                let state = Joined {
+                    shards,
+                    spare: Spare::none(alloc),
+                    ..self
+                };
+                Err((state, stashes))
             }
         }
     }

@@ -72,13 +72,9 @@ where
         log,
         writer: io::writer(rt),
     };
-    serve(
-        rt,
-        rt.alloc(),
-        source,
-        &mut LiveTeller { teller, errors },
-        options,
-    )
+    let alloc = rt.alloc();
+    let mut teller = LiveTeller::of(alloc, teller, errors);
+    serve(rt, alloc, source, &mut teller, options)
 }
 
 // Serves standard input, and keeps no log.

@@ -1,18 +1,18 @@
 -- The grants of a key, and the grants of all boxes.
-use Rattle.std.proofs.Common.{◌≡◌, ℕ, zero, suc, ◌+◌, ◌<◌, ◌≤◌, false, List, [], ◌∷◌, ◌++◌, length, map, get_or, take, refl, sym, ap, ◌∙◌, subst, arith, append_assoc, length-append}
+use Rattle.std.proofs.Common.{◌≡◌, ℕ, zero, suc, ◌+◌, ◌<◌, ◌≤◌, false, List, [], ◌∷◌, ◌++◌, length, map, get_or, take, refl, sym, ap, ◌∙◌, subst, arith, append_assoc, length-append, zero-lt-suc, true}
 use Rattle.std.proofs.lemmas.List.{get_or-map, length-map, take_more}
 use Rattle.shard_boxes.specs.declared.shard_box.Knowledge.{Knowledge}
-use Rattle.shard_boxes.specs.Rule.{IsLawfulList, HasParts, maker, opened, first_of, rest_of, joined}
+use Rattle.shard_boxes.specs.Rule.{IsLawfulList, HasParts, SpeaksForAll, IsSpare, start_of, maker, ready, opened, first_of, rest_of, joined, spent}
 use Rattle.item_shards.specs.declared.shard.Shard.{Shard}
-use Rattle.item_shards.specs.ShardContents.{shard_number}
 use Rattle.shard_boxes.specs.Passes.{GrantState}
 use Rattle.shard_boxes.specs.Keys.{BoxId, KeyState, key_at, no_seat, holds_at, lines_at, IsNewKey}
-use Rattle.shard_boxes.specs.Seats.{own_of, seat_of, boxes_of, key_of, AreFor}
+use Rattle.shard_boxes.specs.Seats.{own_of, seat_of, boxes_of, key_of, IsFor, AreFor}
 use Rattle.shard_boxes.specs.States.{ShardState, state_of, state_at, no_shard, IsInitial}
 use Rattle.shard_boxes.specs.Lines.{Line, after_lines, IsShardHistory, lines_of}
 use Rattle.shard_boxes.specs.Closed.{IsSpent, AreSpent}
-use Rattle.shard_boxes.specs.Grants.{makers, ready, IsFree, AreFree, own_at, IsTaken}
-use Rattle.shard_boxes.proofs.Each.{map_push}
+use Rattle.shard_boxes.specs.Grants.{AreSpare, IsReady, IsFree, AreFree, own_at, IsTaken}
+use Rattle.shard_boxes.proofs.Each.{map_push, each_push}
+use Rattle.shard_boxes.proofs.BoxSteps.{maker_spare}
 use Rattle.shard_boxes.proofs.KeySteps.{read}
 use Rattle.shard_boxes.proofs.LineLemmas.{history_of}
 
@@ -28,20 +28,24 @@ at_itself (x ∷ xs) zero d e h = refl
 at_itself (x ∷ xs) (suc s) d e h = at_itself xs s d e (omega arith)
 
 -- the grants of a key that holds nothing
-pub key_free : (worker : ℕ) (grants : List GrantState) (x : KeyState) → key_of worker grants ≡ x → AreFor grants worker → ((s : ℕ) → holds_at x s ≡ false) → AreFree x.boxes x.worker grants
-key_free worker grants x is each idle = (
+pub key_free : (initial : List ShardState) (workers worker : ℕ) (grants : List GrantState) (x : KeyState) → key_of worker grants ≡ x → AreFor initial workers grants worker → ((s : ℕ) → holds_at x s ≡ false)
+    → AreFree initial workers x.boxes x.worker grants
+key_free initial workers worker grants x is each idle = (
   ap (λ (k : KeyState). k.boxes) is,
   λ s d low.
       let fit = each s d low in
       let seat = read worker grants s (get_or grants s d) x is low (at_itself grants s d (get_or grants s d) low) in record {
-        numbered = fit.numbered;
+        start_is = fit.start_is;
+        workers_are = fit.workers_are;
         from = fit.from ∙ ap (λ (k : KeyState). k.worker) is;
+        speaks = subst (λ n. 0 < n) (sym fit.as_many) (zero-lt-suc 0);
         free = ap (λ t. t.holds) (sym seat) ∙ idle s;
       },
 )
 
-pub key_own : (worker : ℕ) (grants : List GrantState) (x : KeyState) (s : ℕ) (d : GrantState) → key_of worker grants ≡ x → AreFor grants worker → s < length grants → own_at grants s d ≡ lines_at x s ∷ []
-key_own worker grants x s d is each low =
+pub key_own : (initial : List ShardState) (workers worker : ℕ) (grants : List GrantState) (x : KeyState) (s : ℕ) (d : GrantState) → key_of worker grants ≡ x → AreFor initial workers grants worker → s < length grants
+    → own_at grants s d ≡ lines_at x s ∷ []
+key_own initial workers worker grants x s d is each low =
     let seat = read worker grants s (get_or grants s d) x is low (at_itself grants s d (get_or grants s d) low) in
     own_one (own_at grants s d) (each s d low).as_many ∙ ap (λ l. l ∷ []) (ap (λ t. t.lines) (sym seat))
 
@@ -53,29 +57,37 @@ place_is grants boxes s l p is low at there =
 pub as_many : (grants : List GrantState) (boxes : List BoxId) → boxes_of grants ≡ boxes → length grants ≡ length boxes
 as_many grants boxes is = let same : length (boxes_of grants) ≡ length grants = simp length-map in sym same ∙ ap length is
 
-pub makers_push : (workers : ℕ) (boxes now : List BoxId) (grants later : List GrantState) (p : BoxId) (l : GrantState) → grants ≡ makers workers boxes → now ≡ boxes ++ p ∷ [] → later ≡ grants ++ l ∷ []
-    → l.box_id ≡ p → l.knows ≡ maker workers → later ≡ makers workers now
-makers_push workers boxes now grants later p l is now_is later_is place knows =
-    later_is ∙ (λ i. is i ++ record { box_id = place i; knows = knows i } ∷ []) ∙ sym (map_push (λ (q : BoxId). record { box_id = q; knows = maker workers }) boxes p) ∙ ap (makers workers) (sym now_is)
-
-pub makers_places : (workers : ℕ) (boxes : List BoxId) → boxes_of (makers workers boxes) ≡ boxes
-makers_places workers [] = refl
-makers_places workers (p ∷ boxes) = ap (λ ps. p ∷ ps) (makers_places workers boxes)
-
-pub makers_know : (workers : ℕ) (boxes : List BoxId) (s : ℕ) (d : GrantState) → s < length (makers workers boxes) → (get_or (makers workers boxes) s d).knows ≡ maker workers
-makers_know workers [] s d low = absurd (omega arith)
-makers_know workers (p ∷ boxes) zero d low = refl
-makers_know workers (p ∷ boxes) (suc s) d low = makers_know workers boxes s d (omega arith)
+-- one box more, with its maker's grant
+pub spare_more : (boxes now : List BoxId) (grants later : List GrantState) (p : BoxId) (l : GrantState) → AreSpare boxes grants → now ≡ boxes ++ p ∷ [] → later ≡ grants ++ l ∷ [] → l.box_id ≡ p → l.knows ≡ maker
+    → AreSpare now later
+spare_more boxes now grants later p l spare now_is later_is place knows = (
+  ap boxes_of later_is ∙ map_push (λ (x : GrantState). x.box_id) grants l ∙ (λ i. spare.0 i ++ place i ∷ []) ∙ sym now_is,
+  λ s d low.
+      each_push (λ k (x : GrantState). IsSpare x.knows) grants later l d (length grants) refl later_is (λ k lower. spare.1 k d lower) (subst IsSpare (sym knows) maker_spare) s
+      (subst (λ n. s < n) (ap length later_is ∙ length-append grants (l ∷ [])) low),
+)
 
 -- what the steps make of a view for workers who have done nothing
-pub opened_ready : (workers s : ℕ) (v : Knowledge) (x : Shard) → v ≡ maker workers → shard_number x ≡ s → opened v x ≡ ready s 0 workers
-opened_ready workers s v x is number = (λ i. record (is i) { number = number i; holds = false })
+pub opened_ready : (start : ShardState) (workers : ℕ) (v : Knowledge) (x : Shard) → v ≡ opened workers x → state_of x ≡ start → IsReady start workers 0 workers v
+opened_ready start workers v x is state = record {
+  start_is = ap start_of is ∙ state;
+  unused = is ∙ ap (λ (y : Knowledge). ready y.start workers 0 workers) (sym is);
+}
 
-pub rest_ready : (s first workers left : ℕ) (v : Knowledge) → v ≡ ready s first workers → workers ≡ suc left → rest_of v ≡ ready s (first + 1) left
-rest_ready s first workers left v is e = ap rest_of is ∙ ap (λ n. rest_of (ready s first n)) e
+pub rest_ready : (start : ShardState) (workers first count left : ℕ) (v : Knowledge) → IsReady start workers first count v → count ≡ suc left → IsReady start workers (first + 1) left (rest_of v)
+rest_ready start workers first count left v h e = record { start_is = h.start_is; unused = ap rest_of h.unused ∙ ap (λ n. rest_of (ready v.start workers first n)) e }
 
-pub first_ready : (s first workers left : ℕ) (v : Knowledge) → v ≡ ready s first workers → workers ≡ suc left → first_of v ≡ ready s first 1
-first_ready s first workers left v is e = ap first_of is ∙ ap (λ n. first_of (ready s first n)) e
+pub first_ready : (start : ShardState) (workers first count left : ℕ) (v : Knowledge) → IsReady start workers first count v → count ≡ suc left → IsReady start workers first 1 (first_of v)
+first_ready start workers first count left v h e = record { start_is = h.start_is; unused = ap first_of h.unused ∙ ap (λ n. first_of (ready v.start workers first n)) e }
+
+-- a grant for one worker, who has done nothing
+pub ready_for : (initial : List ShardState) (workers number first : ℕ) (l : GrantState) → IsReady (state_at initial number) workers first 1 l.knows → IsFor initial workers number first 1 l
+ready_for initial workers number first l h = record {
+  start_is = h.start_is;
+  workers_are = ap (λ (v : Knowledge). v.workers) h.unused;
+  from = ap (λ (v : Knowledge). v.first) h.unused;
+  as_many = ap (λ (v : Knowledge). length v.own) h.unused;
+}
 
 pub places_more : (room now : List GrantState) (boxes : List BoxId) (s : ℕ) (l : GrantState) (p : BoxId) → s < length boxes → now ≡ room ++ l ∷ [] → boxes_of room ≡ take s boxes → l.box_id ≡ p → p ≡ get_or boxes s p
     → boxes_of now ≡ take (s + 1) boxes
@@ -87,17 +99,27 @@ blank_seats [] h s = refl
 blank_seats (l ∷ rest) h zero = h 0 l (omega arith)
 blank_seats (l ∷ rest) h (suc s) = blank_seats rest (λ k d low. h (suc k) d (omega arith)) s
 
-seat_ready : (s first : ℕ) (l : GrantState) → l.knows ≡ ready s first 1 → seat_of l ≡ no_seat
-seat_ready s first l is = (λ i. record { holds = (is i).holds; lines = own_of (is i); seen = (is i).seen })
+seat_ready : (start : ShardState) (workers first : ℕ) (l : GrantState) → IsReady start workers first 1 l.knows → seat_of l ≡ no_seat
+seat_ready start workers first l h = let is = h.unused in (λ i. record { holds = (is i).holds; lines = own_of (is i); seen = (is i).seen })
 
-pub new_key : (worker : ℕ) (grants : List GrantState) (boxes : List BoxId) → boxes_of grants ≡ boxes → ((k : ℕ) (d : GrantState) → k < length grants → (get_or grants k d).knows ≡ ready k worker 1)
-    → IsNewKey boxes worker (key_of worker grants)
-new_key worker grants boxes is each =
-    let same : length (map seat_of grants) ≡ length grants = simp length-map in
-    record { boxes_are = is; worker_is = refl; seats_are = same ∙ as_many grants boxes is; unused = blank_seats grants (λ k d low. seat_ready k worker (get_or grants k d) (each k d low)) }
+pub new_key : (initial : List ShardState) (workers worker : ℕ) (grants : List GrantState) (boxes : List BoxId) → boxes_of grants ≡ boxes
+    → ((k : ℕ) (d : GrantState) → k < length grants → IsReady (state_at initial k) workers worker 1 (get_or grants k d).knows) → IsNewKey boxes worker (key_of worker grants)
+new_key initial workers worker grants boxes is each =
+    let same : length (map seat_of grants) ≡ length grants = simp length-map in record {
+      boxes_are = is;
+      worker_is = refl;
+      seats_are = same ∙ as_many grants boxes is;
+      unused = blank_seats grants (λ k d low. seat_ready (state_at initial k) workers worker (get_or grants k d) (each k d low));
+    }
 
-pub joined_free : (s first : ℕ) (v w : Knowledge) → IsFree s first v → IsFree s first (joined v w)
-joined_free s first v w h = record { numbered = h.numbered; from = h.from; free = h.free }
+pub joined_free : (start : ShardState) (workers first : ℕ) (v w : Knowledge) → IsFree start workers first v → IsFree start workers first (joined v w)
+joined_free start workers first v w h = record {
+  start_is = h.start_is;
+  workers_are = h.workers_are;
+  from = h.from;
+  speaks = omega (arith, length-append v.own w.own, h.speaks);
+  free = h.free;
+}
 
 pub take_whole : {A : Type 0} (xs : List A) (n : ℕ) → length xs ≤ n → take n xs ≡ xs
 take_whole [] zero low = refl
@@ -106,7 +128,7 @@ take_whole (x ∷ xs) zero low = absurd (omega arith)
 take_whole (x ∷ xs) (suc n) low = ap (λ l. x ∷ l) (take_whole xs n (omega arith))
 
 pub no_grant : GrantState
-no_grant = record { box_id = record { words = 0; slots = 0; views_name = 0; atom = 0; block = 0; offset = 0; slot_names = [] }; knows = ready 0 0 0 }
+no_grant = record { box_id = record { words = 0; slots = 0; views_name = 0; atom = 0; block = 0; offset = 0; slot_names = [] }; knows = spent }
 
 -- the last of the keys that are left
 at_middle : (front done : List KeyState) (key : KeyState) → key_at (front ++ key ∷ done) (length front) ≡ key
@@ -138,17 +160,34 @@ state_is shards initial s shard is below at = ap state_of (sym at) ∙ sym (get_
 pub as_many_states : (shards : List Shard) (initial : List ShardState) → map state_of shards ≡ initial → length shards ≡ length initial
 as_many_states shards initial is = let same : length (map state_of shards) ≡ length shards = simp length-map in sym same ∙ ap length is
 
-pub kept_open : (initial : List ShardState) (workers s n : ℕ) → s < length initial → IsInitial (length initial) s (state_at initial s) → n ≡ s → IsLawfulList initial workers n []
-kept_open initial workers s n low is_opened e =
-    subst (λ m. IsLawfulList initial workers m []) (sym e) (record { known = low; opened = is_opened; lawful = tt; within = is_opened.within })
+-- a view for all workers, by their number
+pub for_all : (start : ShardState) (workers : ℕ) (v : Knowledge) → IsFree start workers 0 v → length v.own ≡ workers → SpeaksForAll v
+for_all start workers v free long = record { from = free.from; all = long ∙ sym free.workers_are; some = free.speaks }
+
+-- a view for all workers that has taken the shard
+pub taken_spare : (v w : Knowledge) → SpeaksForAll v → w ≡ record v { seen = w.seen; holds = true } → IsSpare w
+taken_spare v w h is = (
+  record {
+    from = ap (λ (y : Knowledge). y.first) is ∙ h.from;
+    all = ap (λ (y : Knowledge). length y.own) is ∙ h.all ∙ sym (ap (λ (y : Knowledge). y.workers) is);
+    some = subst (λ n. 0 < n) (sym (ap (λ (y : Knowledge). length y.own) is)) h.some;
+  },
+  ap (λ (y : Knowledge). y.holds) is,
+)
+
+-- the history of a shard that was taken
+pub history_by : (initial : List ShardState) (workers s : ℕ) (v : Knowledge) (lines : List (ℕ × Line)) (state : ShardState) → s < length initial → IsInitial (length initial) s (state_at initial s) → start_of v ≡ state_at initial s
+    → v.workers ≡ workers → IsLawfulList (start_of v) v.workers lines → state ≡ after_lines (start_of v) lines → IsShardHistory initial workers s lines state
+history_by initial workers s v lines state low is_opened start many kept now =
+    history_of initial workers s lines state low is_opened (subst (λ (y : ShardState × ℕ). IsLawfulList y.0 y.1 lines) (λ i. (start i, many i)) kept) (now ∙ ap (λ o. after_lines o lines) start)
 
 -- the shard that a grant for all workers takes
-pub taken_is : (initial : List ShardState) (workers s : ℕ) (v : Knowledge) (own : List (List Line)) (lines : List (ℕ × Line)) (state : ShardState) → IsFree s 0 v → own ≡ v.own → length own ≡ workers
-    → IsLawfulList initial workers v.number lines → state ≡ after_lines (state_at initial v.number) lines → HasParts v lines → IsTaken initial workers own s state
-taken_is initial workers s v own lines state free is long kept now parts = (
+pub taken_is : (initial : List ShardState) (workers s : ℕ) (v : Knowledge) (own : List (List Line)) (lines : List (ℕ × Line)) (state : ShardState) → s < length initial → IsInitial (length initial) s (state_at initial s)
+    → IsFree (state_at initial s) workers 0 v → own ≡ v.own → length own ≡ workers → IsLawfulList (start_of v) v.workers lines → state ≡ after_lines (start_of v) lines → HasParts v lines → IsTaken initial workers own s state
+taken_is initial workers s v own lines state low is_opened free is long kept now parts = (
   lines,
-  subst (λ n. IsShardHistory initial workers n lines state) free.numbered (history_of initial workers v.number lines state kept now),
-  λ w low.
-      let below : w < length v.own = omega (arith, low, long, ap length is) in
+  history_by initial workers s v lines state low is_opened free.start_is free.workers_are kept now,
+  λ w lower.
+      let below : w < length v.own = omega (arith, lower, long, ap length is) in
       ap (λ n. lines_of n lines) (zero_plus v.first w free.from) ∙ sym (parts w below) ∙ ap (λ l. get_or l w []) (sym is),
 )

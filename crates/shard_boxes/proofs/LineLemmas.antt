@@ -1,12 +1,12 @@
 -- A list that is longer by a line, and what a lawful list says.
-use Rattle.std.proofs.Common.{◌≡◌, ◌≢◌, ℕ, ◌<◌, ◌≤◌, ◌==◌, cond, List, [], ◌∷◌, ◌++◌, map, Option, Some, None, refl, sym, ap, ◌∙◌, subst, arith, eq-eqb, ne_eqb}
+use Rattle.std.proofs.Common.{◌≡◌, ◌≢◌, ℕ, ◌<◌, ◌≤◌, ◌==◌, cond, List, [], ◌∷◌, ◌++◌, length, map, Option, Some, None, refl, sym, ap, ◌∙◌, subst, arith, eq-eqb, ne_eqb}
 use Rattle.std.specs.List.{AllByRecursion}
 use Rattle.std.proofs.lemmas.List.{append-nil, map-append}
 use Rattle.std.proofs.lemmas.List.Elements.{filter-append}
 use Rattle.phase_laws.specs.Numbers.{IsLinkedFrom}
 use Rattle.phase_laws.specs.Order.{IsAscendingByNumber, part}
 use Rattle.phase_laws.specs.Replay.{SawInTurn}
-use Rattle.shard_boxes.specs.States.{ShardState, state_at, IsWithin}
+use Rattle.shard_boxes.specs.States.{ShardState, state_at, IsWithin, IsInitial}
 use Rattle.shard_boxes.specs.Lines.{Line, acts_in, after_line, after_lines, lines_of, AreTrueOf, MayFollow, IsShardHistory}
 use Rattle.shard_boxes.specs.Keys.{added, entries}
 use Rattle.shard_boxes.specs.Helds.{MayPut}
@@ -22,19 +22,16 @@ IsLawful-push workers o [] e h below may = (below, may, tt)
 IsLawful-push workers o (d ∷ lines) e h below may = (h.0, h.1, IsLawful-push workers (after_line o d.1) lines e h.2 below may)
 
 -- the list after a put
-pub kept_put : (initial : List ShardState) (workers number worker : ℕ) (lines : List (ℕ × Line)) (line : Option Line) (now : ShardState) → IsLawfulList initial workers number lines → worker < workers
-    → MayPut (after_lines (state_at initial number) lines) now line → IsLawfulList initial workers number (lines ++ entries worker line) × (now ≡ after_lines (state_at initial number) (lines ++ entries worker line))
-kept_put initial workers number worker lines None now h below may =
+pub kept_put : (start : ShardState) (workers worker : ℕ) (lines : List (ℕ × Line)) (line : Option Line) (now : ShardState) → IsLawfulList start workers lines → worker < workers
+    → MayPut (after_lines start lines) now line → IsLawfulList start workers (lines ++ entries worker line) × (now ≡ after_lines start (lines ++ entries worker line))
+kept_put start workers worker lines None now h below may =
     let none = sym (append-nil lines) in
-    (subst (IsLawfulList initial workers number) none h, may ∙ ap (after_lines (state_at initial number)) none)
-kept_put initial workers number worker lines (Some line) now h below may =
-    let o = state_at initial number in
-    let grown = after-push o lines (worker, line) in (
+    (subst (IsLawfulList start workers) none h, may ∙ ap (after_lines start) none)
+kept_put start workers worker lines (Some line) now h below may =
+    let grown = after-push start lines (worker, line) in (
       record {
-        known = h.known;
-        opened = h.opened;
-        lawful = IsLawful-push workers o lines (worker, line) h.lawful below may.0;
-        within = subst IsWithin (sym grown) (line_within (after_lines o lines) line h.within may.0.later);
+        lawful = IsLawful-push workers start lines (worker, line) h.lawful below may.0;
+        within = subst IsWithin (sym grown) (line_within (after_lines start lines) line h.within may.0.later);
       },
       may.1 ∙ sym grown,
     )
@@ -85,18 +82,18 @@ after-opening : (o : ShardState) (lines : List (ℕ × Line)) → (after_lines o
 after-opening o [] = refl
 after-opening o (e ∷ lines) = after-opening (after_line o e.1) lines
 
-pub history_of : (initial : List ShardState) (workers number : ℕ) (lines : List (ℕ × Line)) (now : ShardState) → IsLawfulList initial workers number lines → now ≡ after_lines (state_at initial number) lines
-    → IsShardHistory initial workers number lines now
-history_of initial workers number lines now h is =
+pub history_of : (initial : List ShardState) (workers number : ℕ) (lines : List (ℕ × Line)) (now : ShardState) → number < length initial → IsInitial (length initial) number (state_at initial number)
+    → IsLawfulList (state_at initial number) workers lines → now ≡ after_lines (state_at initial number) lines → IsShardHistory initial workers number lines now
+history_of initial workers number lines now known opened h is =
     let o = state_at initial number in record {
-      known = h.known;
+      known = known;
       state_is = is;
       workers_are = workers_of workers o lines h.lawful;
       ascending = ascending_of workers o lines h.lawful;
-      linked = subst (λ n. IsLinkedFrom (λ (e : ℕ × Line). e.1.number) (λ e. e.1.before) n lines) h.opened.clock_is (linked_of workers o lines h.lawful);
+      linked = subst (λ n. IsLinkedFrom (λ (e : ℕ × Line). e.1.number) (λ e. e.1.before) n lines) opened.clock_is (linked_of workers o lines h.lawful);
       looks = looks_of workers o lines h.lawful;
-      number_is = ap (λ (s : ShardState). s.number) is ∙ after-number o lines ∙ h.opened.number_is;
-      shards_is = ap (λ (s : ShardState). s.shards) is ∙ after-shards o lines ∙ h.opened.shards_is;
+      number_is = ap (λ (s : ShardState). s.number) is ∙ after-number o lines ∙ opened.number_is;
+      shards_is = ap (λ (s : ShardState). s.shards) is ∙ after-shards o lines ∙ opened.shards_is;
       opening_is = ap (λ (s : ShardState). s.opening) is ∙ after-opening o lines;
       within = subst IsWithin (sym is) h.within;
     }

@@ -2,6 +2,8 @@
 use Rattle.std.specs.Prelude.{◌≡◌, ℕ, ◌<◌, List, [], map, length, slice_index_or}
 use Rattle.shard_boxes.specs.Keys.{BoxId, SeatState, KeyState}
 use Rattle.shard_boxes.specs.Lines.{Line}
+use Rattle.shard_boxes.specs.States.{ShardState, state_at}
+use Rattle.shard_boxes.specs.Rule.{start_of}
 use Rattle.shard_boxes.specs.declared.shard_box.Knowledge.{Knowledge}
 use Rattle.shard_boxes.specs.Passes.{GrantState}
 
@@ -25,19 +27,23 @@ key_of worker grants = record {
   seats = map seat_of grants;
 }
 
--- the grant is for the box of this number, and speaks for so many workers from this one on
-pub record IsFor (l : GrantState) (number first workers : ℕ) : Type 0 where
-  -- the grant is for the box of this number
-  pub numbered : l.knows.number ≡ number
+-- the grant is for the shard of this number, and speaks for so many workers from this one on
+pub record IsFor (initial : List ShardState) (workers number first count : ℕ)
+    (l : GrantState) : Type 0 where
+  -- the phase opened with this shard
+  pub start_is : start_of l.knows ≡ state_at initial number
+  -- the phase has so many workers
+  pub workers_are : l.knows.workers ≡ workers
   -- the first worker is this one
   pub from : l.knows.first ≡ first
   -- the workers are so many
-  pub as_many : length l.knows.own ≡ workers
+  pub as_many : length l.knows.own ≡ count
 
 -- one grant for each box, in order, which speaks for this worker only
-abbrev pub AreFor : List GrantState → ℕ → Type 0
-AreFor grants worker =
-    (s : ℕ) (d : GrantState) → s < length grants → IsFor (slice_index_or grants s d) s worker 1
+abbrev pub AreFor : List ShardState → ℕ → List GrantState → ℕ → Type 0
+AreFor initial workers grants worker =
+    (s : ℕ) (d : GrantState) → s < length grants →
+    IsFor initial workers s worker 1 (slice_index_or grants s d)
 
 -- the box of this number is this one
 abbrev pub IsBoxAt : List BoxId → ℕ → BoxId → Type 0

@@ -9,7 +9,7 @@ use crate::key::{Held, Key};
 use crate::line::{Line, Trace};
 use crate::shard_box::ShardBox;
 use item_shards::Shard;
-use std::marker::{Brand, Model};
+use std::marker::{Brand, Model, PhantomData};
 use std::sync::Wait;
 
 /// Names what the shards of a phase show as it opens, and the number of its workers. Who runs a phase is generic in the
@@ -36,13 +36,15 @@ impl PhaseName for Brand {
 /// The boxes of one phase, one for each of its 1 to 64 shards. They are shared by reference, and no lock is taken.
 #[derive(Drop)]
 pub struct Boxes<N: PhaseName> {
-    pub(crate) boxes: Vec<ShardBox<N>>,
+    pub(crate) boxes: Vec<ShardBox>,
     pub(crate) answer: Vec<Shard>,
+    pub(crate) of: PhantomData<N>,
 }
 
 impl<N: PhaseName> Model for Boxes<N> {
     ghost use Rattle.std.specs.Prelude.{◌≡◌, ◌<◌, ◌≤◌, List, length, vec_len, vec_capacity};
     ghost use Rattle.auction_rows.specs.declared.limits.TheConstants.{MOST_SHARDS};
+    ghost use Rattle.shard_boxes.specs.States.{AreInitial};
     ghost use Rattle.shard_boxes.specs.Keys.{BoxId};
 
     ghost Value = { List BoxId };
@@ -52,7 +54,7 @@ impl<N: PhaseName> Model for Boxes<N> {
     ghost invariant = { λ b. (vec_len b.boxes ≡ length N.initial)
         × (length N.initial ≤ MOST_SHARDS) × (0 < N.workers)
         × (vec_len b.answer ≡ 0) × (length N.initial ≤ vec_capacity b.answer)
-        × (0 < length N.initial) };
+        × (0 < length N.initial) × AreInitial N.initial };
 }
 
 impl<N: PhaseName> Boxes<N> {

@@ -1,16 +1,17 @@
-//! The keys' grants of each box: they are dealt as the boxes of a phase are made, and become one as
-//! it ends, by which the shard is taken. All memory is asked for before the first shard lies in its
-//! box.
+//! The keys' grants of each box: they are dealt as a phase opens, and become one as it ends, by
+//! which the shard is taken, and by which the box can open for another phase. All memory is asked
+//! for before the first shard lies in its box.
 ghost use Rattle.std.specs.Prelude.{◌≡◌, ◌+◌, ◌-◌, ◌<◌, ◌≤◌, ◌^◌, ℕ, length, map, slice_index_or, vec_len, vec_capacity, IfOk, IfErr, ◌∷◌, false};
 ghost use Rattle.shard_boxes.specs.States.{state_of, AreInitial, state_at};
 ghost use Rattle.shard_boxes.specs.Keys.{IsNewKey, AreNewKeys, KeyState, lines_at, holds_at};
-ghost use Rattle.shard_boxes.specs.Grants.{makers, AreReady, AreFree, own_at, IsTaken};
+ghost use Rattle.shard_boxes.specs.Grants.{AreSpare, AreReady, AreFree, own_at, IsTaken};
 ghost use Rattle.shard_boxes.specs.Passes.{GrantState};
 ghost use Rattle.shard_boxes.specs.Closed.{AreClosed, AreSpent};
 
 use crate::boxes::{Boxes, PhaseName};
 use crate::key::Key;
 use crate::shard_box::{Grant, ShardBox};
+use crate::spare::Spare;
 use auction_rows::{MOST_SHARDS, MOST_WORKERS};
 use item_shards::Shard;
 use std::alloc::{AllocError, Global};
@@ -35,8 +36,28 @@ impl<N: PhaseName> Boxes<N> {
         ensures keys { IfOk result (λ r. AreNewKeys r.0 N.workers r.1.items) }
         ensures err { IfErr result (λ e. e.0 ≡ shards) }
     {
+        Boxes::open(rt, alloc, shards, workers, Spare::none(alloc))
+    }
+
+    /// As `new`, in the boxes of a phase before if they are as many as the shards.
+    pub fn open<R: Wait>(
+        rt: &R,
+        alloc: Global,
+        shards: Vec<Shard>,
+        workers: u32,
+        spare: Spare,
+    ) -> Result<(Boxes<N>, Vec<Key<N>>), (Vec<Shard>, AllocError)>
+        requires opening { map state_of shards.items ≡ N.initial }
+        requires few { (0 < length N.initial) × (length N.initial ≤ MOST_SHARDS) }
+        requires opened { AreInitial N.initial }
+        requires workers { workers ≡ N.workers }
+        requires some { (0 < N.workers) × (N.workers ≤ MOST_WORKERS) }
+        ensures boxes { IfOk result (λ r. length r.0 ≡ length N.initial) }
+        ensures keys { IfOk result (λ r. AreNewKeys r.0 N.workers r.1.items) }
+        ensures err { IfErr result (λ e. e.0 ≡ shards) }
+    {
         let count = shards.len();
-        let Ok((boxes, grants)) = make_boxes::<N>(alloc, count) else {
+        let Ok((boxes, grants)) = spare.boxes(alloc, count) else {
             return Err((shards, AllocError));
         };
         let Ok(rooms) = make_rooms(alloc, count, workers) else {
@@ -48,31 +69,17 @@ impl<N: PhaseName> Boxes<N> {
         let Ok(answer) = Vec::with_capacity(alloc, count) else {
             return Err((shards, AllocError));
         };
-        let grants = open_all(rt, &boxes, grants, shards);
+        let grants = open_all::<N, R>(rt, &boxes, grants, shards);
         let keys = deal_all(&boxes, grants, rooms, keys);
-        Ok((Boxes { boxes, answer }, keys))
+        Ok((
+            Boxes {
+                boxes,
+                answer,
+                of: PhantomData,
+            },
+            keys,
+        ))
     }
-}
-
-// Makes empty boxes, with their makers' grants.
-fn make_boxes<N: PhaseName>(
-    alloc: Global,
-    count: usize,
-) -> Result<(Vec<ShardBox<N>>, Vec<Grant>), AllocError>
-    requires workers { 0 < N.workers }
-    requires shards { 0 < length N.initial }
-    requires opened { AreInitial N.initial }
-    ensures len { IfOk result (λ r. vec_len r.0 ≡ count) }
-    ensures grants { IfOk result (λ r. r.1.items ≡ makers N.workers r.0.items) }
-{
-    let mut boxes = Vec::new(alloc);
-    let mut grants = Vec::new(alloc);
-    for _ in 0..count {
-        let (shard_box, grant) = ShardBox::new(alloc)?;
-        boxes.push(shard_box)?;
-        grants.push(grant)?;
-    }
-    Ok((boxes, grants))
 }
 
 // For each worker the room for its grants.
@@ -92,19 +99,19 @@ fn make_rooms(alloc: Global, count: usize, workers: u32) -> Result<Vec<Vec<Grant
 // Puts each shard into its box.
 fn open_all<N: PhaseName, R: Wait>(
     rt: &R,
-    boxes: &[ShardBox<N>],
+    boxes: &[ShardBox],
     mut grants: Vec<Grant>,
     shards: Vec<Shard>,
 ) -> Vec<Grant>
     requires opening { map state_of shards.items ≡ N.initial }
     requires opened { AreInitial N.initial }
     requires boxes { length boxes.now ≡ length N.initial }
-    requires grants { grants.items ≡ makers N.workers boxes.now }
-    ensures { AreReady boxes.now 0 N.workers result.items }
+    requires spare { AreSpare boxes.now grants.items }
+    ensures { AreReady N.initial N.workers boxes.now 0 N.workers result.items }
 {
     let mut s = 0;
     for shard in shards {
-        boxes[s].open(rt, &mut grants[s], shard);
+        boxes[s].open::<N, R>(rt, &mut grants[s], shard);
         s += 1;
     }
     grants
@@ -112,14 +119,14 @@ fn open_all<N: PhaseName, R: Wait>(
 
 // Deals the grants of all boxes out, into a key for each worker.
 fn deal_all<N: PhaseName>(
-    boxes: &[ShardBox<N>],
+    boxes: &[ShardBox],
     mut grants: Vec<Grant>,
     rooms: Vec<Vec<Grant>>,
     mut keys: Vec<Key<N>>,
 ) -> Vec<Key<N>>
     requires few { (0 < length N.initial) × (length N.initial ≤ MOST_SHARDS) }
     requires boxes { length boxes.now ≡ length N.initial }
-    requires grants { AreReady boxes.now 0 N.workers grants.items }
+    requires grants { AreReady N.initial N.workers boxes.now 0 N.workers grants.items }
     requires workers { N.workers < 2 ^ 32 }
     requires rooms { vec_len rooms ≡ N.workers }
     requires each { (w : ℕ) (d : _) → w < N.workers →
@@ -138,7 +145,7 @@ fn deal_all<N: PhaseName>(
 
 // The key of the first worker for whom the grants speak.
 fn deal<N: PhaseName>(
-    boxes: &[ShardBox<N>],
+    boxes: &[ShardBox],
     grants: &mut Vec<Grant>,
     mut room: Vec<Grant>,
     worker: u32,
@@ -146,9 +153,11 @@ fn deal<N: PhaseName>(
     requires few { (0 < length N.initial) × (length N.initial ≤ MOST_SHARDS) }
     requires worker { worker < N.workers }
     requires boxes { length boxes.now ≡ length N.initial }
-    requires grants { AreReady boxes.now worker (N.workers - worker) grants.old.items }
+    requires grants { AreReady N.initial N.workers boxes.now worker (N.workers - worker)
+        grants.old.items }
     requires room { (vec_len room ≡ 0) × (length N.initial ≤ vec_capacity room) }
-    ensures grants { AreReady boxes.now (worker + 1) (N.workers - (worker + 1)) grants.new.items }
+    ensures grants { AreReady N.initial N.workers boxes.now (worker + 1)
+        (N.workers - (worker + 1)) grants.new.items }
     ensures key { IsNewKey boxes.now worker result }
 {
     for s in 0..boxes.len() {
@@ -168,18 +177,32 @@ impl<N: PhaseName> Boxes<N> {
         requires { AreSpent self N.workers keys.items }
         ensures { AreClosed N.initial N.workers keys.items (map state_of result.items) }
     {
-        let Boxes { boxes, answer } = self;
+        let (shards, _) = self.close_kept(rt, keys);
+        shards
+    }
+
+    /// As `close`, and gives the empty boxes too, in which another phase can open.
+    pub fn close_kept<R: Wait>(self, rt: &R, keys: Vec<Key<N>>) -> (Vec<Shard>, Spare)
+        requires { AreSpent self N.workers keys.items }
+        ensures { AreClosed N.initial N.workers keys.items (map state_of result.0.items) }
+    {
+        let Boxes {
+            boxes,
+            answer,
+            of: _,
+        } = self;
         let grants = collect_all(&boxes, keys);
-        take_all(rt, &boxes, grants, answer)
+        let (shards, grants) = take_all::<N, R>(rt, &boxes, grants, answer);
+        (shards, Spare { boxes, grants })
     }
 }
 
 // The grants of all keys, as one grant for each box.
-fn collect_all<N: PhaseName>(boxes: &[ShardBox<N>], mut keys: Vec<Key<N>>) -> Vec<Grant>
+fn collect_all<N: PhaseName>(boxes: &[ShardBox], mut keys: Vec<Key<N>>) -> Vec<Grant>
     requires workers { 0 < N.workers }
     requires boxes { length boxes.now ≡ length N.initial }
     requires spent { AreSpent boxes.now N.workers keys.items }
-    ensures free { AreFree boxes.now 0 result.items }
+    ensures free { AreFree N.initial N.workers boxes.now 0 result.items }
     ensures own { (s : ℕ) (d : GrantState) → s < length result.items →
         own_at result.items s d ≡ map (λ (k : KeyState). lines_at k s) keys.items }
 {
@@ -194,12 +217,12 @@ fn collect_all<N: PhaseName>(boxes: &[ShardBox<N>], mut keys: Vec<Key<N>>) -> Ve
 }
 
 // The grants of a key with those of the workers that follow its own.
-fn collect<N: PhaseName>(boxes: &[ShardBox<N>], key: Key<N>, others: Vec<Grant>) -> Vec<Grant>
+fn collect<N: PhaseName>(boxes: &[ShardBox], key: Key<N>, others: Vec<Grant>) -> Vec<Grant>
     requires boxes { length boxes.now ≡ length N.initial }
     requires of { key.boxes ≡ boxes.now }
     requires free { (s : ℕ) → holds_at key s ≡ false }
-    requires others { AreFree boxes.now (key.worker + 1) others.items }
-    ensures free { AreFree boxes.now key.worker result.items }
+    requires others { AreFree N.initial N.workers boxes.now (key.worker + 1) others.items }
+    ensures free { AreFree N.initial N.workers boxes.now key.worker result.items }
     ensures own { (s : ℕ) (d : GrantState) → s < length result.items →
         own_at result.items s d ≡ lines_at key s ∷ own_at others.items s d }
 {
@@ -212,28 +235,28 @@ fn collect<N: PhaseName>(boxes: &[ShardBox<N>], key: Key<N>, others: Vec<Grant>)
     grants
 }
 
-// Takes each shard out of its box.
+// Takes each shard out of its box, which then can open again.
 fn take_all<N: PhaseName, R: Wait>(
     rt: &R,
-    boxes: &[ShardBox<N>],
-    grants: Vec<Grant>,
+    boxes: &[ShardBox],
+    mut grants: Vec<Grant>,
     mut answer: Vec<Shard>,
-) -> Vec<Shard>
-    requires workers { 0 < N.workers }
+) -> (Vec<Shard>, Vec<Grant>)
+    requires opened { AreInitial N.initial }
     requires boxes { length boxes.now ≡ length N.initial }
-    requires free { AreFree boxes.now 0 grants.items }
+    requires free { AreFree N.initial N.workers boxes.now 0 grants.items }
     requires own { (s : ℕ) (d : GrantState) → s < length grants.items →
         length (own_at grants.items s d) ≡ N.workers }
     requires answer { (vec_len answer ≡ 0) × (length N.initial ≤ vec_capacity answer) }
-    ensures len { length result.items ≡ length N.initial }
+    ensures len { length result.0.items ≡ length N.initial }
     ensures each { (s : ℕ) (d : GrantState) → s < length N.initial →
         IsTaken N.initial N.workers (own_at grants.items s d) s
-        (state_at (map state_of result.items) s) }
+        (state_at (map state_of result.0.items) s) }
+    ensures spare { AreSpare boxes.now result.1.items }
 {
-    for grant in grants {
-        let mut grant = grant;
-        let shard = boxes[answer.len()].take_last(rt, &mut grant);
+    for s in 0..boxes.len() {
+        let shard = boxes[s].take_last(rt, &mut grants[s]);
         answer.push_reserved(shard);
     }
-    answer
+    (answer, grants)
 }

@@ -12,7 +12,7 @@ ghost use Rattle.item_shards.specs.CommitNumbers.{last_number, next_number};
 ghost use Rattle.item_shards.specs.Contents.{after_act};
 ghost use Rattle.item_shards.specs.ShardContents.{clock, contents, LiesIn};
 ghost use Rattle.item_shards.specs.Views.{item_view};
-ghost use Rattle.shard_boxes.specs.States.{state_of, ShardState, IsWithin};
+ghost use Rattle.shard_boxes.specs.States.{state_of, ShardState, IsWithin, AreInitial};
 ghost use Rattle.shard_boxes.specs.Lines.{lines_of, StartsWith, IsShardHistory, after_line, after_lines, line_of, MayFollow};
 ghost use Rattle.shard_boxes.specs.Keys.{taking, putting, lines_at, seen_at, holds_at};
 ghost use Rattle.shard_boxes.specs.Helds.{taken_at, MayPut};
@@ -51,7 +51,7 @@ impl<N: PhaseName> Model for Key<N> {
     ghost view = { λ k. key_of k.worker k.grants.items };
 
     ghost invariant = { λ k. (k.worker < N.workers) × (vec_len k.grants ≡ length N.initial)
-        × AreFor k.grants.items k.worker
+        × AreFor N.initial N.workers k.grants.items k.worker
         × (0 < length N.initial) × (length N.initial ≤ MOST_SHARDS) };
 }
 
@@ -77,8 +77,9 @@ impl<N: PhaseName> Key<N> {
 
     // Tries until the shard is in the box.
     #[inline(always)]
-    pub(crate) fn take<R: Wait>(&mut self, rt: &R, shard_box: &ShardBox<N>, s: usize) -> Shard
+    pub(crate) fn take<R: Wait>(&mut self, rt: &R, shard_box: &ShardBox, s: usize) -> Shard
         requires known { s < length N.initial }
+        requires opened { AreInitial N.initial }
         requires place { IsBoxAt self.old.boxes s shard_box.now }
         ensures seats { length self.old.seats ≡ length N.initial }
         ensures key { self.new ≡ taking self.old s (seen_at self.new s) }
@@ -97,7 +98,7 @@ impl<N: PhaseName> Key<N> {
     pub(crate) fn put<T, L: LineName, R: Wait>(
         &mut self,
         rt: &R,
-        shard_box: &ShardBox<N>,
+        shard_box: &ShardBox,
         s: usize,
         shard: Shard,
         _named_by: &T,
@@ -115,7 +116,7 @@ impl<N: PhaseName> Key<N> {
     // The grants, one for each box.
     pub(crate) fn grants(self) -> Vec<Grant>
         requires { (s : ℕ) → holds_at self s ≡ false }
-        ensures free { AreFree self.boxes self.worker result.items }
+        ensures free { AreFree N.initial N.workers self.boxes self.worker result.items }
         ensures own { (s : ℕ) (d : GrantState) → s < length result.items →
             own_at result.items s d ≡ lines_at self s ∷ [] }
     {

@@ -10,8 +10,10 @@ mod key;
 mod limits;
 mod line;
 mod shard_box;
+mod spare;
 
 pub use boxes::{Boxes, PhaseName};
 pub use key::{Held, Key, sums_fit};
 pub use limits::{MOST_COMMITS, MOST_KEPT};
 pub use line::{Line, Trace};
+pub use spare::Spare;

@@ -1,11 +1,11 @@
 //! One box, the passes to it, its rule, and what each step of a pass tells.
-ghost use Rattle.std.specs.Prelude.{◌≡◌, ◌≢◌, [], ◌<◌, true, false, length, IfOk};
+ghost use Rattle.std.specs.Prelude.{◌≡◌, ◌≢◌, [], true, false, IfOk};
 ghost use Rattle.crossbeam_queue.specs.Passes.{view, IsPassOf};
-ghost use Rattle.shard_boxes.specs.States.{state_of, state_at, AreInitial};
+ghost use Rattle.shard_boxes.specs.States.{state_of, IsWithin};
 ghost use Rattle.shard_boxes.specs.Lines.{after_lines};
 ghost use Rattle.shard_boxes.specs.Helds.{MayPut};
-ghost use Rattle.shard_boxes.specs.Grants.{CanOpen, CanUnite};
-ghost use Rattle.shard_boxes.specs.Rule.{Speaks, TakenBy, maker, opened, put, first_of, rest_of, joined};
+ghost use Rattle.shard_boxes.specs.Grants.{CanUnite};
+ghost use Rattle.shard_boxes.specs.Rule.{Speaks, SpeaksForAll, IsSpare, TakenBy, start_of, maker, opened, put, first_of, rest_of, joined};
 
 use crate::boxes::PhaseName;
 use crate::line::{LineName, Trace};
@@ -18,10 +18,11 @@ use std::collections::LinkedList;
 use std::marker::{Model, PhantomData};
 use std::sync::Wait;
 
-/// What a pass knows; no value of it is made. It speaks for the workers from `first` on, one for
-/// each of the lists in `own`.
+/// What a pass knows; no value of it is made. It is of a phase of so many `workers` that opened
+/// with the shard `start`, and speaks for the workers from `first` on, one for each list in `own`.
 pub struct Knowledge {
-    pub number: u64,
+    pub start: Option<Shard>,
+    pub workers: u64,
     pub first: u64,
     pub own: LinkedList<LinkedList<Trace>>,
     pub seen: LinkedList<(u32, Trace)>,
@@ -29,52 +30,52 @@ pub struct Knowledge {
 }
 
 /// The shard lies in the box, or one pass holds it.
-pub struct OneShard<N>(PhantomData<N>);
+pub struct OneShard;
 
-impl<N: PhaseName> Protocol<Shard, Knowledge> for OneShard<N> {
+impl Protocol<Shard, Knowledge> for OneShard {
     ghost use Rattle.shard_boxes.specs.Rule.{BoxRule, maker};
 
-    ghost holds = { BoxRule N.initial N.workers };
+    ghost holds = { BoxRule };
 
-    ghost first = { maker N.workers };
+    ghost first = { maker };
 }
 
-/// The maker puts the initial shard into the box.
-pub struct OpenStep;
+/// The holder that speaks for all workers opens a phase: it puts the phase's shard into the box.
+pub struct OpenStep<N>(PhantomData<N>);
 
-impl Outcome<Shard, Knowledge> for OpenStep {
+impl<N: PhaseName> Outcome<Shard, Knowledge> for OpenStep<N> {
     ghost use Rattle.shard_boxes.specs.Rule.{opened};
 
-    ghost then = { λ v shard w. w ≡ opened v shard };
+    ghost then = { λ v shard w. w ≡ opened N.workers shard };
 }
 
-impl Lesson<Shard, Knowledge> for OpenStep {
+impl<N: PhaseName> Lesson<Shard, Knowledge> for OpenStep<N> {
     ghost fact = { λ v items. items ≡ [] };
 }
 
 /// A pass takes the shard, if it is there.
-pub struct TakeStep<N>(PhantomData<N>);
+pub struct TakeStep;
 
-impl<N: PhaseName> Outcome<Shard, Knowledge> for TakeStep<N> {
+impl Outcome<Shard, Knowledge> for TakeStep {
     ghost use Rattle.shard_boxes.specs.Rule.{TakenBy};
 
-    ghost then = { TakenBy N.initial N.workers };
+    ghost then = { TakenBy };
 }
 
-impl<N: PhaseName> Lesson<Shard, Knowledge> for TakeStep<N> {
+impl Lesson<Shard, Knowledge> for TakeStep {
     ghost fact = { λ v items. Unit {0} };
 }
 
 /// A pass that speaks for all workers takes the shard: it is there.
-pub struct TakeLastStep<N>(PhantomData<N>);
+pub struct TakeLastStep;
 
-impl<N: PhaseName> Outcome<Shard, Knowledge> for TakeLastStep<N> {
+impl Outcome<Shard, Knowledge> for TakeLastStep {
     ghost use Rattle.shard_boxes.specs.Rule.{TakenBy};
 
-    ghost then = { TakenBy N.initial N.workers };
+    ghost then = { TakenBy };
 }
 
-impl<N: PhaseName> Lesson<Shard, Knowledge> for TakeLastStep<N> {
+impl Lesson<Shard, Knowledge> for TakeLastStep {
     ghost fact = { λ v items. items ≢ [] };
 }
 
@@ -115,11 +116,11 @@ impl Join<Knowledge> for CollectStep {
 
 /// A box for one shard.
 #[derive(Drop)]
-pub struct ShardBox<N: PhaseName> {
-    queue: RuledArrayQueue<Shard, Knowledge, OneShard<N>>,
+pub struct ShardBox {
+    queue: RuledArrayQueue<Shard, Knowledge, OneShard>,
 }
 
-impl<N: PhaseName> Model for ShardBox<N> {
+impl Model for ShardBox {
     ghost use Rattle.std.specs.Prelude.{◌≡◌};
     ghost use Rattle.crossbeam_queue.specs.Passes.{ruled_capacity};
     ghost use Rattle.atomic_table.specs.Seated.{TableId};
@@ -139,35 +140,38 @@ pub struct Grant {
 
 impl Model for Grant {
     ghost use Rattle.std.specs.Prelude.{◌≡◌, []};
+    ghost use Rattle.std.specs.Coded.{codes};
+    ghost use Rattle.item_shards.specs.contracts.shard.Shard as shard;
     ghost use Rattle.shard_boxes.specs.Passes.{GrantState, grant_of};
 
     ghost Value = { GrantState };
+
+    ghost coded = { Prim.hlevel (codes, shard.the_row.coded) };
 
     ghost view = { λ l. grant_of l.pass };
 
     ghost invariant = { λ l. l.pass.me.1 ≡ [] };
 }
 
-impl<N: PhaseName> ShardBox<N> {
-    /// An empty box, with its maker's right, which speaks for all workers.
-    pub fn new(alloc: Global) -> Result<(ShardBox<N>, Grant), AllocError>
-        requires workers { 0 < N.workers }
-        requires shards { 0 < length N.initial }
-        requires opened { AreInitial N.initial }
-        ensures { IfOk result (λ r. (r.1.box_id ≡ r.0) × (r.1.knows ≡ maker N.workers)) }
+impl ShardBox {
+    /// An empty box, with its maker's right to open it.
+    pub fn new(alloc: Global) -> Result<(ShardBox, Grant), AllocError>
+        ensures { IfOk result (λ r. (r.1.box_id ≡ r.0) × (r.1.knows ≡ maker)) }
     {
-        let (queue, pass) = RuledArrayQueue::<Shard, Knowledge, OneShard<N>>::ruled(alloc, 1)?;
+        let (queue, pass) = RuledArrayQueue::<Shard, Knowledge, OneShard>::ruled(alloc, 1)?;
         Ok((ShardBox { queue }, Grant { pass }))
     }
 
-    /// The initial shard goes into the box.
-    pub fn open<R: Wait>(&self, rt: &R, grant: &mut Grant, shard: Shard)
-        requires { CanOpen N.initial N.workers self.now grant.old shard }
-        ensures { grant.new ≡ record grant.old { knows = opened grant.old.knows shard } }
+    /// A phase opens: its shard goes into the box.
+    pub fn open<N: PhaseName, R: Wait>(&self, rt: &R, grant: &mut Grant, shard: Shard)
+        requires place { grant.old.box_id ≡ self.now }
+        requires spare { IsSpare grant.old.knows }
+        requires within { IsWithin (state_of shard) }
+        ensures { grant.new ≡ record grant.old { knows = opened N.workers shard } }
     {
         match self
             .queue
-            .push_as::<OpenStep, R>(rt, &mut grant.pass, shard)
+            .push_as::<OpenStep<N>, R>(rt, &mut grant.pass, shard)
         {
             Ok(()) => (),
             Err(_) => unreachable!(),
@@ -180,9 +184,9 @@ impl<N: PhaseName> ShardBox<N> {
         requires place { grant.old.box_id ≡ self.now }
         requires speaks { Speaks grant.old.knows }
         ensures place { grant.new.box_id ≡ grant.old.box_id }
-        ensures taken { TakenBy N.initial N.workers grant.old.knows result grant.new.knows }
+        ensures taken { TakenBy grant.old.knows result grant.new.knows }
     {
-        match self.queue.try_pop_as::<TakeStep<N>>(&mut grant.pass) {
+        match self.queue.try_pop_as::<TakeStep>(&mut grant.pass) {
             Some(shard) => shard,
             None => take_from(rt, &self.queue, &mut grant.pass),
         }
@@ -193,8 +197,7 @@ impl<N: PhaseName> ShardBox<N> {
     pub fn put<L: LineName, R: Wait>(&self, rt: &R, grant: &mut Grant, shard: Shard)
         requires place { grant.old.box_id ≡ self.now }
         requires holds { grant.old.knows.holds ≡ true }
-        requires may { MayPut
-            (after_lines (state_at N.initial grant.old.knows.number) grant.old.knows.seen)
+        requires may { MayPut (after_lines (start_of grant.old.knows) grant.old.knows.seen)
             (state_of shard) L.line }
         ensures { grant.new ≡ record grant.old { knows = put grant.old.knows L.line } }
     {
@@ -235,12 +238,12 @@ impl<N: PhaseName> ShardBox<N> {
     /// Takes the shard by a grant that speaks for all workers.
     pub fn take_last<R: Wait>(&self, rt: &R, grant: &mut Grant) -> Shard
         requires place { grant.old.box_id ≡ self.now }
-        requires workers { 0 < N.workers }
-        requires all { (grant.old.knows.first ≡ 0) × (length grant.old.knows.own ≡ N.workers) }
+        requires all { SpeaksForAll grant.old.knows }
         requires free { grant.old.knows.holds ≡ false }
-        ensures { TakenBy N.initial N.workers grant.old.knows result grant.new.knows }
+        ensures place { grant.new.box_id ≡ grant.old.box_id }
+        ensures taken { TakenBy grant.old.knows result grant.new.knows }
     {
-        match self.queue.pop_as::<TakeLastStep<N>, R>(rt, &mut grant.pass) {
+        match self.queue.pop_as::<TakeLastStep, R>(rt, &mut grant.pass) {
             Some(shard) => shard,
             None => unreachable!(),
         }
@@ -250,19 +253,19 @@ impl<N: PhaseName> ShardBox<N> {
 // Tries until the shard is in the box.
 #[cold]
 #[inline(never)]
-fn take_from<N: PhaseName, R: Wait>(
+fn take_from<R: Wait>(
     rt: &R,
-    queue: &RuledArrayQueue<Shard, Knowledge, OneShard<N>>,
+    queue: &RuledArrayQueue<Shard, Knowledge, OneShard>,
     pass: &mut Pass<Shard, Knowledge>,
 ) -> Shard
     requires queue { IsPassOf queue.now pass.old }
     requires speaks { Speaks (view pass.old) }
     ensures queue { IsPassOf queue.now pass.new }
-    ensures taken { TakenBy N.initial N.workers (view pass.old) result (view pass.new) }
+    ensures taken { TakenBy (view pass.old) result (view pass.new) }
 {
     let backoff = Backoff::new();
     for _ in rt.forever() {
-        if let Some(shard) = queue.pop_as::<TakeStep<N>, R>(rt, pass) {
+        if let Some(shard) = queue.pop_as::<TakeStep, R>(rt, pass) {
             return shard;
         }
         backoff.snooze();

@@ -1,11 +1,14 @@
 //! A worker's script, compact: in few bytes a request.
-ghost use Rattle.std.specs.Prelude.{◌≡◌, ◌<◌, ◌++◌, ◌∷◌, ◌==◌, [], Some, length, slice_get, IfOk, IfSome, OnOk, OnErr};
+ghost use Rattle.std.specs.Prelude.{◌≡◌, ◌<◌, ◌++◌, ◌∷◌, ◌==◌, [], Some, length, slice_get, vec_len, vec_capacity, IfOk, IfSome, OnOk, OnErr};
 
 use crate::heads::ShortRequest;
-use crate::sides::keep_request;
+use crate::sides::{facts_stored, keep_request};
 use auction_rows::{Facts, Request};
 use std::alloc::{AllocError, Global};
 use std::marker::Model;
+
+// For how many requests more a full script asks for room, at least.
+const REQUESTS_MORE: usize = 32;
 
 /// A worker's script, compact: its requests in their order, each in 32 bytes; the facts of items that
 /// they store lie in a list of their own. Contracts see the list of requests.
@@ -58,8 +61,8 @@ impl Script {
         ensures pushed { OnOk result (self.new ≡ self.old ++ request.now ∷ []) }
         ensures refused { OnErr result (self.new ≡ self.old) }
     {
-        self.facts.reserve(1)?;
-        self.requests.reserve(1)?;
+        self.facts.reserve(facts_stored(request))?;
+        make_room(&mut self.requests)?;
         let short = keep_request(&mut self.facts, request);
         self.requests.push_reserved(short);
         Ok(())
@@ -118,4 +121,16 @@ impl Script {
         }
         Ok(requests)
     }
+}
+
+// Room for one request more.
+#[inline(always)]
+fn make_room(requests: &mut Vec<ShortRequest>) -> Result<(), AllocError>
+    ensures same { requests.new.items ≡ requests.old.items }
+    ensures room { OnOk result (vec_len requests.new < vec_capacity requests.new) }
+{
+    if requests.len() < requests.capacity() {
+        return Ok(());
+    }
+    requests.reserve(REQUESTS_MORE)
 }

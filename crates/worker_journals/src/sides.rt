@@ -235,10 +235,21 @@ fn part_of<T: Copy>(list: &[T], place: SideIndex, count: u8) -> Ten<T>
     shown
 }
 
+/// How many facts a request stores: 1 of an item, or none.
+#[inline(always)]
+pub(crate) fn facts_stored(request: &Request) -> usize
+    ensures { result ≡ length (facts_in request.now) }
+{
+    match request {
+        Request::StoreItem { .. } => 1,
+        _ => 0,
+    }
+}
+
 /// A request, with the facts that it stores at the end of the facts. It takes no memory.
 #[inline(always)]
 pub(crate) fn keep_request(all: &mut Vec<Facts>, request: &Request) -> ShortRequest
-    requires { HasListRoom 1 (vec_len all.old) (vec_capacity all.old) }
+    requires { HasListRoom (length (facts_in request.now)) (vec_len all.old) (vec_capacity all.old) }
     ensures kept { all.new.items ≡ all.old.items ++ facts_in request.now }
     ensures capacity { vec_capacity all.new ≡ vec_capacity all.old }
     ensures says { SaysRequest all.new.items result request.now }

@@ -2,20 +2,20 @@
 ghost use Rattle.std.specs.Prelude.{ℕ, ◌≡◌, ◌<◌, ◌≤◌, ◌+◌, ◌-◌, ◌^◌, ◌++◌, drop, length, vec_len, IfNone, IfOk, IfErr, IfSome, IsTrue, List, Some, OnOk, true, false};
 ghost use Rattle.std.specs.Io.KnownBytes.{IsAtEnd};
 ghost use Rattle.csv.specs.Reading.{strip_bom};
-ghost use Rattle.auction_text.specs.Lines.{has_no_feed};
+ghost use Rattle.auction_text.specs.Lines.{EndsLine, has_no_feed};
 ghost use Rattle.auction_text.specs.LineBuffers.{held, lines_left, underneath};
 ghost use Rattle.auction_text.specs.LiveLines.{is_long, line_says};
 ghost use Rattle.auction_text.specs.LiveReading.{HasRoom, IsWhole, MayEnd, PassesLine, TakesFrom, TakesSaid, TakesText, stop_at};
 ghost use Rattle.auction_text.specs.Reading.{IsInputFault};
 ghost use Rattle.auction_text.specs.declared.reading.TheConstants.{MOST_ROWS_OF_A_PART};
+ghost use Rattle.auction_text.specs.declared.reading.line_taking.LineStop.TheVariants.{Full};
 ghost use Rattle.auction_text.specs.declared.reading.plain_text.TheConstants.{ROOM_TO_READ};
 
 use crate::reading::line_buffer::LineBuffer;
-use crate::reading::live_lines::{
-    LineFault, Said, first_worker, line_len, plain_bid, plain_record, said_of,
-};
+use crate::reading::live_lines::{LineFault, Said, first_worker, line_len, plain_record, said_of};
 use crate::reading::part_records::{Taken, add_taken};
-use crate::reading::plain_text::ROOM_TO_READ;
+use crate::reading::plain_lines::bid_at;
+use crate::reading::plain_text::{ROOM_TO_READ, lines_end};
 use crate::reading::{Cause, MOST_ROWS_OF_A_PART, ReadFault};
 use std::alloc::Global;
 use std::io::Read;
@@ -92,37 +92,45 @@ fn take_other(
     }
 }
 
-// Takes what a whole line says, and returns its fault, if it has one: a bid, of which there are
-// most, in place.
-#[inline(always)]
-fn take_line(
-    alloc: Global,
+// Takes the bids from a place on, up to so many requests, as long as their lines are plain and
+// their records have no fault, and returns the place behind them. Most lines are bids: nothing is
+// done here that another line needs.
+#[inline(never)]
+fn take_bids(
     taken: &mut Taken,
-    line: &[u8],
+    text: &[u8],
+    from: usize,
     workers: u32,
-) -> Result<Option<LineFault>, ReadFault>
-    requires whole { IsWhole line.now }
-    requires long { length line.now ≤ ROOM_TO_READ }
+    most: u32,
+) -> Result<usize, ReadFault>
+    requires ends { 0 < length text.now → EndsLine text.now }
+    requires long { length text.now ≤ ROOM_TO_READ }
     requires count { vec_len taken.old.input.scripts ≡ workers }
-    requires room { taken.old.requests < 2 ^ 32 - 1 }
-    ensures takes { IfOk result (λ fault. TakesSaid workers taken.old
-        (line_says workers (taken.old.count + 1) taken.old.begun line.now) taken.new fault) }
-    ensures count { OnOk result (vec_len taken.new.input.scripts ≡ workers) }
-    ensures requests { OnOk result (taken.new.requests ≤ taken.old.requests + 1) }
+    requires room { taken.old.requests ≤ most }
+    ensures within { IfOk result (λ at. from < at → at ≤ length text.now) }
+    ensures takes { IfOk result (λ at. TakesText workers taken.old (drop from text.now)
+        taken.new Full (drop at text.now)) }
+    ensures room { OnOk result (taken.new.requests ≤ most) }
+    ensures rows { OnOk result (vec_len taken.new.input.rows ≡ vec_len taken.old.input.rows) }
+    ensures none { IfOk result (λ at. at ≤ from → taken.new ≡ taken.old) }
     ensures fails { IfErr result (λ fault. IsInputFault fault → ⊥) }
 {
-    match plain_bid(line, workers, taken.begun) {
-        Some(one) => {
-            add_taken(taken, &one)?;
-            Ok(None)
+    let mut at = from;
+    while at < text.len() && taken.requests < most {
+        let Some((one, next)) = bid_at(text, at) else {
+            break;
+        };
+        if one.worker >= workers {
+            break;
         }
-        None => take_other(alloc, taken, line, workers),
+        add_taken(taken, &one)?;
+        at = next;
     }
+    Ok(at)
 }
 
 // Takes the whole lines of a text, up to so many requests or as many rows as a part has, and to the
 // first fault, and returns the place behind them, and the fault.
-#[inline(never)]
 fn take_text(
     alloc: Global,
     taken: &mut Taken,
@@ -143,13 +151,19 @@ fn take_text(
         has_no_feed (drop p.0 text.now) ≡ true)) }
     ensures fails { IfErr result (λ fault. IsInputFault fault → ⊥) }
 {
+    let whole = &text[..lines_end(text)];
     let mut at = 0;
     while taken.requests < most && taken.input.rows.len() < MOST_ROWS_OF_A_PART {
+        let behind = take_bids(taken, whole, at, workers, most)?;
+        if behind > at {
+            at = behind;
+            continue;
+        }
         let rest = &text[at..];
         let Some(len) = line_len(rest) else {
             break;
         };
-        let fault = take_line(alloc, taken, &rest[..len], workers)?;
+        let fault = take_other(alloc, taken, &rest[..len], workers)?;
         at += len;
         let None = fault else {
             return Ok((at, fault));

@@ -12,7 +12,7 @@ ghost use Rattle.auction_text.specs.Reading.{IsInputFault};
 ghost use Rattle.auction_text.specs.declared.reading.plain_text.TheConstants.{ROOM_TO_READ};
 
 use crate::reading::fields::read_u32;
-use crate::reading::plain_lines::{bid_at, line_at};
+use crate::reading::plain_lines::line_at;
 use crate::reading::record::{Record, field_of, front_of, read_next, read_record};
 use crate::reading::{Cause, ReadFault};
 use csv::{ByteRecord, Reader, ReaderBuilder};
@@ -136,18 +136,6 @@ fn whole_record(
         return None;
     }
     Some(one)
-}
-
-/// The bid that a line says, if it is plain and its record has no fault.
-#[inline(always)]
-pub fn plain_bid(line: &[u8], workers: u32, begun: bool) -> Option<Record>
-    requires whole { IsWhole line.now }
-    requires room { length line.now ≤ ROOM_TO_READ }
-    ensures says { IfSome result (λ one. (place : ℕ) →
-        line_says workers place begun line.now ≡ Some (Said.Record one)) }
-    ensures worker { IfSome result (λ one. one.worker < workers) }
-{
-    whole_record(bid_at(line, 0), line, workers, begun)
 }
 
 /// What a line says, if it is plain and its record has no fault.

@@ -1,8 +1,9 @@
 //! Lines of plain fields, of which an item's name may be in quotes, read where they lie.
-ghost use Rattle.std.specs.Prelude.{ℕ, ◌≡◌, ◌+◌, ◌<◌, false, true, get_or, length, IfSome};
+ghost use Rattle.std.specs.Prelude.{ℕ, ◌≡◌, ◌+◌, ◌-◌, ◌<◌, drop, false, true, get_or, length, take, IfSome};
 ghost use Rattle.auction_text.specs.declared.reading.fields.RequestKind.TheVariants as kind;
 ghost use Rattle.auction_text.specs.Kinds.{plus};
-ghost use Rattle.auction_text.specs.Lines.{EndsLine, IsEndOfItem, IsLine, IsRequestAt, IsRestOf};
+ghost use Rattle.auction_text.specs.Lines.{EndsLine, HasLineTo, IsEndOfItem, IsLine, IsRequestAt, IsRestOf};
+ghost use Rattle.auction_text.specs.LiveReading.{IsWhole};
 
 use crate::reading::fields::{read_name, read_quantity, read_stars};
 use crate::reading::plain_fields::{
@@ -17,7 +18,9 @@ use auction_rows::{Facts, Quantity, Request};
 fn bid(text: &[u8], at: usize) -> Option<(Request, usize)>
     requires ends { EndsLine text.now }
     requires within { at < length text.now }
-    ensures { IfSome result (λ p. IsRestOf kind.Bid text.now at p.0 p.1) }
+    ensures asks { IfSome result (λ p. IsRestOf kind.Bid text.now at p.0 p.1) }
+    ensures alone { IfSome result (λ p. IsRestOf kind.Bid (take p.1 text.now) at p.0 p.1) }
+    ensures line { IfSome result (λ p. HasLineTo text.now at p.1) }
 {
     let (bidder, at_item) = u32_to(text, at, b',')?;
     let (item, at_amount) = item_to_comma(text, at_item)?;
@@ -185,12 +188,16 @@ fn store_at(text: &[u8], at: usize) -> Option<(Request, usize)>
     None
 }
 
-/// What the line from a place on says, if it is a plain line of a bid, and the place after it.
+/// What the line from a place on says, if it is a plain line of a bid, and the place after it. It
+/// says so whatever is behind it.
 #[inline(always)]
 pub fn bid_at(text: &[u8], at: usize) -> Option<(Record, usize)>
     requires ends { EndsLine text.now }
     requires within { at < length text.now }
-    ensures { IfSome result (λ p. IsLine text.now at p.0 p.1) }
+    ensures says { IfSome result (λ p. IsLine text.now at p.0 p.1) }
+    ensures alone { IfSome result (λ p. IsLine (take p.1 text.now) at p.0 p.1) }
+    ensures whole { IfSome result (λ p. IsWhole (take (p.1 - at) (drop at text.now))) }
+    ensures request { IfSome result (λ p. p.0.is_row ≡ false) }
 {
     let (worker, at_word) = u32_to(text, at, b',')?;
     if !begins(text, at_word, b"bid,") {

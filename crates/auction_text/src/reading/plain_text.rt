@@ -9,6 +9,7 @@ ghost use Rattle.auction_text.specs.declared.reading.TheConstants.{MOST_RECORDS}
 use crate::reading::plain_lines::{bid_at, line_at};
 use crate::reading::record::Record;
 use crate::reading::{CompactInput, MOST_RECORDS, ReadFault, add_record};
+use memchr::memrchr;
 use std::io::Read;
 
 /// What was read of an input so far.
@@ -125,11 +126,10 @@ pub fn lines_end(text: &[u8]) -> usize
     ensures within { result ≤ length text.now }
     ensures ends { 0 < result → EndsLine (take result text.now) }
 {
-    let mut end = text.len();
-    while end > 0 && text[end - 1] != b'\n' {
-        end -= 1;
+    match memrchr(b'\n', text) {
+        Some(place) => place + 1,
+        None => 0,
     }
-    end
 }
 
 /// How many bytes are read at a time.

@@ -26,7 +26,6 @@ failed was is = record {
   phase_is = ap (λ (s : WorkerState). s.journal.phase) is.worker ∙ was.phase_is;
   stocks_are = ap (λ (s : WorkerState). stocks_of s.slices) is.worker ∙ was.stocks_are;
   begun = ap (λ (s : WorkerState). s.begun) is.worker ∙ was.begun;
-  fits = omega (arith, was.fits, ap (λ (s : WorkerState). s.journal.room) is.worker);
 }
 
 pub failed_first : {initial : List ShardState} {floor : FloorState} {w : ℕ} {old new : WorkerState} {fault : PermitFault} → IsReceipt floor w old

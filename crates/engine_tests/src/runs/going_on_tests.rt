@@ -4,7 +4,7 @@ use crate::runs::testing::{
     LOOK, Threaded, bid_stored, fault_of, given_back, own_scripts, policy_of, run_of,
 };
 use crate::testing::{FIRST, OPENING, bid, item_seen, purchase, put_up, vases};
-use auction_rows::{BuyId, Reply, Request, Row};
+use auction_rows::{BuyId, Facts, Reply, Request, Row};
 use auction_run::{
     Board, FreeGate, Gate, Outcome, Policy, RunFault, Stopped, run_on, run_on_shown,
 };
@@ -12,6 +12,7 @@ use item_shards::{Opened, OpeningBook};
 use phase_floor::Joined;
 use shard_boxes::MOST_COMMITS;
 use std::alloc::{AllocError, Global};
+use std::process::Abort;
 use std::sync::Wait;
 use std::test::Fail;
 use std::thread::Threads;
@@ -48,38 +49,75 @@ fn bought(worker: u32, serial: u32) -> Reply {
     Reply::Bought(BuyId { worker, serial })
 }
 
-// Three vases are put up and bid on; two are bought in the next part, and one in the last. Phases
-// and indexes count from 0 in each.
+// Three vases are put up and bid on.
+fn put_up_three<R: Threads + Wait + Sync + Abort>(
+    rt: &R,
+    alloc: Global,
+    facts: &Facts,
+) -> Result<Joined, Fail> {
+    let scripts: [&[Request]; 2] = [&[put_up(*facts), bid(1, 10, 1)], &[LOOK]];
+    let state = run_of(rt, alloc, &scripts, 2, 2, &Threaded)?.state;
+    let seen = item_seen(facts, Some((10, 1)), 1, 3);
+    assert_same(rt, &state.view(&VIEW), &Some(seen));
+    Ok(state)
+}
+
+// Two of them are bought in the next part.
+fn buy_two<R: Threads + Wait + Sync + Abort>(
+    rt: &R,
+    alloc: Global,
+    state: Joined,
+    facts: &Facts,
+) -> Result<Joined, Fail> {
+    let two = purchase(1, 2, 6)?;
+    let Outcome { history, state, .. } = part_of(rt, alloc, state, &[&[two], &[]], &Threaded)?;
+    let answer = answer_at(&history, 0, 0);
+    assert_same(rt, &answer, &Some((0, bought(0, 0))));
+    assert_same(rt, &history.len(), &1);
+    let seen = item_seen(facts, Some((10, 1)), 1, 1);
+    assert_same(rt, &state.view(&VIEW), &Some(seen));
+    assert_same(rt, &state.phase(), &1);
+    Ok(state)
+}
+
+// Asserts what the last part answers: its bid makes the item hot, so its view waits for the next
+// joined phase.
+fn assert_answers(rt: &impl Abort, history: &History, seen: &Reply) {
+    for (index, phase, reply) in [
+        (0, 0, bid_stored(1, 0)),
+        (1, 0, bought(1, 0)),
+        (2, 2, *seen),
+    ] {
+        let answer = answer_at(history, 1, index);
+        assert_same(rt, &answer, &Some((phase, reply)));
+    }
+    assert_same(rt, &history.len(), &3);
+}
+
+// One is bought in the last.
+fn buy_the_last<R: Threads + Wait + Sync + Abort>(
+    rt: &R,
+    alloc: Global,
+    state: Joined,
+    facts: &Facts,
+) -> Result<(), Fail> {
+    let one = purchase(4, 1, 9)?;
+    let scripts: [&[Request]; 2] = [&[], &[bid(2, 30, 2), one, VIEW]];
+    let Outcome { history, state, .. } = part_of(rt, alloc, state, &scripts, &FreeGate)?;
+    let seen = item_seen(facts, Some((30, 2)), 2, 0);
+    let ended = (state.view(&VIEW), state.phase());
+    assert_same(rt, &ended, &(Some(seen), 3));
+    assert_answers(rt, &history, &seen);
+    Ok(())
+}
+
+// Phases and indexes count from 0 in each part.
 #[test]
 fn a_run_goes_on_where_another_ended(rt: HostRuntime) -> Result<(), Fail> {
-    let alloc = rt.alloc();
     let facts = vases(3)?;
-    let (two, one) = (purchase(1, 2, 6)?, purchase(4, 1, 9)?);
-    let scripts: [&[Request]; 2] = [&[put_up(facts), bid(1, 10, 1)], &[LOOK]];
-    let first = run_of(&rt, alloc, &scripts, 2, 2, &Threaded)?;
-    let seen = item_seen(&facts, Some((10, 1)), 1, 3);
-    assert_same(&rt, &first.state.view(&VIEW), &Some(seen));
-
-    let second = part_of(&rt, alloc, first.state, &[&[two], &[]], &Threaded)?;
-    let answer = answer_at(&second.history, 0, 0);
-    assert_same(&rt, &answer, &Some((0, bought(0, 0))));
-    assert_same(&rt, &second.history.len(), &1);
-    let seen = item_seen(&facts, Some((10, 1)), 1, 1);
-    assert_same(&rt, &second.state.view(&VIEW), &Some(seen));
-    assert_same(&rt, &second.state.phase(), &1);
-
-    let scripts: [&[Request]; 2] = [&[], &[bid(2, 30, 2), one, VIEW]];
-    let third = part_of(&rt, alloc, second.state, &scripts, &FreeGate)?;
-    let seen = item_seen(&facts, Some((30, 2)), 2, 0);
-    // The bid makes the item hot, so its view waits for the next joined phase.
-    for (index, phase, reply) in [(0, 0, bid_stored(1, 0)), (1, 0, bought(1, 0)), (2, 2, seen)] {
-        let answer = answer_at(&third.history, 1, index);
-        assert_same(&rt, &answer, &Some((phase, reply)));
-    }
-    assert_same(&rt, &third.history.len(), &3);
-    assert_same(&rt, &third.state.view(&VIEW), &Some(seen));
-    assert_same(&rt, &third.state.phase(), &3);
-    Ok(())
+    let state = put_up_three(&rt, rt.alloc(), &facts)?;
+    let state = buy_two(&rt, rt.alloc(), state, &facts)?;
+    buy_the_last(&rt, rt.alloc(), state, &facts)
 }
 
 // An auction that is resumed with a row of the vases, and is bid on.
@@ -135,35 +173,42 @@ fn shown_after<R: Threads + Wait + Sync>(
     Ok((outcome.state, answer_at(&outcome.history, 0, 0)))
 }
 
+// Asserts that a run is refused for this fault, and that the state which comes back shows the vases
+// as they were: the state after that view.
+fn assert_kept<R: Threads + Wait + Sync + Abort>(
+    rt: &R,
+    alloc: Global,
+    state: Joined,
+    scripts: Vec<Vec<Request>>,
+    policy: Policy,
+    fault: RunFault,
+) -> Result<Joined, Fail> {
+    let (state, shown) = shown_after(rt, alloc, state, scripts, policy, fault)?;
+    let seen = item_seen(&vases(3)?, Some((10, 1)), 1, 3);
+    assert_same(rt, &shown, &Some((0, seen)));
+    Ok(state)
+}
+
 // A worker of two rows may have 999,998 requests more. For one more than these, a script too few,
 // other shards or no quota the state comes back as it was.
 #[test]
 fn what_is_refused_gives_the_state_back(rt: HostRuntime) -> Result<(), Fail> {
     let alloc = rt.alloc();
-    let facts = vases(3)?;
-    let scripts: [&[Request]; 1] = [&[put_up(facts), bid(1, 10, 1)]];
-    let first = run_of(&rt, alloc, &scripts, 2, 2, &FreeGate)?;
+    let scripts: [&[Request]; 1] = [&[put_up(vases(3)?), bid(1, 10, 1)]];
+    let state = run_of(&rt, alloc, &scripts, 2, 2, &FreeGate)?.state;
     let policy = policy_of(2, 2);
     let more_shards = Policy {
         shards: 5,
         ..policy
     };
+    let none = Vec::new(alloc);
+    let state = assert_kept(&rt, alloc, state, none, policy, RunFault::Workers)?;
+    let one = views(alloc, 1)?;
+    let state = assert_kept(&rt, alloc, state, one, more_shards, RunFault::Shards)?;
+    let one = views(alloc, 1)?;
+    let state = assert_kept(&rt, alloc, state, one, policy_of(0, 2), RunFault::Quota)?;
     let long = views(alloc, 999_999)?;
-    let seen = Some((0, item_seen(&facts, Some((10, 1)), 1, 3)));
-    let mut state = first.state;
-    for (scripts, policy, fault) in Vec::from_array(
-        alloc,
-        [
-            (Vec::new(alloc), policy, RunFault::Workers),
-            (views(alloc, 1)?, more_shards, RunFault::Shards),
-            (views(alloc, 1)?, policy_of(0, 2), RunFault::Quota),
-            (long, policy, RunFault::TooLong),
-        ],
-    )? {
-        let (next, shown) = shown_after(&rt, alloc, state, scripts, policy, fault)?;
-        assert_same(&rt, &shown, &seen);
-        state = next;
-    }
+    assert_kept(&rt, alloc, state, long, policy, RunFault::TooLong)?;
     Ok(())
 }
 

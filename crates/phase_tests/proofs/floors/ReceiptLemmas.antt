@@ -67,7 +67,6 @@ module _ (initial : List ShardState) (floor : FloorState) (w : ℕ) (old new : W
     phase_is = ap (λ (s : WorkerState). s.journal.phase) failed.worker ∙ was.phase_is;
     stocks_are = ap (λ (s : WorkerState). stocks_of s.slices) failed.worker ∙ was.stocks_are;
     begun = ap (λ (s : WorkerState). s.begun) failed.worker ∙ was.begun;
-    fits = omega (arith, was.fits, ap (λ (s : WorkerState). s.journal.room) failed.worker);
   }
 
   pub performed : (answer : Result Reply PermitFault) → IfOk answer (λ reply. HasCommitted initial (with_try old) new request index reply)

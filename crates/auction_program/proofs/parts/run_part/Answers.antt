@@ -1,6 +1,6 @@
 use Rattle.std.proofs.Common.{subst, sym}
-use Rattle.auction_run.specs.declared.checks.RunFault.{RunFault}
-use Rattle.auction_program.specs.ServeFaults.{IsNotRunOn}
+use Rattle.auction_program.specs.ServeFaults.{AreNotRunOn}
+use Rattle.auction_program.specs.declared.faults.Fault.{Fault}
 use Rattle.auction_program.proofs.StoppedRuns.{run_answers, run_fits, run_leaves, run_refused}
 use Rattle.auction_program.proofs.parts.run_part.Goals as goal
 
@@ -21,5 +21,5 @@ returns-in-Ok-clause-has g c = λ had. record { book = _; is_of = c.in-Ok.ensure
 
 pub returns-in-Err-clause-refused : goal.returns-in-Err-clause-refused
 returns-in-Err-clause-refused g c = λ book begins.
-    subst (λ (f : RunFault). IsNotRunOn c.args.options.now f book c.args.scripts.items) (sym c.fault_of.ensures)
+    subst (λ (f : Fault). AreNotRunOn c.args.options.now f book c.args.scripts.items) (sym c.fault_of.ensures)
     (run_refused c.args.options.now c.args.auction c.policy.result c.args.scripts.items c.policy.ensures book begins c.in-Err.stopped c.in-Err.ensures.stopped)

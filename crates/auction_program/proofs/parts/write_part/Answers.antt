@@ -9,4 +9,4 @@ pub returns-then-options : goal.returns-then-options
 returns-then-options g c =
     let history = c.args.committed.now.history.entries in
     subst (λ t. WritesText g.W.Write.contents c.args.writer.now c.write_rows.new.writer t c.write_rows.result)
-    (ap (λ rows. rows_text rows history) c.as_slice.ensures.value ∙ rows_asked c.args.options.now (gone_by c.args.before.now) c.args.committed.now.rows.items history c.if-options.true) c.write_rows.ensures
+    (ap (λ rows. rows_text rows history) c.as_slice.ensures.value ∙ rows_asked c.args.options.now (gone_by c.args.committed.now.before) c.args.committed.now.rows.items history c.if-options.true) c.write_rows.ensures

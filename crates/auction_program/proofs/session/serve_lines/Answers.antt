@@ -1,6 +1,6 @@
 use Rattle.std.proofs.Common.{◌≡◌, List, [], Some, subst}
 use Rattle.auction_rows.specs.Book.{Book}
-use Rattle.auction_text.specs.Moved.{gone_by}
+use Rattle.auction_text.specs.Scripts.{asked_of}
 use Rattle.auction_text.specs.declared.reading.ReadFault.TheVariants as read
 use Rattle.auction_text.specs.declared.reading.live_lines.Said.{Said}
 use Rattle.part_log.specs.declared.log.Teller.{Teller}
@@ -10,8 +10,9 @@ use Rattle.auction_program.specs.Serving.{AreTold, book_left}
 use Rattle.auction_program.specs.declared.faults.Fault.{Fault}
 use Rattle.auction_program.specs.declared.faults.Fault.TheVariants.{Read}
 use Rattle.auction_program.proofs.Answering.{error_is}
-use Rattle.auction_program.proofs.FaultLemmas.{part_stops_all}
-use Rattle.auction_program.proofs.Sessions.{is_none, part_read, part_stops, session_ends, session_part, session_passed, session_stops}
+use Rattle.auction_program.proofs.PartSteps.{part_fails, part_goes_on, part_served}
+use Rattle.auction_program.proofs.RowsBefore.{no_late_row}
+use Rattle.auction_program.proofs.Sessions.{answer_stops_all, is_none, part_read, session_answered, session_ends, session_passed, session_stops}
 use Rattle.auction_program.proofs.ToldLemmas.{nothing_told}
 use Rattle.auction_program.proofs.session.serve_lines.Goals as goal
 
@@ -31,21 +32,29 @@ returns-in_default-clause-all g c = λ book all start session.
 
 pub loop-preserved : goal.loop-preserved
 loop-preserved g c = record {
-  has = c.in_ok-served.ensures.has;
+  has = c.in_ok-done.ensures.has;
   session = λ book all start session.
       let remaining = g.I.Read.remaining in
       let accepted = g.L.Log.accepted in
       let contents = g.W.Write.contents in
       let options = c.args.options.now in
       let mid = c.pass_fault.new.teller.teller in
+      let next = c.serve_part.new.teller.teller in
       let before = c.loop.invariant.session book all start session in
       let passed = subst (λ left. IsSession options book all c.loop.served (MayHaveToSay remaining options.workers left) (AreTold accepted contents start mid)) c.in-Some.is
       (session_passed accepted contents options book all start c.loop.teller.teller mid c.loop.served (GoesOnTo remaining options.workers c.loop.end) before remaining c.in_ok-left.field-0
       (c.in_ok-left.ensures.passes remaining options.workers before.rest before.left)) in
       let part = c.in_ok-input.field-0 in
-      session_part accepted contents options book all start mid c.serve_part.new.teller c.loop.served (MayHaveToSay remaining options.workers (Some c.in-Some.left)) passed remaining part.input part.end
-      (part_read remaining options _ c.most_of_a_part.result c.most_of_a_part.ensures.asked passed.left.0 passed.rest part (c.in_ok-input.ensures.part passed.rest passed.left.1) c.in_ok-input.ensures.workers)
-      c.in_ok-served.served c.in_ok-served.ensures.rows c.in_ok-served.ensures.serves;
+      let Next : List Said → Type 0 = GoesOnTo remaining options.workers part.end in
+      let reads = part_read remaining options _ c.most_of_a_part.result c.most_of_a_part.ensures.asked passed.left.0 passed.rest part (c.in_ok-input.ensures.part passed.rest passed.left.1) c.in_ok-input.ensures.workers in
+      let free = no_late_row remaining c.in-Some.left passed.rest passed.left.1 in
+      let done = c.in_ok-done.done in
+      session_answered accepted contents options book all start next c.tell_past.new.teller.teller done.served Next done.past
+      (part_served accepted contents options book all start mid next c.loop.served (MayHaveToSay remaining options.workers (Some c.in-Some.left)) passed c.most_of_a_part.result (asked_of part.input) Next reads free
+      c.most_of_a_part.ensures.few c.most_of_a_part.ensures.room done.past done.served c.in_ok-done.ensures.past c.in_ok-done.ensures.rows c.in_ok-done.ensures.serves)
+      (part_goes_on accepted contents options book all start mid next c.loop.served (MayHaveToSay remaining options.workers (Some c.in-Some.left)) passed c.most_of_a_part.result (asked_of part.input) Next reads free
+      c.most_of_a_part.ensures.few c.most_of_a_part.ensures.room done.past c.in_ok-done.ensures.past)
+      c.in_ok-tell_past.ensures.told;
 }
 
 pub returns-in_err-left-clause-cause : goal.returns-in_err-left-clause-cause
@@ -85,19 +94,44 @@ returns-in_err-input-clause-cause g c =
     session_stops accepted contents options book all start mid mid c.loop.served (MayHaveToSay remaining options.workers (Some c.in-Some.left)) passed (Read fault)
     (nothing_told accepted contents mid, λ input. absurd (c.in_err-input.ensures.fails input)))
 
-pub returns-in_err-served-clause-cause : goal.returns-in_err-served-clause-cause
-returns-in_err-served-clause-cause g c =
+pub returns-in_err-done-clause-cause : goal.returns-in_err-done-clause-cause
+returns-in_err-done-clause-cause g c =
     let remaining = g.I.Read.remaining in
     let accepted = g.L.Log.accepted in
     let contents = g.W.Write.contents in
     let options = c.args.options.now in
     let old = c.loop.teller.teller in
     let mid = c.pass_fault.new.teller.teller in
-    let new = c.serve_part.new.teller in
-    let fault = c.in_err-served.field-0.0 in
-    error_is c.from_residual-in_err-served.result fault (λ (f : Fault). (book : Book) (all : List Said) (start : Teller _ _)
+    let new = c.serve_part.new.teller.teller in
+    let fault = c.in_err-done.field-0.0 in
+    error_is c.from_residual-in_err-done.result fault (λ (f : Fault). (book : Book) (all : List Said) (start : Teller _ _)
     → IsSession options book all c.args.session.served (GoesOnTo remaining options.workers c.args.session.end) (AreTold accepted contents start c.args.teller.now.teller)
-    → IsServeFault accepted contents start new options book all f) c.from_residual-in_err-served.ensures
+    → IsServeFault accepted contents start new options book all f) c.from_residual-in_err-done.ensures
+    (λ book all start session.
+    let before = c.loop.invariant.session book all start session in
+    let passed = subst (λ left. IsSession options book all c.loop.served (MayHaveToSay remaining options.workers left) (AreTold accepted contents start mid)) c.in-Some.is
+    (session_passed accepted contents options book all start old mid c.loop.served (GoesOnTo remaining options.workers c.loop.end) before remaining c.in_ok-left.field-0
+    (c.in_ok-left.ensures.passes remaining options.workers before.rest before.left)) in
+    let part = c.in_ok-input.field-0 in
+    let Next : List Said → Type 0 = GoesOnTo remaining options.workers part.end in
+    let reads = part_read remaining options _ c.most_of_a_part.result c.most_of_a_part.ensures.asked passed.left.0 passed.rest part (c.in_ok-input.ensures.part passed.rest passed.left.1) c.in_ok-input.ensures.workers in
+    part_fails accepted contents options book all start mid new c.loop.served (MayHaveToSay remaining options.workers (Some c.in-Some.left)) passed c.most_of_a_part.result (asked_of part.input) Next reads
+    (no_late_row remaining c.in-Some.left passed.rest passed.left.1) c.most_of_a_part.ensures.few c.most_of_a_part.ensures.room fault c.in_err-done.ensures.cause)
+
+pub returns-in_err-tell_past-clause-cause : goal.returns-in_err-tell_past-clause-cause
+returns-in_err-tell_past-clause-cause g c =
+    let remaining = g.I.Read.remaining in
+    let accepted = g.L.Log.accepted in
+    let contents = g.W.Write.contents in
+    let options = c.args.options.now in
+    let old = c.loop.teller.teller in
+    let mid = c.pass_fault.new.teller.teller in
+    let next = c.serve_part.new.teller.teller in
+    let new = c.tell_past.new.teller.teller in
+    let fault = c.in_err-tell_past.field-0.0 in
+    error_is c.from_residual-in_err-tell_past.result fault (λ (f : Fault). (book : Book) (all : List Said) (start : Teller _ _)
+    → IsSession options book all c.args.session.served (GoesOnTo remaining options.workers c.args.session.end) (AreTold accepted contents start c.args.teller.now.teller)
+    → IsServeFault accepted contents start new options book all f) c.from_residual-in_err-tell_past.ensures
     (λ book all start session.
     let before = c.loop.invariant.session book all start session in
     let Left : List Said → Type 0 = MayHaveToSay remaining options.workers (Some c.in-Some.left) in
@@ -105,10 +139,16 @@ returns-in_err-served-clause-cause g c =
     (session_passed accepted contents options book all start old mid c.loop.served (GoesOnTo remaining options.workers c.loop.end) before remaining c.in_ok-left.field-0
     (c.in_ok-left.ensures.passes remaining options.workers before.rest before.left)) in
     let part = c.in_ok-input.field-0 in
+    let Next : List Said → Type 0 = GoesOnTo remaining options.workers part.end in
     let reads = part_read remaining options _ c.most_of_a_part.result c.most_of_a_part.ensures.asked passed.left.0 passed.rest part (c.in_ok-input.ensures.part passed.rest passed.left.1) c.in_ok-input.ensures.workers in
-    session_stops accepted contents options book all start mid new c.loop.served Left passed fault
-    (part_stops_all accepted contents mid new options (book_left options book passed.steps) (gone_by c.loop.served.before) c.loop.served.rows passed.rest fault
-    (part_stops accepted contents options book all start mid new c.loop.served Left passed remaining part.input part.end reads fault c.in_err-served.ensures.cause)))
+    let free = no_late_row remaining c.in-Some.left passed.rest passed.left.1 in
+    let done = c.in_ok-done.done in
+    answer_stops_all accepted contents options book all start next new done.served Next done.past
+    (part_served accepted contents options book all start mid next c.loop.served Left passed c.most_of_a_part.result (asked_of part.input) Next reads free
+    c.most_of_a_part.ensures.few c.most_of_a_part.ensures.room done.past done.served c.in_ok-done.ensures.past c.in_ok-done.ensures.rows c.in_ok-done.ensures.serves)
+    (part_goes_on accepted contents options book all start mid next c.loop.served Left passed c.most_of_a_part.result (asked_of part.input) Next reads free
+    c.most_of_a_part.ensures.few c.most_of_a_part.ensures.room done.past c.in_ok-done.ensures.past)
+    fault c.in_err-tell_past.ensures.so_far)
 
 pub returns-clause-cause : goal.returns-clause-cause
 returns-clause-cause g c = λ book all start session.

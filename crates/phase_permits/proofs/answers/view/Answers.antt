@@ -1,4 +1,4 @@
-use Rattle.std.proofs.Common.{◌≡◌, Option, None, Some, sym, ap, subst}
+use Rattle.std.proofs.Common.{rules, ◌≡◌, Option, None, Some, sym, ap, subst}
 use Rattle.auction_rows.specs.declared.replies.Reply.{Reply}
 use Rattle.auction_rows.specs.declared.requests.Facts.{Facts}
 use Rattle.auction_rows.specs.declared.requests.Object.TheVariants.{Item, User, Category}
@@ -39,3 +39,9 @@ returns-in-ViewItem-clause-answers c counters worker = rw c.in-ViewItem.is (item
 
 pub returns-in-ViewBids-clause-answers : goal.returns-in-ViewBids-clause-answers
 returns-in-ViewBids-clause-answers c counters worker = rw c.in-ViewBids.is (bids_suit (contents c.args.shard.now (Item c.in-ViewBids.item)) _ c.view_bids.ensures.contents)
+
+pub returns-in-ViewCategory-clause-answers : goal.returns-in-ViewCategory-clause-answers
+returns-in-ViewCategory-clause-answers c = search rules
+
+pub returns-in-ViewCategory-clause-shown : goal.returns-in-ViewCategory-clause-shown
+returns-in-ViewCategory-clause-shown c = search rules

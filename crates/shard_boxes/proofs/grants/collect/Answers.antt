@@ -1,6 +1,8 @@
 use Rattle.std.proofs.Common.{◌≡◌, ℕ, ◌+◌, ◌<◌, [], ◌∷◌, ◌++◌, length, le_refl, zero-add, zero-lt-suc, refl, sym, ap, ◌∙◌, subst, arith}
 use Rattle.std.specs.Vec.Iter.{into_iter_items}
 use Rattle.shard_boxes.specs.declared.shard_box.Knowledge.{Knowledge}
+use Rattle.shard_boxes.specs.States.{state_at}
+use Rattle.shard_boxes.specs.Rule.{Speaks}
 use Rattle.shard_boxes.specs.Passes.{GrantState}
 use Rattle.shard_boxes.specs.Keys.{lines_at}
 use Rattle.shard_boxes.specs.Grants.{IsFree, own_at}
@@ -37,28 +39,29 @@ collect-requires g c =
     let first : other.knows.first ≡ c.args.key.worker + 1 = ap (λ (l : GrantState). l.knows.first) (sym head) ∙ theirs.from in
     record {
       place = (place_is grants boxes s grant c.index-boxes-s.result was.2 below at c.index-boxes-s.is, place_is others boxes s other c.index-boxes-s.result c.requires.others.0 below' (sym head) c.index-boxes-s.is);
-      speaks = subst (λ n. 0 < n) (sym one) (zero-lt-suc 0);
+      speaks = (subst (λ n. 0 < n) (sym one) (zero-lt-suc 0), subst (λ (l : GrantState). Speaks l.knows) head theirs.speaks);
       free = (ap (λ (l : GrantState). l.knows.holds) at ∙ mine.0.free, ap (λ (l : GrantState). l.knows.holds) (sym head) ∙ theirs.free);
       next = first ∙ (λ i. sym from i + sym one i);
     }
 
 pub loop-other-preserved : goal.loop-other-preserved
 loop-other-preserved g c =
+    let initial = g.N.PhaseName.initial in let workers = g.N.PhaseName.workers in
     let boxes = c.args.boxes.now in let others = c.args.others.items in let key = c.args.key in
     let was = c.loop-other.invariant in let step = c.in-Some.ensures.steps in
     let s = c.loop-other.s in let grants = c.loop-other.grants.items in let other = c.in-Some.other in let grant = c.index_mut.result.now in
     let at = c.index_mut.ensures.value in
     let low : s < length boxes = is_next _ _ _ _ _ step.1 was.0 c.requires.boxes in
     let below : s < length grants = subst (λ n. s < n) (sym (as_many grants boxes was.2)) low in
-    let mine = subst (λ (l : GrantState). IsFree s key.worker l.knows × (l.knows.own ≡ lines_at key s ∷ [])) (sym at) (was.3.1 s grant (le_refl s) below) in
+    let mine = subst (λ (l : GrantState). IsFree (state_at initial s) workers key.worker l.knows × (l.knows.own ≡ lines_at key s ∷ [])) (sym at) (was.3.1 s grant (le_refl s) below) in
     let new = ap (λ (l : GrantState). l.knows) c.collect.ensures in
     let head : (e : GrantState) → own_at others s e ≡ other.knows.own = (λ e. ap (λ (l : GrantState). l.knows.own) (at_head others s other (into_iter_items c.next.new.self) e (sym step.0 ∙ was.1))) in (
       one_on _ _ _ _ step.1 was.0,
       drop_next others s (s + 1) other (into_iter_items c.next.new.self) (sym step.0 ∙ was.1) refl,
       same_places grants s grant c.collect.new.grant at (ap (λ (l : GrantState). l.box_id) c.collect.ensures) ∙ was.2,
-      swept_more (λ k (x : GrantState). IsFree k key.worker x.knows × ((e : GrantState) → x.knows.own ≡ lines_at key k ∷ own_at others k e))
-          (λ k (x : GrantState). IsFree k key.worker x.knows × (x.knows.own ≡ lines_at key k ∷ [])) grants s (s + 1) c.collect.new.grant below was.3 (
-            subst (λ (v : Knowledge). IsFree s key.worker v) (sym new) (joined_free s key.worker grant.knows other.knows mine.0),
+      swept_more (λ k (x : GrantState). IsFree (state_at initial k) workers key.worker x.knows × ((e : GrantState) → x.knows.own ≡ lines_at key k ∷ own_at others k e))
+          (λ k (x : GrantState). IsFree (state_at initial k) workers key.worker x.knows × (x.knows.own ≡ lines_at key k ∷ [])) grants s (s + 1) c.collect.new.grant below was.3 (
+            subst (IsFree (state_at initial s) workers key.worker) (sym new) (joined_free (state_at initial s) workers key.worker grant.knows other.knows mine.0),
             λ e. ap (λ (v : Knowledge). v.own) new ∙ (λ i. mine.1 i ++ sym (head e) i),
           ) refl,
     )

@@ -1,5 +1,6 @@
 use Rattle.std.proofs.Common.{◌≡◌, ◌+◌, drop, length, [], ◌∷◌}
 use Rattle.std.specs.Vec.Iter.{into_iter_items, into_iter_len}
+use Rattle.shard_boxes.specs.States.{state_at}
 use Rattle.shard_boxes.specs.Passes.{GrantState}
 use Rattle.shard_boxes.specs.Keys.{lines_at}
 use Rattle.shard_boxes.specs.Seats.{boxes_of}
@@ -13,5 +14,5 @@ invariant-loop-other g l =
     (l.s + into_iter_len l.other-iterator ≡ length g.N.PhaseName.initial)
     × (into_iter_items l.other-iterator ≡ drop l.s l.fn.others.items)
     × (boxes_of l.grants.items ≡ l.boxes)
-    × Swept (λ k (x : GrantState). IsFree k l.fn.key.worker x.knows × ((e : GrantState) → x.knows.own ≡ lines_at l.fn.key k ∷ own_at l.fn.others.items k e))
-    (λ k (x : GrantState). IsFree k l.fn.key.worker x.knows × (x.knows.own ≡ lines_at l.fn.key k ∷ [])) l.grants.items l.s
+    × Swept (λ k (x : GrantState). IsFree (state_at g.N.PhaseName.initial k) g.N.PhaseName.workers l.fn.key.worker x.knows × ((e : GrantState) → x.knows.own ≡ lines_at l.fn.key k ∷ own_at l.fn.others.items k e))
+    (λ k (x : GrantState). IsFree (state_at g.N.PhaseName.initial k) g.N.PhaseName.workers l.fn.key.worker x.knows × (x.knows.own ≡ lines_at l.fn.key k ∷ [])) l.grants.items l.s

@@ -18,7 +18,7 @@ collect-grants-requires-clause-others g c =
     let front = c.pop-in-loop-key.new.self.items in let key = c.in-Some-pop.key in let was = c.loop-key.invariant in
     let spent = spent_at c.args.boxes.now g.N.PhaseName.workers front c.loop-key.keys.items was.0 c.args.keys.items key c.requires.spent c.in-Some-pop.ensures.items was.1 in
     let next : length c.loop-key.keys.items ≡ key.worker + 1 = one_more front c.loop-key.keys.items key c.in-Some-pop.ensures.items ∙ ap (λ n. n + 1) (sym spent.worker_is) in
-    subst (λ n. AreFree c.args.boxes.now n c.loop-key.grants.items) next was.2
+    subst (λ n. AreFree g.N.PhaseName.initial g.N.PhaseName.workers c.args.boxes.now n c.loop-key.grants.items) next was.2
 
 pub loop-key-preserved : goal.loop-key-preserved
 loop-key-preserved g c =
@@ -28,7 +28,7 @@ loop-key-preserved g c =
     let made = c.collect-grants.ensures in (
       key ∷ was.0,
       whole_is front c.loop-key.keys.items was.0 c.args.keys.items key c.in-Some-pop.ensures.items was.1,
-      subst (λ n. AreFree boxes n c.collect-grants.result.items) spent.worker_is made.free,
+      subst (λ n. AreFree g.N.PhaseName.initial g.N.PhaseName.workers boxes n c.collect-grants.result.items) spent.worker_is made.free,
       λ s d low.
           let same : length c.collect-grants.result.items ≡ length c.loop-key.grants.items = as_many c.collect-grants.result.items boxes made.free.0 ∙ sym (as_many c.loop-key.grants.items boxes was.2.0) in
           made.own s d low ∙ ap (λ l. lines_at key s ∷ l) (was.3 s d (subst (λ n. s < n) same low)),
@@ -46,7 +46,7 @@ loop-key-init g c =
     let grants = c.grants-grants.result.items in let made = c.grants-grants.ensures in (
       last ∷ [],
       sym c.in-Some.ensures.items,
-      subst (λ n. AreFree boxes n grants) spent.worker_is (subst (λ (boxes : List BoxId). AreFree boxes last.worker grants) spent.boxes_are made.free),
+      subst (λ n. AreFree g.N.PhaseName.initial g.N.PhaseName.workers boxes n grants) spent.worker_is (subst (λ (boxes : List BoxId). AreFree g.N.PhaseName.initial g.N.PhaseName.workers boxes last.worker grants) spent.boxes_are made.free),
       made.own,
     )
 

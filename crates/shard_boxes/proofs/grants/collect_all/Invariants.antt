@@ -8,7 +8,7 @@ use Rattle.shard_boxes.proofs.grants.collect_all.Given as goal
 abbrev pub invariant-loop-key : goal.invariant-loop-key
 invariant-loop-key g l =
     (done : List KeyState) × (l.keys.items ++ done ≡ l.fn.keys.items)
-    × AreFree l.boxes (length l.keys.items) l.grants.items
+    × AreFree g.N.PhaseName.initial g.N.PhaseName.workers l.boxes (length l.keys.items) l.grants.items
     × ((s : ℕ) (d : GrantState) → s < length l.grants.items → own_at l.grants.items s d ≡ map (λ (k : KeyState). lines_at k s) done)
 
 abbrev pub decreases-loop-key : goal.decreases-loop-key

@@ -1,47 +1,50 @@
-use Rattle.std.proofs.Common.{◌≡◌, ◌+◌, ◌-◌, ◌<◌, ◌≤◌, suc, length, vec_capacity, le_refl, lt_of_lt_of_le, refl, sym, ap, ◌∙◌, subst, arith}
+use Rattle.std.proofs.Common.{◌≡◌, ◌+◌, ◌-◌, ◌<◌, ◌≤◌, suc, length, get_or, vec_capacity, le_refl, le_antisymm, lt_of_lt_of_le, refl, sym, ap, ◌∙◌, subst, arith}
 use Rattle.shard_boxes.specs.declared.shard_box.Knowledge.{Knowledge}
+use Rattle.shard_boxes.specs.States.{state_at}
 use Rattle.shard_boxes.specs.Passes.{GrantState}
-use Rattle.shard_boxes.specs.Rule.{Speaks}
-use Rattle.shard_boxes.specs.Grants.{ready}
+use Rattle.shard_boxes.specs.Rule.{Speaks, ready}
+use Rattle.shard_boxes.specs.Grants.{IsReady}
 use Rattle.shard_boxes.proofs.Each.{each_push}
 use Rattle.shard_boxes.proofs.Sweeps.{swept_more}
 use Rattle.shard_boxes.proofs.KeySteps.{same_places}
-use Rattle.shard_boxes.proofs.GrantLemmas.{rest_ready, first_ready, places_more, place_is, new_key, as_many, take_whole}
+use Rattle.shard_boxes.proofs.GrantLemmas.{rest_ready, first_ready, ready_for, places_more, place_is, new_key, as_many, take_whole}
 use Rattle.shard_boxes.proofs.grants.deal.Goals as goal
 
 pub deal-requires : goal.deal-requires
 deal-requires g c =
-    let workers = g.N.PhaseName.workers in let worker = c.args.worker in let boxes = c.args.boxes.now in
+    let initial = g.N.PhaseName.initial in let workers = g.N.PhaseName.workers in let worker = c.args.worker in let boxes = c.args.boxes.now in
     let was = c.loop-s.invariant in let s = c.loop-s.s in let grants = c.loop-s.grants.items in
     let grant = c.index_mut.result.now in let at = c.index_mut.ensures.value in
     let below : s < length grants = subst (λ n. s < n) (sym (as_many grants boxes was.4)) c.loop-s-test.true in
-    let knows = ap (λ (l : GrantState). l.knows) at ∙ was.5.1 s grant (le_refl s) below in
+    let knows = subst (λ (l : GrantState). IsReady (state_at initial s) workers worker (workers - worker) l.knows) (sym at) (was.5.1 s grant (le_refl s) below) in
     let fewer : workers - worker ≡ suc (workers - (worker + 1)) = omega (arith, c.requires.worker) in
     record {
       place = place_is grants boxes s grant c.index-boxes-s.result was.4 below at c.index-boxes-s.is;
-      speaks = subst Speaks (sym (knows ∙ ap (ready s worker) fewer)) (omega arith);
-      free = ap (λ (v : Knowledge). v.holds) knows;
+      speaks = subst Speaks (sym (knows.unused ∙ ap (ready grant.knows.start workers worker) fewer)) (omega arith);
+      free = ap (λ (v : Knowledge). v.holds) knows.unused;
     }
 
 pub loop-s-preserved : goal.loop-s-preserved
 loop-s-preserved g c =
-    let workers = g.N.PhaseName.workers in let worker = c.args.worker in let boxes = c.args.boxes.now in
+    let initial = g.N.PhaseName.initial in let workers = g.N.PhaseName.workers in let worker = c.args.worker in let boxes = c.args.boxes.now in
     let was = c.loop-s.invariant in let p = c.push_reserved.ensures in
     let s = c.loop-s.s in let grants = c.loop-s.grants.items in
     let grant = c.index_mut.result.now in let at = c.index_mut.ensures.value in
     let low : s < length boxes = c.loop-s-test.true in
     let below : s < length grants = subst (λ n. s < n) (sym (as_many grants boxes was.4)) low in
-    let knows = ap (λ (l : GrantState). l.knows) at ∙ was.5.1 s grant (le_refl s) below in
+    let knows = subst (λ (l : GrantState). IsReady (state_at initial s) workers worker (workers - worker) l.knows) (sym at) (was.5.1 s grant (le_refl s) below) in
     let fewer : workers - worker ≡ suc (workers - (worker + 1)) = omega (arith, c.requires.worker) in
+    let left = ap (λ (l : GrantState). l.knows) c.deal.ensures.left in let right = ap (λ (l : GrantState). l.knows) c.deal.ensures.right in
     let place = place_is grants boxes s grant c.index-boxes-s.result was.4 below at c.index-boxes-s.is in (
       p.len ∙ ap (λ n. n + 1) was.0,
-      subst (λ n. length g.N.PhaseName.initial ≤ n) (sym p.capacity) was.1,
+      subst (λ n. length initial ≤ n) (sym p.capacity) was.1,
       places_more c.loop-s.room.items c.push_reserved.new.self.items boxes s c.deal.result c.index-boxes-s.result low p.items was.2 (ap (λ (l : GrantState). l.box_id) c.deal.ensures.right ∙ place) c.index-boxes-s.is,
-      (λ k d lower. each_push (λ j (x : GrantState). x.knows ≡ ready j worker 1) c.loop-s.room.items c.push_reserved.new.self.items c.deal.result d s (sym c.loop-s.room.ok.0 ∙ was.0) p.items (λ j lo. was.3 j d lo)
-          (ap (λ (l : GrantState). l.knows) c.deal.ensures.right ∙ first_ready s worker (workers - worker) (workers - (worker + 1)) grant.knows knows fewer) k lower),
+      (λ k d lower. each_push (λ j (x : GrantState). IsReady (state_at initial j) workers worker 1 x.knows) c.loop-s.room.items c.push_reserved.new.self.items c.deal.result d s (sym c.loop-s.room.ok.0 ∙ was.0) p.items (λ j lo. was.3 j d lo)
+          (subst (IsReady (state_at initial s) workers worker 1) (sym right) (first_ready (state_at initial s) workers worker (workers - worker) (workers - (worker + 1)) grant.knows knows fewer)) k lower),
       same_places grants s grant c.deal.new.grant at (ap (λ (l : GrantState). l.box_id) c.deal.ensures.left) ∙ was.4,
-      swept_more (λ k (x : GrantState). x.knows ≡ ready k (worker + 1) (workers - (worker + 1))) (λ k (x : GrantState). x.knows ≡ ready k worker (workers - worker)) grants s (s + 1) c.deal.new.grant below was.5
-          (ap (λ (l : GrantState). l.knows) c.deal.ensures.left ∙ rest_ready s worker (workers - worker) (workers - (worker + 1)) grant.knows knows fewer) refl,
+      swept_more (λ k (x : GrantState). IsReady (state_at initial k) workers (worker + 1) (workers - (worker + 1)) x.knows) (λ k (x : GrantState). IsReady (state_at initial k) workers worker (workers - worker) x.knows)
+          grants s (s + 1) c.deal.new.grant below was.5
+          (subst (IsReady (state_at initial s) workers (worker + 1) (workers - (worker + 1))) (sym left) (rest_ready (state_at initial s) workers worker (workers - worker) (workers - (worker + 1)) grant.knows knows fewer)) refl,
     )
 
 pub returns-clause-key : goal.returns-clause-key
@@ -49,7 +52,20 @@ returns-clause-key g c =
     let was = c.loop-s.invariant in
     let room = c.loop-s.room.items in
     let long : length room ≡ c.loop-s.s = sym c.loop-s.room.ok.0 ∙ was.0 in
-    new_key c.args.worker room c.args.boxes.now (was.2 ∙ take_whole c.args.boxes.now c.loop-s.s c.loop-s-test.false) (λ k d low. was.3 k d (subst (λ n. k < n) long low))
+    new_key g.N.PhaseName.initial g.N.PhaseName.workers c.args.worker room c.args.boxes.now (was.2 ∙ take_whole c.args.boxes.now c.loop-s.s c.loop-s-test.false) (λ k d low. was.3 k d (subst (λ n. k < n) long low))
+
+pub invariant_of-result : goal.invariant_of-result
+invariant_of-result g c =
+    let initial = g.N.PhaseName.initial in let workers = g.N.PhaseName.workers in
+    let was = c.loop-s.invariant in
+    let room = c.loop-s.room.items in
+    let long : length room ≡ c.loop-s.s = sym c.loop-s.room.ok.0 ∙ was.0 in (
+      c.requires.worker,
+      was.0 ∙ le_antisymm c.loop-s.auto.s-end c.loop-s-test.false ∙ c.requires.boxes,
+      (λ s d low. ready_for initial workers s c.args.worker (get_or room s d) (was.3 s d (subst (λ n. s < n) long low))),
+      c.requires.few.0,
+      c.requires.few.1,
+    )
 
 pub returns-clause-grants : goal.returns-clause-grants
 returns-clause-grants g c =

@@ -1,7 +1,8 @@
 use Rattle.std.proofs.Common.{◌≡◌, ℕ, ◌+◌, ◌-◌, ◌<◌, ◌≤◌, get_or, take, length, vec_len, vec_capacity}
+use Rattle.shard_boxes.specs.States.{state_at}
 use Rattle.shard_boxes.specs.Passes.{GrantState}
 use Rattle.shard_boxes.specs.Seats.{boxes_of}
-use Rattle.shard_boxes.specs.Grants.{ready}
+use Rattle.shard_boxes.specs.Grants.{IsReady}
 use Rattle.shard_boxes.proofs.Sweeps.{Swept}
 use Rattle.shard_boxes.proofs.grants.deal.Given as goal
 
@@ -11,6 +12,7 @@ invariant-loop-s g l =
     let workers = g.N.PhaseName.workers in
     (vec_len l.room ≡ l.s) × (length g.N.PhaseName.initial ≤ vec_capacity l.room)
     × (boxes_of l.room.items ≡ take l.s l.boxes)
-    × ((k : ℕ) (d : GrantState) → k < l.s → (get_or l.room.items k d).knows ≡ ready k l.worker 1)
+    × ((k : ℕ) (d : GrantState) → k < l.s → IsReady (state_at g.N.PhaseName.initial k) workers l.worker 1 (get_or l.room.items k d).knows)
     × (boxes_of l.grants.items ≡ l.boxes)
-    × Swept (λ k (x : GrantState). x.knows ≡ ready k (l.worker + 1) (workers - (l.worker + 1))) (λ k (x : GrantState). x.knows ≡ ready k l.worker (workers - l.worker)) l.grants.items l.s
+    × Swept (λ k (x : GrantState). IsReady (state_at g.N.PhaseName.initial k) workers (l.worker + 1) (workers - (l.worker + 1)) x.knows)
+    (λ k (x : GrantState). IsReady (state_at g.N.PhaseName.initial k) workers l.worker (workers - l.worker) x.knows) l.grants.items l.s

@@ -9,6 +9,6 @@ invariant-loop-room g l =
     let workers = g.N.PhaseName.workers in
     (l.worker + into_iter_len l.room-iterator ≡ workers)
     × (into_iter_items l.room-iterator ≡ drop l.worker l.fn.rooms.items)
-    × AreReady l.boxes l.worker (workers - l.worker) l.grants.items
+    × AreReady g.N.PhaseName.initial workers l.boxes l.worker (workers - l.worker) l.grants.items
     × (vec_len l.keys ≡ l.worker) × (workers ≤ vec_capacity l.keys)
     × ((w : ℕ) → w < l.worker → IsNewKey l.boxes w (key_at l.keys.items w))

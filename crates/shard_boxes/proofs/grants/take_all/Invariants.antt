@@ -1,14 +1,16 @@
-use Rattle.std.proofs.Common.{◌≡◌, ℕ, ◌+◌, ◌<◌, ◌≤◌, drop, length, map, vec_len, vec_capacity}
-use Rattle.std.specs.Vec.Iter.{into_iter_items, into_iter_len}
+use Rattle.std.proofs.Common.{◌≡◌, ℕ, ◌<◌, ◌≤◌, length, map, slice_index_or, vec_len, vec_capacity}
 use Rattle.shard_boxes.specs.States.{state_of, state_at}
 use Rattle.shard_boxes.specs.Passes.{GrantState}
+use Rattle.shard_boxes.specs.Rule.{IsSpare}
+use Rattle.shard_boxes.specs.Seats.{boxes_of}
 use Rattle.shard_boxes.specs.Grants.{IsTaken, own_at}
+use Rattle.shard_boxes.proofs.Sweeps.{Swept}
 use Rattle.shard_boxes.proofs.grants.take_all.Given as goal
 
-abbrev pub invariant-loop-grant : goal.invariant-loop-grant
-invariant-loop-grant g l =
-    let taken = vec_len l.answer in
-    (taken + into_iter_len l.grant-iterator ≡ length g.N.PhaseName.initial)
-    × (into_iter_items l.grant-iterator ≡ drop taken l.fn.grants.items)
-    × (length g.N.PhaseName.initial ≤ vec_capacity l.answer)
-    × ((s : ℕ) (d : GrantState) → s < taken → IsTaken g.N.PhaseName.initial g.N.PhaseName.workers (own_at l.fn.grants.items s d) s (state_at (map state_of l.answer.items) s))
+-- the shards of the boxes below s are taken
+abbrev pub invariant-loop-s : goal.invariant-loop-s
+invariant-loop-s g l =
+    (vec_len l.answer ≡ l.s) × (length g.N.PhaseName.initial ≤ vec_capacity l.answer)
+    × (boxes_of l.grants.items ≡ l.boxes)
+    × ((s : ℕ) (d : GrantState) → s < l.s → IsTaken g.N.PhaseName.initial g.N.PhaseName.workers (own_at l.fn.grants.items s d) s (state_at (map state_of l.answer.items) s))
+    × Swept (λ k (x : GrantState). IsSpare x.knows) (λ k (x : GrantState). (d : GrantState) → slice_index_or l.fn.grants.items k d ≡ x) l.grants.items l.s

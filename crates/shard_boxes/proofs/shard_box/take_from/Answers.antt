@@ -6,7 +6,7 @@ use Rattle.shard_boxes.proofs.BoxSteps.{takes}
 use Rattle.shard_boxes.proofs.shard_box.take_from.Goals as goal
 
 pub pop_as-requires-clause-rule : goal.pop_as-requires-clause-rule
-pop_as-requires-clause-rule g c = (takes _ _ _ _ (subst (λ (v : Knowledge). Speaks v) (sym c.loop.invariant.1) c.requires.speaks), λ _ _ _ _. tt)
+pop_as-requires-clause-rule g c = (takes _ _ (subst (λ (v : Knowledge). Speaks v) (sym c.loop.invariant.1) c.requires.speaks), λ _ _ _ _. tt)
 
 pub loop-init : goal.loop-init
 loop-init g c = (c.requires.queue, refl)
@@ -25,4 +25,4 @@ returns-in-Some-pop_as-clause-queue g c =
 
 pub returns-in-Some-pop_as-clause-taken : goal.returns-in-Some-pop_as-clause-taken
 returns-in-Some-pop_as-clause-taken g c =
-    subst (λ (v : Knowledge). TakenBy g.N.PhaseName.initial g.N.PhaseName.workers v c.in-Some-pop_as.shard (view c.pop_as.new.pass)) c.loop.invariant.1 c.in-Some-pop_as.ensures.rule
+    subst (λ (v : Knowledge). TakenBy v c.in-Some-pop_as.shard (view c.pop_as.new.pass)) c.loop.invariant.1 c.in-Some-pop_as.ensures.rule

@@ -1,10 +1,11 @@
-use Rattle.std.proofs.Common.{sym, ap, ◌++◌, ◌∙◌}
-use Rattle.worker_journals.specs.Sides.{facts_in}
+use Rattle.std.proofs.Common.{length, sym, ap, subst, ◌++◌, ◌∙◌, vec_len, vec_capacity}
+use Rattle.worker_journals.specs.Sides.{facts_in, HasListRoom}
 use Rattle.worker_journals.proofs.SaidLemmas.{says_facts}
 use Rattle.worker_journals.proofs.sides.keep_request.Goals as goal
 
 pub keep_one-requires : goal.keep_one-requires
-keep_one-requires c = c.requires
+keep_one-requires c =
+    subst (λ request. HasListRoom (length (facts_in request)) (vec_len c.args.all.now) (vec_capacity c.args.all.now)) c.in-StoreItem.is c.requires
 
 pub returns-in-StoreItem-clause-kept : goal.returns-in-StoreItem-clause-kept
 returns-in-StoreItem-clause-kept c =

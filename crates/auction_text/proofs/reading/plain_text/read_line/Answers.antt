@@ -4,13 +4,13 @@ use Rattle.auction_text.proofs.reading.plain_text.read_line.Goals as goal
 
 pub returns-in-Some-clause-after : goal.returns-in-Some-clause-after
 returns-in-Some-clause-after c =
-    let line = c.in-Some.ensures in
+    let line = c.in-Some.ensures.says in
     IfOk-weaker c.add_line.result _ _ (λ place is. elim is [ inl same ↦ omega (arith, same) | inr next ↦ omega (arith, next, line.after) ]) c.add_line.ensures.place
 
 pub returns-in-Some-clause-within : goal.returns-in-Some-clause-within
 returns-in-Some-clause-within c =
-    let line = c.in-Some.ensures in
+    let line = c.in-Some.ensures.says in
     IfOk-weaker c.add_line.result _ _ (λ place is. elim is [ inl same ↦ omega (arith, same, c.requires.within) | inr next ↦ omega (arith, next, line.within) ]) c.add_line.ensures.place
 
 pub returns-in-Some-clause-reads : goal.returns-in-Some-clause-reads
-returns-in-Some-clause-reads c = IfOk-weaker c.add_line.result _ _ (λ place reads. reads c.args.text.now c.in-Some.ensures) c.add_line.ensures.reads
+returns-in-Some-clause-reads c = IfOk-weaker c.add_line.result _ _ (λ place reads. reads c.args.text.now c.in-Some.ensures.says) c.add_line.ensures.reads

@@ -1,4 +1,6 @@
 use Rattle.std.proofs.Common.{◌≡◌, ◌+◌, ◌<◌, ◌∷◌, [], ◌++◌, refl, sym, ap, subst, ◌∙◌, length, take, take_all, ℕ, ◌≤◌, All}
+use Rattle.std.proofs.lemmas.Bool.{eqb-true}
+use Rattle.std.proofs.lemmas.List.{nil_from_length}
 use Rattle.auction_rows.specs.Book.{Book}
 use Rattle.auction_rows.specs.History.{IsBook}
 use Rattle.item_shards.specs.Counting.{worker_of}
@@ -55,6 +57,18 @@ returns-then-is_too_long c =
       ok = λ are fits. absurd (fits long);
       too_long = (λ e. long, λ known. refl);
       bad_row = λ n e. absurd (not_row n e);
+    }
+
+pub returns-then-is_empty : goal.returns-then-is_empty
+returns-then-is_empty c =
+    let none : c.args.rows.items ≡ [] = nil_from_length _ (sym c.args.rows.ok.0 ∙ eqb-true _ 0 (sym c.is_empty.ensures ∙ c.if-is_empty.true)) in
+    record {
+      rows = c.empty.ensures.rows ∙ ap (opening_rows c.args.opening) (sym none);
+      opening = c.empty.ensures.opening;
+      accepted = subst (AreRows c.args.opening) (sym none) tt;
+      ok = λ are fits. tt;
+      too_long = neither (no_fault _ _) (fits_in c.is_too_long.result c.deref.result.now c.args.rows.items c.if-is_too_long.false c.is_too_long.ensures c.deref.ensures.value);
+      bad_row = λ n e. absurd (no_fault _ _ e);
     }
 
 pub returns : goal.returns

@@ -48,7 +48,7 @@ loop-receipt-preserved g c =
           (keys.items ∙ ap (λ own. old.keys.items ++ own ∷ []) o.key)
           (counters.items ∙ ap (λ own. old.counters.items ++ own ∷ []) o.counters));
       finished = subst (AllByRecursion (IsFinished (length g.N.PhaseName.initial))) (sym more)
-          (all_push (IsFinished (length g.N.PhaseName.initial)) (take n all) receipt was.finished (record { explained = o.explained; room = o.room; few = o.few }));
+          (all_push (IsFinished (length g.N.PhaseName.initial)) (take n all) receipt was.finished (record { explained = o.explained; room = o.room; most = o.limit; few = o.few }));
     }
 
 pub returns-clause-parts : goal.returns-clause-parts

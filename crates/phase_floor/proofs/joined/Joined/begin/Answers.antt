@@ -26,7 +26,7 @@ invariant_of-floor g c =
       c.requires.cold,
       record {
         kept = subst (λ s. IsKept c.self.inside.opening c.self.inside.limit s c.self.inside.counters.items) states c.self.invariant;
-        boxes_are = c.in-Ok-new.ensures.boxes;
+        boxes_are = c.in-Ok-open.ensures.boxes;
         workers_are = ap (λ (s : JoinedState). length s.counters) is ∙ c.requires.can.workers;
         stocks_are = subst (λ o. AreStocksOf o g.N.PhaseName.initial c.args.stocks.items) (sym (ap (λ (s : JoinedState). s.opening) is))
             (subst (λ states. AreStocksOf c.args.self.opening states c.args.stocks.items) c.requires.can.shards c.requires.given.stocks);
@@ -46,22 +46,22 @@ pub new_kits-requires-clause-few : goal.new_kits-requires-clause-few
 new_kits-requires-clause-few g c =
     subst (λ n. n ≤ 16) (ap (λ (s : JoinedState). length s.counters) c.self.view_is ∙ c.requires.can.workers ∙ sym c.requires.can.quotas) c.self.invariant.few_workers
 
-pub new-requires-clause-opening : goal.new-requires-clause-opening
-new-requires-clause-opening g c = ap states_of c.self.view_is ∙ c.requires.can.shards
+pub open-requires-clause-opening : goal.open-requires-clause-opening
+open-requires-clause-opening g c = ap states_of c.self.view_is ∙ c.requires.can.shards
 
-pub new-requires-clause-few : goal.new-requires-clause-few
-new-requires-clause-few g c =
+pub open-requires-clause-few : goal.open-requires-clause-few
+open-requires-clause-few g c =
     subst (λ (states : List ShardState). (0 < length states) × (length states ≤ 64)) (ap states_of c.self.view_is ∙ c.requires.can.shards) (c.self.invariant.some_shards, c.self.invariant.few_shards)
 
-pub new-requires-clause-opened : goal.new-requires-clause-opened
-new-requires-clause-opened g c = subst AreInitial (ap states_of c.self.view_is ∙ c.requires.can.shards) c.self.invariant.opened
+pub open-requires-clause-opened : goal.open-requires-clause-opened
+open-requires-clause-opened g c = subst AreInitial (ap states_of c.self.view_is ∙ c.requires.can.shards) c.self.invariant.opened
 
-pub new-requires-clause-some : goal.new-requires-clause-some
-new-requires-clause-some g c =
+pub open-requires-clause-some : goal.open-requires-clause-some
+open-requires-clause-some g c =
     subst (λ n. (0 < n) × (n ≤ 16)) (ap (λ (s : JoinedState). length s.counters) c.self.view_is ∙ c.requires.can.workers) (c.self.invariant.some_workers, c.self.invariant.few_workers)
 
 pub give-permits-requires-clause-keys : goal.give-permits-requires-clause-keys
-give-permits-requires-clause-keys g c = c.in-Ok-new.ensures.keys
+give-permits-requires-clause-keys g c = c.in-Ok-open.ensures.keys
 
 pub give-permits-requires-clause-lens : goal.give-permits-requires-clause-lens
 give-permits-requires-clause-lens g c = (c.in-Ok.ensures.len ∙ c.requires.can.quotas, c.requires.stashes, c.requires.can.quotas)
@@ -71,16 +71,16 @@ give-permits-requires-clause-kits g c =
     subst (λ n. AreKits c.self.inside.phase c.args.stocks.items c.args.stashes.items c.args.quotas.now n c.in-Ok.kits.items) c.requires.can.quotas
     (subst (λ (stashes : List StashState). AreKits c.self.inside.phase c.args.stocks.items stashes c.args.quotas.now (length c.args.quotas.now) c.in-Ok.kits.items) c.deref.ensures.value c.in-Ok.ensures.each)
 
-pub invariant_of-result : goal.invariant_of-result
-invariant_of-result g c =
+pub invariant_of-state : goal.invariant_of-state
+invariant_of-state g c =
     subst (λ (states : List ShardState). IsKept c.self.inside.opening c.self.inside.limit states c.self.inside.counters.items) (ap (λ shards. map state_of shards.items) (sym c.in-Err.ensures.err)) c.self.invariant
 
 pub returns-in-Err-clause-refused : goal.returns-in-Err-clause-refused
 returns-in-Err-clause-refused g c =
     (ap (λ shards. joined_of c.self.inside.opening c.self.inside.limit c.self.inside.phase shards.items c.self.inside.counters.items) c.in-Err.ensures.err ∙ c.self.view_is, refl)
 
-pub returns-in-Ok-new-clause-begun : goal.returns-in-Ok-new-clause-begun
-returns-in-Ok-new-clause-begun g c = record {
+pub returns-in-Ok-open-clause-begun : goal.returns-in-Ok-open-clause-begun
+returns-in-Ok-open-clause-begun g c = record {
   opening = ap (λ (s : JoinedState). s.opening) c.self.view_is;
   limit = ap (λ (s : JoinedState). s.limit) c.self.view_is;
   phase = ap (λ (s : JoinedState). s.phase) c.self.view_is;

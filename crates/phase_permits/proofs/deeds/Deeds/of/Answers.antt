@@ -1,4 +1,4 @@
-use Rattle.std.proofs.Common.{ap}
+use Rattle.std.proofs.Common.{rules, ap}
 use Rattle.auction_rows.specs.StoreReplies.{reply_of}
 use Rattle.phase_permits.proofs.ArmLemmas.{bid_arm, buy_arm, comment_arm}
 use Rattle.phase_permits.proofs.deeds.Deeds.of.Goals as goal
@@ -17,3 +17,6 @@ pub returns-in-Bought-clause-good : goal.returns-in-Bought-clause-good
 returns-in-Bought-clause-good g c seen initial workers boxes key w held its =
     let of = c.in-BuyNow in
     buy_arm c.args.request.now (reply_of c.args.reply) its of.buyer of.item of.quantity of.time c.in-Bought.field-0 of.is (ap reply_of c.in-Bought.is)
+
+pub returns-in-BidStored-clause-owed : goal.returns-in-BidStored-clause-owed
+returns-in-BidStored-clause-owed g c = search rules

@@ -1,4 +1,4 @@
-use Rattle.std.proofs.Common.{length, sym, ap, subst, ◌∙◌}
+use Rattle.std.proofs.Common.{rules, length, sym, ap, subst, ◌∙◌}
 use Rattle.phase_permits.specs.Performing.{IsUntouched}
 use Rattle.phase_permits.specs.Workers.{WorkerState, IsEmptyIf, IsPermit, with_try}
 use Rattle.phase_permits.proofs.PermitLemmas.{not_put_off, off_permit, performed_permit, tried_permit}
@@ -35,3 +35,6 @@ pub returns-clause-untouched : goal.returns-clause-untouched
 returns-clause-untouched g c =
     subst (λ (w : WorkerState). IsUntouched (length g.N.PhaseName.initial) w c.transact.new.self c.args.request.now) (c.count_try.ensures ∙ ap with_try c.self.view_is)
     (leaves_untouched g.N.PhaseName.initial c.count_try.new.self c.transact.new.self c.args.request.now c.args.index c.transact.result c.transact.ensures)
+
+pub transact-requires : goal.transact-requires
+transact-requires g c = search rules

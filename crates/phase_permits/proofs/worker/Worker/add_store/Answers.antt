@@ -1,4 +1,4 @@
-use Rattle.std.proofs.Common.{sym, ap, subst, ◌∙◌}
+use Rattle.std.proofs.Common.{rules, sym, ap, subst, ◌∙◌}
 use Rattle.auction_rows.specs.Replies.{row_of}
 use Rattle.auction_rows.specs.StoreReplies.{reply_of}
 use Rattle.item_shards.specs.Writing.{writes_if}
@@ -20,3 +20,6 @@ invariant_of-self g c =
       shards_is = c.self.invariant.shards_is;
       some = c.self.invariant.some;
     }
+
+pub returns : goal.returns
+returns g c = search rules

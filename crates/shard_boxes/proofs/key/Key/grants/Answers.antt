@@ -2,7 +2,7 @@ use Rattle.shard_boxes.proofs.GrantLemmas.{key_free, key_own}
 use Rattle.shard_boxes.proofs.key.Key.grants.Goals as goal
 
 pub returns-clause-free : goal.returns-clause-free
-returns-clause-free g c = key_free c.self.inside.worker c.self.inside.grants.items c.args.self c.self.view_is c.self.invariant.2 c.requires
+returns-clause-free g c = key_free _ _ c.self.inside.worker c.self.inside.grants.items c.args.self c.self.view_is c.self.invariant.2 c.requires
 
 pub returns-clause-own : goal.returns-clause-own
-returns-clause-own g c = λ s d low. key_own c.self.inside.worker c.self.inside.grants.items c.args.self s d c.self.view_is c.self.invariant.2 low
+returns-clause-own g c = λ s d low. key_own _ _ c.self.inside.worker c.self.inside.grants.items c.args.self s d c.self.view_is c.self.invariant.2 low

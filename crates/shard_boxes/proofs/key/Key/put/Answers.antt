@@ -1,9 +1,10 @@
 use Rattle.std.proofs.Common.{ℕ, ◌<◌, List, sym, ap, ◌∙◌, subst, arith, length}
-use Rattle.shard_boxes.specs.States.{state_of, state_at}
+use Rattle.shard_boxes.specs.States.{ShardState, state_of}
 use Rattle.shard_boxes.specs.Lines.{Line, after_lines}
 use Rattle.shard_boxes.specs.Keys.{SeatState, KeyState, seat_at, with_seat, put_seat}
 use Rattle.shard_boxes.specs.Helds.{MayPut}
 use Rattle.shard_boxes.specs.Passes.{GrantState}
+use Rattle.shard_boxes.specs.Rule.{start_of}
 use Rattle.shard_boxes.specs.Seats.{IsFor}
 use Rattle.shard_boxes.proofs.KeySteps.{read, key_after, put_seat_is}
 use Rattle.shard_boxes.proofs.GrantLemmas.{place_is}
@@ -33,9 +34,9 @@ put-requires-clause-may g c =
     let grant = c.index_mut-grant.result.now in
     let below : c.args.s < length grants = subst (λ n. c.args.s < n) (sym (sym inside.grants.ok.0 ∙ c.self.invariant.1)) c.requires.known in
     let at = c.index_mut-grant.ensures.value in
-    let number = ap (λ (l : GrantState). l.knows.number) at ∙ (c.self.invariant.2 c.args.s grant below).numbered in
+    let start = ap (λ (l : GrantState). start_of l.knows) at ∙ (c.self.invariant.2 c.args.s grant below).start_is in
     let seat = read inside.worker grants c.args.s grant c.args.self.now c.self.view_is below at in
-    subst (λ (y : ℕ × List (ℕ × Line)). MayPut (after_lines (state_at g.N.PhaseName.initial y.0) y.1) (state_of c.args.shard) g.L.LineName.line) (λ i. (sym number i, (seat i).seen)) c.requires.may
+    subst (λ (y : ShardState × List (ℕ × Line)). MayPut (after_lines y.0 y.1) (state_of c.args.shard) g.L.LineName.line) (λ i. (sym start i, (seat i).seen)) c.requires.may
 
 pub returns : goal.returns
 returns g c =
@@ -61,8 +62,9 @@ invariant_of-self g c =
     let new = c.put.ensures in (
       c.self.invariant.0,
       c.self.invariant.1,
-      each_set (λ k (l : GrantState). IsFor l k inside.worker 1) inside.grants.items c.args.s c.put.new.grant below c.self.invariant.2 (record {
-        numbered = ap (λ (l : GrantState). l.knows.number) new ∙ ap (λ (l : GrantState). l.knows.number) at ∙ fit.numbered;
+      each_set (λ k (l : GrantState). IsFor g.N.PhaseName.initial g.N.PhaseName.workers k inside.worker 1 l) inside.grants.items c.args.s c.put.new.grant below c.self.invariant.2 (record {
+        start_is = ap (λ (l : GrantState). start_of l.knows) new ∙ ap (λ (l : GrantState). start_of l.knows) at ∙ fit.start_is;
+        workers_are = ap (λ (l : GrantState). l.knows.workers) new ∙ ap (λ (l : GrantState). l.knows.workers) at ∙ fit.workers_are;
         from = ap (λ (l : GrantState). l.knows.first) new ∙ ap (λ (l : GrantState). l.knows.first) at ∙ fit.from;
         as_many = ap (λ (l : GrantState). length l.knows.own) new ∙ length-with_first grant.knows.own _ ∙ ap (λ (l : GrantState). length l.knows.own) at ∙ fit.as_many;
       }),

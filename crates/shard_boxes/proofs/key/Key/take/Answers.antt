@@ -1,13 +1,14 @@
-use Rattle.std.proofs.Common.{ℕ, ◌<◌, ◌++◌, List, true, ap, sym, ◌∙◌, subst, arith, length}
+use Rattle.std.proofs.Common.{◌<◌, ◌++◌, true, ap, sym, ◌∙◌, subst, arith, length}
 use Rattle.shard_boxes.specs.declared.shard_box.Knowledge.{Knowledge}
 use Rattle.shard_boxes.specs.States.{state_of}
-use Rattle.shard_boxes.specs.Lines.{Line, IsShardHistory, lines_of}
+use Rattle.shard_boxes.specs.Lines.{IsShardHistory, lines_of}
 use Rattle.shard_boxes.specs.Passes.{GrantState}
 use Rattle.shard_boxes.specs.Keys.{KeyState, SeatState, taking}
+use Rattle.shard_boxes.specs.Rule.{start_of}
 use Rattle.shard_boxes.specs.Seats.{own_of}
 use Rattle.shard_boxes.proofs.BoxSteps.{plus_zero}
 use Rattle.shard_boxes.proofs.KeySteps.{key_after, seen_after, holds_after, read}
-use Rattle.shard_boxes.proofs.LineLemmas.{history_of}
+use Rattle.shard_boxes.proofs.GrantLemmas.{history_by}
 use Rattle.shard_boxes.proofs.key.Key.take.Goals as goal
 
 pub returns-clause-key : goal.returns-clause-key
@@ -32,12 +33,13 @@ returns-clause-history g c =
     let initial = g.N.PhaseName.initial in let workers = g.N.PhaseName.workers in
     let inside = c.self.inside in
     let grant = c.index_mut-grant.result.now in
+    let at = c.index_mut-grant.ensures.value in
     let taken = c.take.ensures.taken in
     let below : c.args.s < length inside.grants.items = omega (arith, inside.grants.ok.0, c.self.invariant.1, c.requires.known) in
-    let number = ap (λ (l : GrantState). l.knows.number) c.index_mut-grant.ensures.value ∙ (c.self.invariant.2 c.args.s grant below).numbered in
-    let seen = seen_after inside.worker c.args.s inside.grants.items c.take.new.grant below in
-    subst (λ (y : ℕ × List (ℕ × Line)). IsShardHistory initial workers y.0 y.1 (state_of c.take.result)) (λ i. (number i, sym seen i))
-    (history_of initial workers grant.knows.number c.take.new.grant.knows.seen (state_of c.take.result) taken.kept taken.state)
+    let fit = c.self.invariant.2 c.args.s grant below in
+    subst (λ lines. IsShardHistory initial workers c.args.s lines (state_of c.take.result)) (sym (seen_after inside.worker c.args.s inside.grants.items c.take.new.grant below))
+    (history_by initial workers c.args.s grant.knows c.take.new.grant.knows.seen (state_of c.take.result) c.requires.known (c.requires.opened c.args.s c.requires.known)
+    (ap (λ (l : GrantState). start_of l.knows) at ∙ fit.start_is) (ap (λ (l : GrantState). l.knows.workers) at ∙ fit.workers_are) taken.kept taken.state)
 
 pub returns-clause-later : goal.returns-clause-later
 returns-clause-later g c =

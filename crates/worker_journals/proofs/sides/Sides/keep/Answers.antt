@@ -3,14 +3,14 @@ use Rattle.auction_rows.specs.ItemViews.{item_reply}
 use Rattle.auction_rows.specs.StoreReplies.{reply_of}
 use Rattle.worker_journals.specs.Answers.{reply_in_form}
 use Rattle.worker_journals.specs.Sides.{SideLists}
-use Rattle.worker_journals.proofs.KeptLemmas.{said_of}
+use Rattle.worker_journals.proofs.KeptLemmas.{one_fact_at_most, said_of}
 use Rattle.worker_journals.proofs.SaidLemmas.{says_item}
 use Rattle.worker_journals.proofs.sides.Sides.keep.Goals as goal
 
 pub keep_request-short_request-requires : goal.keep_request-short_request-requires
 keep_request-short_request-requires c =
     let some : 0 < c.self.inside.left = omega (arith, c.requires, ap (λ (s : SideLists). s.left) c.self.view_is) in
-    omega (arith, some, c.self.invariant.0)
+    omega (arith, some, c.self.invariant.0, one_fact_at_most c.args.request.now)
 
 pub keep_one-place-requires : goal.keep_one-place-requires
 keep_one-place-requires c =

@@ -1,9 +1,0 @@
-use Rattle.std.proofs.Common.{◌+◌, None, refl, subst, sym}
-use Rattle.auction_text.specs.LiveReading.{TakesSaid}
-use Rattle.auction_text.proofs.reading.line_taking.take_line.Goals as goal
-
-pub returns-in_ok-add_taken-in-Some-clause-takes : goal.returns-in_ok-add_taken-in-Some-clause-takes
-returns-in_ok-add_taken-in-Some-clause-takes c =
-    let old = c.args.taken.now in
-    let new = c.add_taken.new.taken in
-    subst (λ o. TakesSaid c.args.workers old o new None) (sym (c.in-Some.ensures.says (old.count + 1))) (c.in-Some.ensures.worker, (c.in_ok-add_taken-in-Some.ensures.adds, refl))
