@@ -85,7 +85,7 @@ def append_only_logs(tester: Tester) -> None:
             refused = fault_of(tester.program, log)
         finally:
             run(["chattr", "-a", log])
-        tester.tally.check(refused == UNREAD and log.read_bytes() == text, f"a log that can only be added to, with {tail!r} behind its rows: {refused}")
+        tester.tally.check(refused == UNWRITTEN and log.read_bytes() == text, f"a log that can only be added to, with {tail!r} behind its rows: {refused}")
 
 
 def cut_logs(tester: Tester) -> None:
@@ -223,7 +223,7 @@ def failing_logs(tester: Tester) -> None:
             auction = Auction(tester.program, "--log", str(log), env=os.environ | {"LD_PRELOAD": str(tester.shim)} | limited)
             answered, fault = until_refused(auction, [FIRST[0], *(f"comment,{at},{at},0.0,1" for at in range(9))])
             what = f"{cause} {number} fails"
-            tester.tally.check(fault == (UNREAD if (cause, number) == ("sync", 1) else UNWRITTEN), f"{what}: {fault}")
+            tester.tally.check(fault == UNWRITTEN, f"{what}: {fault}")
             lost_nothing(tester, what, log, answered, at_most=len(answered) + (cause == "write and cut"))
 
 

@@ -1,6 +1,6 @@
 #!/usr/bin/env python3
-"""Tests what helps to use the auction: bench/tune, whose command has to run, examples/timeline.py, whose picture has to have each line of a history, and the help
-of example_watch and bench_windows.
+"""Tests what helps to use the auction: bench/tune, whose command has to run, bench/starts, examples/timeline.py, whose picture has to have each line of a history,
+and the help of example_watch and bench_windows.
 
     tests/tools.py [PROGRAM]
 """
@@ -16,7 +16,7 @@ import helps
 from model import Outcome
 from program import BUILT, EXAMPLES, TESTS, Tally, built, described, run
 
-TUNE = TESTS.parent / "bench" / "tune"
+TUNE, STARTS = (TESTS.parent / "bench" / name for name in ("tune", "starts"))
 TIMELINE = EXAMPLES / "timeline.py"
 SKEWED, JOINED, SPLIT = EXAMPLES / "skewed.csv", 8, 24
 NEEDED = ["--workers", "4", "--users", "6", "--categories", "3"]
@@ -38,6 +38,13 @@ def tuned(tally: Tally, program: Path) -> None:
     for status, words in refused:
         got = run([TUNE, "--program", program, *words])
         tally.check(got.status == status and not got.stdout and got.stderr and b"Traceback" not in got.stderr, f"bench/tune {words}: {described(got)}")
+
+
+def starts(tally: Tally, program: Path) -> None:
+    """tries of bench/starts"""
+    got = run([STARTS, "--program", program, "--rows", "20000", "--tries", "2"])
+    lines = [re.fullmatch(rb"20000 rows, 1 MB: [0-9.]+ s, [0-9.]+ MB", line) for line in got.stdout.splitlines()]
+    tally.check(got.status == 0 and len(lines) == 2 and all(lines), f"bench/starts: {described(got)}")
 
 
 def timelines(tally: Tally, program: Path) -> None:
@@ -105,7 +112,7 @@ def main() -> None:
     parser.add_argument("program", type=Path, nargs="?", default=BUILT)
     program = parser.parse_args().program.resolve()
     tally = Tally()
-    for check in (tuned, timelines, helps_of_windows):
+    for check in (tuned, starts, timelines, helps_of_windows):
         passed = tally.passed
         check(tally, program)
         print(f"{tally.passed - passed:6} passed: {check.__doc__}")

@@ -3,8 +3,8 @@ use Rattle.std.proofs.Common.{ℕ, List, Option, inl, inr}
 use Rattle.auction_rows.specs.Book.{Book}
 use Rattle.auction_text.specs.Moved.{Gone}
 use Rattle.auction_text.specs.Scripts.{asked_in}
-use Rattle.auction_text.specs.declared.reading.ReadFault.{ReadFault}
-use Rattle.auction_text.specs.declared.reading.live_lines.Said.{Said}
+use Rattle.auction_text.specs.ReadFault.{ReadFault}
+use Rattle.auction_text.specs.Said.{Said}
 use Rattle.part_log.specs.declared.log.Teller.{Teller}
 use Rattle.auction_program.specs.ServeFaults.{AreToldAt, IsPartFault, IsStop, StopsAtAnswer, StopsAtPart}
 use Rattle.auction_program.specs.declared.faults.Fault.{Fault}

@@ -14,3 +14,4 @@ pub mod PastLimits
 pub mod Sessions
 pub mod PartSteps
 pub mod ServedBook
+pub mod OpenedLogs

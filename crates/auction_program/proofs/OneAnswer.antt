@@ -9,8 +9,8 @@ use Rattle.auction_rows.specs.declared.rows.Entry.{Entry}
 use Rattle.auction_rows.specs.Book.{Book}
 use Rattle.auction_text.specs.Records.{and_then}
 use Rattle.auction_text.specs.Scripts.{Asked, asked_in, read_records, records_of, script}
-use Rattle.auction_text.specs.declared.reading.ReadFault.{ReadFault}
-use Rattle.auction_text.specs.declared.reading.record.Record.{Record}
+use Rattle.auction_text.specs.ReadFault.{ReadFault}
+use Rattle.auction_text.specs.Record.{Record}
 use Rattle.item_shards.specs.OpeningRows.{opening_rows}
 use Rattle.item_shards.specs.declared.openings.Opened.{Opened}
 use Rattle.run_laws.specs.Answers.{IsAnswer}

@@ -8,7 +8,7 @@ use Rattle.auction_rows.specs.History.{ReplaysFrom, after_entry, book_after}
 use Rattle.auction_text.specs.Moved.{Gone, all_moved}
 use Rattle.auction_text.specs.Replies.{history_line, history_text, replies_text}
 use Rattle.auction_text.specs.RowLines.{rows_text}
-use Rattle.auction_text.specs.declared.reading.live_lines.Said.TheVariants as says
+use Rattle.auction_text.specs.Said.TheVariants as says
 use Rattle.shard_boxes.specs.declared.limits.TheConstants.{MOST_COMMITS}
 use Rattle.auction_program.specs.Options.{opening_asked}
 use Rattle.auction_program.specs.Serving.{AreStepRuns, Part, Answer, RowsComeFirst, Step, added_rows, book_past, gone_past, limit_line, named_answer, served_history, served_text, step_history, step_text}

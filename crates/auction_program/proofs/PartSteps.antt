@@ -5,17 +5,17 @@ use Rattle.auction_rows.specs.declared.limits.TheConstants.{MOST_OF_A_WORKER}
 use Rattle.auction_rows.specs.Book.{Book}
 use Rattle.auction_text.specs.Moved.{gone_by}
 use Rattle.auction_text.specs.Scripts.{Asked, script}
-use Rattle.auction_text.specs.declared.reading.live_lines.Said.{Said}
+use Rattle.auction_text.specs.Said.{Said}
 use Rattle.part_log.specs.declared.log.Teller.{Teller}
 use Rattle.auction_program.specs.Options.{opening_asked}
-use Rattle.auction_program.specs.PartRuns.{AreDoneOf, BeginsAt, HasRoom, IsSession, LeftBehind, ServesPart, done_of}
+use Rattle.auction_program.specs.PartRuns.{AreDoneOf, BeginsAt, HasRoomForPart, IsSession, ServesPart, done_of}
 use Rattle.auction_program.specs.ServeFaults.{FailsPart, IsServeFault}
 use Rattle.auction_program.specs.Serving.{AreTold, book_left, ends_at_fault}
 use Rattle.auction_program.specs.declared.faults.Fault.{Fault}
 use Rattle.auction_program.specs.declared.options.Options.{Options}
 use Rattle.auction_program.specs.declared.parts.Served.{Served}
 use Rattle.auction_program.proofs.FaultLemmas.{part_stops_all}
-use Rattle.auction_program.proofs.PastLimits.{AtPast, ReadsPart, done_reads, grown, left_behind}
+use Rattle.auction_program.proofs.PastLimits.{AtPast, LeftBehind, ReadsPart, done_reads, grown, left_behind}
 use Rattle.auction_program.proofs.RowsBefore.{HasNoLateRow}
 use Rattle.auction_program.proofs.Sessions.{done_goes_on, part_begins, part_stops, session_part, session_stops}
 
@@ -27,7 +27,7 @@ rows_done (Some worker) asked = refl
 module _ {L W : Type 0} (accepted : L → Option (List ℕ)) (contents : W → Option (List ℕ)) (options : Options) (book : Book) (all : List Said) (start old new : Teller L W)
     (served : Served) (Left : List Said → Type 0) (session : IsSession options book all served Left (AreTold accepted contents start old))
     (most : ℕ) (asked : Asked) (Next : List Said → Type 0) (reads : ReadsPart options most session.rest asked Next) (free : HasNoLateRow session.rest)
-    (few : most ≤ MOST_OF_A_WORKER) (room : 1 < most → HasRoom served.auction) where
+    (few : most ≤ MOST_OF_A_WORKER) (room : 1 < most → HasRoomForPart served.auction) where
   abbrev now : Book
   now = book_left options book session.steps
 

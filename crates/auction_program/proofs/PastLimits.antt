@@ -18,10 +18,10 @@ use Rattle.auction_run.specs.GoingOn.{AreShortOn, HasScripts, IsShortOn}
 use Rattle.auction_text.specs.LiveParts.{rows_said}
 use Rattle.auction_text.specs.LiveReading.{records_said}
 use Rattle.auction_text.specs.Scripts.{Asked, asked_in, requests_in, row_in, rows, script}
-use Rattle.auction_text.specs.declared.reading.TheConstants.{MOST_ROWS_OF_A_PART}
-use Rattle.auction_text.specs.declared.reading.live_lines.Said.{Said}
-use Rattle.auction_text.specs.declared.reading.live_lines.Said.TheVariants as says
-use Rattle.auction_text.specs.declared.reading.record.Record.{Record}
+use Rattle.auction_text.specs.InputLimits.{MOST_ROWS_OF_A_PART}
+use Rattle.auction_text.specs.Said.{Said}
+use Rattle.auction_text.specs.Said.TheVariants as says
+use Rattle.auction_text.specs.Record.{Record}
 use Rattle.closing_laws.specs.Standing.{counters_at, stores}
 use Rattle.item_shards.specs.OpeningRows.{rows_by, with_opened}
 use Rattle.item_shards.specs.declared.openings.Opened.{Opened}
@@ -30,7 +30,7 @@ use Rattle.phase_floor.specs.States.{JoinedState}
 use Rattle.run_laws.specs.Serving.{script_of}
 use Rattle.shard_boxes.specs.declared.limits.TheConstants.{MOST_COMMITS}
 use Rattle.auction_program.specs.Options.{opening_asked}
-use Rattle.auction_program.specs.PartRuns.{AreDoneOf, AreWithinLimit, HasRoom, IsNextPast, IsPastLimit, IsStart, LeftBehind, ServesPart, done_of}
+use Rattle.auction_program.specs.PartRuns.{AreDoneOf, AreWithinLimit, HasRoomForPart, IsPastLimit, IsStart, ServesPart, done_of}
 use Rattle.auction_program.specs.declared.options.Options.{Options}
 use Rattle.auction_program.specs.declared.parts.Served.{Served}
 use Rattle.auction_text.specs.Moved.{Gone}
@@ -191,6 +191,23 @@ same_front front one request =
     ∙ ap (λ (b : Bool). rows front ++ cons_option (if b then Some (record { worker = one.worker; request = one.request }) else None) []) request
     ∙ append-nil (rows front)
 
+-- Of a session that goes on, the next line is a request of this worker, which has as many rows as
+-- it may have; behind it, that is left.
+pub record IsNextPast (auction : JoinedState) (Left : List Said → Type 0) (worker : ℕ) (rest : List Said) : Type 0 where
+  pub one : Record
+  pub behind : List Said
+  pub rest_is : rest ≡ says.Record one ∷ behind
+  pub request : one.is_row ≡ false
+  pub worker_is : one.worker ≡ worker
+  pub own : worker < length auction.counters
+  pub full : MOST_COMMITS ≤ stores (counters_at auction.counters worker)
+  pub left : Left behind
+
+-- what is left behind a part, if a worker's script was past its limit
+abbrev pub LeftBehind : JoinedState → (List Said → Type 0) → Option ℕ → List Said → Type 0
+LeftBehind auction Left None = Left
+LeftBehind auction Left (Some worker) = IsNextPast auction Left worker
+
 -- Behind rows the next line is a request of this worker, which has as many rows as it may have.
 pub record IsAtPast (grown : Book) (workers : ℕ) (Next : List Said → Type 0) (worker : ℕ) (rest : List Said) : Type 0 where
   pub one : Record
@@ -207,7 +224,7 @@ AtPast grown workers Next None = Next
 AtPast grown workers Next (Some worker) = IsAtPast grown workers Next worker
 
 module _ (options : Options) (auction : JoinedState) (book : Book) (start : IsStart options auction book) (asked : Asked) (most : ℕ) (rest : List Said) (free : HasNoLateRow rest) (Next : List Said → Type 0)
-    (reads : ReadsPart options most rest asked Next) (few : most ≤ MOST_OF_A_WORKER) (room : 1 < most → HasRoom auction) where
+    (reads : ReadsPart options most rest asked Next) (few : most ≤ MOST_OF_A_WORKER) (room : 1 < most → HasRoomForPart auction) where
   abbrev pub grown : Book
   grown = rows_from (opening_asked options) book asked.rows
 

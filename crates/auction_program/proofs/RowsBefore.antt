@@ -13,10 +13,10 @@ use Rattle.auction_text.specs.LiveLines.{begun_after, line_says, lines_say, then
 use Rattle.auction_text.specs.LiveParts.{HasToSay, row_said, rows_said}
 use Rattle.auction_text.specs.LiveReading.{records_said}
 use Rattle.auction_text.specs.Scripts.{requests_in, row_in, rows, script}
-use Rattle.auction_text.specs.declared.reading.live_lines.Said.{Said}
-use Rattle.auction_text.specs.declared.reading.live_lines.Said.TheVariants as says
-use Rattle.auction_text.specs.declared.reading.live_parts.LiveInput.{LiveInput}
-use Rattle.auction_text.specs.declared.reading.record.Record.{Record}
+use Rattle.auction_text.specs.Said.{Said}
+use Rattle.auction_text.specs.Said.TheVariants as says
+use Rattle.auction_text.specs.LiveInput.{LiveInput}
+use Rattle.auction_text.specs.Record.{Record}
 use Rattle.auction_text.proofs.LivePartLemmas.{no_rows_said}
 use Rattle.item_shards.specs.declared.openings.Opened.{Opened}
 use Rattle.run_laws.specs.Serving.{script_of}

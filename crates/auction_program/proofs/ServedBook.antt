@@ -10,7 +10,7 @@ use Rattle.auction_text.specs.Moved.{Gone}
 use Rattle.auction_text.specs.Replies.{lines}
 use Rattle.auction_text.specs.RowLines.{row_line, rows_text}
 use Rattle.auction_text.specs.Scripts.{asked_in}
-use Rattle.auction_text.specs.declared.reading.live_lines.Said.{Said}
+use Rattle.auction_text.specs.Said.{Said}
 use Rattle.log_opening.proofs.AcceptedLemmas.{joined, rows_alone}
 use Rattle.part_log.specs.declared.log.Teller.{Teller}
 use Rattle.auction_program.specs.Options.{opening_asked}

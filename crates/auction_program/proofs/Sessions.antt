@@ -12,20 +12,20 @@ use Rattle.auction_text.specs.LiveReading.{records_said}
 use Rattle.auction_text.specs.Moved.{Gone, gone_by}
 use Rattle.auction_text.specs.Reading.{IsInputFault}
 use Rattle.auction_text.specs.Scripts.{Asked, asked_in, asked_of, requests_in}
-use Rattle.auction_text.specs.declared.reading.ReadFault.{ReadFault}
-use Rattle.auction_text.specs.declared.reading.live_lines.LineFault.{LineFault}
-use Rattle.auction_text.specs.declared.reading.live_lines.Said.{Said}
-use Rattle.auction_text.specs.declared.reading.live_lines.Said.TheVariants as says
-use Rattle.auction_text.specs.declared.reading.live_parts.LiveEnd.{LiveEnd}
-use Rattle.auction_text.specs.declared.reading.live_parts.LiveEnd.TheVariants.{More, Fault, All}
-use Rattle.auction_text.specs.declared.reading.live_parts.LiveInput.{LiveInput}
-use Rattle.auction_text.specs.declared.reading.live_parts.LivePart.{LivePart}
-use Rattle.auction_text.specs.declared.reading.record.Record.{Record}
+use Rattle.auction_text.specs.ReadFault.{ReadFault}
+use Rattle.auction_text.specs.LineFault.{LineFault}
+use Rattle.auction_text.specs.Said.{Said}
+use Rattle.auction_text.specs.Said.TheVariants as says
+use Rattle.auction_text.specs.LiveEnd.{LiveEnd}
+use Rattle.auction_text.specs.LiveEnd.TheVariants.{More, Fault, All}
+use Rattle.auction_text.specs.LiveInput.{LiveInput}
+use Rattle.auction_text.specs.LivePart.{LivePart}
+use Rattle.auction_text.specs.Record.{Record}
 use Rattle.item_shards.specs.OpeningRows.{rows_by}
 use Rattle.item_shards.specs.declared.openings.Opened.{Opened}
 use Rattle.part_log.specs.declared.log.Teller.{Teller}
 use Rattle.shard_boxes.specs.declared.limits.TheConstants.{MOST_COMMITS}
-use Rattle.auction_program.specs.PartRuns.{AreDoneOf, BeginsAt, GoesOnTo, IsNextPast, IsSession, IsStart, LeftBehind, MayHaveToSay, PassesFault, ServesPart, answer_to, fault_said, past_answer, rows_before}
+use Rattle.auction_program.specs.PartRuns.{AreDoneOf, BeginsAt, GoesOnTo, IsSession, IsStart, MayHaveToSay, PassesFault, ServesPart, answer_to, fault_said, past_answer, rows_before}
 use Rattle.auction_program.specs.ServeFaults.{AreToldAt, IsPartFault, IsServeFault, IsStop, StopsAtPart}
 use Rattle.auction_program.specs.Serving.{AreStepRuns, AreTold, IsStepRun, Part, Answer, PartRun, ServesAll, Step, book_left, book_past, ends_at_fault, gone_past, limit_answer, line_answer, nothing_gone, served_rows, served_text, step_rows, step_said, step_text}
 use Rattle.auction_program.specs.declared.faults.Fault.{Fault as AnyFault}
@@ -33,7 +33,7 @@ use Rattle.auction_program.specs.declared.faults.Fault.TheVariants.{Read}
 use Rattle.auction_program.specs.declared.options.Options.{Options}
 use Rattle.auction_program.specs.declared.parts.Served.{Served}
 use Rattle.auction_program.proofs.FaultLemmas.{answer_stops}
-use Rattle.auction_program.proofs.PastLimits.{ReadsPart}
+use Rattle.auction_program.proofs.PastLimits.{IsNextPast, LeftBehind, ReadsPart}
 use Rattle.auction_program.proofs.RowsBefore.{same_rows}
 use Rattle.auction_program.proofs.StoppedRuns.{stored}
 use Rattle.auction_program.proofs.ToldLemmas.{nothing_told, told_more, told_none}

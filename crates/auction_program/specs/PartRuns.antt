@@ -10,14 +10,13 @@ use Rattle.auction_run.specs.GoingOn.{IsShortOn}
 use Rattle.auction_text.specs.LiveParts.{HasToSay, live_workers, rows_said}
 use Rattle.auction_text.specs.Moved.{Gone, gone_by}
 use Rattle.auction_text.specs.Scripts.{Asked}
-use Rattle.auction_text.specs.declared.reading.TheConstants.{MOST_ROWS_OF_A_PART}
-use Rattle.auction_text.specs.declared.reading.live_lines.LineFault.{LineFault}
-use Rattle.auction_text.specs.declared.reading.live_lines.Said.{Said}
-use Rattle.auction_text.specs.declared.reading.live_lines.Said.TheVariants as says
-use Rattle.auction_text.specs.declared.reading.live_parts.LiveEnd.{LiveEnd}
-use Rattle.auction_text.specs.declared.reading.live_parts.LiveEnd.TheVariants.{More, Fault, All}
-use Rattle.auction_text.specs.declared.reading.live_parts.LiveInput.{LiveInput}
-use Rattle.auction_text.specs.declared.reading.record.Record.{Record}
+use Rattle.auction_text.specs.InputLimits.{MOST_ROWS_OF_A_PART}
+use Rattle.auction_text.specs.LineFault.{LineFault}
+use Rattle.auction_text.specs.Said.{Said}
+use Rattle.auction_text.specs.Said.TheVariants as says
+use Rattle.auction_text.specs.LiveEnd.{LiveEnd}
+use Rattle.auction_text.specs.LiveEnd.TheVariants.{More, Fault, All}
+use Rattle.auction_text.specs.LiveInput.{LiveInput}
 use Rattle.closing_laws.specs.Standing.{counters_at, stores}
 use Rattle.item_shards.specs.OpeningRows.{rows_by}
 use Rattle.log_opening.specs.Parts.{rows_from}
@@ -49,8 +48,8 @@ pub record BeginsAt (options : Options) (auction : JoinedState) (scripts : List 
   pub workers : length scripts ≡ options.workers
 
 -- each worker of an auction has room for all rows and requests that a part may have
-abbrev pub HasRoom : JoinedState → Type 0
-HasRoom auction = (worker : ℕ) → worker < length auction.counters →
+abbrev pub HasRoomForPart : JoinedState → Type 0
+HasRoomForPart auction = (worker : ℕ) → worker < length auction.counters →
     stores (counters_at auction.counters worker) + (MOST_ROWS_OF_A_PART + MOST_OF_A_WORKER)
     ≤ auction.limit
 
@@ -143,24 +142,6 @@ fault_said (Some met) = says.Fault met ∷ []
 abbrev pub answer_to : Options → Gone → Option LineFault → List ℕ
 answer_to options gone None = []
 answer_to options gone (Some met) = fault_answer options gone met
-
--- Of a session that goes on, the next line is a request of this worker, which has as many rows as it
--- may have; behind it, that is left.
-pub record IsNextPast (auction : JoinedState) (Left : List Said → Type 0) (worker : ℕ)
-    (rest : List Said) : Type 0 where
-  pub one : Record
-  pub behind : List Said
-  pub rest_is : rest ≡ says.Record one ∷ behind
-  pub request : one.is_row ≡ false
-  pub worker_is : one.worker ≡ worker
-  pub own : worker < length auction.counters
-  pub full : MOST_COMMITS ≤ stores (counters_at auction.counters worker)
-  pub left : Left behind
-
--- what is left behind a part, if a worker's script was past its limit
-abbrev pub LeftBehind : JoinedState → (List Said → Type 0) → Option ℕ → List Said → Type 0
-LeftBehind auction Left None = Left
-LeftBehind auction Left (Some worker) = IsNextPast auction Left worker
 
 -- the answer to a request past a limit, if there is one
 abbrev pub past_answer : Options → Gone → ℕ → Option ℕ → List ℕ

@@ -12,11 +12,11 @@ use Rattle.auction_text.specs.LiveReading.{records_said}
 use Rattle.auction_text.specs.Moved.{Gone}
 use Rattle.auction_text.specs.Reading.{IsInputFault}
 use Rattle.auction_text.specs.Scripts.{Asked, asked_in, requests_in}
-use Rattle.auction_text.specs.declared.reading.ReadFault.{ReadFault}
-use Rattle.auction_text.specs.declared.reading.live_lines.LineFault.{LineFault}
-use Rattle.auction_text.specs.declared.reading.live_lines.Said.{Said}
-use Rattle.auction_text.specs.declared.reading.live_lines.Said.TheVariants as says
-use Rattle.auction_text.specs.declared.reading.record.Record.{Record}
+use Rattle.auction_text.specs.ReadFault.{ReadFault}
+use Rattle.auction_text.specs.LineFault.{LineFault}
+use Rattle.auction_text.specs.Said.{Said}
+use Rattle.auction_text.specs.Said.TheVariants as says
+use Rattle.auction_text.specs.Record.{Record}
 use Rattle.auction_text.specs.declared.writing.WriteFault.TheVariants as write
 use Rattle.item_shards.specs.declared.openings.Opened.{Opened}
 use Rattle.log_opening.specs.Parts.{IsFirstRefused, rows_from}

@@ -14,11 +14,11 @@ use Rattle.auction_text.specs.Replies.{labelled}
 use Rattle.auction_text.specs.RowLines.{rows_text}
 use Rattle.auction_text.specs.Scripts.{asked_in, requests_in, rows}
 use Rattle.auction_text.specs.Writing.{IsPartWritten}
-use Rattle.auction_text.specs.declared.reading.ReadFault.{ReadFault}
-use Rattle.auction_text.specs.declared.reading.live_lines.LineFault.{LineFault}
-use Rattle.auction_text.specs.declared.reading.live_lines.Said.{Said}
-use Rattle.auction_text.specs.declared.reading.live_lines.Said.TheVariants as says
-use Rattle.auction_text.specs.declared.reading.record.Record.{Record}
+use Rattle.auction_text.specs.ReadFault.{ReadFault}
+use Rattle.auction_text.specs.LineFault.{LineFault}
+use Rattle.auction_text.specs.Said.{Said}
+use Rattle.auction_text.specs.Said.TheVariants as says
+use Rattle.auction_text.specs.Record.{Record}
 use Rattle.item_shards.specs.OpeningRows.{rows_by}
 use Rattle.item_shards.specs.declared.openings.Opened.{Opened}
 use Rattle.log_opening.specs.Parts.{AreRowsFrom, rows_from}
@@ -130,7 +130,8 @@ gone_after options steps = fold (gone_past options) nothing_gone steps
 abbrev pub part_text : Options → Gone → Book → List Entry → List ℕ
 part_text options gone added history = commits_text options added (all_moved gone history)
 
--- this holds of the rows of such a part, and of its text
+-- this holds of what a part logs that adds these rows and has this history, and of what is written
+-- of it
 abbrev pub OfPart : Options → Gone → Book → List Entry → (List ℕ → List ℕ → Type 0) → Type 0
 OfPart options gone added history Holds =
     Holds (rows_text added history) (part_text options gone added history)

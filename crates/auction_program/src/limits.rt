@@ -3,7 +3,7 @@ ghost use Rattle.std.specs.Prelude.{◌≡◌, ◌<◌, ◌≤◌, [], false, le
 ghost use Rattle.auction_run.specs.GoingOn.{AreShortOn, HasScripts};
 ghost use Rattle.closing_laws.specs.Standing.{counters_at, stores};
 ghost use Rattle.shard_boxes.specs.declared.limits.TheConstants.{MOST_COMMITS};
-ghost use Rattle.auction_program.specs.PartRuns.{AreWithinLimit, HasRoom, IsPastOn};
+ghost use Rattle.auction_program.specs.PartRuns.{AreWithinLimit, HasRoomForPart, IsPastOn};
 ghost use Rattle.auction_program.specs.Serving.{ends_at_fault};
 
 use crate::options::Options;
@@ -22,8 +22,8 @@ pub fn ends_at_fault(options: &Options) -> bool
 
 // Whether each worker has room for all rows and requests that a part may have.
 fn has_room(auction: &Joined) -> bool
-    ensures room { IsTrue result → HasRoom auction.now }
-    ensures full { HasRoom auction.now → IsTrue result }
+    ensures room { IsTrue result → HasRoomForPart auction.now }
+    ensures full { HasRoomForPart auction.now → IsTrue result }
 {
     for worker in 0..auction.workers() {
         let stored = u64::from(auction.stored_by(worker as usize));
@@ -41,8 +41,8 @@ pub fn most_of_a_part(options: &Options, auction: &Joined) -> u32
     ensures some { 1 ≤ result }
     ensures asked { 1 ≤ options.now.live → result ≤ options.now.live }
     ensures few { result ≤ MOST_OF_A_WORKER }
-    ensures room { 1 < result → HasRoom auction.now }
-    ensures full { HasRoom auction.now → 1 ≤ options.now.live →
+    ensures room { 1 < result → HasRoomForPart auction.now }
+    ensures full { HasRoomForPart auction.now → 1 ≤ options.now.live →
         options.now.live ≤ MOST_OF_A_WORKER → result ≡ options.now.live }
 {
     let most = MOST_OF_A_WORKER as u32;

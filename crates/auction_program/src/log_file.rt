@@ -1,12 +1,12 @@
 //! The file of a log: how it is opened and locked, and where what is cut off it is kept.
-ghost use Rattle.std.specs.Prelude.{[], IfOk};
-ghost use Rattle.auction_rows.specs.Book.{Book};
+ghost use Rattle.std.specs.Prelude.{[], None, IfOk};
 ghost use Rattle.phase_floor.specs.Adding.{HasBook, IsSameAuction, IsStartOf};
+ghost use Rattle.auction_program.specs.Opened.{IsOpenedFrom};
 
 use crate::faults::Fault;
 use auction_text::WriteFault;
 use log_opening::{OpenFault, cut_log, read_log};
-use part_log::FileLog;
+use part_log::{AppendFile, FileLog};
 use phase_floor::Joined;
 use std::alloc::Global;
 use std::fs::{File, OpenOptions, TryLockError};
@@ -18,9 +18,12 @@ use thiserror::Error;
 /// Why a log is not opened. Its bytes are as they were.
 #[derive(Debug, PartialEq, Eq, Drop, Error)]
 pub enum LogFileFault {
-    /// Its file could not be opened, read or cut, or its folder not read.
+    /// Its file could not be opened or read, or its folder not read.
     #[error("log cannot be read")]
     Read,
+    /// Its file could not be cut or synced.
+    #[error("log cannot be written")]
+    Write,
     /// It is a pipe or a device.
     #[error("log is not a regular file")]
     NotAFile,
@@ -43,11 +46,11 @@ pub enum LogFileFault {
 
 /// A log that was opened.
 #[derive(Drop)]
-pub struct OpenedLog {
+pub struct OpenedLog<F: AppendFile + Drop> {
     /// The auction with the rows that it has.
     pub auction: Joined,
     /// The log.
-    pub log: FileLog<File>,
+    pub log: FileLog<F>,
     /// How many bytes were cut off: the beginning of a row that was being written.
     pub cut: usize,
 }
@@ -147,22 +150,28 @@ fn refused(alloc: Global, path: &str, fault: OpenFault) -> Fault {
     }
 }
 
-/// Opens the log at a path, which no other program may have open, adds its rows to an auction, and
-/// writes their text to `told`. The beginning of a row that was being written is cut off its end,
-/// and kept in the file of that name with `.cut`. After a fault the log is as it was.
-pub fn open_log<R: Files<File = File>, W: Write>(
+/// A file, and the path at which it is.
+#[derive(Drop)]
+pub struct FileAt<'a, F> {
+    pub file: F,
+    pub path: &'a str,
+}
+
+/// Opens the log in a file that is open and locked: adds its rows to an auction, and writes their
+/// text to `told`. What is behind them is kept elsewhere, and then cut off.
+pub fn open_file<R: Files<File = File>, F: AppendFile + Drop, W: Write>(
     rt: &R,
     alloc: Global,
-    path: &str,
+    at: FileAt<'_, F>,
     auction: Joined,
     told: &mut W,
-) -> Result<OpenedLog, Fault>
+) -> Result<OpenedLog<F>, Fault>
     requires { IsStartOf auction [] }
+    ensures opens { IfOk result (λ opened. IsOpenedFrom (F.held at.entry.file)
+        (W.contents told.old) (W.contents told.new) opened.auction opened.log opened.cut) }
     ensures same { IfOk result (λ opened. IsSameAuction auction opened.auction) }
-    ensures start { IfOk result (λ opened. (book : Book) × IsStartOf opened.auction book) }
-    ensures has { IfOk result (λ opened. HasBook opened.auction) }
 {
-    let file = open_locked(rt, alloc, path)?;
+    let FileAt { file, path } = at;
     let logged = match read_log(alloc, &file, auction, told) {
         Ok(logged) => logged,
         Err(fault) => return Err(refused(alloc, path, fault)),
@@ -177,6 +186,26 @@ pub fn open_log<R: Files<File = File>, W: Write>(
             log,
             cut,
         }),
-        Err(_) => Err(Fault::OpenLog(LogFileFault::Read)),
+        Err(_) => Err(Fault::OpenLog(LogFileFault::Write)),
     }
+}
+
+/// Opens the log at a path, which no other program may have open, adds its rows to an auction, and
+/// writes their text to `told`. The beginning of a row that was being written is cut off its end,
+/// and kept in the file of that name with `.cut`. After a fault the log is as it was.
+pub fn open_log<R: Files<File = File>, W: Write>(
+    rt: &R,
+    alloc: Global,
+    path: &str,
+    auction: Joined,
+    told: &mut W,
+) -> Result<OpenedLog<File>, Fault>
+    requires { IsStartOf auction [] }
+    ensures opens { IfOk result (λ opened. IsOpenedFrom None
+        (W.contents told.old) (W.contents told.new) opened.auction opened.log opened.cut) }
+    ensures same { IfOk result (λ opened. IsSameAuction auction opened.auction) }
+    ensures has { IfOk result (λ opened. HasBook opened.auction) }
+{
+    let file = open_locked(rt, alloc, path)?;
+    open_file(rt, alloc, FileAt { file, path }, auction, told)
 }

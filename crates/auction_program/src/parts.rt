@@ -162,8 +162,8 @@ fn run_part<R: Threads + Wait + Sync>(
 }
 
 /// Adds the rows of a part, performs its scripts, logs all rows that this adds, and then writes
-/// what is asked for of it. If a script is past its worker's limit, and this does not end the input,
-/// only the rows are served.
+/// what is asked for of it. If a script is past its worker's limit, and this does not end the
+/// input, only the rows are served.
 pub fn serve_part<R: Threads + Wait + Sync, L: Log, W: Write, E>(
     rt: &R,
     alloc: Global,

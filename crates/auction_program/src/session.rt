@@ -6,7 +6,7 @@ ghost use Rattle.auction_rows.specs.History.{ReplaysFrom};
 ghost use Rattle.auction_text.specs.LiveLines.{live_says};
 ghost use Rattle.auction_text.specs.Moved.{Gone, gone_by};
 ghost use Rattle.auction_text.specs.Replies.{history_text};
-ghost use Rattle.auction_text.specs.declared.reading.live_lines.Said.{Said as Says};
+ghost use Rattle.auction_text.specs.Said.{Said as Says};
 ghost use Rattle.part_log.specs.declared.log.Teller.{Teller as Told};
 ghost use Rattle.phase_floor.specs.Adding.{HasBook};
 ghost use Rattle.auction_program.specs.Options.{opening_asked};
@@ -301,8 +301,8 @@ fn push_limit(text: &mut Vec<u8>, limit: u64) -> Result<(), AllocError>
 }
 
 /// The histories of parts, one after the other, are one history: it replays from the book with all
-/// rows that the parts add, and is what is written if the options ask for the history. No rows of an
-/// input come behind a request.
+/// rows that the parts add, and is what is written if the options ask for the history. No rows of
+/// an input come behind a request.
 pub fn parts_are_one_history()
     ensures first { (options : Asked) (book : Book) (input : List ℕ) (steps : List Step)
         (rest : List Says) → IsServed options book (live_says options.workers input) steps rest →

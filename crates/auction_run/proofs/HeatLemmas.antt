@@ -1,15 +1,15 @@
 -- Heats of objects in a list, and in a table of those whose buckets have enough.
-use Rattle.std.proofs.Common.{◌≡◌, ℕ, zero, suc, ◌+◌, ◌<◌, ◌≤◌, ◌==◌, Bool, true, false, cond, if◌then◌else◌, List, [], ◌∷◌, ◌++◌, Some, None, count_by, refl, sym, ap, subst, ◌∙◌, arith, eq-eqb}
+use Rattle.std.proofs.Common.{◌≡◌, ℕ, zero, suc, ◌+◌, ◌<◌, ◌≤◌, ◌==◌, Bool, true, false, cond, if◌then◌else◌, List, [], ◌∷◌, ◌++◌, Some, None, count_by, get_or, inl, inr, length, refl, set, sym, take, ap, subst, ◌∙◌, arith, eq-eqb}
 use Rattle.std.specs.Prelude.{nat_le, unwrap_or, option_to_list, slice_index}
 use Rattle.std.specs.List.{IsDistinct, sum_by}
 use Rattle.std.specs.Map.{keys_of, lookup}
-use Rattle.std.proofs.lemmas.Bool.{false≢true, leb-false, lt-leb}
+use Rattle.std.proofs.lemmas.Bool.{cases_eq, false≢true, leb-false, lt-leb, ne_eqb}
 use Rattle.std.proofs.lemmas.Grind.{flat_map-append}
-use Rattle.std.proofs.lemmas.List.{append-nil}
+use Rattle.std.proofs.lemmas.List.{append-nil, get_or-set_other, get_or-set_same}
 use Rattle.std.proofs.lemmas.List.Concat.{flat_map-cons}
 use Rattle.std.proofs.lemmas.List.Elements.{filter_map-append}
 use Rattle.std.proofs.lemmas.List.Sorted.{sum_by-IsPermutation}
-use Rattle.std.proofs.lemmas.List.Sums.{sum_by-cons, sum_by_push}
+use Rattle.std.proofs.lemmas.List.Sums.{count_by_more_no, count_by_more_yes, sum_by-cons, sum_by_push}
 use Rattle.std.proofs.lemmas.Nat.{mod_below}
 use Rattle.auction_rows.specs.contracts.requests.ObjectPartialEq.TheImpl.{eq-value as object_eq}
 use Rattle.auction_rows.specs.declared.requests.Object.{Object}
@@ -131,6 +131,23 @@ module _ (passes : Object → Bool) where
 -- how many objects of a list are in a bucket
 abbrev pub in_bucket : List Object → ℕ → ℕ
 in_bucket objects bucket = count_by (λ object. bucket_of object == bucket) objects
+
+-- one object more is counted in its bucket
+pub one_more_in_bucket : (objects : List Object) (n : ℕ) (d : Object) (counts : List ℕ) (place : ℕ) →
+    n < length objects → place ≡ bucket_of (get_or objects n d) → place < length counts →
+    ((bucket : ℕ) → bucket < 256 → get_or counts bucket 0 ≡ in_bucket (take n objects) bucket) →
+    (bucket : ℕ) → bucket < 256 → get_or (set counts place (get_or counts place 0 + 1)) bucket 0 ≡ in_bucket (take (n + 1) objects) bucket
+one_more_in_bucket objects n d counts place less own within so_far bucket below =
+    let count : ℕ = get_or counts place 0 + 1 in
+    elim (cases_eq bucket place) [
+      | inl same ↦
+          ap (λ (at : ℕ). get_or (set counts place count) at 0) same ∙ get_or-set_same counts place count 0 within
+          ∙ ap (λ (at : ℕ). get_or counts at 0 + 1) (sym same) ∙ ap (λ (m : ℕ). m + 1) (so_far bucket below)
+          ∙ sym (count_by_more_yes (λ one. bucket_of one == bucket) objects n d less (eq-eqb (bucket_of (get_or objects n d)) bucket (sym own ∙ sym same)))
+      | inr other ↦
+          get_or-set_other counts place bucket count 0 other ∙ so_far bucket below
+          ∙ sym (count_by_more_no (λ one. bucket_of one == bucket) objects n d less (ne_eqb (bucket_of (get_or objects n d)) bucket (λ at. other (sym at ∙ sym own))))
+    ]
 
 bucket_bounds : (objects : List Object) (object : Object) → how_often objects object ≤ in_bucket objects (bucket_of object)
 bucket_bounds objects object =

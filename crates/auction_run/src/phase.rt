@@ -91,6 +91,7 @@ fn first_index(policy: Policy, phase: u64) -> u64
 
 /// How many requests each worker is given: the quota, or what is left of its script from its
 /// request `first` on.
+#[inline(always)]
 pub(crate) fn worker_quotas(
     alloc: Global,
     scripts: &[Script],
@@ -112,6 +113,7 @@ pub(crate) fn worker_quotas(
 
 /// One phase, from its begin to its close: its entries go to the end of the history. Its hot set
 /// is not yet among those of the run.
+#[inline(always)]
 pub(crate) fn perform_phase<R: Threads + Wait + Sync, G: Gate + Sync>(
     rt: &R,
     alloc: Global,

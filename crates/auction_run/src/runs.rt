@@ -195,6 +195,7 @@ pub(crate) fn compact_scripts(
 }
 
 /// A run from a state with which it begins.
+#[inline(always)]
 pub(crate) fn run_from<R: Threads + Wait + Sync, G: Gate + Sync, B: Board>(
     rt: &R,
     alloc: Global,
@@ -246,6 +247,7 @@ pub(crate) fn run_from<R: Threads + Wait + Sync, G: Gate + Sync, B: Board>(
 }
 
 // A run before its first phase.
+#[inline(always)]
 fn begin(alloc: Global, state: Joined, scripts: &[Script]) -> Result<Running, AllocError>
     ensures running { IfOk result (λ running. (rows : Book) (policy : Rule) →
         BeginsWith state rows policy scripts.now →
@@ -298,6 +300,7 @@ fn has_left(script: &Script, stash: &Stash, first: u64) -> bool
 }
 
 // One phase more, and its hot set.
+#[inline(always)]
 fn next_phase<R: Threads + Wait + Sync, G: Gate + Sync>(
     rt: &R,
     alloc: Global,

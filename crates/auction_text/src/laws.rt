@@ -1,5 +1,5 @@
-//! What holds of inputs, and of the texts that are written.
-ghost use Rattle.std.specs.Prelude.{◌≡◌, List, ℕ, false};
+//! What holds of the texts that are written.
+ghost use Rattle.std.specs.Prelude.{◌≡◌, List};
 ghost use Rattle.std.specs.List.Sorted.{IsPermutation, IsSorted, IsStable};
 ghost use Rattle.auction_rows.specs.declared.values.Opening.{Opening};
 ghost use Rattle.auction_rows.specs.declared.rows.Entry.{Entry as Commit};
@@ -9,8 +9,6 @@ ghost use Rattle.auction_text.specs.Moved.{Gone, all_moved};
 ghost use Rattle.auction_text.specs.Order.{in_order, precedence};
 ghost use Rattle.auction_text.specs.Replies.{lines, replies_text, reply_line};
 ghost use Rattle.auction_text.specs.RowLines.{row_line, rows_text};
-ghost use Rattle.auction_text.specs.declared.reading.record.Record.{Record};
-ghost use Rattle.auction_text.specs.Scripts.{RowsComeFirst, read_records, records_of};
 
 /// The replies stand by worker, then index, then place, each once; entries that are in order
 /// already give a line each as they stand.
@@ -35,10 +33,4 @@ pub fn rows_of_histories()
 pub fn moved_in_order()
     ensures { (gone : Gone) (entries : List Commit) →
         in_order (all_moved gone entries) ≡ all_moved gone (in_order entries) }
-{}
-
-/// In an input without a fault the rows stand before all requests.
-pub fn rows_come_first()
-    ensures { (workers : ℕ) (text : List ℕ) (all : List Record) →
-        read_records workers 1 false (records_of text) ≡ Ok all → RowsComeFirst all }
 {}

@@ -3,16 +3,14 @@
 #![tactic(auto)]
 
 mod laws;
-mod reading;
 mod writing;
 
-pub use laws::{moved_in_order, replies_in_order, rows_come_first, rows_of_histories};
-pub use reading::fields::read_u64;
-pub use reading::live_lines::{LineFault, Said};
-pub use reading::live_parts::{LiveEnd, LiveInput, LivePart};
-pub use reading::scripts::{read_compact_scripts, read_scripts};
-pub use reading::until_end::UntilEnd;
-pub use reading::{Cause, CompactInput, Input, MOST_RECORDS, MOST_ROWS_OF_A_PART, ReadFault};
+pub use auction_reading::{
+    Cause, CompactInput, Input, LineFault, LiveEnd, LiveInput, LivePart, MOST_RECORDS,
+    MOST_ROWS_OF_A_PART, ReadFault, Said, UntilEnd, read_compact_scripts, read_scripts, read_u64,
+    rows_come_first,
+};
+pub use laws::{moved_in_order, replies_in_order, rows_of_histories};
 pub use writing::block::TextBlock;
 pub use writing::fault_lines::push_fault_line;
 pub use writing::output::{

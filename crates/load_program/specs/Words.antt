@@ -2,7 +2,7 @@
 use Rattle.std.specs.Prelude.{◌≤◌, ◌<◌, ◌+◌, ℕ, List, [], ◌∷◌, Option, Some, fold, codes, ⊤}
 use Rattle.std.specs.Int.{div_ceil}
 use Rattle.auction_rows.specs.declared.limits.TheConstants.{MOST_OF_A_WORKER, MOST_WORKERS}
-use Rattle.auction_text.specs.declared.reading.TheConstants.{MOST_RECORDS}
+use Rattle.auction_text.specs.InputLimits.{MOST_RECORDS}
 use Rattle.clap.specs.declared.builder.action.ArgAction.TheVariants.{Set}
 use Rattle.clap.specs.declared.builder.value_parser.ValueParser.TheVariants.{Unsigned}
 use Rattle.clap.specs.Simple.{App, new_rule, with_rule}

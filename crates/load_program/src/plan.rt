@@ -2,7 +2,7 @@
 //! weights, the same on every machine.
 ghost use Rattle.std.specs.Prelude.{◌≡◌, ◌+◌, ◌<◌, ◌≤◌, IfSome, MatchOption, IfOk};
 ghost use Rattle.auction_rows.specs.declared.limits.TheConstants.{MOST_WORKERS};
-ghost use Rattle.auction_text.specs.declared.reading.TheConstants.{MOST_RECORDS};
+ghost use Rattle.auction_text.specs.InputLimits.{MOST_RECORDS};
 ghost use Rattle.program_options.specs.declared.options.TheConstants.{MOST_ASKED};
 
 use rand::RngExt;

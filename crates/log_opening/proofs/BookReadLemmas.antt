@@ -12,7 +12,7 @@ use Rattle.item_shards.specs.OpeningRows.{opened_of}
 use Rattle.auction_text.specs.Replies.{lines}
 use Rattle.auction_text.specs.RowLines.{row_line, rows_text}
 use Rattle.auction_text.specs.Scripts.{asked_in, input_of, read_records, rows, script}
-use Rattle.auction_text.specs.declared.reading.TheConstants.{MOST_RECORDS}
+use Rattle.auction_text.specs.InputLimits.{MOST_RECORDS}
 use Rattle.log_opening.specs.ReadBack.{IsWritten, book_asked, said_of}
 use Rattle.log_opening.proofs.RowLineLemmas.{IsReadAs, line_read}
 

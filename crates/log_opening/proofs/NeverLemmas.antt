@@ -19,8 +19,8 @@ use Rattle.auction_text.specs.Reading.{IsInputFault}
 use Rattle.auction_text.specs.Replies.{lines}
 use Rattle.auction_text.specs.RowLines.{row_line, rows_text}
 use Rattle.auction_text.specs.Scripts.{Asked, input_of}
-use Rattle.auction_text.specs.declared.reading.ReadFault.{ReadFault}
-use Rattle.auction_text.specs.declared.reading.ReadFault.TheVariants as read
+use Rattle.auction_text.specs.ReadFault.{ReadFault}
+use Rattle.auction_text.specs.ReadFault.TheVariants as read
 use Rattle.log_opening.specs.CutRows.{begins_row, is_cut_row}
 use Rattle.log_opening.specs.Lines.{AreLines, AreWholeLines}
 use Rattle.log_opening.specs.Opening.{AreNotRows, IsForMemory, IsRefused, counted_after}

@@ -23,11 +23,11 @@ use Rattle.auction_text.specs.Fields.{number}
 use Rattle.auction_text.specs.Reading.{IsInputFault}
 use Rattle.auction_text.specs.Records.{and_then, checked, field, read_record}
 use Rattle.auction_text.specs.Scripts.{asked_in, input_of, read_records, records_of}
-use Rattle.auction_text.specs.declared.reading.Cause.{Cause}
-use Rattle.auction_text.specs.declared.reading.Cause.TheVariants as cause
-use Rattle.auction_text.specs.declared.reading.ReadFault.{ReadFault}
-use Rattle.auction_text.specs.declared.reading.ReadFault.TheVariants as read
-use Rattle.auction_text.specs.declared.reading.record.Record.{Record}
+use Rattle.auction_text.specs.Cause.{Cause}
+use Rattle.auction_text.specs.Cause.TheVariants as cause
+use Rattle.auction_text.specs.ReadFault.{ReadFault}
+use Rattle.auction_text.specs.ReadFault.TheVariants as read
+use Rattle.auction_text.specs.Record.{Record}
 use Rattle.auction_text.specs.Replies.{lines}
 use Rattle.auction_text.specs.RowLines.{row_line, row_text, rows_text}
 use Rattle.log_opening.specs.Lines.{AreWholeLines, line_at}

@@ -17,7 +17,7 @@ use Rattle.phase_floor.specs.declared.adding.AddFault.{AddFault}
 use Rattle.phase_floor.specs.declared.adding.AddFault.TheVariants as add
 use Rattle.auction_text.specs.RowLines.{rows_text}
 use Rattle.auction_text.specs.Writing.{IsPartWritten}
-use Rattle.auction_text.specs.declared.reading.ReadFault.TheVariants as read
+use Rattle.auction_text.specs.ReadFault.TheVariants as read
 use Rattle.auction_text.proofs.BufferLemmas.{held, moved}
 use Rattle.log_opening.specs.CutRows.{is_cut_row}
 use Rattle.log_opening.specs.Lines.{AreLines, AreWholeLines}

@@ -15,7 +15,7 @@ use Rattle.item_shards.proofs.OpeningBookLemmas.{opened_again}
 use Rattle.auction_text.specs.Replies.{lines}
 use Rattle.auction_text.specs.RowLines.{row_line, row_text, rows_text}
 use Rattle.auction_text.specs.Scripts.{input_of}
-use Rattle.auction_text.specs.declared.reading.TheConstants.{MOST_RECORDS}
+use Rattle.auction_text.specs.InputLimits.{MOST_RECORDS}
 use Rattle.log_opening.specs.ReadBack.{IsWritten}
 use Rattle.log_opening.specs.Recovery.{OpensTo}
 use Rattle.log_opening.specs.Lines.{AreWholeLines}

@@ -29,9 +29,9 @@ use Rattle.auction_text.specs.Lines.{HasRead, ReadsFirst, is_plain}
 use Rattle.auction_text.specs.Records.{read_record, request_of}
 use Rattle.auction_text.specs.Replies.{id_text}
 use Rattle.auction_text.specs.RowLines.{byte_in_quotes, row_line}
-use Rattle.auction_text.specs.declared.reading.fields.RequestKind.{RequestKind}
-use Rattle.auction_text.specs.declared.reading.fields.RequestKind.TheVariants as kind
-use Rattle.auction_text.specs.declared.reading.record.Record.{Record}
+use Rattle.auction_text.specs.RequestKind.{RequestKind}
+use Rattle.auction_text.specs.RequestKind.TheVariants as kind
+use Rattle.auction_text.specs.Record.{Record}
 use Rattle.auction_text.proofs.LineLemmas.{first_and_comma, last_and_end, next_and_comma}
 use Rattle.auction_text.proofs.NameLemmas.{name_tested}
 use Rattle.auction_text.proofs.PlainFieldLemmas.{digits_no_bom}

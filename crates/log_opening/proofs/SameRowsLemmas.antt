@@ -12,7 +12,7 @@ use Rattle.auction_text.specs.Records.{read_record}
 use Rattle.auction_text.specs.Replies.{lines}
 use Rattle.auction_text.specs.RowLines.{row_line}
 use Rattle.auction_text.specs.Scripts.{rows}
-use Rattle.auction_text.specs.declared.reading.record.Record.{Record}
+use Rattle.auction_text.specs.Record.{Record}
 use Rattle.log_opening.specs.ReadBack.{IsWritten, said_of}
 use Rattle.log_opening.proofs.BookReadLemmas.{none_read, rows_said, written_read}
 

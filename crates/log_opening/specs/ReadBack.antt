@@ -13,7 +13,7 @@ use Rattle.auction_rows.specs.History.{commit_of}
 use Rattle.auction_rows.specs.Name.{IsName}
 use Rattle.item_shards.specs.OpeningRows.{opened_of}
 use Rattle.auction_text.specs.Scripts.{Asked}
-use Rattle.auction_text.specs.declared.reading.record.Record.{Record}
+use Rattle.auction_text.specs.Record.{Record}
 
 -- The fields of a row of each kind are in the ranges of their types. Its own serial is not written.
 pub record IsBidInRange (row : BidRow) : Type 0 where

@@ -11,7 +11,7 @@ ghost use Rattle.item_shards.specs.OpeningRows.{AreRows, opening_rows, rows_by};
 ghost use Rattle.item_shards.specs.declared.openings.Opened.{Opened};
 ghost use Rattle.auction_text.specs.RowLines.{rows_text};
 ghost use Rattle.auction_text.specs.Scripts.{input_of};
-ghost use Rattle.auction_text.specs.declared.reading.TheConstants.{MOST_RECORDS};
+ghost use Rattle.auction_text.specs.InputLimits.{MOST_RECORDS};
 ghost use Rattle.log_opening.specs.Accepted.{GoOnFrom, added_rows, book_past_all};
 ghost use Rattle.log_opening.specs.CutRows.{is_cut_row};
 ghost use Rattle.log_opening.specs.Lines.{AreWholeLines};

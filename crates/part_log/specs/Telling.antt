@@ -6,10 +6,13 @@ use Rattle.auction_text.specs.declared.writing.WriteFault.TheVariants as write
 use Rattle.part_log.specs.declared.log.TellFault.{TellFault}
 use Rattle.part_log.specs.declared.log.TellFault.TheVariants.{Log, Write}
 
--- the log has accepted the rows of a part, and a prefix of its text was written; or neither has changed
-abbrev pub IsLoggedFirst : Option (List ℕ) → Option (List ℕ) → List ℕ → Option (List ℕ) → Option (List ℕ) → List ℕ → Type 0
+-- the log has accepted the rows of a part, and a prefix of its text was written; or neither has
+-- changed
+abbrev pub IsLoggedFirst : Option (List ℕ) → Option (List ℕ) → List ℕ
+    → Option (List ℕ) → Option (List ℕ) → List ℕ → Type 0
 IsLoggedFirst log next_log rows writer next_writer text =
-    (Appends log next_log rows × IsPartWritten writer next_writer text) ⊎ (Keeps log next_log × Keeps writer next_writer)
+    (Appends log next_log rows × IsPartWritten writer next_writer text)
+    ⊎ (Keeps log next_log × Keeps writer next_writer)
 
 -- a fault of the log, after which nothing was written
 abbrev pub IsUnlogged : TellFault → Type 0

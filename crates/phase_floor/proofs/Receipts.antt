@@ -10,10 +10,11 @@ use Rattle.phase_permits.specs.Slicing.{stocks_of}
 use Rattle.phase_permits.specs.Stashes.{StashState}
 use Rattle.phase_permits.proofs.Places.{stocks_of_rows}
 use Rattle.phase_permits.specs.Workers.{with_first_unstashed, with_try, WorkerState}
-use Rattle.phase_permits.specs.Performing.{HasPerformedFirst, HasDealtWith, HasCommitted}
+use Rattle.phase_permits.specs.Performing.{HasFailed, HasFailedFirst, HasPerformedFirst, HasDealtWith, HasCommitted}
 use Rattle.phase_permits.proofs.PermitLemmas.{stocks-acts}
 use Rattle.phase_permits.specs.declared.transaction.Done.{Done}
 use Rattle.phase_permits.specs.declared.transaction.Done.TheVariants.{Committed, Stashed}
+use Rattle.phase_permits.specs.declared.transaction.PermitFault.{PermitFault}
 use Rattle.closing_laws.specs.Phases.{no_receipt}
 use Rattle.phase_floor.specs.Closings.{IsReceipt, AreReceiptsOf}
 use Rattle.phase_floor.specs.Floors.{FloorState, IsNewPermit, AreBegun}
@@ -56,6 +57,17 @@ module _ (initial : List ShardState) (floor : FloorState) (w : ℕ) (old new : W
   dealt Stashed h =
       still_receipt floor w old new was (ap (λ (d : WorkerState). d.key.boxes) h.worker) (ap (λ (d : WorkerState). d.key.worker) h.worker) (ap (λ (d : WorkerState). d.opening) h.worker) (ap (λ (d : WorkerState). d.journal.phase) h.worker) (ap (λ (d : WorkerState). d.begun) h.worker)
       (ap (λ (d : WorkerState). stocks_of d.slices) h.worker)
+
+-- the permit whose call failed
+pub failed : {initial : List ShardState} {floor : FloorState} {w : ℕ} {old new : WorkerState} {request : Request} {fault : PermitFault} → IsReceipt floor w old
+    → HasFailed initial (with_try old) new request fault → IsReceipt floor w new
+failed {initial} {floor} {w} {old} {new} was is =
+    still_receipt floor w old new was is.lines.boxes is.lines.worker (ap (λ (d : WorkerState). d.opening) is.worker) (ap (λ (d : WorkerState). d.journal.phase) is.worker) (ap (λ (d : WorkerState). d.begun) is.worker)
+    (ap (λ (d : WorkerState). stocks_of d.slices) is.worker)
+
+pub failed_first : {initial : List ShardState} {floor : FloorState} {w : ℕ} {old new : WorkerState} {fault : PermitFault} → IsReceipt floor w old
+    → HasFailedFirst initial (with_try old) new fault → IsReceipt floor w new
+failed_first was is = failed was is.failed
 
 -- the permit that has performed what waited longest, if anything did
 pub performed_first : (initial : List ShardState) (floor : FloorState) (w : ℕ) (old new : WorkerState) → IsReceipt floor w old → (answer : Option Reply)

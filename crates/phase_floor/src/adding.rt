@@ -27,7 +27,7 @@ use thiserror::Error;
 #[derive(Clone, Copy, Debug, PartialEq, Eq, Drop, Error)]
 pub enum AddFault {
     /// Its worker has as many commits as the state's limit.
-    #[error("more than 1000000 requests for a worker")]
+    #[error("more requests than its worker may commit")]
     TooLong,
     /// Its request is a view, is refused at its place or is of none of the auction's workers.
     #[error("refused")]
@@ -116,7 +116,8 @@ impl Joined {
         ensures book { OnOk result ((book : Book) → IsBookOf self.old book →
             GoOn self.old.opening book (row.now ∷ []) →
             IsBookOf self.new (book ++ row.now ∷ [])) }
-        ensures counters { OnOk result (self.new.counters ≡ with_counted row.now self.old.counters) }
+        ensures counters { OnOk result
+            (self.new.counters ≡ with_counted row.now self.old.counters) }
         ensures same { IsSameAuction self.old self.new }
         ensures kept { OnErr result (KeepsBooks self.old self.new) }
     {

@@ -18,7 +18,7 @@ pub enum BeginFault {
     UnknownHot,
     /// What a worker has committed, what waits in its stash and its quota are more than it may
     /// commit: 1,000,000 requests, unless the auction is a lasting one.
-    #[error("more than 1000000 requests for a worker")]
+    #[error("more requests than a worker may commit")]
     TooLong,
     /// No memory was left.
     #[error("no memory")]

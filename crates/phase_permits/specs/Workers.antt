@@ -85,7 +85,7 @@ pub record AreCounted (counters : Counters) : Type 0 where
 
 -- there is room for what is left and what waits, in the journal and in the counters, and the clock
 -- has not gone back
-pub record HasRoom (w : WorkerState) : Type 0 where
+pub record HasCommitRoom (w : WorkerState) : Type 0 where
   pub counted : AreCounted w.counters
   pub limit : w.counters.commits + length w.stash.requests + w.left ≤ MOST_COMMITS
   pub room : length w.journal.entries + length w.stash.requests + w.left ≤ w.journal.room
@@ -106,7 +106,7 @@ AreStored worker counters hots =
 
 -- What is true of every worker, also while it holds shards.
 pub record IsLawfulWorker (w : WorkerState) : Type 0 where
-  pub room : HasRoom w
+  pub room : HasCommitRoom w
   -- no slice has more operations than the worker has commits
   pub few : HaveAtMost w.counters.commits w.slices
   pub stash_room : HasStashRoom w.slices w.left w.stash.room

@@ -10,7 +10,7 @@ use Rattle.shard_boxes.specs.Seats.{own_of, seat_of, boxes_of, key_of, IsFor, Ar
 use Rattle.shard_boxes.specs.States.{ShardState, state_of, state_at, no_shard, IsInitial}
 use Rattle.shard_boxes.specs.Lines.{Line, after_lines, IsShardHistory, lines_of}
 use Rattle.shard_boxes.specs.Closed.{IsSpent, AreSpent}
-use Rattle.shard_boxes.specs.Grants.{AreSpare, IsReady, IsFree, AreFree, own_at, IsTaken}
+use Rattle.shard_boxes.specs.Grants.{AreSpare, IsNewView, IsFree, AreFree, own_at, IsTaken}
 use Rattle.shard_boxes.proofs.Each.{map_push, each_push}
 use Rattle.shard_boxes.proofs.BoxSteps.{maker_spare}
 use Rattle.shard_boxes.proofs.KeySteps.{read}
@@ -68,20 +68,20 @@ spare_more boxes now grants later p l spare now_is later_is place knows = (
 )
 
 -- what the steps make of a view for workers who have done nothing
-pub opened_ready : (start : ShardState) (workers : ℕ) (v : Knowledge) (x : Shard) → v ≡ opened workers x → state_of x ≡ start → IsReady start workers 0 workers v
+pub opened_ready : (start : ShardState) (workers : ℕ) (v : Knowledge) (x : Shard) → v ≡ opened workers x → state_of x ≡ start → IsNewView start workers 0 workers v
 opened_ready start workers v x is state = record {
   start_is = ap start_of is ∙ state;
   unused = is ∙ ap (λ (y : Knowledge). ready y.start workers 0 workers) (sym is);
 }
 
-pub rest_ready : (start : ShardState) (workers first count left : ℕ) (v : Knowledge) → IsReady start workers first count v → count ≡ suc left → IsReady start workers (first + 1) left (rest_of v)
+pub rest_ready : (start : ShardState) (workers first count left : ℕ) (v : Knowledge) → IsNewView start workers first count v → count ≡ suc left → IsNewView start workers (first + 1) left (rest_of v)
 rest_ready start workers first count left v h e = record { start_is = h.start_is; unused = ap rest_of h.unused ∙ ap (λ n. rest_of (ready v.start workers first n)) e }
 
-pub first_ready : (start : ShardState) (workers first count left : ℕ) (v : Knowledge) → IsReady start workers first count v → count ≡ suc left → IsReady start workers first 1 (first_of v)
+pub first_ready : (start : ShardState) (workers first count left : ℕ) (v : Knowledge) → IsNewView start workers first count v → count ≡ suc left → IsNewView start workers first 1 (first_of v)
 first_ready start workers first count left v h e = record { start_is = h.start_is; unused = ap first_of h.unused ∙ ap (λ n. first_of (ready v.start workers first n)) e }
 
 -- a grant for one worker, who has done nothing
-pub ready_for : (initial : List ShardState) (workers number first : ℕ) (l : GrantState) → IsReady (state_at initial number) workers first 1 l.knows → IsFor initial workers number first 1 l
+pub ready_for : (initial : List ShardState) (workers number first : ℕ) (l : GrantState) → IsNewView (state_at initial number) workers first 1 l.knows → IsFor initial workers number first 1 l
 ready_for initial workers number first l h = record {
   start_is = h.start_is;
   workers_are = ap (λ (v : Knowledge). v.workers) h.unused;
@@ -99,11 +99,11 @@ blank_seats [] h s = refl
 blank_seats (l ∷ rest) h zero = h 0 l (omega arith)
 blank_seats (l ∷ rest) h (suc s) = blank_seats rest (λ k d low. h (suc k) d (omega arith)) s
 
-seat_ready : (start : ShardState) (workers first : ℕ) (l : GrantState) → IsReady start workers first 1 l.knows → seat_of l ≡ no_seat
+seat_ready : (start : ShardState) (workers first : ℕ) (l : GrantState) → IsNewView start workers first 1 l.knows → seat_of l ≡ no_seat
 seat_ready start workers first l h = let is = h.unused in (λ i. record { holds = (is i).holds; lines = own_of (is i); seen = (is i).seen })
 
 pub new_key : (initial : List ShardState) (workers worker : ℕ) (grants : List GrantState) (boxes : List BoxId) → boxes_of grants ≡ boxes
-    → ((k : ℕ) (d : GrantState) → k < length grants → IsReady (state_at initial k) workers worker 1 (get_or grants k d).knows) → IsNewKey boxes worker (key_of worker grants)
+    → ((k : ℕ) (d : GrantState) → k < length grants → IsNewView (state_at initial k) workers worker 1 (get_or grants k d).knows) → IsNewKey boxes worker (key_of worker grants)
 new_key initial workers worker grants boxes is each =
     let same : length (map seat_of grants) ≡ length grants = simp length-map in record {
       boxes_are = is;

@@ -30,18 +30,18 @@ AreSpare boxes grants =
     × ((s : ℕ) (d : GrantState) → s < length grants → IsSpare (knows_at grants s d))
 
 -- a view for so many workers from this one on, who have done nothing, of a phase of so many workers
-pub record IsReady (start : ShardState) (workers first count : ℕ) (v : Knowledge) : Type 0 where
+pub record IsNewView (start : ShardState) (workers first count : ℕ) (v : Knowledge) : Type 0 where
   -- the phase opened with this shard
   pub start_is : start_of v ≡ start
   -- its workers have done nothing
   pub unused : v ≡ ready v.start workers first count
 
 -- a grant for each box, for so many workers from this one on, who have done nothing
-abbrev pub AreReady : List ShardState → ℕ → List BoxId → ℕ → ℕ → List GrantState → Type 0
-AreReady initial workers boxes first count grants =
+abbrev pub AreNewGrants : List ShardState → ℕ → List BoxId → ℕ → ℕ → List GrantState → Type 0
+AreNewGrants initial workers boxes first count grants =
     (boxes_of grants ≡ boxes)
     × ((s : ℕ) (d : GrantState) → s < length grants →
-    IsReady (state_at initial s) workers first count (knows_at grants s d))
+    IsNewView (state_at initial s) workers first count (knows_at grants s d))
 
 -- the view is for workers from this one on, and does not hold the shard
 pub record IsFree (start : ShardState) (workers first : ℕ) (v : Knowledge) : Type 0 where

@@ -21,7 +21,8 @@ held_code =
     code_by (ℕ × Shard) (coded× coded_ℕ shard_row.coded)
     (λ h. (h.number, h.shard)) (λ p. record { number = p.0; shard = p.1 }) (λ _. refl)
 
--- the shard as the key took it: the one with which the phase opened, after the lines that the key has seen
+-- the shard as the key took it: the one with which the phase opened, after the lines that the key
+-- has seen
 abbrev pub taken_at : List ShardState → KeyState → ℕ → ShardState
 taken_at initial key s = after_lines (state_at initial s) (seen_at key s)
 
@@ -30,7 +31,8 @@ abbrev pub MayPut : ShardState → ShardState → Option Line → Type 0
 MayPut taken now None = now ≡ taken
 MayPut taken now (Some line) = MayFollow taken line × (now ≡ after_line taken line)
 
--- a shard may go back as it was taken, or after a line that the caller made: it tells the clock as taken, and a greater number
+-- a shard may go back as it was taken, or after a line that the caller made: it tells the clock as
+-- taken, and a greater number
 abbrev pub MayGoBack : ShardState → ShardState → Option MadeLine → Type 0
 MayGoBack taken now None = now ≡ taken
 MayGoBack taken now (Some line) =

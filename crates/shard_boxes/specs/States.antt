@@ -32,8 +32,8 @@ state_of shard = record {
   contents = contents_of shard;
 }
 
--- counts and ratings are no larger than the rows before the phase, and two acts of each commit up to
--- the clock, can have made them
+-- counts and ratings are no larger than the rows before the phase, and two acts of each commit up
+-- to the clock, can have made them
 pub record IsWithin (state : ShardState) : Type 0 where
   -- the bids on each item
   pub bids : (id : ItemId) → (state.contents (Item id)).bids.bids ≤ MOST_KEPT + 2 * state.clock

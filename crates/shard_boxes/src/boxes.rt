@@ -12,13 +12,13 @@ use item_shards::Shard;
 use std::marker::{Brand, Model, PhantomData};
 use std::sync::Wait;
 
-/// Names what the shards of a phase show as it opens, and the number of its workers. Who runs a phase is generic in the
-/// name, and is called with `Brand`.
+/// Names what the shards of a phase show as it opens, and the number of its workers. Who runs a
+/// phase is generic in the name, and is called with `Brand`.
 pub trait PhaseName {
     ghost use Rattle.std.specs.Prelude.{ℕ, List};
     ghost use Rattle.shard_boxes.specs.States.{ShardState};
 
-    /// What the shards handed to `Boxes::new` show.
+    /// What the shards show with which the phase opens.
     ghost initial: { List ShardState };
 
     /// The number of keys.
@@ -33,7 +33,8 @@ impl PhaseName for Brand {
     ghost workers = { 0 };
 }
 
-/// The boxes of one phase, one for each of its 1 to 64 shards. They are shared by reference, and no lock is taken.
+/// The boxes of one phase, one for each of its 1 to 64 shards. They are shared by reference, and no
+/// lock is taken.
 #[derive(Drop)]
 pub struct Boxes<N: PhaseName> {
     pub(crate) boxes: Vec<ShardBox>,
@@ -67,8 +68,8 @@ impl<N: PhaseName> Boxes<N> {
         self.boxes.len() as u32
     }
 
-    /// Takes a shard: it tries until the shard is in its box. A key that holds shards takes only greater ones: then
-    /// workers don't wait for one another in a ring. It takes no memory.
+    /// Takes a shard: it tries until the shard is in its box. A key that holds shards takes only
+    /// greater ones: then workers don't wait for one another in a ring. It takes no memory.
     #[inline(always)]
     pub fn take<R: Wait>(&self, rt: &R, key: &mut Key<N>, s: u32) -> Held<N>
         requires of { key.old.boxes ≡ self.now }
@@ -87,7 +88,8 @@ impl<N: PhaseName> Boxes<N> {
         Held::new(s, shard)
     }
 
-    /// Puts a shard back: as it was taken, or after a line that the caller made. It takes no memory.
+    /// Puts a shard back: as it was taken, or after a line that the caller made. It takes no
+    /// memory.
     #[inline(always)]
     pub fn put<R: Wait>(&self, rt: &R, key: &mut Key<N>, held: Held<N>, line: Option<Line>)
         requires of { key.old.boxes ≡ self.now }

@@ -4,7 +4,7 @@
 ghost use Rattle.std.specs.Prelude.{◌≡◌, ◌+◌, ◌-◌, ◌<◌, ◌≤◌, ◌^◌, ℕ, length, map, slice_index_or, vec_len, vec_capacity, IfOk, IfErr, ◌∷◌, false};
 ghost use Rattle.shard_boxes.specs.States.{state_of, AreInitial, state_at};
 ghost use Rattle.shard_boxes.specs.Keys.{IsNewKey, AreNewKeys, KeyState, lines_at, holds_at};
-ghost use Rattle.shard_boxes.specs.Grants.{AreSpare, AreReady, AreFree, own_at, IsTaken};
+ghost use Rattle.shard_boxes.specs.Grants.{AreSpare, AreNewGrants, AreFree, own_at, IsTaken};
 ghost use Rattle.shard_boxes.specs.Passes.{GrantState};
 ghost use Rattle.shard_boxes.specs.Closed.{AreClosed, AreSpent};
 
@@ -19,8 +19,9 @@ use std::marker::PhantomData;
 use std::sync::Wait;
 
 impl<N: PhaseName> Boxes<N> {
-    /// A box for each of 1 to 64 shards, and a key for each of 1 to 16 workers. The shards are numbered from 0, each of as
-    /// many as there are, at clock 0. Without memory they come back as they were. No other call asks for memory.
+    /// A box for each of 1 to 64 shards, and a key for each of 1 to 16 workers. The shards are
+    /// numbered from 0, each of as many as there are, at clock 0. Without memory they come back as
+    /// they were. No other call asks for memory.
     pub fn new<R: Wait>(
         rt: &R,
         alloc: Global,
@@ -107,7 +108,7 @@ fn open_all<N: PhaseName, R: Wait>(
     requires opened { AreInitial N.initial }
     requires boxes { length boxes.now ≡ length N.initial }
     requires spare { AreSpare boxes.now grants.items }
-    ensures { AreReady N.initial N.workers boxes.now 0 N.workers result.items }
+    ensures { AreNewGrants N.initial N.workers boxes.now 0 N.workers result.items }
 {
     let mut s = 0;
     for shard in shards {
@@ -126,7 +127,7 @@ fn deal_all<N: PhaseName>(
 ) -> Vec<Key<N>>
     requires few { (0 < length N.initial) × (length N.initial ≤ MOST_SHARDS) }
     requires boxes { length boxes.now ≡ length N.initial }
-    requires grants { AreReady N.initial N.workers boxes.now 0 N.workers grants.items }
+    requires grants { AreNewGrants N.initial N.workers boxes.now 0 N.workers grants.items }
     requires workers { N.workers < 2 ^ 32 }
     requires rooms { vec_len rooms ≡ N.workers }
     requires each { (w : ℕ) (d : _) → w < N.workers →
@@ -153,10 +154,10 @@ fn deal<N: PhaseName>(
     requires few { (0 < length N.initial) × (length N.initial ≤ MOST_SHARDS) }
     requires worker { worker < N.workers }
     requires boxes { length boxes.now ≡ length N.initial }
-    requires grants { AreReady N.initial N.workers boxes.now worker (N.workers - worker)
+    requires grants { AreNewGrants N.initial N.workers boxes.now worker (N.workers - worker)
         grants.old.items }
     requires room { (vec_len room ≡ 0) × (length N.initial ≤ vec_capacity room) }
-    ensures grants { AreReady N.initial N.workers boxes.now (worker + 1)
+    ensures grants { AreNewGrants N.initial N.workers boxes.now (worker + 1)
         (N.workers - (worker + 1)) grants.new.items }
     ensures key { IsNewKey boxes.now worker result }
 {
@@ -171,8 +172,8 @@ fn deal<N: PhaseName>(
 }
 
 impl<N: PhaseName> Boxes<N> {
-    /// Ends the phase, and gives the shards, in order. It takes the keys of all workers, none of which holds a shard, and
-    /// no memory.
+    /// Ends the phase, and gives the shards, in order. It takes the keys of all workers, none of
+    /// which holds a shard, and no memory.
     pub fn close<R: Wait>(self, rt: &R, keys: Vec<Key<N>>) -> Vec<Shard>
         requires { AreSpent self N.workers keys.items }
         ensures { AreClosed N.initial N.workers keys.items (map state_of result.items) }
@@ -184,7 +185,8 @@ impl<N: PhaseName> Boxes<N> {
     /// As `close`, and gives the empty boxes too, in which another phase can open.
     pub fn close_kept<R: Wait>(self, rt: &R, keys: Vec<Key<N>>) -> (Vec<Shard>, Spare)
         requires { AreSpent self N.workers keys.items }
-        ensures { AreClosed N.initial N.workers keys.items (map state_of result.0.items) }
+        ensures closed { AreClosed N.initial N.workers keys.items (map state_of result.0.items) }
+        ensures spare { result.1 ≡ length N.initial }
     {
         let Boxes {
             boxes,

@@ -31,8 +31,8 @@ use item_shards::{Act, Shard, next_number};
 use std::marker::{Model, PhantomData};
 use std::sync::Wait;
 
-/// A worker's right to take the shards of a phase. Contracts see of each shard whether the key holds it, the lines that were
-/// put by it, and the list of all workers' lines that it has seen.
+/// A worker's right to take the shards of a phase. Contracts see of each shard whether the key
+/// holds it, the lines that were put by it, and the list of all workers' lines that it has seen.
 #[derive(Drop)]
 pub struct Key<N: PhaseName> {
     pub(crate) worker: u32,
@@ -265,7 +265,8 @@ impl<N: PhaseName> Held<N> {
     }
 }
 
-/// While a shard's clock is below the last number, the sums that two acts make on it fit their types.
+/// While a shard's clock is below the last number, the sums that two acts make on it fit their
+/// types.
 pub fn sums_fit()
     ensures { (state : ShardState) (first second : Event) →
         IsWithin state → state.clock < last_number →

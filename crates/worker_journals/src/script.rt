@@ -8,7 +8,7 @@ use std::alloc::{AllocError, Global};
 use std::marker::Model;
 
 // For how many requests more a full script asks for room, at least.
-const REQUESTS_MORE: usize = 32;
+const REQUESTS_MORE: usize = 128;
 
 /// A worker's script, compact: its requests in their order, each in 32 bytes; the facts of items that
 /// they store lie in a list of their own. Contracts see the list of requests.
@@ -132,5 +132,15 @@ fn make_room(requests: &mut Vec<ShortRequest>) -> Result<(), AllocError>
     if requests.len() < requests.capacity() {
         return Ok(());
     }
+    make_more_room(requests)
+}
+
+// Room for many requests more, apart so that the test is inlined.
+#[cold]
+#[inline(never)]
+fn make_more_room(requests: &mut Vec<ShortRequest>) -> Result<(), AllocError>
+    ensures same { requests.new.items ≡ requests.old.items }
+    ensures room { OnOk result (vec_len requests.new < vec_capacity requests.new) }
+{
     requests.reserve(REQUESTS_MORE)
 }

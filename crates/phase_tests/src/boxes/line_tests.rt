@@ -10,15 +10,14 @@ ghost use Rattle.phase_permits.specs.Performing.{HaveOpening};
 use crate::comparing::assert_same;
 use crate::permits::closing::{clocks_of, close_one};
 use crate::permits::testing::{boxes_of_one, four};
-use crate::testing::FIRST;
+use crate::testing::{FIRST, room_for};
 use auction_rows::{ItemEntry, ItemShown, MOST_SHOWN, Reply, Ten};
 use item_shards::{Act, LAST_NUMBER, Look, Shard};
 use shard_boxes::{Line, PhaseName};
-use std::alloc::Global;
+use std::alloc::{AllocError, Global};
 use std::marker::Brand;
 use std::process::Abort;
 use std::sync::Wait;
-use std::test::Fail;
 
 const LISTED: ItemEntry = ItemEntry { time: 1, id: FIRST };
 
@@ -67,15 +66,15 @@ fn put_by_hand<N: PhaseName, R: Wait + Abort>(
     rt: &R,
     alloc: Global,
     shards: Vec<Shard>,
-) -> Result<(), Fail>
+) -> Result<(), AllocError>
     requires opening { map state_of shards.items ≡ N.initial }
     requires four { length N.initial ≡ 4 }
     requires opened { AreInitial N.initial }
     requires users { HaveOpening N.initial (record { users = 10; categories = 2 }) }
     requires workers { 1 ≡ N.workers }
 {
+    let room = room_for(rt, alloc, 1);
     let (boxes, mut key) = boxes_of_one::<N, R>(rt, alloc, shards)?;
-    let room = Vec::with_capacity(alloc, 1)?;
     assert_same(rt, &[boxes.shards(), key.shards()], &[4, 4]);
     let mut held = boxes.take(rt, &mut key, 0);
     let clock = held.clock();
@@ -85,7 +84,7 @@ fn put_by_hand<N: PhaseName, R: Wait + Abort>(
     boxes.put(rt, &mut key, held, Some(line));
     let shards = close_one(rt, boxes, key, room);
     let Some(shard) = shards.first() else {
-        return Err(Fail::from("no shard"));
+        panic!(rt; "no shard");
     };
     assert_same(rt, &category_seen(shard), &listed(rt));
     let clocks = [Some(1), Some(0), Some(0), Some(0)];
@@ -94,7 +93,7 @@ fn put_by_hand<N: PhaseName, R: Wait + Abort>(
 }
 
 #[test]
-fn a_caller_makes_the_line_of_its_acts(rt: HostRuntime) -> Result<(), Fail> {
+fn a_caller_makes_the_line_of_its_acts(rt: HostRuntime) -> Result<(), AllocError> {
     let shards = four(rt.alloc())?;
     put_by_hand::<Brand, HostRuntime>(&rt, rt.alloc(), shards)
 }

@@ -18,6 +18,7 @@ use std::alloc::{AllocError, Global};
 use std::process::Abort;
 use std::sync::Wait;
 use std::test::Fail;
+use worker_journals::Journal;
 
 // A stash in which a view waits.
 fn waiting(alloc: Global) -> Result<Stash, AllocError>
@@ -26,6 +27,28 @@ fn waiting(alloc: Global) -> Result<Stash, AllocError>
     let mut stash = Stash::with_room(alloc, 1)?;
     stash.push(7, Request::ViewUser { user: 0 });
     Ok(stash)
+}
+
+// The boxes of these shards, and a permit with this stash.
+fn permit_of_one<N: PhaseName, R: Wait + Abort>(
+    rt: &R,
+    alloc: Global,
+    shards: Vec<Shard>,
+    stash: Stash,
+) -> Result<(Boxes<N>, JoinedPermit<N>), AllocError>
+    requires opening { map state_of shards.items ≡ N.initial }
+    requires four { length N.initial ≡ 4 }
+    requires opened { AreInitial N.initial }
+    requires workers { 1 ≡ N.workers }
+    requires few { length stash.requests ≤ 1 }
+    ensures of { IfOk result (λ made. made.1.key.boxes ≡ made.0) }
+    ensures worker { IfOk result (λ made. made.1.key.worker ≡ 0) }
+    ensures users { IfOk result (λ made.
+        made.1.opening ≡ record { users = 10; categories = 2 }) }
+{
+    let (boxes, key) = boxes_of_one::<N, R>(rt, alloc, shards)?;
+    let permit = joined_permit(alloc, key, stash, 0)?;
+    Ok((boxes, permit))
 }
 
 // Performs a store, and once more if it is refused memory: then the permit is as before, but for
@@ -86,19 +109,27 @@ pub(crate) fn store<N: PhaseName, R: Wait + Print + Abort>(
     requires users { HaveOpening N.initial (record { users = 10; categories = 2 }) }
     requires workers { 1 ≡ N.workers }
 {
-    let facts = vase(10)?;
-    let request = put_up(10)?;
-    let (boxes, key) = boxes_of_one::<N, R>(rt, alloc, shards)?;
+    let facts = vase(rt, 10);
+    let request = put_up(rt, 10);
     let room = Vec::with_capacity(alloc, 1)?;
     let stash = waiting(alloc)?;
-    let mut permit = joined_permit(alloc, key, stash, 0)?;
+    let (boxes, mut permit) = permit_of_one::<N, R>(rt, alloc, shards, stash)?;
     let _ = println!(rt; "first store permit: {} left", permit.left());
     let answer = perform_twice(rt, &boxes, &mut permit, &request);
     let (journal, _slices, _stash, key, _counters) = permit.finish().parts();
     close_after(rt, boxes, key, room, answer.is_ok().then_some(facts));
+    stored(rt, answer, &journal)
+}
+
+// The reply, and how many commits there are, both printed.
+fn stored<R: Print>(
+    rt: &R,
+    answer: Result<Reply, PermitFault>,
+    journal: &Journal,
+) -> Result<(Reply, usize), Fail> {
     let reply = answer.map_err(Fail::new)?;
     let _ = println!(rt; "first store, 2 left: {reply:?}");
-    print_journal(rt, &journal);
+    print_journal(rt, journal);
     Ok((reply, journal.len()))
 }
 
@@ -114,16 +145,25 @@ pub(crate) fn view<N: PhaseName, R: Wait + Print + Abort>(
     requires users { HaveOpening N.initial (record { users = 10; categories = 2 }) }
     requires workers { 1 ≡ N.workers }
 {
-    let (boxes, key) = boxes_of_one::<N, R>(rt, alloc, shards)?;
     let stash = Stash::with_room(alloc, 0)?;
-    let mut permit = joined_permit(alloc, key, stash, 0)?;
+    let (boxes, mut permit) = permit_of_one::<N, R>(rt, alloc, shards, stash)?;
     let _ = println!(rt; "first view permit: {} left", permit.left());
     look_for_memory(rt, alloc);
     let answer = perform(rt, &boxes, &mut permit, &Request::ViewUser { user: 10 }, 0);
     let (journal, _slices, _stash, _key, _counters) = permit.finish().parts();
+    viewed(rt, alloc, answer, &journal)
+}
+
+// The reply, and how many commits there are, both printed.
+fn viewed<R: Print>(
+    rt: &R,
+    alloc: Global,
+    answer: Result<Reply, PermitFault>,
+    journal: &Journal,
+) -> Result<(Reply, usize), Fail> {
     let reply = answer.map_err(Fail::new)?;
     let _ = println!(rt; "first view: {reply:?}");
     look_for_memory(rt, alloc);
-    print_journal(rt, &journal);
+    print_journal(rt, journal);
     Ok((reply, journal.len()))
 }

@@ -1,6 +1,6 @@
 //! Rows that are added to an auction one after the other.
 use crate::comparing::assert_same;
-use crate::testing::{FIRST, OPENING, VIEW, put_up};
+use crate::testing::{FIRST, OPENING, VIEW, put_up, vase};
 use auction_rows::{BidId, BidRow, Reply, Request, Row};
 use item_shards::Opened;
 use phase_floor::{AddFault, Joined};
@@ -17,50 +17,52 @@ const BID: Opened = Opened {
     },
 };
 
+const BID_ROW: Row = Row::Bid(BidRow {
+    id: BidId {
+        worker: 1,
+        serial: 0,
+    },
+    item: FIRST,
+    bidder: 3,
+    amount: 20,
+    time: 5,
+});
+
 #[test]
 fn added_rows_are_shown(rt: HostRuntime) -> Result<(), Fail> {
-    let alloc = rt.alloc();
-    let mut state = Joined::new(alloc, OPENING, 2, 4)?;
+    let mut state = Joined::new(rt.alloc(), OPENING, 2, 4)?;
     let item = Opened {
         worker: 0,
-        request: put_up(10)?,
+        request: put_up(&rt, 10),
     };
     let Ok(_row) = state.add(&item) else {
         return Err(Fail::from("the item is not added"));
     };
-    let row = state.add(&BID).map_err(Fail::new)?;
-    let bid = BidRow {
-        id: BidId {
-            worker: 1,
-            serial: 0,
-        },
-        item: FIRST,
-        bidder: 3,
-        amount: 20,
-        time: 5,
+    assert_same(&rt, &state.add(&BID), &Ok(BID_ROW));
+    let seen = Reply::ItemSeen {
+        seller: 0,
+        category: 0,
+        name: vase(&rt, 10).name,
+        start: 10,
+        closes: 100,
+        highest: Some(20),
+        bidder: Some(3),
+        bids: 1,
+        left: 1,
     };
-    assert_same(&rt, &row, &Row::Bid(bid));
-    let Some(Reply::ItemSeen { highest, bids, .. }) = state.view(&VIEW) else {
-        return Err(Fail::from("the item is not shown"));
-    };
-    assert_same(&rt, &(highest, bids), &(Some(20), 1));
+    assert_same(&rt, &state.view(&VIEW), &Some(seen));
     Ok(())
 }
 
 #[test]
-fn a_bid_on_no_item_is_not_added(rt: HostRuntime) -> Result<(), Fail> {
-    let mut state = Joined::new(rt.alloc(), OPENING, 2, 4)?;
-    assert_same(&rt, &state.add(&BID), &Err(AddFault::BadRow));
-    Ok(())
-}
-
-#[test]
-fn a_row_of_a_third_worker_of_two_is_not_added(rt: HostRuntime) -> Result<(), Fail> {
-    let mut state = Joined::new(rt.alloc(), OPENING, 2, 4)?;
+fn bids_on_no_item_and_rows_of_a_third_worker_are_not_added(rt: HostRuntime) -> Result<(), Fail> {
     let item = Opened {
         worker: 2,
-        request: put_up(10)?,
+        request: put_up(&rt, 10),
     };
-    assert_same(&rt, &state.add(&item), &Err(AddFault::BadRow));
+    for row in [BID, item] {
+        let mut state = Joined::new(rt.alloc(), OPENING, 2, 4)?;
+        assert_same(&rt, &state.add(&row), &Err(AddFault::BadRow));
+    }
     Ok(())
 }

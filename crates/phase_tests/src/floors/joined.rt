@@ -1,8 +1,9 @@
 //! A joined phase in which the first worker performs a request.
-ghost use Rattle.std.specs.Prelude.{◌≡◌, ◌≤◌, [], length, vec_capacity, vec_len, IfOk};
+ghost use Rattle.std.specs.Prelude.{◌≡◌, ◌≤◌, [], length, vec_capacity, vec_len};
 ghost use Rattle.phase_floor.specs.Closings.{IsReceipt, AreReceiptsOf};
 ghost use Rattle.phase_floor.specs.States.{states_of};
 
+use crate::testing::room_for;
 use auction_rows::{MOST_TRIES, Request};
 use phase_floor::{Joined, JoinedFloor};
 use phase_permits::{JoinedPermit, JoinedReceipt, Stash};
@@ -10,7 +11,6 @@ use shard_boxes::PhaseName;
 use std::alloc::Global;
 use std::process::Abort;
 use std::sync::Wait;
-use std::test::Fail;
 use worker_journals::History;
 
 // Performs the request.
@@ -75,23 +75,22 @@ pub(crate) fn joined_phase<N: PhaseName, R: Wait + Abort>(
     stashes: Vec<Stash>,
     request: &Request,
     history: &mut History,
-) -> Result<Joined, Fail>
+) -> Joined
     requires shards { states_of state ≡ N.initial }
     requires workers { length state.counters ≡ N.workers }
     requires stashes { vec_len stashes ≡ N.workers }
     requires phase { state.phase ≡ 0 }
-    ensures workers { IfOk result (λ after. length after.counters ≡ N.workers) }
-    ensures phase { IfOk result (λ after. after.phase ≡ 1) }
+    ensures workers { length result.counters ≡ N.workers }
+    ensures phase { result.phase ≡ 1 }
 {
     let workers = stashes.len();
-    let quotas = vec![in alloc; 1u32; workers]?;
-    let room = Vec::with_capacity(alloc, workers)?;
+    let quotas = vec![in alloc; 1u32; workers].expect(rt, "memory");
+    let room = room_for(rt, alloc, workers);
     let Ok((floor, permits)) = state.begin_joined::<N, R>(rt, alloc, &quotas, stashes) else {
-        return Err(Fail::from("the joined phase did not begin"));
+        panic!(rt; "the joined phase did not begin");
     };
     let receipts = perform_first(rt, &floor, permits, room, request);
-    match floor.close(rt, alloc, history, receipts) {
-        Ok((state, _stashes)) => Ok(state),
-        Err(fault) => Err(Fail::new(fault)),
-    }
+    let closed = floor.close(rt, alloc, history, receipts);
+    let (state, _stashes) = closed.expect(rt, "a joined phase that is closed");
+    state
 }

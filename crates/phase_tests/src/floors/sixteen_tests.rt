@@ -5,7 +5,7 @@ ghost use Rattle.phase_floor.specs.States.{states_of};
 use crate::comparing::assert_same;
 use crate::floors::joined::joined_phase;
 use crate::floors::split::{BIDS, bid_often};
-use crate::testing::{FIRST, VIEW, put_up, vase};
+use crate::testing::{FIRST, VIEW, only_hot, put_up, room_for, vase};
 use auction_rows::{BidId, BidShown, MOST_SHOWN, Object, Opening, Reply, Request, Ten};
 use indexmap::IndexSet;
 use phase_floor::Joined;
@@ -15,10 +15,16 @@ use std::alloc::{AllocError, Global};
 use std::marker::Brand;
 use std::process::Abort;
 use std::sync::Wait;
-use std::test::Fail;
 use worker_journals::History;
 
 const WORKERS: u32 = 16;
+
+const SIXTEEN: Opening = Opening {
+    users: 16,
+    categories: 2,
+};
+
+const VIEW_OF_BIDS: Request = Request::ViewBids { item: FIRST };
 
 // Nothing waits for any of them.
 fn nothing_waits(alloc: Global) -> Result<Vec<Stash>, AllocError>
@@ -38,21 +44,20 @@ fn split_phase<N: PhaseName, R: Wait + Abort>(
     state: Joined,
     hot: &IndexSet<Object>,
     history: &mut History,
-) -> Result<Joined, Fail>
+) -> Joined
     requires shards { states_of state ≡ N.initial }
     requires workers { length state.counters ≡ N.workers }
     requires sixteen { N.workers ≡ 16 }
     requires phase { state.phase ≡ 1 }
 {
-    let room = Vec::with_capacity(alloc, 16)?;
+    let room = room_for(rt, alloc, 16);
     let Ok((floor, permits)) = state.begin_split::<N, R>(rt, alloc, &[BIDS; 16], hot) else {
-        return Err(Fail::from("the split phase did not begin"));
+        panic!(rt; "the split phase did not begin");
     };
     let receipts = bid_often(rt, &floor, permits, room);
-    match floor.close(rt, alloc, history, receipts) {
-        Ok((state, _stashes)) => Ok(state),
-        Err(fault) => Err(Fail::new(fault)),
-    }
+    let closed = floor.close(rt, alloc, history, receipts);
+    let (state, _stashes) = closed.expect(rt, "a split phase that is closed");
+    state
 }
 
 // The state after both.
@@ -63,12 +68,12 @@ fn two_phases<R: Wait + Abort>(
     store: &Request,
     hot: &IndexSet<Object>,
     history: &mut History,
-) -> Result<Joined, Fail>
+) -> Joined
     requires sixteen { length state.counters ≡ 16 }
     requires phase { state.phase ≡ 0 }
 {
-    let stashes = nothing_waits(alloc)?;
-    let state = joined_phase::<Brand, R>(rt, alloc, state, stashes, store, history)?;
+    let stashes = nothing_waits(alloc).expect(rt, "memory");
+    let state = joined_phase::<Brand, R>(rt, alloc, state, stashes, store, history);
     split_phase::<Brand, R>(rt, alloc, state, hot, history)
 }
 
@@ -88,22 +93,17 @@ fn last_bids<R: Abort>(rt: &R) -> Ten<BidShown> {
 }
 
 #[test]
-fn sixteen_workers_bid_on_one_item(rt: HostRuntime) -> Result<(), Fail> {
+fn sixteen_workers_bid_on_one_item(rt: HostRuntime) {
     let alloc = rt.alloc();
-    let opening = Opening {
-        users: 16,
-        categories: 2,
-    };
-    let store = put_up(5)?;
-    let mut hot = IndexSet::new(alloc);
-    assert!(rt; hot.insert(Object::Item(FIRST)).is_ok());
-    let state = Joined::new(alloc, opening, WORKERS, 4)?;
+    let store = put_up(&rt, 5);
+    let hot = only_hot(&rt, alloc, Object::Item(FIRST));
+    let state = Joined::new(alloc, SIXTEEN, WORKERS, 4).expect(&rt, "memory");
     let mut history = History::new(alloc);
-    let state = two_phases(&rt, alloc, state, &store, &hot, &mut history)?;
+    let state = two_phases(&rt, alloc, state, &store, &hot, &mut history);
     let seen = Reply::ItemSeen {
         seller: 0,
         category: 0,
-        name: vase(5)?.name,
+        name: vase(&rt, 5).name,
         start: 5,
         closes: 100,
         highest: Some(5),
@@ -111,9 +111,8 @@ fn sixteen_workers_bid_on_one_item(rt: HostRuntime) -> Result<(), Fail> {
         bids: 16_000,
         left: 1,
     };
-    let bids = state.view(&Request::ViewBids { item: FIRST });
+    let bids = Reply::BidsSeen(last_bids(&rt));
     assert_same(&rt, &state.view(&VIEW), &Some(seen));
-    assert_same(&rt, &bids, &Some(Reply::BidsSeen(last_bids(&rt))));
+    assert_same(&rt, &state.view(&VIEW_OF_BIDS), &Some(bids));
     assert_same(&rt, &history.len(), &16_001);
-    Ok(())
 }

@@ -5,7 +5,6 @@ ghost use Rattle.worker_journals.specs.Merged.{AreByWorker};
 use crate::comparing::assert_same;
 use auction_rows::{Entry, Refusal, Reply, Request};
 use std::alloc::{AllocError, Global};
-use std::test::Fail;
 use worker_journals::{History, Journal, merge_journals};
 
 fn is_refused(alloc: Global, room: usize) -> bool {
@@ -61,7 +60,7 @@ fn are_in_order(entries: &[Entry]) -> bool {
 }
 
 #[test]
-fn journals_are_merged_by_number_and_then_worker(rt: HostRuntime) -> Result<(), Fail> {
+fn journals_are_merged_by_number_and_then_worker(rt: HostRuntime) -> Result<(), AllocError> {
     let alloc = rt.alloc();
     let merged = merge_journals(alloc, journals(alloc)?)?;
     assert_same(&rt, &are_in_order(&merged), &true);
@@ -77,11 +76,10 @@ fn journals_are_merged_by_number_and_then_worker(rt: HostRuntime) -> Result<(), 
 }
 
 #[test]
-fn a_journal_gives_its_entries(rt: HostRuntime) -> Result<(), Fail> {
-    let journal = journal_of(rt.alloc(), 2, 4)?;
+fn a_journal_gives_its_entries(rt: HostRuntime) {
+    let journal = journal_of(rt.alloc(), 2, 4).expect(&rt, "memory");
     let mut entries = journal.entries();
-    let first = entries.next().map(|entry| entry.to_entry());
-    assert_same(&rt, &first, &Some(entry(2, 4)));
+    let first = entries.next().expect(&rt, "an entry").to_entry();
+    assert_same(&rt, &first, &entry(2, 4));
     assert_same(&rt, &entries.next().is_none(), &true);
-    Ok(())
 }

@@ -6,7 +6,6 @@ ghost use Rattle.worker_journals.specs.Journals.{entry_number};
 use crate::comparing::assert_same;
 use auction_rows::{Refusal, Reply, Request};
 use std::process::Abort;
-use std::test::Fail;
 use worker_journals::{Journal, merge_journals, numbers_come_after};
 
 // Adds a commit at a number.
@@ -26,21 +25,23 @@ fn commit<R: Abort>(rt: &R, journal: &mut Journal, number: u64)
 }
 
 #[test]
-fn journals_of_two_workers_are_merged(rt: HostRuntime) -> Result<(), Fail> {
+fn journals_of_two_workers_are_merged(rt: HostRuntime) {
     let alloc = rt.alloc();
-    let mut first = Journal::with_room(alloc, 0, 0, 3)?;
+    let mut first = Journal::with_room(alloc, 0, 0, 3).expect(&rt, "memory");
     commit(&rt, &mut first, 1);
     commit(&rt, &mut first, 2);
     commit(&rt, &mut first, 4);
-    let mut second = Journal::with_room(alloc, 0, 1, 2)?;
+    let mut second = Journal::with_room(alloc, 0, 1, 2).expect(&rt, "memory");
     commit(&rt, &mut second, 2);
     commit(&rt, &mut second, 3);
-    let merged = merge_journals(alloc, vec![in alloc; first, second]?)?;
+    let journals = vec![in alloc; first, second].expect(&rt, "memory");
+    let merged = merge_journals(alloc, journals).expect(&rt, "memory");
     let mut places = Vec::new(alloc);
     for entry in &merged {
-        places.push((entry.number, entry.worker))?;
+        places
+            .push((entry.number, entry.worker))
+            .expect(&rt, "memory");
     }
     let wanted = [(1, 0), (2, 0), (2, 1), (3, 1), (4, 0)];
     assert_same(&rt, &places.as_slice(), &wanted.as_slice());
-    Ok(())
 }

@@ -51,7 +51,7 @@ pub(crate) fn close_two<N: PhaseName, R: Wait>(
 
 /// The clocks of four shards.
 pub(crate) fn clocks_of(shards: &[Shard]) -> [Option<u64>; 4] {
-    [0, 1, 2, 3].map(|s| shards.get(s).map(|shard| shard.clock()))
+    [0, 1, 2, 3].map(|s| Some(shards.get(s)?.clock()))
 }
 
 /// What is fixed of the first item, where the first shard has it.

@@ -1,5 +1,5 @@
 //! A split permit of worker 0, who has stored the first item.
-ghost use Rattle.std.specs.Prelude.{◌≡◌, ℕ, ◌≤◌, ◌<◌, true, length, Ok, IfOk};
+ghost use Rattle.std.specs.Prelude.{◌≡◌, ℕ, ◌≤◌, ◌<◌, true, length, Ok};
 ghost use Rattle.std.specs.List.{IsDistinct, AllByRecursion};
 ghost use Rattle.auction_rows.specs.declared.requests.ItemId.{ItemId as Id};
 ghost use Rattle.auction_rows.specs.declared.requests.Object.TheVariants.{Item};
@@ -14,7 +14,7 @@ use crate::testing::{FIRST, OPENING};
 use auction_rows::{Facts, MOST_TRIES, Object, Reply, Request, Stars};
 use phase_permits::{Counters, Done, PermitFault, Slices, SplitPermit, Stash};
 use shard_boxes::{Boxes, Key, PhaseName};
-use std::alloc::{AllocError, Global};
+use std::alloc::Global;
 use std::process::Abort;
 use std::sync::Wait;
 use worker_journals::Journal;
@@ -22,23 +22,23 @@ use worker_journals::Journal;
 /// A permit at this clock to perform four requests, with slices of these objects. No other item of
 /// the worker is hot.
 pub(crate) fn split_permit<N: PhaseName>(
+    rt: &impl Abort,
     alloc: Global,
     key: Key<N>,
     hot: &[(Object, Option<(Facts, u32)>)],
     clock: u64,
-) -> Result<SplitPermit<N>, AllocError>
+) -> SplitPermit<N>
     requires worker { key.worker ≡ 0 }
     requires unused { IsUnused key }
     requires distinct { IsDistinct same_object (hot_objects hot.now) }
     requires stocked { AllByRecursion IsStocked hot.now }
     requires stored { (item : Id) → is_hot (hot_objects hot.now) (Item item) ≡ true → item.serial ≡ 0 }
-    ensures key { IfOk result (λ permit. permit.key ≡ key) }
-    ensures users { IfOk result (λ permit.
-        permit.opening ≡ record { users = 10; categories = 2 }) }
+    ensures key { result.key ≡ key }
+    ensures users { result.opening ≡ record { users = 10; categories = 2 } }
 {
-    let slices = Slices::new(alloc, hot)?;
-    let journal = Journal::with_room(alloc, 1, 0, 4)?;
-    let stash = Stash::with_room(alloc, 4)?;
+    let slices = Slices::new(alloc, hot).expect(rt, "memory");
+    let journal = Journal::with_room(alloc, 1, 0, 4).expect(rt, "memory");
+    let stash = Stash::with_room(alloc, 4).expect(rt, "memory");
     let counters = Counters {
         items: 1,
         bids: 0,
@@ -46,7 +46,7 @@ pub(crate) fn split_permit<N: PhaseName>(
         buys: 0,
         commits: 1,
     };
-    Ok(SplitPermit::new(key, OPENING, counters, journal, stash, slices, 4, clock))
+    SplitPermit::new(key, OPENING, counters, journal, stash, slices, 4, clock)
 }
 
 /// A bid on the first item, which is hot.

@@ -8,7 +8,7 @@ use crate::comparing::assert_same;
 use crate::permits::closing::{clocks_of, close_one};
 use crate::permits::split::{bid, comment, perform, split_permit};
 use crate::permits::testing::{boxes_of_one, four};
-use crate::testing::{FIRST, VIEW, vase};
+use crate::testing::{FIRST, VIEW, room_for, vase};
 use auction_rows::{BidId, CommentId, Object, Refusal, Reply, Stars};
 use item_shards::Shard;
 use phase_permits::{Done, SplitPermit};
@@ -17,7 +17,6 @@ use std::alloc::Global;
 use std::marker::Brand;
 use std::process::Abort;
 use std::sync::Wait;
-use std::test::Fail;
 use worker_journals::Journal;
 
 const FIRST_BID: Reply = Reply::BidStored(BidId {
@@ -25,12 +24,12 @@ const FIRST_BID: Reply = Reply::BidStored(BidId {
     serial: 0,
 });
 
-fn numbers_of(alloc: Global, journal: &Journal) -> Result<Vec<u64>, Fail> {
+fn numbers_of(rt: &impl Abort, alloc: Global, journal: &Journal) -> Vec<u64> {
     let mut numbers = Vec::new(alloc);
     for entry in journal.entries() {
-        numbers.push(entry.number())?;
+        numbers.push(entry.number()).expect(rt, "memory");
     }
-    Ok(numbers)
+    numbers
 }
 
 // Bids on a hot item, and a view of it, which waits: the key is as it was.
@@ -73,57 +72,43 @@ fn close_unused<N: PhaseName, R: Wait + Abort>(
 }
 
 // What the bids and the view leave.
-fn bids_on_a_hot_item<N: PhaseName, R: Wait + Abort>(
-    rt: &R,
-    alloc: Global,
-    shards: Vec<Shard>,
-) -> Result<(), Fail>
+fn bids_on_a_hot_item<N: PhaseName, R: Wait + Abort>(rt: &R, alloc: Global, shards: Vec<Shard>)
     requires opening { map state_of shards.items ≡ N.initial }
     requires four { length N.initial ≡ 4 }
     requires opened { AreInitial N.initial }
     requires users { HaveOpening N.initial (record { users = 10; categories = 2 }) }
     requires workers { 1 ≡ N.workers }
 {
-    let (boxes, key) = boxes_of_one::<N, R>(rt, alloc, shards)?;
-    let room = Vec::with_capacity(alloc, 1)?;
-    let hot = [(Object::Item(FIRST), Some((vase(10)?, 1)))];
-    let mut permit = split_permit(alloc, key, &hot, 0)?;
+    let (boxes, key) = boxes_of_one::<N, R>(rt, alloc, shards).expect(rt, "memory");
+    let room = room_for(rt, alloc, 1);
+    let hot = [(Object::Item(FIRST), Some((vase(rt, 10), 1)))];
+    let mut permit = split_permit(rt, alloc, key, &hot, 0);
     bid_and_view(rt, &boxes, &mut permit);
     let (journal, mut slices, stash, key, _counters) = permit.finish().parts();
     close_unused(rt, boxes, key, room);
-    assert_same(
-        rt,
-        &numbers_of(alloc, &journal)?.as_slice(),
-        &[1, 2, 3].as_slice(),
-    );
+    let numbers = numbers_of(rt, alloc, &journal);
+    assert_same(rt, &numbers.as_slice(), &[1, 2, 3].as_slice());
     assert_same(rt, &(stash.len(), stash.get(0)), &(1, Some((3, VIEW))));
-    let popped = [
-        slices.pop().map(|pair| pair.0),
-        slices.pop().map(|pair| pair.0),
-    ];
-    assert_same(rt, &popped, &[Some(Object::Item(FIRST)), None]);
-    Ok(())
+    let (object, _slice) = slices.pop().expect(rt, "a slice");
+    assert_same(rt, &object, &Object::Item(FIRST));
+    assert_same(rt, &slices.pop().is_none(), &true);
 }
 
 // A comment about a hot user on a hot item.
-fn comment_on_a_hot_item<N: PhaseName, R: Wait + Abort>(
-    rt: &R,
-    alloc: Global,
-    shards: Vec<Shard>,
-) -> Result<(), Fail>
+fn comment_on_a_hot_item<N: PhaseName, R: Wait + Abort>(rt: &R, alloc: Global, shards: Vec<Shard>)
     requires opening { map state_of shards.items ≡ N.initial }
     requires four { length N.initial ≡ 4 }
     requires opened { AreInitial N.initial }
     requires users { HaveOpening N.initial (record { users = 10; categories = 2 }) }
     requires workers { 1 ≡ N.workers }
 {
-    let (_boxes, key) = boxes_of_one::<N, R>(rt, alloc, shards)?;
-    let stars = Stars::new(5).ok_or("stars")?;
+    let (_boxes, key) = boxes_of_one::<N, R>(rt, alloc, shards).expect(rt, "memory");
+    let stars = Stars { value: 5 };
     let hot = [
-        (Object::Item(FIRST), Some((vase(10)?, 1))),
+        (Object::Item(FIRST), Some((vase(rt, 10), 1))),
         (Object::User(3), None),
     ];
-    let mut permit = split_permit(alloc, key, &hot, 0)?;
+    let mut permit = split_permit(rt, alloc, key, &hot, 0);
     let stored = comment(rt, &mut permit, stars, 0);
     let wanted = CommentId {
         worker: 0,
@@ -132,46 +117,40 @@ fn comment_on_a_hot_item<N: PhaseName, R: Wait + Abort>(
     assert_same(rt, &stored, &Some(Reply::CommentStored(wanted)));
     assert_same(rt, &permit.left(), &3);
     drop(permit.finish());
-    Ok(())
 }
 
 // A bid at the end of numbers.
-fn stores_at_the_end<N: PhaseName, R: Wait + Abort>(
-    rt: &R,
-    alloc: Global,
-    shards: Vec<Shard>,
-) -> Result<(), Fail>
+fn stores_at_the_end<N: PhaseName, R: Wait + Abort>(rt: &R, alloc: Global, shards: Vec<Shard>)
     requires opening { map state_of shards.items ≡ N.initial }
     requires four { length N.initial ≡ 4 }
     requires opened { AreInitial N.initial }
     requires users { HaveOpening N.initial (record { users = 10; categories = 2 }) }
     requires workers { 1 ≡ N.workers }
 {
-    let (_boxes, key) = boxes_of_one::<N, R>(rt, alloc, shards)?;
-    let hot = [(Object::Item(FIRST), Some((vase(10)?, 1)))];
-    let mut permit = split_permit(alloc, key, &hot, u64::MAX)?;
+    let (_boxes, key) = boxes_of_one::<N, R>(rt, alloc, shards).expect(rt, "memory");
+    let hot = [(Object::Item(FIRST), Some((vase(rt, 10), 1)))];
+    let mut permit = split_permit(rt, alloc, key, &hot, u64::MAX);
     let before = permit.left();
     let answer = bid(rt, &mut permit, 10, 99, 0);
     assert_same(rt, &answer, &None);
     assert_same(rt, &(before, permit.left()), &(4, 4));
     drop(permit.finish());
-    Ok(())
 }
 
 #[test]
-fn hot_bids_are_refused_and_stored(rt: HostRuntime) -> Result<(), Fail> {
-    let shards = four(rt.alloc())?;
-    bids_on_a_hot_item::<Brand, HostRuntime>(&rt, rt.alloc(), shards)
+fn hot_bids_are_refused_and_stored(rt: HostRuntime) {
+    let shards = four(rt.alloc()).expect(&rt, "memory");
+    bids_on_a_hot_item::<Brand, HostRuntime>(&rt, rt.alloc(), shards);
 }
 
 #[test]
-fn a_hot_user_is_commented_on(rt: HostRuntime) -> Result<(), Fail> {
-    let shards = four(rt.alloc())?;
-    comment_on_a_hot_item::<Brand, HostRuntime>(&rt, rt.alloc(), shards)
+fn a_hot_user_is_commented_on(rt: HostRuntime) {
+    let shards = four(rt.alloc()).expect(&rt, "memory");
+    comment_on_a_hot_item::<Brand, HostRuntime>(&rt, rt.alloc(), shards);
 }
 
 #[test]
-fn hot_bids_end_with_the_numbers(rt: HostRuntime) -> Result<(), Fail> {
-    let shards = four(rt.alloc())?;
-    stores_at_the_end::<Brand, HostRuntime>(&rt, rt.alloc(), shards)
+fn hot_bids_end_with_the_numbers(rt: HostRuntime) {
+    let shards = four(rt.alloc()).expect(&rt, "memory");
+    stores_at_the_end::<Brand, HostRuntime>(&rt, rt.alloc(), shards);
 }

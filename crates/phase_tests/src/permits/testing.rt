@@ -9,8 +9,8 @@ use crate::testing::OPENING;
 use item_shards::Shard;
 use shard_boxes::{Boxes, Key, PhaseName};
 use std::alloc::{AllocError, Global};
+use std::process::Abort;
 use std::sync::Wait;
-use std::test::Fail;
 
 /// Four new shards.
 pub(crate) fn four(alloc: Global) -> Result<Vec<Shard>, AllocError>
@@ -27,11 +27,11 @@ pub(crate) fn four(alloc: Global) -> Result<Vec<Shard>, AllocError>
 }
 
 /// The boxes of these shards, and the key of their one worker.
-pub(crate) fn boxes_of_one<N: PhaseName, R: Wait>(
+pub(crate) fn boxes_of_one<N: PhaseName, R: Wait + Abort>(
     rt: &R,
     alloc: Global,
     shards: Vec<Shard>,
-) -> Result<(Boxes<N>, Key<N>), Fail>
+) -> Result<(Boxes<N>, Key<N>), AllocError>
     requires opening { map state_of shards.items ≡ N.initial }
     requires four { length N.initial ≡ 4 }
     requires opened { AreInitial N.initial }
@@ -41,9 +41,9 @@ pub(crate) fn boxes_of_one<N: PhaseName, R: Wait>(
     ensures unused { IfOk result (λ made. IsUnused made.1) }
 {
     let Ok((boxes, mut keys)) = Boxes::<N>::new(rt, alloc, shards, 1) else {
-        return Err(Fail::from(AllocError));
+        return Err(AllocError);
     };
-    let key = keys.pop().ok_or("a key")?;
+    let key = keys.pop().expect(rt, "a key");
     Ok((boxes, key))
 }
 
@@ -52,7 +52,7 @@ pub(crate) fn boxes_of_two<N: PhaseName, R: Wait>(
     rt: &R,
     alloc: Global,
     shards: Vec<Shard>,
-) -> Result<(Boxes<N>, Key<N>, Key<N>), Fail>
+) -> Result<(Boxes<N>, Key<N>, Key<N>), AllocError>
     requires opening { map state_of shards.items ≡ N.initial }
     requires four { length N.initial ≡ 4 }
     requires opened { AreInitial N.initial }
@@ -61,7 +61,7 @@ pub(crate) fn boxes_of_two<N: PhaseName, R: Wait>(
     ensures second { IfOk result (λ made. IsNewKey made.0 1 made.2) }
 {
     let Ok((boxes, keys)) = Boxes::<N>::new(rt, alloc, shards, 2) else {
-        return Err(Fail::from(AllocError));
+        return Err(AllocError);
     };
     let (first, second) = both(keys);
     Ok((boxes, first, second))

@@ -16,7 +16,6 @@ use std::alloc::{AllocError, Global};
 use std::marker::Brand;
 use std::process::Abort;
 use std::sync::Wait;
-use std::test::Fail;
 use std::thread;
 use std::thread::Threads;
 use worker_journals::Journal;
@@ -53,19 +52,19 @@ fn views<N: PhaseName, R: Wait + Abort>(
 }
 
 // The numbers of both journals, the least first.
-fn numbers_of(alloc: Global, journals: [&Journal; 2]) -> Result<Vec<u64>, AllocError> {
+fn numbers_of(rt: &impl Abort, alloc: Global, journals: [&Journal; 2]) -> Vec<u64> {
     let mut numbers = Vec::new(alloc);
     for journal in journals {
         for entry in journal.entries() {
-            numbers.push(entry.number())?;
+            numbers.push(entry.number()).expect(rt, "memory");
         }
     }
     numbers.sort_unstable();
-    Ok(numbers)
+    numbers
 }
 
 // All four views find one shard, so each has a number of its own.
-fn two_threads<N, R>(rt: &R, alloc: Global, shards: Vec<Shard>) -> Result<(), Fail>
+fn two_threads<N, R>(rt: &R, alloc: Global, shards: Vec<Shard>)
 where
     N: PhaseName + Send + Sync,
     R: Threads + Wait + Sync + Abort,
@@ -75,24 +74,23 @@ where
     requires users { HaveOpening N.initial (record { users = 10; categories = 2 }) }
     requires workers { 2 ≡ N.workers }
 {
-    let (boxes, first, second) = boxes_of_two::<N, R>(rt, alloc, shards)?;
+    let (boxes, first, second) = boxes_of_two::<N, R>(rt, alloc, shards).expect(rt, "memory");
     let (one, other) = thread::join(
         rt,
         || views(rt, alloc, &boxes, first),
         || views(rt, alloc, &boxes, second),
     );
-    let (one, first) = one?;
-    let (other, second) = other?;
-    let shards = close_two(rt, alloc, boxes, first, second)?;
-    let numbers = numbers_of(alloc, [&one, &other])?;
+    let (one, first) = one.expect(rt, "memory");
+    let (other, second) = other.expect(rt, "memory");
+    let shards = close_two(rt, alloc, boxes, first, second).expect(rt, "memory");
+    let numbers = numbers_of(rt, alloc, [&one, &other]);
     assert_same(rt, &numbers.as_slice(), &[1, 2, 3, 4].as_slice());
     let clocks = [Some(4), Some(0), Some(0), Some(0)];
     assert_same(rt, &clocks_of(&shards), &clocks);
-    Ok(())
 }
 
 #[test]
-fn two_threads_perform_over_the_same_boxes(rt: HostRuntime) -> Result<(), Fail> {
-    let shards = four(rt.alloc())?;
-    two_threads::<Brand, HostRuntime>(&rt, rt.alloc(), shards)
+fn two_threads_perform_over_the_same_boxes(rt: HostRuntime) {
+    let shards = four(rt.alloc()).expect(&rt, "memory");
+    two_threads::<Brand, HostRuntime>(&rt, rt.alloc(), shards);
 }

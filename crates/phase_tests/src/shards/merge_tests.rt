@@ -1,5 +1,5 @@
 //! What a shard shows of objects, before and after slices are merged into it.
-ghost use Rattle.std.specs.Prelude.{◌≡◌, negsuc, IfOk};
+ghost use Rattle.std.specs.Prelude.{◌≡◌, negsuc};
 ghost use Rattle.item_shards.specs.ShardContents.{shard_count, shard_number};
 
 use crate::comparing::assert_same;
@@ -9,8 +9,8 @@ use auction_rows::{
 };
 use item_shards::{Act, CategorySlice, ItemSlice, Shard, UserSlice};
 use split_records::Splittable;
+use std::alloc::AllocError;
 use std::process::Abort;
-use std::test::Fail;
 
 // The item, its bids, a user and a category, as a shard shows them in which all objects lie.
 fn views(shard: &Shard, user: u32, category: u32) -> [Reply; 4]
@@ -32,8 +32,8 @@ const NO_USER: Reply = Reply::Refused(Refusal::NoSuchUser);
 const NO_CATEGORY: Reply = Reply::Refused(Refusal::NoSuchCategory);
 
 #[test]
-fn a_new_shard_shows_what_there_is(rt: HostRuntime) -> Result<(), Fail> {
-    let shard = Shard::new(rt.alloc(), 0, 1, OPENING)?;
+fn a_new_shard_shows_what_there_is(rt: HostRuntime) {
+    let shard = Shard::new(rt.alloc(), 0, 1, OPENING).expect(&rt, "memory");
     let unseen = Reply::UserSeen {
         rating: 0,
         comments: 0,
@@ -42,7 +42,6 @@ fn a_new_shard_shows_what_there_is(rt: HostRuntime) -> Result<(), Fail> {
     assert_same(&rt, &views(&shard, 9, 1), &[NO_ITEM, NO_ITEM, unseen, none]);
     let unknown = [NO_ITEM, NO_ITEM, NO_USER, NO_CATEGORY];
     assert_same(&rt, &views(&shard, 10, 2), &unknown);
-    Ok(())
 }
 
 // A bid of 50 at 7 by the user of its number.
@@ -66,14 +65,14 @@ fn two_bids() -> ItemSlice
 }
 
 // The slice of two comments.
-fn two_comments() -> Result<UserSlice, Fail>
-    ensures rating { IfOk result (λ slice. slice.rating ≡ negsuc 1) }
-    ensures count { IfOk result (λ slice. slice.comments ≡ 2) }
+fn two_comments() -> UserSlice
+    ensures rating { result.rating ≡ negsuc 1 }
+    ensures count { result.comments ≡ 2 }
 {
     let mut slice = UserSlice::identity();
-    slice.apply(Stars::new(-5).ok_or("stars")?);
-    slice.apply(Stars::new(3).ok_or("stars")?);
-    Ok(slice)
+    slice.apply(Stars { value: -5 });
+    slice.apply(Stars { value: 3 });
+    slice
 }
 
 // An item of worker 0, with the time of its number.
@@ -122,17 +121,17 @@ fn items_seen<R: Abort>(rt: &R) -> Reply {
 
 // Of two equal bids the one with the greater number wins.
 #[test]
-fn a_shard_shows_the_slices_merged_into_it(rt: HostRuntime) -> Result<(), Fail> {
+fn a_shard_shows_the_slices_merged_into_it(rt: HostRuntime) -> Result<(), AllocError> {
     let mut shard = Shard::new(rt.alloc(), 0, 1, OPENING)?;
-    shard.merge_user(3, two_comments()?);
+    shard.merge_user(3, two_comments());
     shard.merge_category(1, two_items());
     shard.prepare_item(FIRST)?;
     shard.merge_item(FIRST, two_bids());
-    shard.act(&Act::AddItem(FIRST, vase(10)?));
+    shard.act(&Act::AddItem(FIRST, vase(&rt, 10)));
     let seen = Reply::ItemSeen {
         seller: 0,
         category: 0,
-        name: vase(10)?.name,
+        name: vase(&rt, 10).name,
         start: 10,
         closes: 100,
         highest: Some(50),

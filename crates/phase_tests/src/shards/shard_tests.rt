@@ -6,7 +6,7 @@ use crate::comparing::assert_same;
 use crate::testing::{FIRST, OPENING, vase};
 use auction_rows::Facts;
 use item_shards::{Act, LAST_NUMBER, Shard, next_number};
-use std::test::Fail;
+use std::alloc::AllocError;
 
 #[test]
 fn numbers_end(rt: HostRuntime) {
@@ -27,22 +27,21 @@ fn first_in(shard: &Shard) -> (Option<Facts>, Option<u32>)
 }
 
 #[test]
-fn a_shard_knows_an_item_once_it_is_added(rt: HostRuntime) -> Result<(), Fail> {
+fn a_shard_knows_an_item_once_it_is_added(rt: HostRuntime) -> Result<(), AllocError> {
     let mut shard = Shard::new(rt.alloc(), 0, 1, OPENING)?;
     shard.prepare_item(FIRST)?;
     assert_same(&rt, &first_in(&shard), &(None, None));
-    shard.act(&Act::AddItem(FIRST, vase(10)?));
-    assert_same(&rt, &first_in(&shard), &(Some(vase(10)?), Some(1)));
+    shard.act(&Act::AddItem(FIRST, vase(&rt, 10)));
+    assert_same(&rt, &first_in(&shard), &(Some(vase(&rt, 10)), Some(1)));
     Ok(())
 }
 
 #[test]
-fn a_clock_is_set_and_reset(rt: HostRuntime) -> Result<(), Fail> {
-    let mut shard = Shard::new(rt.alloc(), 0, 1, OPENING)?;
+fn a_clock_is_set_and_reset(rt: HostRuntime) {
+    let mut shard = Shard::new(rt.alloc(), 0, 1, OPENING).expect(&rt, "memory");
     assert!(rt; shard.clock() < 7);
     shard.set_clock(7);
     assert_same(&rt, &shard.clock(), &7);
     shard.reset_clock();
     assert_same(&rt, &shard.clock(), &0);
-    Ok(())
 }

@@ -7,50 +7,35 @@ use part_log::{FileLog, Log, LogFault, NoLog, TellFault, Teller, tell_part};
 use std::alloc::Global;
 use std::io;
 use std::io::Write;
-use std::test::Fail;
+use std::process::Abort;
 
 // What a log answers to three parts, of which the call with this number fails: after those of
 // `open`, 2 is the append of the first part and 3 its sync.
-fn three_parts(alloc: Global, fails_at: usize) -> Result<[Result<(), LogFault>; 3], Fail> {
-    let mut log = FileLog::open(MemFile::new(alloc, fails_at), 0)?;
-    Ok([
+fn three_parts(rt: &impl Abort, alloc: Global, fails_at: usize) -> [Result<(), LogFault>; 3] {
+    let file = MemFile::new(alloc, fails_at);
+    let mut log = FileLog::open(file, 0).expect(rt, "a log");
+    [
         put_known(&mut log, b"one\n"),
         put_known(&mut log, b"two\n"),
         put_known(&mut log, b"three\n"),
-    ])
+    ]
 }
 
 #[test]
-fn a_log_goes_on_after_a_write_that_failed_alone(rt: HostRuntime) -> Result<(), Fail> {
+fn a_log_goes_on_after_a_write_that_failed_alone(rt: HostRuntime) {
     let refused = Err(LogFault::Write);
     let unsynced = Err(LogFault::Sync);
     let broken = Err(LogFault::Broken);
-    assert_same(
-        &rt,
-        &three_parts(rt.alloc(), 99)?,
-        &[Ok(()), Ok(()), Ok(())],
-    );
-    assert_same(
-        &rt,
-        &three_parts(rt.alloc(), 2)?,
-        &[refused, Ok(()), Ok(())],
-    );
-    assert_same(
-        &rt,
-        &three_parts(rt.alloc(), 3)?,
-        &[unsynced, broken, broken],
-    );
-    assert_same(
-        &rt,
-        &three_parts(rt.alloc(), 4)?,
-        &[Ok(()), refused, Ok(())],
-    );
-    assert_same(
-        &rt,
-        &three_parts(rt.alloc(), 5)?,
-        &[Ok(()), unsynced, broken],
-    );
-    Ok(())
+    for (fails_at, answers) in [
+        (99, [Ok(()), Ok(()), Ok(())]),
+        (2, [refused, Ok(()), Ok(())]),
+        (3, [unsynced, broken, broken]),
+        (4, [Ok(()), refused, Ok(())]),
+        (5, [Ok(()), unsynced, broken]),
+    ] {
+        let found = three_parts(&rt, rt.alloc(), fails_at);
+        assert_same(&rt, &(fails_at, found), &(fails_at, answers));
+    }
 }
 
 // Takes nothing.

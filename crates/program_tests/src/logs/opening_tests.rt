@@ -4,25 +4,25 @@ ghost use Rattle.phase_floor.specs.Adding.{HasBook, IsStartOf};
 
 use crate::comparing::assert_same;
 use crate::logs::mem_file::MemFile;
+use crate::testing::extend;
 use auction_rows::Opening;
 use auction_text::{Cause, ReadFault};
 use log_opening::{
-    LoggedAuction, MOST_OF_A_ROW, OpenFault, cut_log, is_cut_row, open_parts, read_log, whole_lines,
+    MOST_OF_A_ROW, OpenFault, cut_log, is_cut_row, open_parts, read_log, whole_lines,
 };
 use part_log::AppendFile;
 use phase_floor::Joined;
-use std::alloc::Global;
+use std::alloc::{AllocError, Global};
 use std::io;
 use std::io::Write;
 use std::process::Abort;
-use std::test::Fail;
 
 const ITEM: &[u8] = b"0,+item,0,0,\"Vase\",10,100,1,1\n";
 
 const BID: &[u8] = b"1,+bid,1,0.0,20,5\n";
 
 // An auction of two workers and ten users and categories, in which nothing is stored.
-fn auction(alloc: Global) -> Result<Joined, Fail>
+fn auction(alloc: Global) -> Result<Joined, AllocError>
     ensures start { IfOk result (λ auction. IsStartOf auction []) }
     ensures has { IfOk result HasBook }
 {
@@ -32,17 +32,16 @@ fn auction(alloc: Global) -> Result<Joined, Fail>
     };
     match Joined::new(alloc, opening, 2, 4) {
         Ok(auction) => Ok(auction.lasting()),
-        Err(_) => Err(Fail::from("no memory")),
+        Err(_) => Err(AllocError),
     }
 }
 
 // What a text opens to: how many rows there are, and how many bytes are kept.
-fn opened(alloc: Global, text: &[u8]) -> Result<Result<(u64, u64), OpenFault>, Fail> {
+fn opened(rt: &impl Abort, alloc: Global, text: &[u8]) -> Result<(u64, u64), OpenFault> {
     let mut reader = text;
-    match open_parts(alloc, &mut reader, auction(alloc)?, &mut io::sink()) {
-        Ok(opened) => Ok(Ok((opened.rows, opened.kept))),
-        Err(fault) => Ok(Err(fault)),
-    }
+    let auction = auction(alloc).expect(rt, "memory");
+    let opened = open_parts(alloc, &mut reader, auction, &mut io::sink())?;
+    Ok((opened.rows, opened.kept))
 }
 
 // Asserts what an item, then a bid, and then these bytes open to.
@@ -50,63 +49,61 @@ fn assert_after_rows(
     rt: &(impl Abort + Alloc<A = Global>),
     tail: &[u8],
     wanted: Result<(u64, u64), OpenFault>,
-) -> Result<(), Fail> {
+) {
     let mut text = Vec::new(rt.alloc());
-    text.extend_from_slice(ITEM)?;
-    text.extend_from_slice(BID)?;
-    text.extend_from_slice(tail)?;
-    assert_same(rt, &opened(rt.alloc(), text.as_slice())?, &wanted);
-    Ok(())
+    extend(rt, &mut text, ITEM);
+    extend(rt, &mut text, BID);
+    extend(rt, &mut text, tail);
+    assert_same(rt, &opened(rt, rt.alloc(), text.as_slice()), &wanted);
 }
 
 #[test]
-fn a_log_opens_to_its_whole_rows(rt: HostRuntime) -> Result<(), Fail> {
-    assert_same(&rt, &opened(rt.alloc(), b"")?, &Ok((0, 0)));
-    assert_same(&rt, &opened(rt.alloc(), b"0,+it")?, &Ok((0, 0)));
+fn a_log_opens_to_its_whole_rows(rt: HostRuntime) {
+    assert_same(&rt, &opened(&rt, rt.alloc(), b""), &Ok((0, 0)));
+    assert_same(&rt, &opened(&rt, rt.alloc(), b"0,+it"), &Ok((0, 0)));
     for tail in [b"".as_slice(), b"1", b"1,+bid,1,0.0,2", b"15,+comment,1"] {
-        assert_after_rows(&rt, tail, Ok((2, 48)))?;
+        assert_after_rows(&rt, tail, Ok((2, 48)));
     }
-    assert_after_rows(&rt, BID, Ok((3, 66)))?;
-    assert_after_rows(&rt, b"1,+buynow,2,0.0,1,5\n1,+b", Ok((3, 68)))
+    assert_after_rows(&rt, BID, Ok((3, 66)));
+    assert_after_rows(&rt, b"1,+buynow,2,0.0,1,5\n1,+b", Ok((3, 68)));
 }
 
 #[test]
-fn what_is_no_cut_row_is_not_cut(rt: HostRuntime) -> Result<(), Fail> {
+fn what_is_no_cut_row_is_not_cut(rt: HostRuntime) {
     for text in [
         b"{\"accounts\": [1, 2]}".as_slice(),
         b"0,+item,0,0,\r",
         b"\0\0",
         b"0,item",
     ] {
-        assert_same(&rt, &opened(rt.alloc(), text)?, &Err(OpenFault::Tail(1)));
+        let refused = Err(OpenFault::Tail(1));
+        assert_same(&rt, &opened(&rt, rt.alloc(), text), &refused);
     }
     for tail in [b"\0".as_slice(), b"x", b"1,+bid,1\r", b"1,bid"] {
-        assert_after_rows(&rt, tail, Err(OpenFault::Tail(3)))?;
+        assert_after_rows(&rt, tail, Err(OpenFault::Tail(3)));
     }
-    Ok(())
 }
 
 #[test]
-fn what_is_cut_is_no_longer_than_a_row(rt: HostRuntime) -> Result<(), Fail> {
+fn what_is_cut_is_no_longer_than_a_row(rt: HostRuntime) {
     let mut tail = Vec::new(rt.alloc());
-    tail.extend_from_slice(b"1,+")?;
+    extend(&rt, &mut tail, b"1,+");
     for _ in tail.len()..MOST_OF_A_ROW {
-        tail.push(b'0')?;
+        tail.push(b'0').expect(&rt, "memory");
     }
     assert_same(&rt, &is_cut_row(tail.as_slice()), &true);
-    tail.push(b'0')?;
+    tail.push(b'0').expect(&rt, "memory");
     assert_same(&rt, &is_cut_row(tail.as_slice()), &false);
-    Ok(())
 }
 
 #[test]
-fn a_line_that_is_no_row_as_written_is_named(rt: HostRuntime) -> Result<(), Fail> {
+fn a_line_that_is_no_row_as_written_is_named(rt: HostRuntime) {
     let number = OpenFault::Record(ReadFault::Line(3, Cause::Number));
-    assert_after_rows(&rt, b"1,+bid,x,0.0,30,6\n", Err(number))?;
+    assert_after_rows(&rt, b"1,+bid,x,0.0,30,6\n", Err(number));
     let worker = OpenFault::Record(ReadFault::Worker(3));
-    assert_after_rows(&rt, b"2,+bid,1,0.0,30,6\n", Err(worker))?;
+    assert_after_rows(&rt, b"2,+bid,1,0.0,30,6\n", Err(worker));
     let low = OpenFault::BadRow(3);
-    assert_after_rows(&rt, b"1,+bid,1,0.0,9,6\n", Err(low))?;
+    assert_after_rows(&rt, b"1,+bid,1,0.0,9,6\n", Err(low));
     for line in [
         b"1,+buynow,2,0.0,1,5\r\n".as_slice(),
         b"\n",
@@ -115,9 +112,8 @@ fn a_line_that_is_no_row_as_written_is_named(rt: HostRuntime) -> Result<(), Fail
         b"1,+item,0,0,Vase,10,100,1,1\n",
         b"1,+item,0,0,\"Vase\",10,100,1\n",
     ] {
-        assert_after_rows(&rt, line, Err(OpenFault::Line(3)))?;
+        assert_after_rows(&rt, line, Err(OpenFault::Line(3)));
     }
-    Ok(())
 }
 
 #[test]
@@ -136,57 +132,54 @@ fn a_line_that_was_cut_is_not_whole(rt: HostRuntime) {
 }
 
 // So many rows: an item, and then bids of which each is higher than the last.
-fn many_rows(alloc: Global, count: u64) -> Result<Vec<u8>, Fail> {
+fn many_rows(rt: &impl Abort, alloc: Global, count: u64) -> Vec<u8> {
     let mut text = Vec::new(alloc);
-    text.extend_from_slice(ITEM)?;
+    extend(rt, &mut text, ITEM);
     for row in 1..count {
-        write!(text, "1,+bid,1,0.0,{},5\n", row.saturating_add(20))?;
+        let amount = row.saturating_add(20);
+        write!(text, "1,+bid,1,0.0,{amount},5\n").expect(rt, "memory");
     }
-    Ok(text)
+    text
 }
 
 #[test]
-fn rows_are_counted_through_all_parts(rt: HostRuntime) -> Result<(), Fail> {
+fn rows_are_counted_through_all_parts(rt: HostRuntime) {
     let alloc = rt.alloc();
-    let mut text = many_rows(alloc, 10_000)?;
+    let mut text = many_rows(&rt, alloc, 10_000);
     let len = text.len() as u64;
-    assert_same(&rt, &opened(alloc, text.as_slice())?, &Ok((10_000, len)));
-    text.extend_from_slice(b"1,+bid,1,0.0,9,5\n")?;
+    assert_same(
+        &rt,
+        &opened(&rt, alloc, text.as_slice()),
+        &Ok((10_000, len)),
+    );
+    extend(&rt, &mut text, b"1,+bid,1,0.0,9,5\n");
     let low = Err(OpenFault::BadRow(10_001));
-    assert_same(&rt, &opened(alloc, text.as_slice())?, &low);
-    Ok(())
+    assert_same(&rt, &opened(&rt, alloc, text.as_slice()), &low);
 }
 
 #[test]
-fn rows_are_told_as_they_are_read(rt: HostRuntime) -> Result<(), Fail> {
+fn rows_are_told_as_they_are_read(rt: HostRuntime) {
     let alloc = rt.alloc();
-    let text = many_rows(alloc, 10_000)?;
+    let text = many_rows(&rt, alloc, 10_000);
     let mut told = Vec::new(alloc);
     let mut reader = text.as_slice();
-    let opened = open_parts(alloc, &mut reader, auction(alloc)?, &mut told);
+    let auction = auction(alloc).expect(&rt, "memory");
+    let opened = open_parts(alloc, &mut reader, auction, &mut told);
     assert_same(&rt, &opened.is_ok(), &true);
     assert_same(&rt, &(told.as_slice() == text.as_slice()), &true);
-    Ok(())
 }
 
 #[test]
-fn a_file_is_cut_to_its_rows(rt: HostRuntime) -> Result<(), Fail> {
+fn a_file_is_cut_to_its_rows(rt: HostRuntime) {
     let alloc = rt.alloc();
     let mut file = MemFile::new(alloc, 99);
-    file.append(ITEM)?;
-    file.append(b"1,+bi")?;
-    let empty = auction(alloc)?;
+    file.append(ITEM).expect(&rt, "memory");
+    file.append(b"1,+bi").expect(&rt, "memory");
+    let empty = auction(alloc).expect(&rt, "memory");
     let Ok(logged) = read_log(alloc, &file, empty, &mut io::sink()) else {
-        return Err(Fail::from("the log is refused"));
+        panic!(rt; "the log is refused");
     };
-    let LoggedAuction {
-        rows,
-        kept,
-        tail,
-        ..
-    } = &logged;
-    assert_same(&rt, &(*rows, *kept), &(1, 30));
-    assert_same(&rt, &(tail.as_slice() == b"1,+bi".as_slice()), &true);
+    assert_same(&rt, &(logged.rows, logged.kept), &(1, 30));
+    assert_same(&rt, &logged.tail.as_slice(), &b"1,+bi".as_slice());
     assert_same(&rt, &cut_log(file, &logged).is_ok(), &true);
-    Ok(())
 }

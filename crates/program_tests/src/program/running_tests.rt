@@ -2,20 +2,28 @@
 //! `tests/worked`.
 use crate::comparing::assert_same;
 use auction_program::{Fault, Options, ReadFault, UsageFault, execute, read_options};
-use std::alloc::{AllocError, Global};
-use std::test::Fail;
+use std::alloc::Global;
+use std::process::Abort;
 
 // The words of a program, the first of which is its name.
-fn words(alloc: Global, after: &[&str]) -> Result<Vec<String>, AllocError> {
-    let mut words = vec![in alloc; String::from_str(alloc, "rubis_auction")?]?;
+fn words(rt: &impl Abort, alloc: Global, after: &[&str]) -> Vec<String> {
+    let mut words = Vec::new(alloc);
+    push_word(rt, alloc, &mut words, "rubis_auction");
     for word in after {
-        words.push(String::from_str(alloc, word)?)?;
+        push_word(rt, alloc, &mut words, word);
     }
-    Ok(words)
+    words
 }
 
-fn options_of(alloc: Global, after: &[&str]) -> Result<Options, Fail> {
-    Ok(read_options(alloc, &words(alloc, after)?)?)
+fn push_word(rt: &impl Abort, alloc: Global, words: &mut Vec<String>, word: &str) {
+    let word = String::from_str(alloc, word).expect(rt, "memory");
+    words.push(word).expect(rt, "memory");
+}
+
+/// The options of the words after the program's name.
+pub(crate) fn options_of(rt: &impl Abort, alloc: Global, after: &[&str]) -> Options {
+    let options = read_options(alloc, &words(rt, alloc, after));
+    options.expect(rt, "options")
 }
 
 // The numbers of options, in the order of their names in docs/FORMATS.md.
@@ -37,9 +45,9 @@ fn flags_of(options: &Options) -> [bool; 3] {
 }
 
 #[test]
-fn words_give_options(rt: HostRuntime) -> Result<(), Fail> {
+fn words_give_options(rt: HostRuntime) {
     let alloc = rt.alloc();
-    let options = options_of(alloc, &[])?;
+    let options = options_of(&rt, alloc, &[]);
     let wanted = [1, 4, 64, 64, 8, 8, 100, 10];
     assert_same(&rt, &numbers_of(&options), &wanted);
     assert_same(&rt, &flags_of(&options), &[false; 3]);
@@ -52,46 +60,43 @@ fn words_give_options(rt: HostRuntime) -> Result<(), Fail> {
         "--log",
         "rows.csv",
     ];
-    let options = options_of(alloc, &given)?;
+    let options = options_of(&rt, alloc, &given);
     let wanted = [16, 4, 64, 64, 8, 8, 0, 10];
     assert_same(&rt, &numbers_of(&options), &wanted);
     assert_same(&rt, &flags_of(&options), &[false, false, true]);
     let log = options.log.as_ref().map(String::as_str);
     assert_same(&rt, &log, &Some("rows.csv"));
-    Ok(())
 }
 
 // Whether words are refused for what they say.
-fn are_refused(alloc: Global, after: &[&str]) -> Result<bool, Fail> {
-    let refused = read_options(alloc, &words(alloc, after)?).err();
-    Ok(matches!(refused, Some(UsageFault::Text(_))))
+fn are_refused(rt: &impl Abort, alloc: Global, after: &[&str]) -> bool {
+    let refused = read_options(alloc, &words(rt, alloc, after)).err();
+    matches!(refused, Some(UsageFault::Text(_)))
 }
 
 #[test]
-fn numbers_past_their_limits_are_refused(rt: HostRuntime) -> Result<(), Fail> {
+fn numbers_past_their_limits_are_refused(rt: HostRuntime) {
     for word in ["--workers=17", "--shards=0", "--hot=65", "--users=1000001"] {
-        let refused = are_refused(rt.alloc(), &[word])?;
+        let refused = are_refused(&rt, rt.alloc(), &[word]);
         assert_same(&rt, &(word, refused), &(word, true));
     }
-    Ok(())
 }
 
 #[test]
-fn a_fault_is_answered_or_ends_the_input(rt: HostRuntime) -> Result<(), Fail> {
+fn a_fault_is_answered_or_ends_the_input(rt: HostRuntime) {
     let alloc = rt.alloc();
     for (how, ends) in [("--faults=answer", false), ("--faults=end", true)] {
-        let options = options_of(alloc, &["--live=1", how])?;
+        let options = options_of(&rt, alloc, &["--live=1", how]);
         assert_same(&rt, &(how, options.ends_at_fault), &(how, ends));
     }
     for (word, ends) in [("--live=1", false), ("--faults=end", true)] {
-        let options = options_of(alloc, &[word])?;
+        let options = options_of(&rt, alloc, &[word]);
         assert_same(&rt, &(word, options.ends_at_fault), &(word, ends));
     }
     for how in ["--faults=stop", "--faults=answer"] {
-        let refused = are_refused(alloc, &["--live=0", how])?;
+        let refused = are_refused(&rt, alloc, &["--live=0", how]);
         assert_same(&rt, &(how, refused), &(how, true));
     }
-    Ok(())
 }
 
 const TWO_WORKERS: [&str; 11] = [
@@ -137,22 +142,20 @@ user 3 rating=0 comments=3
 ";
 
 #[test]
-fn an_input_is_performed_and_reported(rt: HostRuntime) -> Result<(), Fail> {
-    let options = options_of(rt.alloc(), &TWO_WORKERS)?;
+fn an_input_is_performed_and_reported(rt: HostRuntime) {
+    let options = options_of(&rt, rt.alloc(), &TWO_WORKERS);
     let mut text = Vec::new(rt.alloc());
     let done = execute(&rt, rt.alloc(), COMMENTS, &mut text, &options);
     assert_same(&rt, &done, &Ok(()));
     assert_same(&rt, &text.as_slice(), &REPORTED);
-    Ok(())
 }
 
 #[test]
-fn an_input_with_a_fault_is_not_performed(rt: HostRuntime) -> Result<(), Fail> {
-    let options = options_of(rt.alloc(), &[])?;
+fn an_input_with_a_fault_is_not_performed(rt: HostRuntime) {
+    let options = options_of(&rt, rt.alloc(), &[]);
     let mut text = Vec::new(rt.alloc());
     let input: &[u8] = b"0,item,0,0,Vase,10,100,1\n5,foo";
     let done = execute(&rt, rt.alloc(), input, &mut text, &options);
     assert_same(&rt, &done, &Err(Fault::Read(ReadFault::Worker(2))));
     assert_same(&rt, &text.len(), &0);
-    Ok(())
 }

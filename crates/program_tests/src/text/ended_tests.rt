@@ -7,18 +7,17 @@ use auction_rows::{
 use auction_text::{ReportLines, write_report, write_rows};
 use std::alloc::Global;
 use std::process::Abort;
-use std::test::Fail;
 use worker_journals::{History, Journal};
 
 // Two vases, and a bid of 20 at 5 by user 1.
-fn opening_rows() -> Result<[Row; 2], Fail> {
+fn opening_rows(rt: &impl Abort) -> [Row; 2] {
     let facts = Facts {
         seller: 0,
         category: 0,
-        name: Name::new(b"Vase").ok_or("a name")?,
+        name: Name::new(b"Vase").expect(rt, "a name"),
         start: 10,
         closes: 100,
-        quantity: Quantity::new(2).ok_or("a quantity")?,
+        quantity: Quantity::new(2).expect(rt, "a quantity"),
     };
     let item = Row::Item(ItemRow {
         id: FIRST,
@@ -35,12 +34,12 @@ fn opening_rows() -> Result<[Row; 2], Fail> {
         amount: 20,
         time: 5,
     });
-    Ok([item, bid])
+    [item, bid]
 }
 
 // A bid of 50 at 6 by user 2, which is stored, and a view.
-fn bid_and_view(alloc: Global) -> Result<History, Fail> {
-    let mut journal = Journal::with_room(alloc, 0, 0, 2)?;
+fn bid_and_view(rt: &impl Abort, alloc: Global) -> History {
+    let mut journal = Journal::with_room(alloc, 0, 0, 2).expect(rt, "memory");
     let bid = Request::StoreBid {
         bidder: 2,
         item: FIRST,
@@ -57,20 +56,21 @@ fn bid_and_view(alloc: Global) -> Result<History, Fail> {
         comments: 0,
     };
     journal.push(2, 1, Request::ViewUser { user: 1 }, seen);
+    let journals = vec![in alloc; journal].expect(rt, "memory");
     let mut history = History::new(alloc);
-    history.add_phase(vec![in alloc; journal]?)?;
-    Ok(history)
+    history.add_phase(journals).expect(rt, "memory");
+    history
 }
 
 #[test]
-fn rows_are_records_that_open_an_auction(rt: HostRuntime) -> Result<(), Fail> {
+fn rows_are_records_that_open_an_auction(rt: HostRuntime) {
     let alloc = rt.alloc();
     let mut text = Vec::new(alloc);
-    let history = bid_and_view(alloc)?;
-    write_rows(alloc, &mut text, &opening_rows()?, &history)?;
+    let history = bid_and_view(&rt, alloc);
+    let written = write_rows(alloc, &mut text, &opening_rows(&rt), &history);
+    assert_same(&rt, &written, &Ok(()));
     let wanted = b"0,+item,0,0,\"Vase\",10,100,1,2\n0,+bid,1,0.0,20,5\n0,+bid,2,0.0,50,6\n";
     assert_same(&rt, &text.as_slice(), &wanted.as_slice());
-    Ok(())
 }
 
 // A list of the first item, put up at time 1.
@@ -82,25 +82,28 @@ fn one_item(rt: &impl Abort) -> Ten<ItemShown> {
 }
 
 #[test]
-fn a_report_has_a_line_for_each_category(rt: HostRuntime) -> Result<(), Fail> {
+fn a_report_has_a_line_for_each_category(rt: HostRuntime) {
     let alloc = rt.alloc();
     let none = Reply::CategorySeen(Ten::new());
     let mut lines = ReportLines {
-        categories: vec![in alloc; none]?,
+        categories: vec![in alloc; none].expect(&rt, "memory"),
         users: Vec::new(alloc),
     };
     let mut text = Vec::new(alloc);
-    write_report(alloc, &mut text, &History::new(alloc), &[], &lines)?;
+    let written = write_report(alloc, &mut text, &History::new(alloc), &[], &lines);
+    assert_same(&rt, &written, &Ok(()));
     let wanted = b"phases 0\nrequests 0\nrefused 0\ncategory 0 latest\n";
     assert_same(&rt, &text.as_slice(), &wanted.as_slice());
-    lines.categories.push(Reply::CategorySeen(one_item(&rt)))?;
+    let seen = Reply::CategorySeen(one_item(&rt));
+    lines.categories.push(seen).expect(&rt, "memory");
     for (rating, comments) in [(0, 0), (-5, 1)] {
-        lines.users.push(Reply::UserSeen { rating, comments })?;
+        let seen = Reply::UserSeen { rating, comments };
+        lines.users.push(seen).expect(&rt, "memory");
     }
     text.clear();
-    write_report(alloc, &mut text, &bid_and_view(alloc)?, &[], &lines)?;
+    let written = write_report(alloc, &mut text, &bid_and_view(&rt, alloc), &[], &lines);
+    assert_same(&rt, &written, &Ok(()));
     let wanted =
         b"phases 0\nrequests 2\nrefused 0\ncategory 0 latest\ncategory 1 latest 1:0.0\nuser 1 rating=-5 comments=1\n";
     assert_same(&rt, &text.as_slice(), &wanted.as_slice());
-    Ok(())
 }

@@ -1,7 +1,6 @@
 //! What an input says that is read line by line, by what its reader gives at a time.
-ghost use Rattle.std.specs.Prelude.{◌≤◌};
-
 use crate::comparing::assert_same;
+use crate::testing::extend;
 use crate::text::part_tests::Pieces;
 use auction_text::{
     Cause, LineFault, LiveEnd, LiveInput, LivePart, MOST_ROWS_OF_A_PART, ReadFault, UntilEnd,
@@ -11,7 +10,7 @@ use std::alloc::Global;
 use std::io;
 use std::io::Read;
 use std::process::Abort;
-use std::test::Fail;
+use worker_journals::Script;
 
 // Gives at most so many bytes at each read.
 #[derive(Drop)]
@@ -44,87 +43,92 @@ impl<R: Read> Read for Interrupted<R> {
     }
 }
 
-// What a text says of two workers: for each part how many rows and requests it has, how many
+// How many requests a worker has.
+fn requests_of(scripts: &[Script], worker: usize) -> usize {
+    match scripts.get(worker) {
+        Some(script) => script.len(),
+        None => 0,
+    }
+}
+
+// What a text says of two workers, in parts of at most nine requests: for each part how many rows and requests it has, how many
 // requests of each, and its fault.
-fn told(alloc: Global, text: &[u8], at_a_time: usize, most: u32) -> Result<String, Fail>
-    requires { 1 ≤ most }
-{
+fn told(rt: &impl Abort, alloc: Global, text: &[u8], at_a_time: usize) -> String {
     let mut words = String::new(alloc);
     let reader = Slowly {
         text,
         most: at_a_time,
     };
-    let mut left = LiveInput::of(alloc, reader, 2)?;
+    let mut left = LiveInput::of(alloc, reader, 2).expect(rt, "memory");
     for _ in 0..u64::MAX {
+        let part = left.next_part(alloc, 9).expect(rt, "memory");
         let LivePart {
             input,
             requests,
             end,
-        } = left.next_part(alloc, most)?;
+        } = part;
         let rows = input.rows.len();
-        let first = input.scripts.first().map_or(0, |script| script.len());
-        let second = input.scripts.get(1).map_or(0, |script| script.len());
-        words.push_str(format!(in alloc; "{rows} {requests}: {first} {second}\n")?.as_str())?;
+        let first = requests_of(&input.scripts, 0);
+        let second = requests_of(&input.scripts, 1);
+        let line = format!(in alloc; "{rows} {requests}: {first} {second}\n");
+        words
+            .push_str(line.expect(rt, "memory").as_str())
+            .expect(rt, "memory");
         left = match end {
             LiveEnd::More(left) => left,
-            LiveEnd::All => return Ok(words),
+            LiveEnd::All => return words,
             LiveEnd::Fault(LineFault { worker, fault }, left) => {
-                words.push_str(format!(in alloc; "{worker:?} {fault}\n")?.as_str())?;
+                let line = format!(in alloc; "{worker:?} {fault}\n");
+                words
+                    .push_str(line.expect(rt, "memory").as_str())
+                    .expect(rt, "memory");
                 left
             }
         };
     }
-    Err(Fail::new("an input without end"))
+    panic!(rt; "an input without end")
 }
 
 // Asserts what a text says that is given at once.
-fn assert_told(rt: &impl Abort, alloc: Global, text: &[u8], wanted: &str) -> Result<(), Fail> {
-    let found = told(alloc, text, 100_000, 9)?;
+fn assert_told(rt: &impl Abort, alloc: Global, text: &[u8], wanted: &str) {
+    let found = told(rt, alloc, text, 100_000);
     assert_same(rt, &found.as_str(), &wanted);
-    Ok(())
 }
 
 // The lines of a text that tell a fault.
-fn faults_in(alloc: Global, text: &str) -> Result<String, Fail> {
+fn faults_in(rt: &impl Abort, alloc: Global, text: &str) -> String {
     let mut faults = String::new(alloc);
     for line in text.lines() {
         if line.contains("record") {
-            faults.push_str(line)?;
-            faults.push_str("\n")?;
+            faults.push_str(line).expect(rt, "memory");
+            faults.push_str("\n").expect(rt, "memory");
         }
     }
-    Ok(faults)
+    faults
 }
 
 // Asserts which faults a text has, if it is given so many bytes at a time.
-fn assert_faults(
-    rt: &impl Abort,
-    alloc: Global,
-    text: &[u8],
-    sizes: &[usize],
-    wanted: &str,
-) -> Result<(), Fail> {
+fn assert_faults(rt: &impl Abort, alloc: Global, text: &[u8], sizes: &[usize], wanted: &str) {
     for at_a_time in sizes {
-        let found = told(alloc, text, *at_a_time, 9)?;
-        let faults = faults_in(alloc, found.as_str())?;
+        let found = told(rt, alloc, text, *at_a_time);
+        let faults = faults_in(rt, alloc, found.as_str());
         assert_same(rt, &faults.as_str(), &wanted);
     }
-    Ok(())
 }
 
 #[test]
-fn a_fault_ends_a_part_and_not_the_input(rt: HostRuntime) -> Result<(), Fail> {
+fn a_fault_ends_a_part_and_not_the_input(rt: HostRuntime) {
     let alloc = rt.alloc();
     assert_told(
         &rt,
         alloc,
         b"0,viewuser,0\n1,nonsense\n1,viewuser,0\n",
         "0 1: 1 0\nSome(1) record 2: unknown kind\n0 1: 0 1\n0 0: 0 0\n",
-    )
+    );
 }
 
 #[test]
-fn an_open_quote_ends_with_its_line(rt: HostRuntime) -> Result<(), Fail> {
+fn an_open_quote_ends_with_its_line(rt: HostRuntime) {
     let alloc = rt.alloc();
     assert_faults(
         &rt,
@@ -132,11 +136,11 @@ fn an_open_quote_ends_with_its_line(rt: HostRuntime) -> Result<(), Fail> {
         b"1,item,0,0,\"\n0,viewuser,1\n0,viewuser,\"\n",
         &[1, 2, 7, 100_000],
         "Some(1) record 1: wrong number of fields\nSome(0) record 3: not a number\n",
-    )
+    );
 }
 
 #[test]
-fn a_carriage_return_forges_no_line(rt: HostRuntime) -> Result<(), Fail> {
+fn a_carriage_return_forges_no_line(rt: HostRuntime) {
     let alloc = rt.alloc();
     assert_faults(
         &rt,
@@ -144,56 +148,60 @@ fn a_carriage_return_forges_no_line(rt: HostRuntime) -> Result<(), Fail> {
         b"1,viewuser,0\r0,bid,5,0.0,999,1\n0,viewuser,1\r\n\r\n\n\r\r\n2,viewuser,0\nx\n7",
         &[1, 2, 3, 7, 100_000],
         "Some(1) record 1: wrong number of fields\nNone record 3: no such worker\nNone record 4: not a number\nNone record 5: no such worker\n",
-    )
+    );
 }
 
 #[test]
-fn a_line_that_is_too_long_is_passed_over(rt: HostRuntime) -> Result<(), Fail> {
+fn a_line_that_is_too_long_is_passed_over(rt: HostRuntime) {
     let alloc = rt.alloc();
     let mut text = Vec::new(alloc);
-    text.extend_from_slice(b"\xEF\xBB\xBF0,viewuser,0\n1,item,0,0,\"")?;
+    extend(&rt, &mut text, b"\xEF\xBB\xBF0,viewuser,0\n1,item,0,0,\"");
     for _ in 0..70_000 {
-        text.push(b'"')?;
+        text.push(b'"').expect(&rt, "memory");
     }
-    text.extend_from_slice(b"\n1,viewuser,0\n+")?;
+    extend(&rt, &mut text, b"\n1,viewuser,0\n+");
     assert_faults(
         &rt,
         alloc,
         text.as_slice(),
         &[999, 100_000],
         "Some(1) record 2: too long\nNone record 4: not a number\n",
-    )
+    );
 }
 
 #[test]
-fn rows_may_come_around_a_fault(rt: HostRuntime) -> Result<(), Fail> {
+fn rows_may_come_around_a_fault(rt: HostRuntime) {
     let alloc = rt.alloc();
     assert_told(
         &rt,
         alloc,
         b"0,+comment,0,1,0.0,1\n0,+comment\n1,+comment,0,1,0.0,1\n0,viewuser,0\n0,+comment,0,1,0.0,1\n",
         "1 0: 0 0\nSome(0) record 2: wrong number of fields\n1 1: 1 0\nSome(0) record 5: row after a request\n0 0: 0 0\n",
-    )
+    );
 }
 
 #[test]
-fn rows_end_a_part_too(rt: HostRuntime) -> Result<(), Fail> {
+fn rows_end_a_part_too(rt: HostRuntime) {
     let alloc = rt.alloc();
     let mut text = Vec::new(alloc);
     for _ in 0..MOST_ROWS_OF_A_PART + 1 {
-        text.extend_from_slice(b"0,+comment,0,1,0.0,1\n")?;
+        extend(&rt, &mut text, b"0,+comment,0,1,0.0,1\n");
     }
-    text.extend_from_slice(b"0,viewuser,0\n")?;
+    extend(&rt, &mut text, b"0,viewuser,0\n");
     let wanted = "65536 0: 0 0\n1 1: 1 0\n0 0: 0 0\n";
     for at_a_time in [999, 100_000] {
-        let found = told(alloc, text.as_slice(), at_a_time, 9)?;
+        let found = told(&rt, alloc, text.as_slice(), at_a_time);
         assert_same(&rt, &(at_a_time, found.as_str()), &(at_a_time, wanted));
     }
-    Ok(())
+}
+
+// How many bytes a read gives.
+fn read_of<R: Read>(rt: &impl Abort, reader: &mut R, buf: &mut [u8]) -> usize {
+    reader.read(buf).expect(rt, "a read")
 }
 
 #[test]
-fn a_read_that_a_signal_interrupts_is_tried_again(rt: HostRuntime) -> Result<(), Fail> {
+fn a_read_that_a_signal_interrupts_is_tried_again(rt: HostRuntime) {
     let pieces: &[&[u8]] = &[b"0,view", b"user"];
     let mut reader = UntilEnd::of(Interrupted {
         reader: Pieces { pieces, at: 0 },
@@ -201,28 +209,23 @@ fn a_read_that_a_signal_interrupts_is_tried_again(rt: HostRuntime) -> Result<(),
     });
     let mut buf = [0; 20];
     for given in [6, 4, 0, 0] {
-        assert_same(&rt, &reader.read(&mut buf)?, &given);
+        assert_same(&rt, &read_of(&rt, &mut reader, &mut buf), &given);
     }
-    Ok(())
 }
 
 #[test]
-fn an_input_ends_once(rt: HostRuntime) -> Result<(), Fail> {
-    let alloc = rt.alloc();
+fn an_input_ends_once(rt: HostRuntime) {
     let pieces: &[&[u8]] = &[b"", b"0,view", b"", b"user"];
     let mut reader = UntilEnd::of(Pieces { pieces, at: 0 });
     let mut buf = [0; 20];
-    let mut given = Vec::new(alloc);
-    given.push(reader.read(&mut buf[..0])?)?;
-    for _ in 0..4 {
-        given.push(reader.read(&mut buf)?)?;
+    assert_same(&rt, &read_of(&rt, &mut reader, &mut buf[..0]), &0);
+    for given in [6, 0, 0, 0] {
+        assert_same(&rt, &read_of(&rt, &mut reader, &mut buf), &given);
     }
-    assert_same(&rt, &given.as_slice(), &[0, 6, 0, 0, 0].as_slice());
-    Ok(())
 }
 
 #[test]
-fn a_fault_is_answered_with_the_index_of_the_next_request(rt: HostRuntime) -> Result<(), Fail> {
+fn a_fault_is_answered_with_the_index_of_the_next_request(rt: HostRuntime) {
     let alloc = rt.alloc();
     let mut text = Vec::new(alloc);
     for (worker, index, fault) in [
@@ -231,10 +234,9 @@ fn a_fault_is_answered_with_the_index_of_the_next_request(rt: HostRuntime) -> Re
         (3, 1, ReadFault::Worker(2)),
         (1, 2, ReadFault::Long),
     ] {
-        push_fault_line(&mut text, worker, index, fault)?;
+        push_fault_line(&mut text, worker, index, fault).expect(&rt, "memory");
     }
     let wanted =
         b"0,0,fault record 1: unknown kind\n15,7,fault record 1000000000000: too long\n3,1,fault record 2: no such worker\n1,2,fault more than 16000000 records\n";
     assert_same(&rt, &text.as_slice(), &wanted.as_slice());
-    Ok(())
 }

@@ -7,7 +7,6 @@ use std::alloc::Global;
 use std::io;
 use std::io::Read;
 use std::process::Abort;
-use std::test::Fail;
 
 /// Gives a piece at each read.
 #[derive(Drop)]
@@ -31,29 +30,32 @@ impl Read for Pieces {
 
 // How many requests each part has, of at most so many, up to the first fault, and that.
 fn parts_of(
+    rt: &impl Abort,
     alloc: Global,
     pieces: &'static [&'static [u8]],
     most: u32,
-) -> Result<(Vec<usize>, Option<ReadFault>), Fail>
+) -> (Vec<usize>, Option<ReadFault>)
     requires { 1 ≤ most }
 {
     let mut counts = Vec::new(alloc);
-    let mut left = LiveInput::of(alloc, Pieces { pieces, at: 0 }, 1)?;
+    let reader = Pieces { pieces, at: 0 };
+    let mut left = LiveInput::of(alloc, reader, 1).expect(rt, "memory");
     for _ in 0..u64::MAX {
+        let part = left.next_part(alloc, most).expect(rt, "memory");
         let LivePart {
             input,
             requests: _,
             end,
-        } = left.next_part(alloc, most)?;
-        let script = input.scripts.first().ok_or("a script")?;
-        counts.push(script.len())?;
+        } = part;
+        let script = input.scripts.first().expect(rt, "a script");
+        counts.push(script.len()).expect(rt, "memory");
         left = match end {
             LiveEnd::More(left) => left,
-            LiveEnd::All => return Ok((counts, None)),
-            LiveEnd::Fault(LineFault { worker: _, fault }, _) => return Ok((counts, Some(fault))),
+            LiveEnd::All => return (counts, None),
+            LiveEnd::Fault(LineFault { worker: _, fault }, _) => return (counts, Some(fault)),
         };
     }
-    Err(Fail::new("an input without end"))
+    panic!(rt; "an input without end")
 }
 
 // Asserts how many requests each part has.
@@ -64,46 +66,45 @@ fn assert_parts(
     most: u32,
     counts: &[usize],
     fault: Option<ReadFault>,
-) -> Result<(), Fail>
+)
     requires { 1 ≤ most }
 {
-    let (found, met) = parts_of(alloc, pieces, most)?;
+    let (found, met) = parts_of(rt, alloc, pieces, most);
     assert_same(rt, &(found.as_slice(), met), &(counts, fault));
-    Ok(())
 }
 
 #[test]
-fn a_part_ends_where_more_would_have_to_be_waited_for(rt: HostRuntime) -> Result<(), Fail> {
+fn a_part_ends_where_more_would_have_to_be_waited_for(rt: HostRuntime) {
     let alloc = rt.alloc();
     let halves: &[&[u8]] = &[b"0,viewuser,0\n0,view", b"user,1\n", b"0,viewuser,2"];
-    assert_parts(&rt, alloc, halves, 9, &[1, 1, 1], None)?;
+    assert_parts(&rt, alloc, halves, 9, &[1, 1, 1], None);
     let quoted: &[&[u8]] = &[
         b"0,\"viewuser\",0\r\n0,viewuser,0\r\n",
         b"\r\n0,viewuser,1\r\n",
     ];
-    assert_parts(&rt, alloc, quoted, 9, &[2, 1, 0], None)?;
+    assert_parts(&rt, alloc, quoted, 9, &[2, 1, 0], None);
     let returns: &[&[u8]] = &[b"0,viewuser,0\r", b"0,viewuser,1\r0,viewuser,2\r"];
     let fault = Some(ReadFault::Line(1, Cause::Fields));
-    assert_parts(&rt, alloc, returns, 9, &[0], fault)
+    assert_parts(&rt, alloc, returns, 9, &[0], fault);
 }
 
 #[test]
-fn a_part_has_at_most_so_many_requests(rt: HostRuntime) -> Result<(), Fail> {
+fn a_part_has_at_most_so_many_requests(rt: HostRuntime) {
     let alloc = rt.alloc();
     let five: &[&[u8]] = &[
         b"0,viewuser,0\n0,viewuser,0\n0,viewuser,0\n0,viewuser,0\n0,viewuser,0\n",
     ];
-    assert_parts(&rt, alloc, five, 2, &[2, 2, 1, 0], None)?;
-    assert_parts(&rt, alloc, five, 5, &[5, 0], None)
+    assert_parts(&rt, alloc, five, 2, &[2, 2, 1, 0], None);
+    assert_parts(&rt, alloc, five, 5, &[5, 0], None);
 }
 
 #[test]
-fn what_stands_before_a_fault_is_read(rt: HostRuntime) -> Result<(), Fail> {
+fn what_stands_before_a_fault_is_read(rt: HostRuntime) {
     let alloc = rt.alloc();
     let bad: &[&[u8]] = &[b"0,viewuser,0\n0,viewuser,0\nbad\n0,viewuser,0\n"];
     let fault = Some(ReadFault::Line(3, Cause::Number));
-    assert_parts(&rt, alloc, bad, 9, &[2], fault)?;
-    assert_parts(&rt, alloc, bad, 1, &[1, 1, 0], fault)?;
+    assert_parts(&rt, alloc, bad, 9, &[2], fault);
+    assert_parts(&rt, alloc, bad, 1, &[1, 1, 0], fault);
     let late: &[&[u8]] = &[
         b"0,+comment,0,1,0.0,1\n0,viewuser,0\n",
         b"0,+comment,0,1,0.0,1\n",
@@ -115,5 +116,5 @@ fn what_stands_before_a_fault_is_read(rt: HostRuntime) -> Result<(), Fail> {
         9,
         &[1, 0],
         Some(ReadFault::Line(3, Cause::Late)),
-    )
+    );
 }

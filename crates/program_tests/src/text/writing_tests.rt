@@ -4,10 +4,10 @@ use crate::comparing::assert_same;
 use crate::testing::FIRST;
 use auction_rows::{Refusal, Reply, Request};
 use auction_text::{WriteFault, write_replies};
-use std::alloc::{AllocError, Global};
+use std::alloc::Global;
 use std::io;
 use std::io::{ErrorKind, Write};
-use std::test::Fail;
+use std::process::Abort;
 use worker_journals::{History, Journal};
 
 // Takes one byte a call, but one call of `write` has an error, and it takes more after it. Its flush
@@ -71,42 +71,37 @@ fn replies_leave(
 const OUTPUT: &[u8] = b"0,0,item 0.0\n0,1,refused 5 Closed\n";
 
 // A phase of one commit, of worker 0.
-fn add_reply(
-    alloc: Global,
-    history: &mut History,
-    index: u32,
-    reply: Reply,
-) -> Result<(), AllocError> {
-    let mut journal = Journal::with_room(alloc, 0, 0, 1)?;
+fn add_reply(rt: &impl Abort, alloc: Global, history: &mut History, index: u32, reply: Reply) {
+    let mut journal = Journal::with_room(alloc, 0, 0, 1).expect(rt, "memory");
     let request = Request::ViewItem { item: FIRST };
     journal.push(1, index, request, reply);
-    history.add_phase(vec![in alloc; journal]?)
+    let journals = vec![in alloc; journal].expect(rt, "memory");
+    history.add_phase(journals).expect(rt, "memory");
 }
 
-fn two_replies(alloc: Global) -> Result<History, AllocError> {
+fn two_replies(rt: &impl Abort, alloc: Global) -> History {
     let mut history = History::new(alloc);
-    add_reply(alloc, &mut history, 1, Reply::Refused(Refusal::Closed))?;
-    add_reply(alloc, &mut history, 0, Reply::ItemStored(FIRST))?;
-    Ok(history)
+    add_reply(rt, alloc, &mut history, 1, Reply::Refused(Refusal::Closed));
+    add_reply(rt, alloc, &mut history, 0, Reply::ItemStored(FIRST));
+    history
 }
 
 #[test]
-fn a_write_that_fails_is_the_last_call(rt: HostRuntime) -> Result<(), Fail> {
+fn a_write_that_fails_is_the_last_call(rt: HostRuntime) {
     let alloc = rt.alloc();
-    let history = two_replies(alloc)?;
+    let history = two_replies(&rt, alloc);
     let cut = Err(WriteFault::Write);
     for call in 0..OUTPUT.len() {
         let writer = lapse_at(alloc, call, false);
         let right = replies_leave(alloc, &history, writer, cut, &OUTPUT[..call], (call + 1, 0));
         assert_same(&rt, &(call, right), &(call, true));
     }
-    Ok(())
 }
 
 #[test]
-fn a_write_that_a_signal_interrupts_is_tried_again(rt: HostRuntime) -> Result<(), Fail> {
+fn a_write_that_a_signal_interrupts_is_tried_again(rt: HostRuntime) {
     let alloc = rt.alloc();
-    let history = two_replies(alloc)?;
+    let history = two_replies(&rt, alloc);
     for call in 0..OUTPUT.len() {
         let mut writer = lapse_at(alloc, call, false);
         writer.error = ErrorKind::Interrupted;
@@ -114,19 +109,17 @@ fn a_write_that_a_signal_interrupts_is_tried_again(rt: HostRuntime) -> Result<()
         let right = replies_leave(alloc, &history, writer, Ok(()), OUTPUT, calls);
         assert_same(&rt, &(call, right), &(call, true));
     }
-    Ok(())
 }
 
 // A flush that fails is told as a write that does.
 #[test]
-fn a_text_that_was_written_whole_is_flushed_once(rt: HostRuntime) -> Result<(), Fail> {
+fn a_text_that_was_written_whole_is_flushed_once(rt: HostRuntime) {
     let alloc = rt.alloc();
-    let history = two_replies(alloc)?;
+    let history = two_replies(&rt, alloc);
     let calls = (OUTPUT.len(), 1);
     for (is_stuck, answer) in [(false, Ok(())), (true, Err(WriteFault::Write))] {
         let writer = lapse_at(alloc, OUTPUT.len(), is_stuck);
         let right = replies_leave(alloc, &history, writer, answer, OUTPUT, calls);
         assert_same(&rt, &(is_stuck, right), &(is_stuck, true));
     }
-    Ok(())
 }

@@ -1,6 +1,6 @@
 use Rattle.std.proofs.Common.{ℕ, ◌<◌, ◌≤◌, ◌+◌}
 use Rattle.auction_rows.specs.declared.limits.TheConstants.{MOST_OF_A_WORKER}
-use Rattle.auction_text.specs.declared.reading.TheConstants.{MOST_ROWS_OF_A_PART}
+use Rattle.auction_text.specs.InputLimits.{MOST_ROWS_OF_A_PART}
 use Rattle.closing_laws.specs.Standing.{counters_at, stores}
 use Rattle.auction_program.proofs.limits.has_room.Given as goal
 

@@ -1,8 +1,8 @@
 use Rattle.std.proofs.Common.{◌≡◌, List, [], Some, subst}
 use Rattle.auction_rows.specs.Book.{Book}
 use Rattle.auction_text.specs.Scripts.{asked_of}
-use Rattle.auction_text.specs.declared.reading.ReadFault.TheVariants as read
-use Rattle.auction_text.specs.declared.reading.live_lines.Said.{Said}
+use Rattle.auction_text.specs.ReadFault.TheVariants as read
+use Rattle.auction_text.specs.Said.{Said}
 use Rattle.part_log.specs.declared.log.Teller.{Teller}
 use Rattle.auction_program.specs.PartRuns.{GoesOnTo, IsSession, MayHaveToSay}
 use Rattle.auction_program.specs.ServeFaults.{IsServeFault}

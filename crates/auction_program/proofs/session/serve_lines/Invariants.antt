@@ -1,6 +1,6 @@
 use Rattle.std.proofs.Common.{List}
 use Rattle.auction_rows.specs.Book.{Book}
-use Rattle.auction_text.specs.declared.reading.live_lines.Said.{Said}
+use Rattle.auction_text.specs.Said.{Said}
 use Rattle.part_log.specs.declared.log.Teller.{Teller}
 use Rattle.phase_floor.specs.Adding.{HasBook}
 use Rattle.auction_program.specs.PartRuns.{GoesOnTo, IsSession}

@@ -1,6 +1,8 @@
-use Rattle.std.proofs.Common.{arith}
+use Rattle.std.proofs.Common.{◌≤◌, arith, length}
 use Rattle.std.proofs.lemmas.Grind.{common_steps}
 use Rattle.auction_run.proofs.checks.have_workers.Goals as goal
 
 pub returns : goal.returns
-returns g c = grind (arith, common_steps)
+returns g c =
+    let few : length c.args.scripts.now ≤ 16 = c.if-workers-gt-MOST_WORKERS.false in
+    grind (few, arith, common_steps)

@@ -3,7 +3,7 @@ use Rattle.shard_boxes.specs.declared.shard_box.Knowledge.{Knowledge}
 use Rattle.shard_boxes.specs.States.{state_at}
 use Rattle.shard_boxes.specs.Passes.{GrantState}
 use Rattle.shard_boxes.specs.Rule.{Speaks, ready}
-use Rattle.shard_boxes.specs.Grants.{IsReady}
+use Rattle.shard_boxes.specs.Grants.{IsNewView}
 use Rattle.shard_boxes.proofs.Each.{each_push}
 use Rattle.shard_boxes.proofs.Sweeps.{swept_more}
 use Rattle.shard_boxes.proofs.KeySteps.{same_places}
@@ -16,7 +16,7 @@ deal-requires g c =
     let was = c.loop-s.invariant in let s = c.loop-s.s in let grants = c.loop-s.grants.items in
     let grant = c.index_mut.result.now in let at = c.index_mut.ensures.value in
     let below : s < length grants = subst (λ n. s < n) (sym (as_many grants boxes was.4)) c.loop-s-test.true in
-    let knows = subst (λ (l : GrantState). IsReady (state_at initial s) workers worker (workers - worker) l.knows) (sym at) (was.5.1 s grant (le_refl s) below) in
+    let knows = subst (λ (l : GrantState). IsNewView (state_at initial s) workers worker (workers - worker) l.knows) (sym at) (was.5.1 s grant (le_refl s) below) in
     let fewer : workers - worker ≡ suc (workers - (worker + 1)) = omega (arith, c.requires.worker) in
     record {
       place = place_is grants boxes s grant c.index-boxes-s.result was.4 below at c.index-boxes-s.is;
@@ -32,19 +32,19 @@ loop-s-preserved g c =
     let grant = c.index_mut.result.now in let at = c.index_mut.ensures.value in
     let low : s < length boxes = c.loop-s-test.true in
     let below : s < length grants = subst (λ n. s < n) (sym (as_many grants boxes was.4)) low in
-    let knows = subst (λ (l : GrantState). IsReady (state_at initial s) workers worker (workers - worker) l.knows) (sym at) (was.5.1 s grant (le_refl s) below) in
+    let knows = subst (λ (l : GrantState). IsNewView (state_at initial s) workers worker (workers - worker) l.knows) (sym at) (was.5.1 s grant (le_refl s) below) in
     let fewer : workers - worker ≡ suc (workers - (worker + 1)) = omega (arith, c.requires.worker) in
     let left = ap (λ (l : GrantState). l.knows) c.deal.ensures.left in let right = ap (λ (l : GrantState). l.knows) c.deal.ensures.right in
     let place = place_is grants boxes s grant c.index-boxes-s.result was.4 below at c.index-boxes-s.is in (
       p.len ∙ ap (λ n. n + 1) was.0,
       subst (λ n. length initial ≤ n) (sym p.capacity) was.1,
       places_more c.loop-s.room.items c.push_reserved.new.self.items boxes s c.deal.result c.index-boxes-s.result low p.items was.2 (ap (λ (l : GrantState). l.box_id) c.deal.ensures.right ∙ place) c.index-boxes-s.is,
-      (λ k d lower. each_push (λ j (x : GrantState). IsReady (state_at initial j) workers worker 1 x.knows) c.loop-s.room.items c.push_reserved.new.self.items c.deal.result d s (sym c.loop-s.room.ok.0 ∙ was.0) p.items (λ j lo. was.3 j d lo)
-          (subst (IsReady (state_at initial s) workers worker 1) (sym right) (first_ready (state_at initial s) workers worker (workers - worker) (workers - (worker + 1)) grant.knows knows fewer)) k lower),
+      (λ k d lower. each_push (λ j (x : GrantState). IsNewView (state_at initial j) workers worker 1 x.knows) c.loop-s.room.items c.push_reserved.new.self.items c.deal.result d s (sym c.loop-s.room.ok.0 ∙ was.0) p.items (λ j lo. was.3 j d lo)
+          (subst (IsNewView (state_at initial s) workers worker 1) (sym right) (first_ready (state_at initial s) workers worker (workers - worker) (workers - (worker + 1)) grant.knows knows fewer)) k lower),
       same_places grants s grant c.deal.new.grant at (ap (λ (l : GrantState). l.box_id) c.deal.ensures.left) ∙ was.4,
-      swept_more (λ k (x : GrantState). IsReady (state_at initial k) workers (worker + 1) (workers - (worker + 1)) x.knows) (λ k (x : GrantState). IsReady (state_at initial k) workers worker (workers - worker) x.knows)
+      swept_more (λ k (x : GrantState). IsNewView (state_at initial k) workers (worker + 1) (workers - (worker + 1)) x.knows) (λ k (x : GrantState). IsNewView (state_at initial k) workers worker (workers - worker) x.knows)
           grants s (s + 1) c.deal.new.grant below was.5
-          (subst (IsReady (state_at initial s) workers (worker + 1) (workers - (worker + 1))) (sym left) (rest_ready (state_at initial s) workers worker (workers - worker) (workers - (worker + 1)) grant.knows knows fewer)) refl,
+          (subst (IsNewView (state_at initial s) workers (worker + 1) (workers - (worker + 1))) (sym left) (rest_ready (state_at initial s) workers worker (workers - worker) (workers - (worker + 1)) grant.knows knows fewer)) refl,
     )
 
 pub returns-clause-key : goal.returns-clause-key

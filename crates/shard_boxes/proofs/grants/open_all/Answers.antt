@@ -3,7 +3,7 @@ use Rattle.std.specs.Vec.Iter.{into_iter_items}
 use Rattle.shard_boxes.specs.States.{IsWithin, state_at}
 use Rattle.shard_boxes.specs.Passes.{GrantState}
 use Rattle.shard_boxes.specs.Rule.{IsSpare}
-use Rattle.shard_boxes.specs.Grants.{IsReady}
+use Rattle.shard_boxes.specs.Grants.{IsNewView}
 use Rattle.shard_boxes.proofs.Each.{drop_next, at_head, is_next, one_on, all_gone}
 use Rattle.shard_boxes.proofs.Sweeps.{swept_more}
 use Rattle.shard_boxes.proofs.KeySteps.{same_places}
@@ -47,7 +47,7 @@ loop-shard-preserved g c =
       one_on _ _ _ _ step.1 was.0,
       drop_next shards s (s + 1) shard (into_iter_items c.next.new.self) (sym step.0 ∙ was.1) refl,
       same_places grants s grant c.open.new.grant at (ap (λ (l : GrantState). l.box_id) c.open.ensures) ∙ was.2,
-      swept_more (λ k (x : GrantState). IsReady (state_at initial k) workers 0 workers x.knows) (λ k (x : GrantState). IsSpare x.knows) grants s (s + 1) c.open.new.grant below was.3
+      swept_more (λ k (x : GrantState). IsNewView (state_at initial k) workers 0 workers x.knows) (λ k (x : GrantState). IsSpare x.knows) grants s (s + 1) c.open.new.grant below was.3
           (opened_ready (state_at initial s) workers c.open.new.grant.knows shard (ap (λ (l : GrantState). l.knows) c.open.ensures) state) refl,
     )
 

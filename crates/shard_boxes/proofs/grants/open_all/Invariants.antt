@@ -4,7 +4,7 @@ use Rattle.shard_boxes.specs.States.{state_at}
 use Rattle.shard_boxes.specs.Passes.{GrantState}
 use Rattle.shard_boxes.specs.Seats.{boxes_of}
 use Rattle.shard_boxes.specs.Rule.{IsSpare}
-use Rattle.shard_boxes.specs.Grants.{IsReady}
+use Rattle.shard_boxes.specs.Grants.{IsNewView}
 use Rattle.shard_boxes.proofs.Sweeps.{Swept}
 use Rattle.shard_boxes.proofs.grants.open_all.Given as goal
 
@@ -14,4 +14,4 @@ invariant-loop-shard g l =
     (l.s + into_iter_len l.shard-iterator ≡ length g.N.PhaseName.initial)
     × (into_iter_items l.shard-iterator ≡ drop l.s l.fn.shards.items)
     × (boxes_of l.grants.items ≡ l.boxes)
-    × Swept (λ k (x : GrantState). IsReady (state_at g.N.PhaseName.initial k) g.N.PhaseName.workers 0 g.N.PhaseName.workers x.knows) (λ k (x : GrantState). IsSpare x.knows) l.grants.items l.s
+    × Swept (λ k (x : GrantState). IsNewView (state_at g.N.PhaseName.initial k) g.N.PhaseName.workers 0 g.N.PhaseName.workers x.knows) (λ k (x : GrantState). IsSpare x.knows) l.grants.items l.s

@@ -1,4 +1,4 @@
-use Rattle.std.proofs.Common.{true, sym, ap, ◌∙◌}
+use Rattle.std.proofs.Common.{arith, length, true, sym, ap, ◌∙◌}
 use Rattle.std.proofs.lemmas.Bool.{false≢true}
 use Rattle.std.proofs.lemmas.Result.{IfOk-from_err, MatchResult-from_err}
 use Rattle.auction_window.specs.Published.{Published}
@@ -13,6 +13,9 @@ returns-then-self-clause-refused g c = λ i. record {
   phases = c.args.self.now.phases;
   failed = (ap (λ (p : Published). p.failed) (sym c.self.view_is) ∙ c.if-self.true) i;
 }
+
+pub add-requires : goal.add-requires
+add-requires g c = omega (arith, c.if-len.false, c.len.ensures, c.len.type_inv, ap length c.again-phases.ensures)
 
 pub returns-then-not-add-clause-refused : goal.returns-then-not-add-clause-refused
 returns-then-not-add-clause-refused g c = ap failing c.self.view_is

@@ -1,6 +1,6 @@
 use Rattle.std.proofs.Common.{arith, ◌≡◌, ◌≤◌, ◌+◌, ◌++◌, ◌∙◌, ℕ, IfSome, length, take, sym, ap, subst}
 use Rattle.std.proofs.lemmas.List.{length-take-le}
-use Rattle.auction_text.specs.declared.reading.ReadFault.TheVariants as read
+use Rattle.auction_text.specs.ReadFault.TheVariants as read
 use Rattle.log_opening.specs.Opening.{IsRefused, IsRefusedIn, TellsFirst}
 use Rattle.log_opening.specs.Parts.{HasNoEnd, IsReadTo}
 use Rattle.log_opening.specs.declared.opening.OpenFault.{OpenFault}

@@ -45,7 +45,7 @@ merge_all-requires-clause-shards g c =
     let e = c.in_ok-journals.ensures in let h = c.in_ok-add_phase.ensures in let parts = c.in_ok-journals.field-0 in
     let is_open = subst (IsOpen initial workers) c.self.view_is c.self.invariant.1 in
     let same = all_kept g.K.Kind.IS_JOINED c.args.self receipts parts.slices.items (subst (IsEmptyIf g.K.Kind.IS_JOINED) (ap (λ (f : FloorState). f.stocks) c.self.view_is) c.self.invariant.0) c.requires e.slices in
-    shards_one initial workers c.args.self is_open receipts c.requires e.finished (map state_of c.close_kept-shards.result.0.items) c.args.history.now c.add_phase.new.self parts.journals.items parts.stashes.items parts.keys.items parts.counters.items parts.slices.items e.parts same h.added h.lawful c.close_kept-shards.ensures
+    shards_one initial workers c.args.self is_open receipts c.requires e.finished (map state_of c.close_kept-shards.result.0.items) c.args.history.now c.add_phase.new.self parts.journals.items parts.stashes.items parts.keys.items parts.counters.items parts.slices.items e.parts same h.added h.lawful c.close_kept-shards.ensures.closed
 
 pub merge_all-requires-clause-known : goal.merge_all-requires-clause-known
 merge_all-requires-clause-known g c =
@@ -53,7 +53,7 @@ merge_all-requires-clause-known g c =
     let e = c.in_ok-journals.ensures in let h = c.in_ok-add_phase.ensures in let parts = c.in_ok-journals.field-0 in
     let is_open = subst (IsOpen initial workers) c.self.view_is c.self.invariant.1 in
     let same = all_kept g.K.Kind.IS_JOINED c.args.self receipts parts.slices.items (subst (IsEmptyIf g.K.Kind.IS_JOINED) (ap (λ (f : FloorState). f.stocks) c.self.view_is) c.self.invariant.0) c.requires e.slices in
-    slices_known initial workers c.args.self is_open receipts c.requires e.finished (map state_of c.close_kept-shards.result.0.items) c.args.history.now c.add_phase.new.self parts.journals.items parts.stashes.items parts.keys.items parts.counters.items parts.slices.items e.parts same h.added h.lawful c.close_kept-shards.ensures
+    slices_known initial workers c.args.self is_open receipts c.requires e.finished (map state_of c.close_kept-shards.result.0.items) c.args.history.now c.add_phase.new.self parts.journals.items parts.stashes.items parts.keys.items parts.counters.items parts.slices.items e.parts same h.added h.lawful c.close_kept-shards.ensures.closed
 
 pub merge_all-requires-clause-can : goal.merge_all-requires-clause-can
 merge_all-requires-clause-can g c =
@@ -61,7 +61,7 @@ merge_all-requires-clause-can g c =
     let e = c.in_ok-journals.ensures in let h = c.in_ok-add_phase.ensures in let parts = c.in_ok-journals.field-0 in
     let is_open = subst (IsOpen initial workers) c.self.view_is c.self.invariant.1 in
     let same = all_kept g.K.Kind.IS_JOINED c.args.self receipts parts.slices.items (subst (IsEmptyIf g.K.Kind.IS_JOINED) (ap (λ (f : FloorState). f.stocks) c.self.view_is) c.self.invariant.0) c.requires e.slices in
-    slices_can initial workers c.args.self is_open receipts c.requires e.finished (map state_of c.close_kept-shards.result.0.items) c.args.history.now c.add_phase.new.self parts.journals.items parts.stashes.items parts.keys.items parts.counters.items parts.slices.items e.parts same h.added h.lawful c.close_kept-shards.ensures
+    slices_can initial workers c.args.self is_open receipts c.requires e.finished (map state_of c.close_kept-shards.result.0.items) c.args.history.now c.add_phase.new.self parts.journals.items parts.stashes.items parts.keys.items parts.counters.items parts.slices.items e.parts same h.added h.lawful c.close_kept-shards.ensures.closed
 
 pub invariant_of-state : goal.invariant_of-state
 invariant_of-state g c =
@@ -70,7 +70,7 @@ invariant_of-state g c =
     let is_open = subst (IsOpen initial workers) c.self.view_is c.self.invariant.1 in
     let same = all_kept g.K.Kind.IS_JOINED c.args.self receipts parts.slices.items (subst (IsEmptyIf g.K.Kind.IS_JOINED) (ap (λ (f : FloorState). f.stocks) c.self.view_is) c.self.invariant.0) c.requires e.slices in
     kept_left initial workers c.args.self is_open receipts c.requires e.finished (added c.args.history.now.entries c.add_phase.new.self.entries)
-    c.reset_clocks.new.shards.items (reconciled initial workers c.args.self is_open receipts c.requires e.finished (map state_of c.close_kept-shards.result.0.items) c.args.history.now c.add_phase.new.self parts.journals.items parts.stashes.items parts.keys.items parts.counters.items parts.slices.items e.parts same h.added h.lawful c.close_kept-shards.ensures (map state_of c.reset_clocks.new.shards.items) (c.reset_clocks.ensures ∙ ap (map at_start) c.merge_all.ensures))
+    c.reset_clocks.new.shards.items (reconciled initial workers c.args.self is_open receipts c.requires e.finished (map state_of c.close_kept-shards.result.0.items) c.args.history.now c.add_phase.new.self parts.journals.items parts.stashes.items parts.keys.items parts.counters.items parts.slices.items e.parts same h.added h.lawful c.close_kept-shards.ensures.closed (map state_of c.reset_clocks.new.shards.items) (c.reset_clocks.ensures ∙ ap (map at_start) c.merge_all.ensures))
     c.self.inside.opening c.self.inside.limit parts.counters.items (ap (λ (f : FloorState). f.opening) c.self.view_is) (ap (λ (f : FloorState). f.limit) c.self.view_is) e.parts.counters_are
 
 pub returns-clause-closed : goal.returns-clause-closed
@@ -79,7 +79,7 @@ returns-clause-closed g c =
     let e = c.in_ok-journals.ensures in let h = c.in_ok-add_phase.ensures in let parts = c.in_ok-journals.field-0 in
     let is_open = subst (IsOpen initial workers) c.self.view_is c.self.invariant.1 in
     let same = all_kept g.K.Kind.IS_JOINED c.args.self receipts parts.slices.items (subst (IsEmptyIf g.K.Kind.IS_JOINED) (ap (λ (f : FloorState). f.stocks) c.self.view_is) c.self.invariant.0) c.requires e.slices in
-    reconciled initial workers c.args.self is_open receipts c.requires e.finished (map state_of c.close_kept-shards.result.0.items) c.args.history.now c.add_phase.new.self parts.journals.items parts.stashes.items parts.keys.items parts.counters.items parts.slices.items e.parts same h.added h.lawful c.close_kept-shards.ensures
+    reconciled initial workers c.args.self is_open receipts c.requires e.finished (map state_of c.close_kept-shards.result.0.items) c.args.history.now c.add_phase.new.self parts.journals.items parts.stashes.items parts.keys.items parts.counters.items parts.slices.items e.parts same h.added h.lawful c.close_kept-shards.ensures.closed
     (map state_of c.reset_clocks.new.shards.items) (c.reset_clocks.ensures ∙ ap (map at_start) c.merge_all.ensures)
 
 pub returns-clause-joined : goal.returns-clause-joined
@@ -91,7 +91,7 @@ returns-clause-joined g c joined =
     let cold = ap (λ (f : FloorState). f.stocks) (sym c.self.view_is) ∙ subst (λ (b : Bool). IsEmptyIf b c.self.inside.stocks.items) joined c.self.invariant.0 in
     let states = map state_of c.reset_clocks.new.shards.items in
     has_settled initial c.args.self receipts states (added c.args.history.now.entries c.add_phase.new.self.entries) cold c.requires
-    (reconciled initial workers c.args.self is_open receipts c.requires e.finished (map state_of c.close_kept-shards.result.0.items) c.args.history.now c.add_phase.new.self parts.journals.items parts.stashes.items parts.keys.items parts.counters.items parts.slices.items e.parts same h.added h.lawful c.close_kept-shards.ensures
+    (reconciled initial workers c.args.self is_open receipts c.requires e.finished (map state_of c.close_kept-shards.result.0.items) c.args.history.now c.add_phase.new.self parts.journals.items parts.stashes.items parts.keys.items parts.counters.items parts.slices.items e.parts same h.added h.lawful c.close_kept-shards.ensures.closed
     states (c.reset_clocks.ensures ∙ ap (map at_start) c.merge_all.ensures))
 
 pub returns-clause-leaves : goal.returns-clause-leaves
@@ -101,7 +101,7 @@ returns-clause-leaves g c =
     let is_open = subst (IsOpen initial workers) c.self.view_is c.self.invariant.1 in
     let same = all_kept g.K.Kind.IS_JOINED c.args.self receipts parts.slices.items (subst (IsEmptyIf g.K.Kind.IS_JOINED) (ap (λ (f : FloorState). f.stocks) c.self.view_is) c.self.invariant.0) c.requires e.slices in
     leaves initial workers c.args.self is_open receipts c.requires e.finished (added c.args.history.now.entries c.add_phase.new.self.entries)
-    c.reset_clocks.new.shards.items (reconciled initial workers c.args.self is_open receipts c.requires e.finished (map state_of c.close_kept-shards.result.0.items) c.args.history.now c.add_phase.new.self parts.journals.items parts.stashes.items parts.keys.items parts.counters.items parts.slices.items e.parts same h.added h.lawful c.close_kept-shards.ensures (map state_of c.reset_clocks.new.shards.items) (c.reset_clocks.ensures ∙ ap (map at_start) c.merge_all.ensures))
+    c.reset_clocks.new.shards.items (reconciled initial workers c.args.self is_open receipts c.requires e.finished (map state_of c.close_kept-shards.result.0.items) c.args.history.now c.add_phase.new.self parts.journals.items parts.stashes.items parts.keys.items parts.counters.items parts.slices.items e.parts same h.added h.lawful c.close_kept-shards.ensures.closed (map state_of c.reset_clocks.new.shards.items) (c.reset_clocks.ensures ∙ ap (map at_start) c.merge_all.ensures))
     c.self.inside.opening c.self.inside.limit parts.counters.items (ap (λ (f : FloorState). f.opening) c.self.view_is) (ap (λ (f : FloorState). f.limit) c.self.view_is) e.parts.counters_are
     (c.self.inside.phase + 1) parts.stashes.items (ap (λ (f : FloorState). f.phase + 1) c.self.view_is) e.parts.stashes_are
 

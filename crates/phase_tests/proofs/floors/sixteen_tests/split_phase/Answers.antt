@@ -10,4 +10,4 @@ pub bid_often-receipts-requires-clause-few : goal.bid_often-receipts-requires-cl
 bid_often-receipts-requires-clause-few g c = omega (arith, ap length c.in-Ok.ensures.begun.opens.counters, c.requires.workers, c.requires.sixteen)
 
 pub bid_often-receipts-requires-clause-room : goal.bid_often-receipts-requires-clause-room
-bid_often-receipts-requires-clause-room g c = omega (arith, ap length c.in-Ok.ensures.begun.opens.counters, c.requires.workers, c.requires.sixteen, c.in_ok-room.ensures.capacity)
+bid_often-receipts-requires-clause-room g c = omega (arith, ap length c.in-Ok.ensures.begun.opens.counters, c.requires.workers, c.requires.sixteen, c.room_for-room.ensures.room)

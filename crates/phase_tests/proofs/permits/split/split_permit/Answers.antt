@@ -1,4 +1,5 @@
 use Rattle.std.proofs.Common.{◌≡◌, [], length, sym, ap, ◌∙◌, arith}
+use Rattle.std.proofs.lemmas.Result.{IfOk-at_ok}
 use Rattle.auction_rows.specs.declared.requests.Object.TheVariants.{Item}
 use Rattle.auction_rows.specs.Footprint.{is_hot}
 use Rattle.phase_permits.specs.Slicing.{hot_objects, slices_of, stocks_of}
@@ -10,18 +11,19 @@ use Rattle.phase_tests.proofs.permits.split.split_permit.Goals as goal
 
 pub new-requires-2 : goal.new-requires-2
 new-requires-2 g c =
-    let journal = c.in_ok-journal.ensures in
-    let stash = c.in_ok-stash.ensures in
-    let slices = c.in_ok-slices.ensures in
+    let journal = IfOk-at_ok _ c.expect-journal.ensures c.with_room.ensures in
+    let empty = IfOk-at_ok _ c.expect-stash.ensures c.with_room-2.ensures.empty in
+    let room = IfOk-at_ok _ c.expect-stash.ensures c.with_room-2.ensures.room in
+    let slices = IfOk-at_ok _ c.expect-slices.ensures c.new.ensures in
     let hot = c.args.hot.now in
     record {
       key = c.requires.unused;
       worker = ap (λ (j : JournalView). j.worker) journal ∙ sym c.requires.worker;
       empty = ap (λ (j : JournalView). j.entries) journal;
       identities = slices ∙ ap (λ stocks. slices_of stocks []) (sym (ap stocks_of slices ∙ stocks_of_rows hot []));
-      room = omega (arith, ap length stash.empty, ap (λ (j : JournalView). j.room) journal);
-      stash_room = stash_room _ _ _ (omega (arith, stash.room));
-      limit = omega (arith, ap length stash.empty);
+      room = omega (arith, ap length empty, ap (λ (j : JournalView). j.room) journal);
+      stash_room = stash_room _ _ _ (omega (arith, room));
+      limit = omega (arith, ap length empty);
       counted = record { items = omega arith; bids = omega arith; comments = omega arith; buys = omega arith };
       stored = λ item is own.
           let first : item.serial ≡ 0 = c.requires.stored item (ap (λ objects. is_hot objects (Item item)) (sym (ap hot_objects slices ∙ objects_of_slices hot [])) ∙ is) in

@@ -9,13 +9,13 @@ use Rattle.phase_tests.proofs.shards.merge_tests.a_shard_shows_the_slices_merged
 
 pub merge_user-requires-clause-rating : goal.merge_user-requires-clause-rating
 merge_user-requires-clause-rating g c =
-    let slice = c.in_ok-two_comments.field-0 in
+    let slice = c.two_comments.result in
     subst (λ (v : Value). FitsSigned w64 (v.comments.rating +ℤ slice.rating)) (sym (c.in_ok-shard.ensures.nothing (User 3)))
-    (subst (λ r. FitsSigned w64 (pos 0 +ℤ r)) (sym c.in_ok-two_comments.ensures.rating) (omega arith))
+    (subst (λ r. FitsSigned w64 (pos 0 +ℤ r)) (sym c.two_comments.ensures.rating) (omega arith))
 
 pub merge_user-requires-clause-count : goal.merge_user-requires-clause-count
 merge_user-requires-clause-count g c =
-    omega (arith, ap (λ (v : Value). v.comments.comments) (c.in_ok-shard.ensures.nothing (User 3)), c.in_ok-two_comments.ensures.count)
+    omega (arith, ap (λ (v : Value). v.comments.comments) (c.in_ok-shard.ensures.nothing (User 3)), c.two_comments.ensures.count)
 
 pub merge_item-requires-clause-room : goal.merge_item-requires-clause-room
 merge_item-requires-clause-room g c = ap (λ (rooms : ItemId → Bool). rooms (record { worker = 0; serial = 0 })) c.in_ok-prepare_item.ensures.granted

@@ -7,8 +7,8 @@ use Rattle.shard_boxes.specs.Grants.{AreFree, AreSpare}
 use Rattle.shard_boxes.proofs.GrantLemmas.{no_grant, as_many}
 use Rattle.shard_boxes.proofs.boxes.Boxes.close_kept.Goals as goal
 
-pub returns : goal.returns
-returns g c =
+pub returns-clause-closed : goal.returns-clause-closed
+returns-clause-closed g c =
     let grants = c.collect_all-grants.result.items in let keys = c.args.keys.items in (
       (let same : length (map state_of c.take_all-shards.result.0.items) ≡ length c.take_all-shards.result.0.items = simp length-map in same ∙ c.take_all-shards.ensures.len),
       λ s low.
@@ -43,3 +43,6 @@ take_all-shards-requires g c =
 
 pub invariant_of-result : goal.invariant_of-result
 invariant_of-result g c = subst (λ (boxes : List BoxId). AreSpare boxes c.take_all-shards.result.1.items) c.deref-2.ensures.value c.take_all-shards.ensures.spare
+
+pub returns-clause-spare : goal.returns-clause-spare
+returns-clause-spare g c = sym c.self.inside.boxes.ok.0 ∙ c.self.invariant.0

@@ -1,6 +1,6 @@
 use Rattle.std.proofs.Common.{◌≡◌, ◌<◌, ◌≤◌, ◌^◌, List, length, get_or, vec_capacity, sym, ◌∙◌, subst}
 use Rattle.shard_boxes.specs.Keys.{BoxId, AreNewKeys}
-use Rattle.shard_boxes.specs.Grants.{AreSpare, AreReady}
+use Rattle.shard_boxes.specs.Grants.{AreSpare, AreNewGrants}
 use Rattle.shard_boxes.proofs.GrantLemmas.{as_many_states}
 use Rattle.shard_boxes.proofs.boxes.Boxes.open.Goals as goal
 
@@ -21,7 +21,7 @@ deal_all-keys-requires g c =
     record {
       few = c.requires.few;
       boxes = c.deref-2.ensures.len ∙ c.in-Ok.ensures.len ∙ count;
-      grants = subst (λ (boxes : List BoxId). AreReady g.N.PhaseName.initial workers boxes 0 workers c.open_all-grants.result.items) (c.deref.ensures.value ∙ sym c.deref-2.ensures.value) c.open_all-grants.ensures;
+      grants = subst (λ (boxes : List BoxId). AreNewGrants g.N.PhaseName.initial workers boxes 0 workers c.open_all-grants.result.items) (c.deref.ensures.value ∙ sym c.deref-2.ensures.value) c.open_all-grants.ensures;
       workers = subst (λ n. n < 2 ^ 32) c.requires.workers c.ranges.workers.fits;
       rooms = c.in-Ok-make_rooms.ensures.len ∙ c.requires.workers;
       each = λ w d low. let room = c.in-Ok-make_rooms.ensures.each w d (subst (λ n. w < n) (sym c.requires.workers) low) in (room.0, subst (λ n. n ≤ vec_capacity (get_or c.in-Ok-make_rooms.rooms.items w d)) count room.1);

@@ -1,0 +1,113 @@
+-- How far an input is read, line by line.
+use Rattle.std.proofs.Common.{arith, ◌≡◌, ◌==◌, ◌&&◌, ◌<◌, ◌≤◌, ◌+◌, ◌∷◌, ◌++◌, ◌∙◌, [], ℕ, List, Bool, Option, Result, Ok, Err, true, false, drop, length, refl, sym, ap, append_assoc, if◌then◌else◌}
+use Rattle.std.proofs.lemmas.List.{append-nil, get_or-replicate, length-replicate}
+use Rattle.csv.specs.Reading.{default_config, records, strip_bom}
+use Rattle.csv.specs.declared.reader.Reader.{Reader}
+use Rattle.auction_reading.specs.declared.plain_text.Progress.{Progress}
+use Rattle.auction_reading.specs.declared.record.Record.{Record}
+use Rattle.auction_reading.specs.declared.inputs.CompactInput.{CompactInput}
+use Rattle.auction_reading.specs.declared.inputs.ReadFault.{ReadFault}
+use Rattle.auction_reading.specs.declared.inputs.TheConstants.{MOST_RECORDS}
+use Rattle.auction_reading.specs.Lines.{IsLine}
+use Rattle.auction_reading.specs.Progress.{HasAdded, IsReadUpTo, ReadsOn, unmarked}
+use Rattle.auction_reading.specs.Reading.{IsAtStart, nothing_asked}
+use Rattle.auction_reading.specs.Records.{and_then}
+use Rattle.auction_reading.specs.Scripts.{asked_of, input_of, read_records, records_of}
+use Rattle.auction_reading.proofs.LineLemmas.{feed_no_bom, none_in_none, records_after_feed}
+use Rattle.auction_reading.proofs.RecordsLeft.{left_all}
+use Rattle.auction_reading.proofs.SoFar.{IsReading, so_far_all, so_far_more}
+
+-- before the first record
+then_all : (r : Result (List Record) ReadFault) → r ≡ and_then r (λ others. Ok ([] ++ others))
+then_all (Ok others) = refl
+then_all (Err fault) = refl
+
+pub nothing_read : (workers : ℕ) (bytes : List ℕ) (input : CompactInput) → asked_of input ≡ nothing_asked workers
+    → IsReadUpTo workers bytes (record { input = input; count = 0; begun = false }) bytes
+nothing_read workers bytes input empty = rw empty (record {
+  said = [];
+  read = then_all (read_records workers 1 false (records_of bytes));
+  rows_are = refl;
+  workers_are = length-replicate workers [];
+  script_of = λ w below. sym (get_or-replicate workers w [] [] below);
+})
+
+-- where nothing is read, nothing changes
+pub reads_on_none : (progress : Progress) (text : List ℕ) → progress.count ≤ MOST_RECORDS → ReadsOn progress text progress text
+reads_on_none progress text room = record { workers = refl; room = room; reads = λ workers bytes more read. read }
+
+-- what is read in two steps
+pub reads_on_then : (a b c : Progress) (x y z : List ℕ) → ReadsOn a x b y → ReadsOn b y c z → ReadsOn a x c z
+reads_on_then a b c x y z first second = record {
+  workers = second.workers ∙ first.workers;
+  room = second.room;
+  reads = λ workers bytes more read. second.reads workers bytes more (first.reads workers bytes more read);
+}
+
+-- what is read if there are more bytes behind
+pub reads_on_before : (old new : Progress) (x y tail : List ℕ) → ReadsOn old x new y → ReadsOn old (x ++ tail) new (y ++ tail)
+reads_on_before old new x y tail read = record {
+  workers = read.workers;
+  room = read.room;
+  reads = λ workers bytes more up_to. rw append_assoc (read.reads workers bytes (tail ++ more) (rw append_assoc at up_to));
+}
+
+-- what is read up to all bytes of an input
+pub read_on_alone : (workers : ℕ) (bytes : List ℕ) (old new : Progress) (from to : List ℕ) → ReadsOn old from new to → IsReadUpTo workers bytes old from → IsReadUpTo workers bytes new to
+read_on_alone workers bytes old new from to read up_to = rw (append-nil to) at (read.reads workers bytes [] (rw (append-nil from) up_to))
+
+pub same_if : (b : Bool) (xs ys : List ℕ) → xs ≡ ys → (if b then xs else ys) ≡ ys
+same_if true xs ys e = e
+same_if false xs ys e = refl
+
+-- one line more
+pub reads_on_line : (old new : Progress) (text : List ℕ) (at : ℕ) (said : Record) (next : ℕ) → IsLine text at said next → HasAdded old said new → old.count < MOST_RECORDS
+    → said.worker < length old.input.scripts.items → (said.is_row && old.begun) ≡ false → ReadsOn old (drop at text) new (drop next text)
+reads_on_line old new text at said next line added room below early = record {
+  workers = added.workers;
+  room = rw added.count (omega arith);
+  reads = λ workers bytes more up_to.
+      let source = drop at text ++ more in
+      let is : unmarked old.count source ≡ source = same_if (old.count == 0) (strip_bom source) source (line.unmarked more) in
+      let some : (old.count + 1 == 0) ≡ false = grind arith in
+      let many : length old.input.scripts.items ≡ workers = up_to.workers_are in
+      let few : said.worker < workers = omega arith in
+      let one = so_far_more workers (records_of bytes) old.count old.begun line.fields (records default_config (drop next text ++ more)) (asked_of old.input) said (rw (is, line.reads more) at up_to) room
+      (line.says workers (old.count + 1) old.begun few early) few in
+      rw (added.count, added.begun, added.asked, some) one;
+}
+
+-- what is put in front of the bytes that are left
+abbrev pub front : ℕ → List ℕ
+front count = if count == 0 then [] else (10 ∷ [])
+
+pub front_of : (first : Bool) (count : ℕ) (source : List ℕ) → (count == 0) ≡ first
+    → (records default_config (unmarked count (front count ++ source)) ≡ records default_config (unmarked count source)) × (unmarked count (front count ++ source) ≡ strip_bom (front count ++ source))
+front_of true count source is = (rw is refl, rw is refl)
+front_of false count source is = (rw is (records_after_feed source), rw is (sym (feed_no_bom source)))
+
+-- and that changes nothing
+pub read_up_to_front : (workers : ℕ) (bytes : List ℕ) (progress : Progress) (source : List ℕ) → IsReadUpTo workers bytes progress source
+    → IsReadUpTo workers bytes progress (front progress.count ++ source) × (unmarked progress.count (front progress.count ++ source) ≡ strip_bom (front progress.count ++ source))
+read_up_to_front workers bytes progress source read =
+    let both = front_of (progress.count == 0) progress.count source refl in
+    (rw both.0 read, both.1)
+
+-- an input of which nothing is left
+pub read_to_end : (workers : ℕ) (bytes : List ℕ) (progress : Progress) → IsReadUpTo workers bytes progress [] → input_of workers bytes ≡ Ok (asked_of progress.input)
+unfolding strip_bom
+read_to_end workers bytes progress read =
+    let none : records default_config (unmarked progress.count []) ≡ [] = ap (records default_config) (same_if (progress.count == 0) (strip_bom []) [] refl) ∙ none_in_none in
+    so_far_all workers (records_of bytes) progress.count progress.begun (asked_of progress.input) (rw none at read)
+
+-- a reader of these bytes
+pub reading_up_to : {R : Type 0} (rem : R → Option (List ℕ)) (workers : ℕ) (bytes left : List ℕ) (progress : Progress) (reader : Reader R)
+    → IsAtStart rem left reader → unmarked progress.count left ≡ strip_bom left → IsReadUpTo workers bytes progress left
+    → IsReading rem workers bytes progress.count progress.begun reader (asked_of progress.input)
+reading_up_to rem workers bytes left progress reader at is read = record {
+  source = strip_bom left;
+  known = at.source;
+  rest = records default_config (strip_bom left);
+  left = rw at.begins (left_all (strip_bom left));
+  so_far = rw is at read;
+}

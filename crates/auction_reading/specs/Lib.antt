@@ -1,0 +1,15 @@
+pub mod Fields
+pub mod Kinds
+pub mod LineBuffers
+pub mod Lines
+pub mod LiveLines
+pub mod LiveParts
+pub mod LiveReading
+pub mod Progress
+pub mod QuotedFields
+pub mod Reading
+pub mod Records
+pub mod RecordsLeft
+pub mod Scripts
+pub mod Taking
+pub mod UntilEnd
