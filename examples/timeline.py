@@ -3,13 +3,20 @@
 deferred it. FILE is the output of `rubis_auction --history`; if that of `--report` is there too, after it or in a file of its own, hot objects are named.
 
     rubis_auction --history --report < INPUT | examples/timeline.py > timeline.svg
-    examples/timeline.py examples/contended.history examples/contended.report > timeline.svg"""
+    examples/timeline.py examples/contended.history examples/contended.report > timeline.svg
+
+With --html it writes a page of the whole history for a browser instead. If the output of `rubis_check` is there too, the page marks the wrong line.
+
+    rubis_check --history engine.history < INPUT | examples/timeline.py --html engine.history - > timeline.html"""
 import argparse
 import fileinput
+import json
 import re
 import sys
 from collections import Counter
+from difflib import SequenceMatcher
 from html import escape
+from pathlib import Path
 from typing import NamedTuple
 
 LEFT, RIGHT, TOP = 92, 16, 84
@@ -20,6 +27,12 @@ GREY, INK, LINE, SPLIT_GROUND = "#8a8a8a", "#222222", "#e3e3e3", "#f6f1ea"
 COLOURS = {"write": "#b3261e", "view": "#3d6e91", "refused": GREY}
 ORDER = "The serial order is by phase, number and worker."
 WRITES = {"item", "bid", "comment", "buynow"}
+# The template of a page and its scripts.
+PAGE = Path(__file__).with_suffix("")
+# Lines of which a page is made; any other is an unreadable one of the history.
+READABLE = re.compile(r"([0-9]{1,20}) ([0-9]{1,20}) ([0-9]{1,20}) ([0-9]{1,20}) (.*)")
+REPORT = re.compile(r"(phases|requests|refused) [0-9]+|hot [0-9]+ .*|category [0-9]+ latest.*|user [0-9]+ rating=.*")
+VERDICT = re.compile(r"the history replays|line [0-9]{1,20}: .*|[0-9]+,[0-9]+ stands in no line")
 
 
 class Entry(NamedTuple):
@@ -43,6 +56,12 @@ class Run(NamedTuple):
     # The phase in which each request is asked, by worker and index: that of its entry, unless it is deferred.
     asked: dict
     hot: dict
+    # Whether quotas make these phases. Those of `--live` and of other engines are made otherwise.
+    by_quotas: bool
+
+    def alternates(self):
+        """Whether odd phases are known to be split: something is hot, or deferred as quotas have it, which may fit by chance if nothing is."""
+        return bool(self.hot) or self.by_quotas and any(map(self.is_late, self.entries))
 
     def is_late(self, entry):
         return self.asked[entry.worker, entry.index] < entry.phase
@@ -64,9 +83,8 @@ def read_run(lines, split):
     for entry in entries:
         scripts.setdefault(entry.worker, {})[entry.index] = entry.phase
     asked = by_quotas(scripts, split)
-    if not all(asked[entry.worker, entry.index] in can_ask(entry.phase) for entry in entries):
-        asked = by_order(scripts)
-    return Run(entries, asked, hot)
+    fits = all(asked[entry.worker, entry.index] in can_ask(entry.phase) for entry in entries)
+    return Run(entries, asked if fits else by_order(scripts), hot, fits)
 
 
 def can_ask(phase):
@@ -264,23 +282,107 @@ class Picture:
                           *self.frame(), *self.numbers(), *self.boxes(), *self.legend(), "</svg>"]) + "\n"
 
 
+class Verdict(NamedTuple):
+    """What the referee says, the line that it finds wrong, an earlier one that this contradicts, and the fields of its reply and of the one that was due,
+    each with whether it differs."""
+    text: str
+    line: int | None = None
+    other: int | None = None
+    reply: list | None = None
+    due: list | None = None
+
+
+def read_verdict(text, history):
+    found = re.fullmatch(r"line ([0-9]+): (.*)", text)
+    if not found:
+        return Verdict(text)
+    number, said = int(found[1]), found[2]
+    if number <= len(history) and said == "not PHASE NUMBER WORKER INDEX TEXT and a line feed":
+        return Verdict(text, number)
+    if 0 < number <= len(history) and (wrong := READABLE.fullmatch(history[number - 1])):
+        _, _, worker, index, reply = wrong.groups()
+        before = history[:number - 1]
+        if found := re.fullmatch(f"{worker},{index} {re.escape(reply)} but (.*) was due", said):
+            return Verdict(text, number, None, *compared(fields(reply), fields(found[1])))
+        if said == f"{worker},{index} stands in no script":
+            return Verdict(text, number)
+        if said == f"{worker},{index} stands in an earlier line":
+            return Verdict(text, number, first_of(before, worker, lambda other: other == int(index)))
+        if said == f"{worker},{index} stands after a later request of its script":
+            return Verdict(text, number, first_of(before, worker, lambda other: other > int(index)))
+    sys.exit("timeline.py: the verdict is of another history")
+
+
+def first_of(lines, worker, is_index):
+    """The first line of a worker with such an index."""
+    for number, line in enumerate(lines, 1):
+        found = READABLE.fullmatch(line)
+        if found and found[3] == worker and is_index(int(found[4])):
+            return number
+    return None
+
+
+def fields(reply):
+    """The words of a reply; a name is one to its end."""
+    front, name, rest = reply.partition(" name=")
+    return front.split(" ") + ([name[1:] + rest] if name else [])
+
+
+def compared(reply, due):
+    """The fields of both, each with whether it differs; an empty one is only in the other."""
+    parts = [(kind != "equal", reply[a:b], due[c:d]) for kind, a, b, c, d in SequenceMatcher(None, reply, due).get_opcodes()]
+    return [[(field, differs) for differs, *sides in parts for field in sides[side] or [""]] for side in (0, 1)]
+
+
+def parted(lines):
+    """The lines of the history as they are, those of its report, and the verdict."""
+    history, report, verdict = [], [], None
+    for line in lines:
+        line = line.decode(errors="replace").removesuffix("\n")
+        if VERDICT.fullmatch(line):
+            verdict = line
+        else:
+            (report if REPORT.fullmatch(line) else history).append(line)
+    return history, report, verdict
+
+
+def page(lines, split, name):
+    """The template, with its scripts and the name and data that they draw. All is ASCII, and no data ends an element."""
+    history, report, verdict = parted(lines)
+    readable = [at for at, line in enumerate(history) if READABLE.fullmatch(line)]
+    run = read_run([history[at] for at in readable] + report, split)
+    deferred = [(at, run.asked[entry.worker, entry.index]) for at, entry in zip(readable, run.entries) if run.is_late(entry)]
+    judged = read_verdict(verdict, history)._asdict() if verdict else None
+    data = {"history": "\n".join(history), "hot": run.hot, "alternates": run.alternates(), "deferred": deferred, "verdict": judged}
+    parts = {file: (PAGE / file).read_text(encoding="ascii") for file in ("page.html", "history.js", "draw.js", "act.js")}
+    parts |= {"name": escape(name).encode("ascii", "xmlcharrefreplace").decode(), "data": json.dumps(data).replace("<", "\\u003c")}
+    return re.sub(r"\{\{([\w.]+)\}\}", lambda found: parts[found[1]], parts["page.html"])
+
+
+def picture(lines, asked, name):
+    run = read_run(lines, asked.split)
+    phases = chosen_phases(run, asked.first, asked.most)
+    if not phases:
+        sys.exit(f"timeline.py: no phase from {asked.first} on")
+    return Picture(run, phases, name).svg()
+
+
 def main():
     parser = argparse.ArgumentParser(description=__doc__, formatter_class=argparse.RawDescriptionHelpFormatter)
     parser.add_argument("files", metavar="FILE", nargs="*", help="a history, and its report if there is one [default: standard input]")
     parser.add_argument("--from", dest="first", metavar="PHASE", type=int, default=0, help="the first phase that is drawn [default: 0]")
     parser.add_argument("--most", metavar="LINES", type=int, default=300, help="whole phases of at most so many lines are drawn, one at least [default: 300]")
     parser.add_argument("--split", metavar="N", type=int, help="the run's --split; a history of at most three phases may not show it")
+    parser.add_argument("--html", action="store_true", help="write a page, which has every phase, to zoom and to search")
     asked = parser.parse_args()
+    name = asked.files[0].rsplit("/", 1)[-1] if asked.files else "a run"
+    how = {"mode": "rb"} if asked.html else {"encoding": "utf-8", "errors": "replace"}
     try:
-        with fileinput.input(asked.files or "-", encoding="utf-8", errors="replace") as lines:
-            run = read_run(lines, asked.split)
+        with fileinput.input(asked.files or "-", **how) as lines:
+            drawn = page(lines, asked.split, name) if asked.html else picture(lines, asked, name)
     except OSError as fault:
         sys.exit(f"timeline.py: {fault.filename}: {fault.strerror}")
-    phases = chosen_phases(run, asked.first, asked.most)
-    if not phases:
-        sys.exit(f"timeline.py: no phase from {asked.first} on")
-    name = asked.files[0].rsplit("/", 1)[-1] if asked.files else "a run"
-    sys.stdout.write(Picture(run, phases, name).svg())
+    sys.stdout.write(drawn)
 
 
 if __name__ == "__main__":

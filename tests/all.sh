@@ -4,7 +4,7 @@
 #     tests/all.sh            all tests
 #     tests/all.sh --built    only the scripts, on programs and tests that are built
 #
-# Three scripts run beside the others; what they said is printed after them.
+# Five scripts run beside the others; what they said is printed after them.
 set -euo pipefail
 cd "$(dirname "$0")/.."
 said=$(mktemp -d)
@@ -15,11 +15,11 @@ if [ "${1:-}" != --built ]; then
     lanes=$(awk -v most="$(nproc)" '/^MemAvailable/ { fits = int($2 / 4000000); print fits < 1 ? 1 : fits < most ? fits : most }' /proc/meminfo)
     RT_JOBS=${RT_JOBS:-$lanes} rt ci | tee "$said/rt_ci"
 fi
-beside="second_opinion tutorial must_be_spent"
+beside="second_opinion tutorial must_be_spent timeline failover"
 for script in $beside; do
     python3 -B "tests/$script.py" > "$said/$script" 2>&1 &
 done
-for script in documents surface worked ends live logs lasting limits refused_memory library_calls checking loads tools postgres; do
+for script in documents surface worked ends live logs lasting serving quorum limits refused_memory library_calls checking loads tools joined postgres; do
     echo "== tests/$script.py"
     python3 -B "tests/$script.py" 2>&1 | tee "$said/$script" || true
 done

@@ -5,7 +5,8 @@
 
 Runs of random inputs leave their rows. Of each item, its bids, each category and each user the view of the program, opened with these rows, is compared with the
 line that examples/sql/lines.sql gives. Then examples/sql/perform.py executes random inputs and loads: the referee accepts their histories, and the tables have the
-views of the program that is opened with the rows of the history. With no locks two buyers get the last piece, and the referee names the line.
+views of the program that is opened with the rows of the history, also if connections break all the time. With no locks two buyers get the last piece, and the
+referee names the line.
 The server is one of its own, in a folder of its own; without PostgreSQL nothing is tried.
 """
 
@@ -17,11 +18,13 @@ import re
 import shutil
 import sys
 import tempfile
+import time
 from collections import defaultdict
+from concurrent.futures import Future, ThreadPoolExecutor
 from dataclasses import replace
 from pathlib import Path
 from subprocess import PIPE, run as run_tool
-from typing import Iterator
+from typing import Iterator, NamedTuple
 
 from inputs import PROFILES, Text
 from load_model import Plan, load_of
@@ -41,6 +44,13 @@ LAST_PIECES, LAST_WORKERS = EXAMPLES / "last_pieces.csv", 4
 TRIES = 20
 OVERSOLD = re.compile(rb"line [0-9]+: [0-3],[0-9]+ buynow [0-3]\.[0-9]+ but refused 7 NotEnough was due\n")
 ACCEPTED = Outcome(0, b"the history replays\n", b"")
+# A server that waits for a standby that there is not acknowledges nothing. Then all connections in a transaction, of which only workers hold locks, are broken.
+HOLD = "ALTER SYSTEM SET synchronous_standby_names = 'nobody'; SELECT pg_reload_conf();"
+BREAK = "SELECT pg_terminate_backend(pid) FROM pg_locks WHERE locktype = 'advisory';"
+GO_ON = "ALTER SYSTEM RESET synchronous_standby_names; SELECT pg_reload_conf();"
+BREAKING, BREAKS = replace(LOAD, requests=400, workers=4, skew=100), 5
+# How many requests have numbers.
+NUMBERED = "SELECT coalesce(max(last_value), 0) FROM pg_sequences WHERE sequencename = 'commits';"
 
 
 class Server:
@@ -78,6 +88,9 @@ class Server:
     def clear(self) -> None:
         self.ask("DROP SCHEMA public CASCADE; CREATE SCHEMA public;")
 
+    def views(self) -> list[str]:
+        return self.ask((SQL / "lines.sql").read_text())
+
     def closing_views(self, rows: bytes) -> list[str]:
         """What a new database says that has these rows."""
         self.clear()
@@ -90,6 +103,19 @@ class Server:
         self.clear()
         place = {"PGHOST": str(self.folder), "PGUSER": "auction", "PGDATABASE": "postgres"}
         return run([sys.executable, "-B", SQL / "perform.py", *MARKET, *asked], data, env=os.environ | place)
+
+
+class Kept(NamedTuple):
+    """What perform.py says with --keep: how many requests were acknowledged, how many of them are lost, and how many connections broke."""
+
+    acknowledged: int
+    lost: int
+    broken: int
+
+    @classmethod
+    def of(cls, got: Outcome) -> "Kept":
+        said = re.fullmatch(rb"([0-9]+) requests acknowledged, ([0-9]+) of them lost; ([0-9]+) connections broken\n", got.stderr)
+        return cls(*map(int, said.groups())) if said else cls(-1, -1, -1)
 
 
 def items_of(rows: bytes) -> list[tuple[int, int]]:
@@ -175,8 +201,31 @@ def histories(server: Server, program: Path, checker: Path, rng: random.Random, 
         got = server.perform(data)
         tally.check((got.status, got.stderr) == (0, b""), f"input {number}: {described(got)}")
         tally.same(f"the history of input {number}", found(checker, server.folder, workers, data, got.stdout), ACCEPTED)
-        views = server.ask((SQL / "lines.sql").read_text())
-        tally.check(*compared(f"input {number}", program_views(program, rows_after(data, got.stdout)), views))
+        tally.check(*compared(f"input {number}", program_views(program, rows_after(data, got.stdout)), server.views()))
+
+
+def wait_for(server, moment: int, performed: Future) -> None:
+    """Waits until so many requests have numbers, or perform.py has ended."""
+    while not performed.done() and int(server.ask(NUMBERED)[0]) < moment:
+        time.sleep(0.05)
+
+
+def broken_connections(server: Server, program: Path, checker: Path, rng: random.Random, tally: Tally) -> None:
+    """a history over connections that break, after a commit too: each request is executed once"""
+    data = load_of(replace(BREAKING, seed=rng.randrange(1 << 32)))
+    server.clear()
+    with ThreadPoolExecutor() as threads:
+        performed = threads.submit(server.perform, data, "--keep")
+        for moment in range(0, BREAKING.requests, BREAKING.requests // BREAKS):
+            wait_for(server, moment + 1, performed)
+            server.ask(HOLD)
+            time.sleep(0.1)
+            server.ask(BREAK + GO_ON)
+    got = performed.result()
+    told = Kept.of(got)
+    tally.check(got.status == 0 and told.acknowledged == BREAKING.requests and told.lost == 0 and told.broken > 0, f"broken connections: {described(got)}")
+    tally.same("broken connections", found(checker, server.folder, BREAKING.workers, data, got.stdout), ACCEPTED)
+    tally.check(*compared("broken connections", program_views(program, rows_after(data, got.stdout)), server.views()))
 
 
 def last_pieces(server: Server, checker: Path, tally: Tally) -> None:
@@ -190,19 +239,31 @@ def last_pieces(server: Server, checker: Path, tally: Tally) -> None:
     tally.check(got.status == 5 and OVERSOLD.fullmatch(got.stdout) is not None, f"without locks: {described(got)}")
 
 
+def programs() -> tuple[Path, Path]:
+    """The program and the checker that were asked for, or those that are built."""
+    asked = (*sys.argv[1:], *(BUILT, built("rubis_check"))[len(sys.argv) - 1 :])
+    return tuple(Path(word).resolve() for word in asked)
+
+
+def tools() -> Path | None:
+    """The folder of the server's programs, if it is installed."""
+    found_tools = sorted(Path("/usr/lib/postgresql").glob("*/bin/initdb"))
+    at_hand = found_tools[-1] if found_tools else shutil.which("initdb")
+    return None if at_hand is None or shutil.which("psql") is None else Path(at_hand).parent
+
+
 def main() -> None:
-    program, checker = (Path(word).resolve() for word in (*sys.argv[1:], *(BUILT, built("rubis_check"))[len(sys.argv) - 1 :]))
+    program, checker = programs()
     tally = Tally()
-    tools = sorted(Path("/usr/lib/postgresql").glob("*/bin/initdb"))
-    at_hand = tools[-1] if tools else shutil.which("initdb")
-    if at_hand is None or shutil.which("psql") is None:
+    if tools() is None:
         tally.skip("the auction in PostgreSQL", "it is not installed")
         return tally.finish()
     seed = random.randrange(1 << 32)
     print(f"seed {seed}", flush=True)
     rng = random.Random(seed)
-    with Server(Path(at_hand).parent) as server:
-        for check, given in ((closing_views, (program, rng)), (histories, (program, checker, rng)), (last_pieces, (checker,))):
+    checks = ((closing_views, (program, rng)), (histories, (program, checker, rng)), (broken_connections, (program, checker, rng)), (last_pieces, (checker,)))
+    with Server(tools()) as server:
+        for check, given in checks:
             passed = tally.passed
             check(server, *given, tally)
             print(f"{tally.passed - passed:6} passed: {check.__doc__}", flush=True)

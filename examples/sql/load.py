@@ -60,6 +60,9 @@ def filling(records: Iterable[list[str]], users: int, categories: int) -> Iterat
         yield f"COPY {table} (worker, serial, {COLUMNS[kind]}) FROM stdin;"
         yield from ("\t".join(map(escaped, row)) for row in rows[kind])
         yield "\\."
+    yield "COPY serials (worker, kind, next) FROM stdin;"
+    yield from (f"{worker}\t{kind}\t{count}" for (kind, worker), count in serials.items())
+    yield "\\."
     yield COUNTED
 
 

@@ -2,12 +2,16 @@
 """Executes scripts on PostgreSQL, with a connection for each worker, and writes the history, which `rubis_check` can judge.
 
     createdb auction
-    examples/sql/perform.py --database auction [--users N] [--categories N] [--unlocked] < input > history
+    examples/sql/perform.py --database auction [--users N] [--categories N] [--keep | --unlocked] < input > history
     rubis_check --workers N --strict --history history < input
 
 The database has to be empty, since the tables of schema.sql are made there; connections are psql's, so PGHOST and the like hold. Rows are loaded, and then
 each request is a transaction: it locks the objects that it touches, calls a function of transactions.sql, draws a number while it holds the locks, and
 commits. The history is in the order of the numbers.
+
+With --keep each transaction also writes its line into a table, which in the end is the history. A worker whose connection breaks makes a new one, perhaps to
+another server (three.sh), and looks there whether its request was executed: so each request is executed once. Standard error says how many lines that were
+acknowledged are not in the table.
 
 With --unlocked nothing is locked, nor is an item `FOR UPDATE` before it is bought: two buyers may get the last piece.
 """
@@ -15,9 +19,12 @@ With --unlocked nothing is locked, nor is an item `FOR UPDATE` before it is boug
 import argparse
 import csv
 import sys
+import time
+from concurrent.futures import ThreadPoolExecutor
+from functools import partial
 from pathlib import Path
 from subprocess import PIPE, Popen, run
-from threading import Thread
+from typing import Callable, NamedTuple, TypeVar
 
 from load import ITEM_FIELD, filling, values
 
@@ -34,6 +41,32 @@ FUNCTIONS = {
     "viewcategory": ("view_category", "category", 0),
     "viewuser": ("view_user", "user", 0),
 }
+
+HISTORY = """\
+CREATE SEQUENCE commits;
+CREATE TABLE history (number bigint NOT NULL, worker int, index int, reply text NOT NULL, PRIMARY KEY (worker, index));
+"""
+LINE = "format('%s %s %s %s', number, worker, index, reply)"
+COMMIT = ("COMMIT", "SELECT 'committed'")
+# The status of a psql that has no connection, or no longer.
+BROKEN = 2
+# How often a worker tries to connect, and how many seconds it waits in between.
+TRIES, PAUSE = 120, 0.5
+Result = TypeVar("Result")
+
+
+class Line(NamedTuple):
+    """A line of the history, but for its phase."""
+
+    number: int
+    worker: int
+    index: int
+    reply: str
+
+    @classmethod
+    def of(cls, text: str) -> "Line":
+        *numbers, reply = text.split(" ", 3)
+        return cls(*map(int, numbers), reply)
 
 
 def call(worker: int, kind: str, fields: list[str]) -> str:
@@ -53,73 +86,130 @@ def objects(kind: str, fields: list[str]) -> list[str]:
     return touched + ([f"item {fields[ITEM_FIELD[kind]]}"] if kind in ITEM_FIELD else [])
 
 
-class Worker(Thread):
+class Worker:
     """A worker: its script, and a connection, which is a psql that is sent statements and prints what they give."""
 
     def __init__(self, number: int, script: list[list[str]], asked: argparse.Namespace):
-        super().__init__()
         self.number, self.script, self.asked = number, script, asked
-        self.lines: list[tuple[int, int, int, str]] = []
-        self.psql = Popen(psql(asked), stdin=PIPE, stdout=PIPE, text=True)
-        self.hear("SELECT 'connected';")
+        self.broken = 0
+        self.patiently(self.connect)
 
-    def run(self) -> None:
-        for index, (kind, *fields) in enumerate(self.script):
-            reply = self.hear("BEGIN;" + self.locks(objects(kind, fields)) + f"SELECT {call(self.number, kind, fields)};")
-            # Nobody sees a new item before the commit; whoever looked for it before has committed once its lock is had.
-            stored = [reply] if reply.startswith("item ") else []
-            number = self.hear(self.locks(stored) + "SELECT nextval('commits'); COMMIT;")
-            self.lines.append((int(number), self.number, index, reply))
+    def patiently(self, act: Callable[[], Result]) -> Result:
+        """What an act gives; with --keep it is tried again while there is no connection."""
+        for _ in range(TRIES if self.asked.keep else 1):
+            try:
+                return act()
+            except ConnectionError:
+                time.sleep(PAUSE)
+        raise SystemExit(f"worker {self.number}: no connection")
+
+    def connect(self) -> None:
+        self.psql = Popen(psql(self.asked), stdin=PIPE, stdout=PIPE, stderr=PIPE, text=True)
+        self.hear("SELECT 'connected'")
+
+    def perform(self) -> list[Line]:
+        """The lines of the script's requests, each of which has committed."""
+        lines = [self.line(index, request) for index, request in enumerate(self.script)]
         self.psql.communicate()
+        return lines
 
-    def locks(self, names: list[str]) -> str:
+    def line(self, index: int, request: list[str]) -> Line:
+        """Executes a request, through however many connections."""
+        try:
+            return self.execute(index, request)
+        except ConnectionError as error:
+            if not self.asked.keep:
+                raise SystemExit(f"worker {self.number}: {error}")
+        self.broken += 1
+        return self.patiently(partial(self.find_or_execute, index, request))
+
+    def find_or_execute(self, index: int, request: list[str]) -> Line:
+        self.connect()
+        return self.find(index) or self.execute(index, request)
+
+    def execute(self, index: int, request: list[str]) -> Line:
+        kind, *fields = request
+        reply = self.hear(*self.begin(objects(kind, fields)), f"SELECT {call(self.number, kind, fields)}")
+        # Nobody sees a new item before the commit; whoever looked for it before has committed once its lock is had.
+        stored = [reply] if reply.startswith("item ") else []
+        number = self.hear(*self.locks(stored), "SELECT nextval('commits')")
+        line = Line(int(number), self.number, index, reply)
+        kept = f"INSERT INTO history VALUES ({line.number}, {line.worker}, {line.index}, {quoted(reply)})"
+        self.hear(*([kept] if self.asked.keep else []), *COMMIT)
+        return line
+
+    def find(self, index: int) -> Line | None:
+        """The line of a request that a broken connection has executed. It is written again: so its commit, too, waits for a standby."""
+        found = f"UPDATE history SET reply = reply WHERE worker = {self.number} AND index = {index} RETURNING {LINE} AS line"
+        told = self.hear(*self.begin([]), f"WITH found AS ({found}) SELECT coalesce(max(line), 'none') FROM found")
+        self.hear(*COMMIT)
+        return None if told == "none" else Line.of(told)
+
+    def begin(self, names: list[str]) -> list[str]:
+        """Statements that begin a transaction and lock objects, once the worker's transaction before it has ended."""
+        return ["BEGIN", *self.locks([f"worker {self.number}", *names])]
+
+    def locks(self, names: list[str]) -> list[str]:
         """Statements that lock objects until the transaction ends, and print empty lines."""
-        return "" if self.asked.unlocked else "".join(f"SELECT pg_advisory_xact_lock(hashtextextended({quoted(name)}, 0));" for name in names)
+        return [] if self.asked.unlocked else [f"SELECT pg_advisory_xact_lock(hashtextextended({quoted(name)}, 0))" for name in names]
 
-    def hear(self, statements: str) -> str:
-        """The first line with something on it that the statements print."""
-        self.psql.stdin.write(statements + "\n")
-        self.psql.stdin.flush()
-        line = next((line for line in self.psql.stdout if line != "\n"), None)
-        if line is None:
-            raise SystemExit(f"worker {self.number}: psql has ended")
-        return line.removesuffix("\n")
+    def hear(self, *statements: str) -> str:
+        """Sends statements to the server, in one message, and gives the first line with something on it that they print."""
+        try:
+            self.psql.stdin.write("\\; ".join(statements) + ";\n")
+            self.psql.stdin.flush()
+            return next(line for line in self.psql.stdout if line != "\n").removesuffix("\n")
+        except (BrokenPipeError, StopIteration):
+            _, said = self.psql.communicate()
+        if self.psql.returncode == BROKEN:
+            raise ConnectionError(said)
+        raise SystemExit(f"worker {self.number}: {said}")
 
 
 def psql(asked: argparse.Namespace) -> list[str]:
     return ["psql", "-qAtX", "-v", "ON_ERROR_STOP=1", *(["-d", asked.database] if asked.database else [])]
 
 
-def open_auction(rows: list[list[str]], workers: int, asked: argparse.Namespace) -> None:
+def ask(asked: argparse.Namespace, text: str) -> list[str]:
+    return run(psql(asked), input=text, text=True, stdout=PIPE, check=True).stdout.splitlines()
+
+
+def open_auction(rows: list[list[str]], asked: argparse.Namespace) -> None:
     code = "".join((SQL / name).read_text() for name in ("schema.sql", "views.sql", "transactions.sql"))
     if asked.unlocked:
         code = code.replace(" FOR UPDATE;", ";")
-    last = f"SELECT make_serials({workers}); CREATE SEQUENCE commits;"
-    run(psql(asked), input="\n".join([code, *filling(rows, asked.users, asked.categories), last]), text=True, stdout=PIPE, check=True)
+    ask(asked, "\n".join(["BEGIN;", code, *filling(rows, asked.users, asked.categories), HISTORY, "COMMIT;"]))
 
 
-def main() -> None:
+def options() -> argparse.Namespace:
     words = argparse.ArgumentParser(description=__doc__, formatter_class=argparse.RawDescriptionHelpFormatter)
     words.add_argument("--database", help="an empty database [default: psql's]")
     words.add_argument("--users", type=int, default=100, help="users of the auction [default: 100]")
     words.add_argument("--categories", type=int, default=10, help="categories of the auction [default: 10]")
-    words.add_argument("--unlocked", action="store_true", help="lock nothing")
-    asked = words.parse_args()
+    one_of = words.add_mutually_exclusive_group()
+    one_of.add_argument("--keep", action="store_true", help="keep the history in a table, and go on after a broken connection")
+    one_of.add_argument("--unlocked", action="store_true", help="lock nothing")
+    return words.parse_args()
+
+
+def main() -> None:
+    asked = options()
     records = [record for record in csv.reader(sys.stdin) if record]
     rows = [record for record in records if record[1].startswith("+")]
     scripts: list[list[list[str]]] = [[] for _ in range(1 + max((int(record[0]) for record in records), default=0))]
     for worker, *request in records[len(rows) :]:
         scripts[int(worker)].append(request)
-    open_auction(rows, len(scripts), asked)
+    open_auction(rows, asked)
     workers = [Worker(number, script, asked) for number, script in enumerate(scripts)]
-    for worker in workers:
-        worker.start()
-    for worker in workers:
-        worker.join()
-    if any(len(worker.lines) < len(worker.script) for worker in workers):
-        sys.exit(1)
-    for number, worker, index, reply in sorted(line for worker in workers for line in worker.lines):
-        print(0, number, worker, index, reply)
+    with ThreadPoolExecutor(len(workers)) as threads:
+        lines = {line for lines in threads.map(Worker.perform, workers) for line in lines}
+    if asked.keep:
+        kept = set(map(Line.of, ask(asked, f"SELECT {LINE} FROM history;")))
+        broken = sum(worker.broken for worker in workers)
+        print(f"{len(lines)} requests acknowledged, {len(lines - kept)} of them lost; {broken} connections broken", file=sys.stderr)
+        lines = kept
+    for line in sorted(lines):
+        print(0, *line)
 
 
 if __name__ == "__main__":

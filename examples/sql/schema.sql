@@ -46,6 +46,14 @@ CREATE TABLE purchases (
     PRIMARY KEY (worker, serial),
     FOREIGN KEY (item_worker, item_serial) REFERENCES items);
 
+-- The serial of each worker's next item, bid, comment and purchase. A sequence would leave gaps after a rollback, a crash or a failover.
+CREATE TABLE serials (worker int, kind text, next int NOT NULL, PRIMARY KEY (worker, kind));
+
+CREATE FUNCTION take_serial(session int, of_kind text) RETURNS int LANGUAGE sql AS $$
+    INSERT INTO serials VALUES (session, of_kind, 1)
+    ON CONFLICT (worker, kind) DO UPDATE SET next = serials.next + 1 RETURNING next - 1
+$$;
+
 -- What the views and load.py look for: an item's bids from the highest down, a category's items from the latest down, a user's comments, an item's purchases.
 CREATE INDEX ON bids (item_worker, item_serial, amount DESC, time DESC, worker DESC, serial DESC);
 CREATE INDEX ON items (category, time DESC, worker DESC, serial DESC);

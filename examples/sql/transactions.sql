@@ -1,20 +1,10 @@
 -- The requests of the auction over the tables of schema.sql: a function each, to be called as a transaction, which replies as the program does.
 --
--- At "read committed" a transaction changes at most one row that others change too, an item's or a user's, and holds it until it commits. What else it
+-- At "read committed" a transaction changes at most one row that other workers change too, an item's or a user's, and holds it until it commits. What else it
 -- reads never changes, except how many pieces are left, which only falls, so that a refusal stays right; a view is STABLE, so that it reads one snapshot. So
 -- the transactions are serializable: writes in the order of their commits, views and refusals as of what they read.
-
--- The serials of each worker's items, bids, comments and purchases, after those of the rows.
-CREATE FUNCTION make_serials(workers int) RETURNS void LANGUAGE plpgsql AS $$
-DECLARE kind text; next_serial int;
-BEGIN
-    FOREACH kind IN ARRAY ARRAY['items', 'bids', 'comments', 'purchases'] LOOP
-        FOR session IN 0 .. workers - 1 LOOP
-            EXECUTE format('SELECT coalesce(max(serial) + 1, 0) FROM %I WHERE worker = %s', kind, session) INTO next_serial;
-            EXECUTE format('CREATE SEQUENCE %I MINVALUE 0 START %s', kind || '_' || session, next_serial);
-        END LOOP;
-    END LOOP;
-END $$;
+--
+-- take_serial comes from schema.sql. Two sessions that write as one worker wait for each other's commits.
 
 CREATE FUNCTION store_item(session int, by_user bigint, in_category bigint, title text, first_price numeric, closing numeric, moment numeric, pieces int)
 RETURNS text LANGUAGE plpgsql AS $$
@@ -22,7 +12,7 @@ DECLARE own int;
 BEGIN
     IF NOT EXISTS (SELECT FROM users WHERE id = by_user) THEN RETURN 'refused 1 NoSuchUser'; END IF;
     IF NOT EXISTS (SELECT FROM categories WHERE id = in_category) THEN RETURN 'refused 2 NoSuchCategory'; END IF;
-    own := nextval(('items_' || session)::regclass);
+    own := take_serial(session, 'item');
     INSERT INTO items (worker, serial, seller, category, name, start, closes, time, quantity, remaining)
         VALUES (session, own, by_user, in_category, title, first_price, closing, moment, pieces, pieces);
     RETURN 'item ' || session || '.' || own;
@@ -35,7 +25,7 @@ BEGIN
     IF NOT EXISTS (SELECT FROM users WHERE id = by_user) THEN RETURN 'refused 1 NoSuchUser'; END IF;
     UPDATE items SET bids = bids + 1 WHERE worker = of_worker AND serial = of_serial AND price >= start AND moment < closes AND remaining > 0;
     IF FOUND THEN
-        own := nextval(('bids_' || session)::regclass);
+        own := take_serial(session, 'bid');
         INSERT INTO bids (worker, serial, bidder, item_worker, item_serial, amount, time)
             VALUES (session, own, by_user, of_worker, of_serial, price, moment);
         RETURN 'bid ' || session || '.' || own;
@@ -56,7 +46,7 @@ BEGIN
         RETURN 'refused 1 NoSuchUser';
     END IF;
     IF NOT EXISTS (SELECT FROM items WHERE worker = of_worker AND serial = of_serial) THEN RETURN 'refused 3 NoSuchItem'; END IF;
-    own := nextval(('comments_' || session)::regclass);
+    own := take_serial(session, 'comment');
     INSERT INTO comments (worker, serial, author, about, item_worker, item_serial, stars)
         VALUES (session, own, by_user, about_user, of_worker, of_serial, given);
     UPDATE users SET rating = rating + given, comments = comments + 1 WHERE id = about_user;
@@ -74,7 +64,7 @@ BEGIN
     IF moment >= found_item.closes THEN RETURN 'refused 5 Closed'; END IF;
     IF pieces > found_item.remaining THEN RETURN 'refused 7 NotEnough'; END IF;
     UPDATE items SET remaining = found_item.remaining - pieces WHERE worker = of_worker AND serial = of_serial;
-    own := nextval(('purchases_' || session)::regclass);
+    own := take_serial(session, 'buynow');
     INSERT INTO purchases (worker, serial, buyer, item_worker, item_serial, quantity, time)
         VALUES (session, own, by_user, of_worker, of_serial, pieces, moment);
     RETURN 'buynow ' || session || '.' || own;

@@ -1,0 +1,334 @@
+#!/usr/bin/env python3
+"""Serves an auction to many clients, in the protocol of Redis: redis-cli, redis-benchmark and the client libraries of Redis can ask it.
+
+    examples/front.py [--port 7379] [--log FILE] [--audit FOLDER] PROGRAM [OPTION..]
+
+PROGRAM is rubis_auction; the options go to it. A command is a request without its worker, such as BID 1 0.0 500 3, with * for the server's time in
+milliseconds; its reply is the text that docs/FORMATS.md lists. Other commands are PING, INFO, QUIT and PLACES: then replies begin with START.WORKER.INDEX,
+which is their place in the histories of --audit. docs/SERVING.md says what clients may rely on."""
+
+import argparse
+import asyncio
+import fcntl
+import signal
+import socket
+import sys
+import time
+from collections import deque
+from itertools import cycle
+from pathlib import Path
+
+MOST_CLIENTS = 512
+MOST_UNDER_WAY = 16384  # requests of all clients, beyond which no client more is taken
+MOST_OF_A_CLIENT = 1000  # requests
+MOST_UNSENT = 4096  # bytes of replies that a client does not take, before it is read no further
+MOST_BYTES = 512  # of a command
+BUFFER = memoryview(bytearray(16384))  # for all clients, since what is read is taken out at once
+MOST_FAILURES = 5  # starts of the program in a row that answer nothing
+
+# Of each kind of request the place of its time, or 0 if it has none.
+TIMES = {b"ITEM": 6, b"BID": 4, b"BUYNOW": 4, b"COMMENT": 0, b"VIEWITEM": 0, b"VIEWBIDS": 0, b"VIEWCATEGORY": 0, b"VIEWUSER": 0}
+COUNTS = {b"*%d\r" % count: count for count in range(1, 100)}
+SIZES = {size: b"$%d\r" % size for size in range(MOST_BYTES)}
+
+OTHERS = {b"": b"-ERR Protocol error\r\n", b"PING": b"+PONG\r\n", b"PLACES": b"+OK\r\n", b"QUIT": b"+OK\r\n", b"COMMAND": b"*0\r\n"}
+FULL, ENDS = b"-ERR max number of clients reached\r\n", b"-ERR the auction ends\r\n"
+UNKNOWN = b"-UNKNOWN whether this was done: the auction ended before its reply\r\n"
+
+
+def say(words):
+    print(f"front: {words}", file=sys.stderr, flush=True)
+
+
+def split(data):
+    """The commands that have come whole, each its words, and the rest. A command is an array of words with their lengths, or a line; a malformed one is an empty
+    word."""
+    *lines, rest = data.split(b"\n")
+    commands, at = [], 0
+    while at < len(lines):
+        count = COUNTS.get(lines[at], 0)
+        end = at + 1 + 2 * count
+        if end > len(lines):
+            break
+        words = [line[:-1] for line in lines[at + 2 : end : 2]] if count else lines[at].split()
+        is_right = lines[at + 1 : end : 2] == [SIZES.get(len(word)) for word in words] if count else lines[at][:1] != b"*"
+        commands.append(words if is_right else [b""])
+        at = end
+    rest = b"\n".join((*lines[at:], rest))
+    return (commands, rest) if len(rest) <= MOST_BYTES else ([*commands, [b""]], b"")
+
+
+def record_of(kind, words):
+    """A request as one record without its worker, whatever its words are: the program checks them. A longer one has a fault, however it ends."""
+    if words[TIMES[kind] :][:1] == [b"*"]:
+        words[TIMES[kind]] = b"%d" % (time.time_ns() // 1_000_000)
+    words[0] = kind.lower()
+    record = b",".join(words)
+    if b'"' in record or record.count(b",") >= len(words):
+        record = b",".join(b'"%s"' % word.replace(b'"', b'""') for word in words)
+    return record[:MOST_BYTES]
+
+
+class Request:
+    """A command, and its reply, which its client may have once it is released."""
+
+    __slots__ = ("client", "record", "reply", "is_released")
+
+    def __init__(self, client, record=b"", reply=None):
+        self.client, self.record, self.reply, self.is_released = client, record, reply, reply is not None
+
+    def end(self, reply):
+        self.reply, self.is_released = reply, True
+        self.client.tell()
+
+
+class Audit:
+    """What the referee judges of start N of the program: N.csv has the rows of the log and the requests that were answered, N.history their history."""
+
+    def __init__(self, folder, number, log):
+        folder.mkdir(parents=True, exist_ok=True)
+        with open(log if log and log.exists() else "/dev/null", "rb") as rows:
+            # The program of a front that was killed may still be writing it.
+            fcntl.flock(rows, fcntl.LOCK_SH | fcntl.LOCK_NB)
+            self.files = self.input, self.history = [open(folder / f"{number}.{kind}", "wb", buffering=0) for kind in ("csv", "history")]
+            self.input.writelines(row for row in rows if row.endswith(b"\n"))
+
+    def keep(self, lines, requests):
+        self.input.write(b"".join(b"%d,%s\n" % (request.client.worker, request.record) for request in requests))
+        self.history.write(b"\n".join((*lines, b"")))
+
+
+class Engine(asyncio.SubprocessProtocol):
+    """The program, and what it is asked for. What comes while it is busy is its next part, so that all of it waits for the disk once."""
+
+    def __init__(self, asked):
+        self.asked, self.clients, self.sessions = asked, set(), cycle(range(asked.workers))
+        self.waiting, self.unanswered, self.stdin, self.audit, self.is_stopping = [], deque(), None, None, False
+        self.failures = self.requests = self.groups = self.seconds = self.sent_at = 0
+        self.starts = max((int(path.stem) for path in asked.audit.glob("*.csv")), default=0) if asked.audit else 0
+        self.share_out()
+
+    def share_out(self):
+        """Sets how many requests a client may have under way, beyond which it is read no further, and how many bytes of it are read at a time."""
+        self.share = max(8, min(MOST_UNDER_WAY // 4 // max(1, len(self.clients)), MOST_OF_A_CLIENT))
+        self.buffer = BUFFER[: 32 * self.share]
+
+    async def start(self):
+        """Starts the program, which goes on from the log."""
+        asked, self.starts, self.exited = self.asked, self.starts + 1, asyncio.get_running_loop().create_future()
+        # Of each worker what was sent and not answered, and the index of the first of these; of all, what is answered but not all that was sent before it.
+        self.queues, self.firsts = [deque() for _ in range(asked.workers)], [0] * asked.workers
+        self.lines, self.answered, self.tail = [], [], b""
+        try:
+            self.audit = Audit(asked.audit, self.starts, asked.log) if asked.audit else None
+        except BlockingIOError:
+            return self.exited.set_result(5)  # as of a program whose log is in use
+        words = [asked.program, *asked.options, "--live", "1000", "--history", "--workers", str(asked.workers), *(("--log", str(asked.log)) if asked.log else ())]
+        # Faults come among the replies, so that it is known whose they are.
+        self.process, _ = await asyncio.get_running_loop().subprocess_exec(lambda: self, *words, stderr=asyncio.subprocess.STDOUT, start_new_session=True)
+        self.stdin = self.process.get_pipe_transport(0)
+        return self.send()
+
+    def ask(self, request):
+        if not self.waiting:
+            asyncio.get_running_loop().call_soon(self.send)
+        self.waiting.append(request)
+
+    def send(self):
+        """Sends in one write what was asked for in a turn of the loop."""
+        if self.stdin is None or self.stdin.is_closing():
+            return
+        self.sent_at = self.sent_at if self.unanswered else time.monotonic()
+        for request in self.waiting:
+            self.unanswered.append(request)
+            self.queues[request.client.worker].append(request)
+        self.stdin.write(b"".join(b"%d,%s\n" % (request.client.worker, request.record) for request in self.waiting))
+        self.waiting = []
+        if self.is_stopping:
+            self.stdin.close()
+
+    def pipe_data_received(self, _, data):
+        *lines, self.tail = (self.tail + data).split(b"\n")
+        try:
+            self.take(lines)
+        except (LookupError, OSError, ValueError) as fault:
+            say(f"no history, or none that can be kept: {fault!r}")
+            self.is_stopping = True
+            self.process.kill()
+
+    def take(self, lines):
+        """Takes lines of the program, and releases the replies before which nothing is unanswered."""
+        whole, held, answered = 0, self.lines, self.answered
+        for line in lines:
+            (self.take_reply if line[:1].isdigit() else self.take_fault)(line)
+            if len(answered) == len(held):
+                whole = len(held)
+        if whole:
+            now, self.failures, self.requests, self.groups = time.monotonic(), 0, self.requests + whole, self.groups + 1
+            self.seconds, self.sent_at = self.seconds + now - self.sent_at, now
+            self.release(held[:whole], answered[:whole])
+            self.lines, self.answered = held[whole:], answered[whole:]
+
+    def take_reply(self, line):
+        _, _, name, index, text = line.split(b" ", 4)
+        request = self.queues[int(name)][int(index) - self.firsts[int(name)]]
+        request.reply = b"+%d.%s.%s %s\r\n" % (self.starts, name, index, text) if request.client.has_places else b"+%s\r\n" % text
+        self.lines.append(line)
+        while self.unanswered and self.unanswered[0].reply is not None:
+            self.answered.append(self.next_request())
+            self.firsts[self.answered[-1].client.worker] += 1
+
+    def next_request(self):
+        return self.queues[self.unanswered.popleft().client.worker].popleft()
+
+    def take_fault(self, line):
+        """A fault is of the first request that is not answered, since all before it are; other words are for whoever runs this."""
+        words = line.removeprefix(b"rubis_auction: ")
+        if not self.unanswered or not words.startswith((b"record ", b"more than ")):
+            return say(line.decode(errors="replace"))
+        return self.next_request().end(b"-ERR %s\r\n" % words.rpartition(b": ")[2])
+
+    def release(self, lines, requests):
+        """Releases replies whose rows are logged: lines of the history, and their requests in the order in which they were sent."""
+        if self.audit:
+            self.audit.keep(lines, requests)
+        for request in requests:
+            request.is_released = True
+        for client in {request.client for request in requests}:
+            client.tell()
+
+    def connection_lost(self, _):
+        self.exited.set_result(self.process.get_returncode())
+        self.process.close()
+
+    async def go_on(self):
+        """Starts the program again each time that it has ended, until it is not to go on, and gives the status. Nobody waits for a reply that does not come."""
+        while True:
+            status = await self.exited
+            say(f"the program ended with status {status}")
+            lost, self.unanswered, self.stdin = [*self.answered, *self.unanswered], deque(), None
+            for request in lost:
+                request.reply = None
+                if not request.record.startswith(b"view"):
+                    request.end(UNKNOWN)
+            self.waiting[:0] = [request for request in lost if not request.is_released]
+            for file in self.audit.files if self.audit else ():
+                file.close()
+            self.failures += 1
+            if self.is_stopping or status == 1 or self.asked.log is None or self.failures > MOST_FAILURES:
+                break
+            await asyncio.sleep(0.1 * self.failures)
+            await self.start()
+        for request in self.waiting:
+            request.end(ENDS)
+        return 0 if self.is_stopping and status == 0 and not lost else 1
+
+    def stop(self):
+        """Takes no more requests, and ends once all are answered."""
+        self.is_stopping = True
+        self.send()
+
+    def info(self):
+        counts = {"connected_clients": len(self.clients), "requests": self.requests, "under_way": len(self.unanswered) + len(self.waiting),
+                  "starts": self.starts, "groups": self.groups, "group_microseconds": int(1e6 * self.seconds / max(1, self.groups))}
+        text = "".join(f"{name}:{count}\r\n" for name, count in counts.items()).encode()
+        return b"$%d\r\n%s\r\n" % (len(text), text)
+
+
+class Client(asyncio.BufferedProtocol):
+    """A connection, which is a session of one worker. Its replies have the order of its commands."""
+
+    def __init__(self, engine):
+        self.engine, self.worker, self.requests, self.rest, self.is_over, self.has_places = engine, next(engine.sessions), deque(), b"", False, False
+
+    def connection_made(self, transport):
+        self.transport = transport
+        transport.set_write_buffer_limits(MOST_UNSENT)
+        if len(self.engine.clients) < MOST_CLIENTS and len(self.engine.unanswered) + len(self.engine.waiting) < MOST_UNDER_WAY:
+            self.engine.clients.add(self)
+            self.engine.share_out()
+        else:
+            transport.write(FULL)
+            transport.close()
+
+    def connection_lost(self, _):
+        self.engine.clients.discard(self)
+        self.engine.share_out()
+
+    def get_buffer(self, _):
+        return self.engine.buffer
+
+    def buffer_updated(self, size):
+        commands, self.rest = split(self.rest + self.engine.buffer[:size])
+        for words in commands:
+            if words and not self.is_over:
+                self.take(words)
+        self.tell()
+
+    def take(self, words):
+        kind = words[0].upper()
+        if kind in TIMES:
+            self.requests.append(Request(self, record_of(kind, words)))
+            return self.engine.ask(self.requests[-1])
+        self.is_over |= kind in (b"", b"QUIT")
+        self.has_places |= kind == b"PLACES"
+        reply = self.engine.info() if kind == b"INFO" else OTHERS.get(kind, b"-ERR unknown command\r\n")
+        return self.requests.append(Request(self, reply=reply))
+
+    def tell(self):
+        """Sends the replies that are due, and reads on if there is room for more."""
+        due, requests = [], self.requests
+        while requests and requests[0].is_released:
+            due.append(requests.popleft().reply)
+        if due and not self.transport.is_closing():
+            self.transport.write(b"".join(due))
+        if self.is_over and not requests:
+            return self.transport.close()
+        is_busy = self.is_over or len(requests) >= self.engine.share or self.transport.get_write_buffer_size() > MOST_UNSENT
+        return (self.transport.pause_reading if is_busy else self.transport.resume_reading)()
+
+    resume_writing = tell
+
+    def eof_received(self):
+        self.is_over = True
+        self.tell()
+        return True
+
+
+async def serve(engine):
+    """Serves until the engine is not to go on, and gives the status."""
+    asked, loop = engine.asked, asyncio.get_running_loop()
+    for number in (signal.SIGINT, signal.SIGTERM):
+        loop.add_signal_handler(number, engine.stop)
+    await engine.start()
+    server = await (loop.create_unix_server(lambda: Client(engine), asked.unix) if asked.unix else loop.create_server(lambda: Client(engine), asked.host, asked.port))
+    server.sockets[0].setsockopt(socket.SOL_SOCKET, socket.SO_KEEPALIVE, 1)
+    say(f"serves at {server.sockets[0].getsockname()}")
+    status = await engine.go_on()
+    server.close()
+    await asyncio.sleep(0.2)  # for clients to read their last replies
+    return status
+
+
+def arguments(text):
+    words = argparse.ArgumentParser(description=text, formatter_class=argparse.RawDescriptionHelpFormatter)
+    words.add_argument("--host", default="127.0.0.1", help="the address of the server [default: 127.0.0.1]")
+    words.add_argument("--port", type=int, default=7379, help="its port, 0 for a free one [default: 7379]")
+    words.add_argument("--unix", metavar="PATH", help="a socket of the file system instead")
+    words.add_argument("--workers", type=int, metavar="N", default=4, help="workers of the program, 1 to 16 [default: 4]")
+    words.add_argument("--log", metavar="FILE", type=Path, help="the program's log; without one the server ends with the program")
+    words.add_argument("--audit", metavar="FOLDER", type=Path, help="keep there what rubis_check judges")
+    words.add_argument("program", metavar="PROGRAM", help="rubis_auction")
+    words.add_argument("options", metavar="OPTION", nargs=argparse.REMAINDER, help="options of it")
+    return words
+
+
+def main(engine):
+    try:
+        sys.exit(asyncio.run(serve(engine)))
+    except OSError as fault:
+        sys.exit(f"front: {fault}")
+
+
+if __name__ == "__main__":
+    main(Engine(arguments(__doc__).parse_args()))

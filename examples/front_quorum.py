@@ -1,0 +1,207 @@
+#!/usr/bin/env python3
+"""front.py on several machines: one front leads and serves, and what it replies is in etcd first, synced by most of its servers.
+
+    examples/front_quorum.py --etcd HOST:2379,HOST:2379,HOST:2379 [--port 7379] [--audit FOLDER] --log FILE PROGRAM [OPTION..]
+
+Start one on each machine, and again whenever it ends (systemd: Restart=always), over three servers of etcd (3.4 or later) that keep nothing else. The front that
+has the key `leader`, under a lease, writes FILE anew from the rows under `log/`, and listens; the others wait, so a client tries one after the other, and needs a
+timeout. If a front dies, freezes or is cut off, another leads a few seconds later, with all that was acknowledged. This gives availability, not capacity: one front
+serves, and each reply waits for etcd, whose quota (2 GB, if it is not set) bounds the log. A front that can no longer lead ends with status 6.
+
+An auction with a log goes on from it, once etcd has its rows:
+
+    split -C 64K -d -a 16 auction.rows part. && for part in part.*; do etcdctl put log/${part#part.} < $part; done"""
+
+import asyncio
+import base64
+import json
+import os
+import sys
+import threading
+import time
+from contextlib import suppress
+from http.client import HTTPConnection, HTTPException
+from itertools import cycle
+
+import front
+
+LEASE, ANSWER, OUTAGE = 3, 1, 10  # seconds: of the lease, for an answer of a server, and without any answer
+MOST_BYTES, MOST_KEYS = 65536, 100  # bytes put at once, and keys read at once
+LEADER, STARTS, LOG = b"leader", b"starts", b"log/"
+FAULTS = (OSError, HTTPException, ValueError)
+
+
+def end(words):
+    """Ends at once: nothing more is released."""
+    front.say(words)
+    os._exit(6)
+
+
+def encoded(data):
+    return base64.b64encode(data).decode()
+
+
+def get(key):
+    return {"request_range": {"key": encoded(key)}}
+
+
+def put(key, value, **how):
+    return {"request_put": {"key": encoded(key), "value": encoded(value), **how}}
+
+
+def is_created_at(revision):
+    """The comparison that holds while the key `leader` is the one of this revision."""
+    return {"key": encoded(LEADER), "target": "CREATE", "result": "EQUAL", "create_revision": revision}
+
+
+class Etcd:
+    """A connection to a server of etcd, or to the next one if that does not answer. All that it is asked may be asked twice."""
+
+    def __init__(self, addresses):
+        self.connections = cycle([HTTPConnection(address, timeout=ANSWER) for address in addresses.split(",")])
+        self.connection = next(self.connections)
+
+    def ask(self, path, **body):
+        until = time.monotonic() + OUTAGE
+        while True:
+            try:
+                return self.ask_once(path, body)
+            except FAULTS as fault:
+                if time.monotonic() > until:
+                    end(f"etcd does not answer: {fault}")
+            self.connection.close()
+            self.connection = next(self.connections)
+            time.sleep(0.05)
+
+    def ask_once(self, path, body):
+        self.connection.request("POST", f"/v3/{path}", json.dumps(body))
+        response = self.connection.getresponse()
+        told = json.loads(response.read())
+        if response.status != 200 or "error" in told:
+            raise OSError(told)
+        return told
+
+
+class Replicated(front.Engine):
+    """The program of the front that leads. Its replies are held until etcd has the rows before them and says that the front leads, whatever clocks say."""
+
+    def __init__(self, asked):
+        super().__init__(asked)
+        self.etcd, self.lease, self.is_over, self.held = Etcd(asked.etcd), None, threading.Event(), []
+        self.number = self.at = 0  # the key of the next rows, and where these begin in the file
+
+    async def ask_etcd(self, path, **body):
+        return await asyncio.to_thread(self.etcd.ask, path, **body)
+
+    async def start(self):
+        if self.lease is None:
+            await self.lead()
+        # A program that died may have left rows. What it replied is released already.
+        self.putting = asyncio.create_task(self.put_rows())
+        await self.putting
+        # The version of a key counts how often it was put: starts have numbers over all fronts.
+        _, told = await self.as_leader(put(STARTS, b""), get(STARTS))
+        self.starts = int(told["response_range"]["kvs"][0]["version"]) - 1
+        await super().start()
+
+    async def lead(self):
+        """Waits until this front leads."""
+        front.say("waits until it leads")
+        self.lease = (await self.ask_etcd("lease/grant", TTL=LEASE))["ID"]
+        threading.Thread(target=self.hold, daemon=True).start()
+        while (leader := await self.leader())["lease"] != self.lease:
+            if self.is_stopping:
+                sys.exit()
+            await asyncio.sleep(LEASE / 4)
+        self.leads = is_created_at(leader["create_revision"])
+        await self.write_log()
+        front.say(f"leads, with {self.at} bytes of rows")
+
+    async def leader(self):
+        """The key of the front that leads: of this one, if there was none."""
+        own = put(LEADER, f"{self.asked.host}:{self.asked.port}".encode(), lease=self.lease)
+        told = await self.ask_etcd("kv/txn", compare=[is_created_at("0")], success=[own, get(LEADER)], failure=[get(LEADER)])
+        return told["responses"][-1]["response_range"]["kvs"][0]
+
+    def hold(self):
+        """Keeps the lease, in a thread of its own, since a start with many rows takes its time."""
+        etcd = Etcd(self.asked.etcd)
+        while not self.is_over.wait(LEASE / 4):
+            if "TTL" not in etcd.ask("lease/keepalive", ID=self.lease)["result"]:
+                end("the lease is over")
+
+    async def write_log(self):
+        """Writes the log anew: rows that only it has were never acknowledged. The program of a front that was killed may still be writing the old file."""
+        log, more = self.asked.log, True
+        fresh = log.with_name(log.name + ".new")
+        with fresh.open("wb") as file:
+            while more:
+                told = await self.ask_etcd("kv/range", key=encoded(LOG + b"%016d" % self.number), range_end=encoded(LOG + b":"), limit=MOST_KEYS)
+                for pair in told.get("kvs", ()):
+                    file.write(base64.b64decode(pair["value"]))
+                    self.number = 1 + int(base64.b64decode(pair["key"]).removeprefix(LOG))
+                more = told.get("more")
+            self.at = file.tell()
+        if not self.at and log.exists() and log.stat().st_size:
+            raise OSError(f"{log} has rows, and etcd has none")
+        fresh.replace(log)
+
+    async def as_leader(self, *operations):
+        """Does them all if this front still leads."""
+        told = await self.ask_etcd("kv/txn", compare=[self.leads], success=operations)
+        if not told.get("succeeded"):
+            end("this front leads no longer")
+        return told["responses"]
+
+    async def put_rows(self):
+        """Puts the rows that the file has and etcd has not; if there are none, asks whether this front leads."""
+        is_last = False
+        while not is_last:
+            with self.asked.log.open("rb") as file:
+                file.seek(self.at)
+                data = file.read(MOST_BYTES)
+            rows = data[: data.rfind(b"\n") + 1]
+            await self.as_leader(put(LOG + b"%016d" % self.number, rows) if rows else get(LEADER))
+            self.number, self.at, is_last = self.number + bool(rows), self.at + len(rows), len(data) < MOST_BYTES
+
+    def release(self, lines, requests):
+        self.held.append((lines, requests))
+        if self.putting.done():
+            self.putting = asyncio.create_task(self.release_held())
+
+    async def release_held(self):
+        """Releases what is held, and what comes meanwhile, each time after a put."""
+        while self.held:
+            held, self.held = self.held, []
+            try:
+                await self.put_rows()
+                for lines, requests in held:
+                    super().release(lines, requests)
+            except OSError as fault:
+                end(fault)
+
+    def connection_lost(self, fault):
+        """The program has ended, once all that it replied is released."""
+        ended = super().connection_lost
+        self.putting.add_done_callback(lambda _: ended(fault))
+
+    async def go_on(self):
+        """Lets the next front lead at once when this one is stopped."""
+        status = await super().go_on()
+        self.is_over.set()
+        with suppress(*FAULTS):
+            await asyncio.to_thread(self.etcd.ask_once, "lease/revoke", {"ID": self.lease})
+        return status
+
+
+def arguments():
+    words = front.arguments(__doc__)
+    words.add_argument("--etcd", metavar="HOST:PORT,..", default="127.0.0.1:2379", help="the servers of etcd [default: 127.0.0.1:2379]")
+    asked = words.parse_args()
+    if asked.log is None:
+        words.error("--log FILE is needed")
+    return asked
+
+
+if __name__ == "__main__":
+    front.main(Replicated(arguments()))

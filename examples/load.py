@@ -1,0 +1,106 @@
+#!/usr/bin/env python3
+"""Loads examples/front.py with clients that wait for their replies, and tells how many replies a second came, and after how long.
+
+    examples/load.py [--port 7379] [--clients 100] [--pipeline 1] [--seconds 5] [FILE]
+
+FILE has the requests, as rubis_load writes them; the auction has to have its rows already. Without FILE all clients bid on item 0.0.
+The load itself takes a processor: if that is busy, more clients wait longer and show nothing of the server."""
+
+import argparse
+import asyncio
+import csv
+import sys
+import time
+from collections import deque
+from pathlib import Path
+
+CLOCK = time.perf_counter_ns
+
+
+def packed(words):
+    """A command as an array of words."""
+    return b"*%d\r\n" % len(words) + b"".join(b"$%d\r\n%s\r\n" % (len(word), word) for word in words)
+
+
+def commands_of(lines):
+    """The requests of an input as commands."""
+    return [packed([word.encode() for word in (kind.upper(), *fields)]) for _, kind, *fields in filter(None, csv.reader(lines)) if kind[0] != "+"]
+
+
+class Client(asyncio.Protocol):
+    """A connection that keeps some requests under way: for each reply the next one is sent, until the time is over."""
+
+    def __init__(self, commands, at, asked):
+        self.commands, self.at, self.asked, self.waits, self.errors = commands, at, asked, [], 0
+
+    async def run(self, **place):
+        loop = asyncio.get_running_loop()
+        self.closed = loop.create_future()
+        await loop.create_connection(lambda: self, **place)
+        await self.closed
+
+    def connection_made(self, transport):
+        self.transport, self.sent, self.rest = transport, deque(), b""
+        self.ask(self.asked.pipeline)
+
+    def connection_lost(self, _):
+        self.closed.set_result(None)
+
+    def ask(self, count):
+        now = CLOCK()
+        if now < self.asked.until:
+            self.transport.write(b"".join(self.commands[at % len(self.commands)] for at in range(self.at, self.at + count)))
+            self.at += count
+            self.sent.extend([now] * count)
+        elif not self.sent:
+            self.transport.close()
+
+    def data_received(self, data):
+        *lines, self.rest = (self.rest + data).split(b"\r\n")
+        now = CLOCK()
+        for line in lines:
+            self.note(line, self.sent.popleft(), now)
+        self.ask(len(lines))
+
+    def note(self, line, sent, now):
+        self.waits.append(now - sent)
+        self.errors += line[:1] == b"-"
+
+
+async def drive(clients, asked, **place):
+    """Runs clients until the time is over, and gives the seconds that they took."""
+    begun = CLOCK()
+    asked.until = begun + int(asked.seconds * 1e9)
+    await asyncio.gather(*(client.run(**place) for client in clients))
+    return (CLOCK() - begun) / 1e9
+
+
+def told(clients, seconds):
+    waits = sorted(wait for client in clients for wait in client.waits)
+    if not waits:
+        return "no replies"
+    shares = (("p50", 0.5), ("p99", 0.99), ("p99.9", 0.999), ("most", 1))
+    times = ", ".join(f"{name} {waits[int(share * (len(waits) - 1))] / 1e6:.3f}" for name, share in shares)
+    return f"{len(waits)} replies, {sum(client.errors for client in clients)} errors, {len(waits) / seconds:.0f} a second; milliseconds: {times}"
+
+
+def main():
+    words = argparse.ArgumentParser(description=__doc__, formatter_class=argparse.RawDescriptionHelpFormatter)
+    words.add_argument("file", metavar="FILE", nargs="?", type=Path, help="requests [default: bids on item 0.0]")
+    words.add_argument("--host", default="127.0.0.1", help="[default: 127.0.0.1]")
+    words.add_argument("--port", type=int, default=7379, help="[default: 7379]")
+    words.add_argument("--clients", type=int, default=100, help="[default: 100]")
+    words.add_argument("--pipeline", type=int, default=1, help="requests of each client under way [default: 1]")
+    words.add_argument("--seconds", type=float, default=5, help="[default: 5]")
+    asked = words.parse_args()
+    try:
+        commands = commands_of(asked.file.read_text().splitlines() if asked.file else ["0,bid,1,0.0,500,*"])
+        clients = [Client(commands, number * len(commands) // asked.clients, asked) for number in range(asked.clients)]
+        seconds = asyncio.run(drive(clients, asked, host=asked.host, port=asked.port))
+    except OSError as fault:
+        sys.exit(f"load.py: {fault}")
+    print(told(clients, seconds))
+
+
+if __name__ == "__main__":
+    main()

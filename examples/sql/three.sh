@@ -1,0 +1,168 @@
+#!/usr/bin/env bash
+# Three PostgreSQL servers on this machine, to try a failover: a primary, and two standbys that follow it. A commit is acknowledged once the primary and one of
+# the standbys have it on disk.
+#
+#     three.sh start FOLDER [PORT]   makes them in an empty folder and starts them, at PORT and the two ports after it [default: 6401]
+#     three.sh address FOLDER        prints where clients find the primary, for psql -d and perform.py --database
+#     three.sh kill FOLDER           kills the primary, with signal 9
+#     three.sh promote FOLDER        makes the standby that has received more the primary; the other follows it
+#     three.sh rejoin FOLDER         makes the killed server a standby, with a new copy of the primary
+#     three.sh async FOLDER          from now on no commit waits for a standby
+#     three.sh sync FOLDER           from now on each does again
+#     three.sh stop FOLDER           stops them
+#
+# They listen to this machine only, and let in whoever asks. PostgreSQL does not run as root, who therefore runs it as the user postgres. It has to be version
+# 13 or later.
+set -euo pipefail
+
+USAGE="three.sh start|address|kill|promote|rejoin|async|sync|stop FOLDER [PORT]"
+ANY_ONE="ANY 1 (s0, s1, s2)"
+SETTINGS="listen_addresses = '127.0.0.1'
+unix_socket_directories = ''
+synchronous_standby_names = '$ANY_ONE'
+wal_retrieve_retry_interval = '100ms'
+dynamic_shared_memory_type = mmap"
+command=${1:?$USAGE} folder=$(realpath -m "${2:?$USAGE}")
+# Debian has only the clients in PATH.
+for bin in /usr/lib/postgresql/*/bin; do PATH=$bin:$PATH; done
+export PGCONNECT_TIMEOUT=10
+cd /
+
+fail() {
+    echo "three.sh: $1" >&2
+    exit 1
+}
+
+as_owner() {
+    if [ "$(id -u)" = 0 ]; then runuser -u postgres -- "$@"; else "$@"; fi
+}
+
+# What a server, 0, 1 or 2, says to statements.
+ask() {
+    psql -h 127.0.0.1 -p $((port + $1)) -U auction -d postgres -qAtX -v ON_ERROR_STOP=1 <<< "$2"
+}
+
+# The servers that answer `f` (a primary) or `t` (a standby) when asked whether they follow another.
+servers() {
+    local server
+    for server in 0 1 2; do
+        if [ "$(ask "$server" "SELECT pg_is_in_recovery()" 2> /dev/null)" = "$1" ]; then echo "$server"; fi
+    done
+}
+
+start_server() {
+    as_owner pg_ctl -D "$folder/$1" -l "$folder/log.$1" -o "-p $((port + $1))" -w -s start
+}
+
+# Where a server finds another, and under which name it is waited for.
+source_of() {
+    echo "host=127.0.0.1 port=$((port + $2)) user=auction application_name=s$1"
+}
+
+add_standby() {
+    as_owner pg_basebackup -D "$folder/$1" -d "$(source_of "$1" "$2")" -R -X stream -c fast --no-sync
+    start_server "$1"
+}
+
+set_on() {
+    ask "$1" "ALTER SYSTEM SET $2 = '$3'; SELECT pg_reload_conf();" > /dev/null
+}
+
+start() {
+    mkdir -p "$folder"
+    [ -z "$(ls -A "$folder")" ] || fail "$folder is not empty"
+    echo "$port" > "$folder/port"
+    if [ "$(id -u)" = 0 ]; then chown postgres "$folder"; fi
+    as_owner initdb -D "$folder/0" -A trust -U auction --no-sync --locale=C -E UTF8 > /dev/null
+    as_owner tee -a "$folder/0/postgresql.conf" <<< "$SETTINGS" > /dev/null
+    start_server 0
+    add_standby 1 0
+    add_standby 2 0
+}
+
+kill_primary() {
+    local primary
+    primary=$(servers f)
+    [ -n "$primary" ] || fail "no primary is alive"
+    kill -9 "$(head -n 1 "$folder/$primary/postmaster.pid")"
+}
+
+promote() {
+    local standbys standby new
+    [ -z "$(servers f)" ] || fail "the primary is alive"
+    standbys=$(servers t)
+    [ -n "$standbys" ] || fail "no standby is alive"
+    # A primary that only seems dead can acknowledge nothing once neither hears it.
+    for standby in $standbys; do
+        set_on "$standby" primary_conninfo ""
+    done
+    for standby in $standbys; do
+        until [ "$(ask "$standby" "SELECT count(*) FROM pg_stat_wal_receiver")" = 0 ]; do sleep 0.02; done
+    done
+    new=$(for standby in $standbys; do echo "$(received "$standby") $standby"; done | sort -n | tail -n 1 | cut -d ' ' -f 2)
+    [ "$(ask "$new" "SELECT pg_promote()")" = t ] || fail "server $new is not promoted"
+    for standby in $standbys; do
+        [ "$standby" = "$new" ] || set_on "$standby" primary_conninfo "$(source_of "$standby" "$new")"
+    done
+}
+
+# How far a standby's copy goes, in bytes.
+received() {
+    ask "$1" "SELECT greatest(pg_last_wal_receive_lsn(), pg_last_wal_replay_lsn()) - '0/0'"
+}
+
+rejoin() {
+    local server primary
+    primary=$(servers f)
+    [ -n "$primary" ] || fail "no primary is alive"
+    for server in $(killed_servers); do
+        bury "$server"
+        rm -rf "${folder:?}/$server"
+        add_standby "$server" "$primary"
+    done
+}
+
+killed_servers() {
+    local server alive
+    alive="$(servers f) $(servers t)"
+    for server in 0 1 2; do
+        [[ $alive == *$server* ]] || echo $server
+    done
+}
+
+# Removes the segment of shared memory, number 2 in line 7, that a killed server leaves.
+bury() {
+    as_owner ipcrm -m "$(sed -n '7s/.* //p' "$folder/$1/postmaster.pid")" 2> /dev/null || true
+}
+
+wait_for() {
+    local server
+    for server in $(servers f) $(servers t); do
+        set_on "$server" synchronous_standby_names "$1"
+    done
+}
+
+stop() {
+    local server dead
+    dead=$(killed_servers)
+    for server in $(servers f) $(servers t); do
+        as_owner pg_ctl -D "$folder/$server" -m immediate -s stop
+    done
+    for server in $dead; do
+        bury "$server"
+    done
+}
+
+if [ "$command" = start ]; then
+    port=${3:-6401}
+else
+    port=$(cat "$folder/port")
+fi
+case $command in
+    start | promote | rejoin | stop) "$command" ;;
+    address) echo "host=127.0.0.1,127.0.0.1,127.0.0.1 port=$port,$((port + 1)),$((port + 2)) user=auction dbname=postgres target_session_attrs=read-write connect_timeout=10" ;;
+    kill) kill_primary ;;
+    async) wait_for "" ;;
+    sync) wait_for "$ANY_ONE" ;;
+    *) fail "$USAGE" ;;
+esac

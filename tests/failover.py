@@ -1,0 +1,153 @@
+#!/usr/bin/env python3
+"""Shows that the auction of examples/sql on three PostgreSQL servers keeps what it has acknowledged over a failover, and that the referee sees what is lost
+otherwise.
+
+    tests/failover.py [PROGRAM [CHECKER]]
+
+Clients (examples/sql/perform.py --keep) execute a load while one standby falls behind, the primary is killed with signal 9, and the other takes over
+(examples/sql/three.sh). If commits wait for a standby, five failovers lose nothing that was acknowledged, the referee accepts each history, and the tables have
+the views of the program that is opened with the rows of the history. If they do not wait, the referee names a request that was acknowledged and is lost.
+Without PostgreSQL nothing is tried.
+"""
+
+import random
+import re
+import shutil
+import socket
+import sys
+import tempfile
+from concurrent.futures import ThreadPoolExecutor
+from contextlib import contextmanager
+from dataclasses import replace
+from pathlib import Path
+from subprocess import PIPE, run as run_tool
+from typing import Iterator
+
+import postgres
+from load_model import load_of
+from model import Outcome
+from postgres import ACCEPTED, MARKET, SQL, Kept, compared, found, program_views, rows_after, wait_for
+from program import Tally, described, run
+
+FAILOVERS = 5
+WORKERS, REQUESTS = 8, 1000
+LOAD = replace(postgres.LOAD, requests=REQUESTS, workers=WORKERS, items=16, skew=100)
+VIEWS = SQL / "lines.sql"
+HEAR_NOTHING = "ALTER SYSTEM SET primary_conninfo = ''; SELECT pg_reload_conf();"
+# A request has to be acknowledged just before the primary dies: so often it is tried until one is.
+TRIES = 20
+# Nothing here outlives a power failure: so the servers are kept in memory, where syncs take no time, if so many bytes are free there.
+MEMORY, ROOM = Path("/dev/shm"), 1 << 30
+LOST = re.compile(rb"[0-7],[0-9]+ stands in no line\n")
+
+
+class Servers:
+    """A primary and two standbys in a folder."""
+
+    def __init__(self, folder: Path):
+        self.folder = folder
+
+    def three(self, command: str, *words: str) -> str:
+        ran = run_tool([SQL / "three.sh", command, self.folder / "servers", *words], stdout=PIPE, stderr=PIPE, text=True)
+        if ran.returncode:
+            raise SystemExit(f"three.sh {command}: {ran.stdout}{ran.stderr}")
+        return ran.stdout.strip()
+
+    def start(self) -> None:
+        self.three("start", str(first_free_port()))
+        self.address = self.three("address")
+
+    def ask(self, text: str, role: str = "read-write") -> list[str]:
+        """What the primary says, or the first server of another role."""
+        words = ["psql", "-d", f"{self.address} target_session_attrs={role}", "-qAtX", "-v", "ON_ERROR_STOP=1"]
+        return run_tool(words, input=text, stdout=PIPE, check=True, text=True).stdout.splitlines()
+
+    def fail_over(self, data: bytes, moment: int) -> Outcome:
+        """The history of an input that a new auction executes. The primary is killed after so many requests; from half of them on one standby hears nothing."""
+        self.ask("SET client_min_messages = warning; DROP SCHEMA public CASCADE; CREATE SCHEMA public;")
+        words = [sys.executable, "-B", SQL / "perform.py", *MARKET, "--keep", "--database", self.address]
+        with ThreadPoolExecutor() as threads:
+            clients = threads.submit(run, words, data)
+            wait_for(self, moment // 2, clients)
+            self.ask(HEAR_NOTHING, "standby")
+            wait_for(self, moment, clients)
+            self.three("kill")
+            self.three("promote")
+            self.three("rejoin")
+        return clients.result()
+
+
+def first_free_port() -> int:
+    """The first of three ports that are free."""
+    while any(map(is_used, range(first := random.randrange(20_000, 30_000), first + 3))):
+        pass
+    return first
+
+
+def is_used(port: int) -> bool:
+    with socket.socket() as tried:
+        return tried.connect_ex(("127.0.0.1", port)) == 0
+
+
+@contextmanager
+def three_servers() -> Iterator[Servers]:
+    in_memory = MEMORY.is_dir() and shutil.disk_usage(MEMORY).free >= ROOM
+    with tempfile.TemporaryDirectory(dir=MEMORY if in_memory else None) as folder:
+        servers = Servers(Path(folder))
+        Path(folder).chmod(0o711)
+        try:
+            servers.start()
+            yield servers
+        finally:
+            servers.three("stop")
+
+
+def inputs(rng: random.Random) -> Iterator[tuple[bytes, int]]:
+    """Loads, each with how many of its requests precede the kill."""
+    while True:
+        yield load_of(replace(LOAD, seed=rng.randrange(1 << 32))), rng.randrange(REQUESTS // 10, REQUESTS // 2)
+
+
+def kept(servers: Servers, program: Path, checker: Path, rng: random.Random, tally: Tally) -> None:
+    """failovers that keep what was acknowledged"""
+    for number, (data, moment) in zip(range(FAILOVERS), inputs(rng)):
+        got = servers.fail_over(data, moment)
+        told = Kept.of(got)
+        tally.check(got.status == 0 and told.acknowledged == REQUESTS and told.lost == 0 and told.broken > 0, f"failover {number}: {described(got)}")
+        if got.status:
+            break
+        tally.same(f"the history of failover {number}", found(checker, servers.folder, WORKERS, data, got.stdout), ACCEPTED)
+        tally.check(*compared(f"failover {number}", program_views(program, rows_after(data, got.stdout)), servers.ask(VIEWS.read_text())))
+
+
+def lost(servers: Servers, _program: Path, checker: Path, rng: random.Random, tally: Tally) -> None:
+    """failovers without synchronous replication, and what the referee says of them"""
+    servers.three("async")
+    for _, (data, moment) in zip(range(TRIES), inputs(rng)):
+        got = servers.fail_over(data, moment)
+        verdict = found(checker, servers.folder, WORKERS, data, got.stdout)
+        tally.check((verdict == ACCEPTED) == (Kept.of(got).lost == 0), f"asynchronous: {described(got)}, {described(verdict)}")
+        if verdict != ACCEPTED:
+            break
+    tally.check(verdict.status == 6 and LOST.fullmatch(verdict.stdout) is not None, f"asynchronous: {described(verdict)}")
+
+
+def main() -> None:
+    program, checker = postgres.programs()
+    tally = Tally()
+    if postgres.tools() is None:
+        tally.skip("failovers of PostgreSQL", "it is not installed")
+        return tally.finish()
+    seed = random.randrange(1 << 32)
+    print(f"seed {seed}", flush=True)
+    rng = random.Random(seed)
+    with three_servers() as servers:
+        for check in (kept, lost):
+            passed = tally.passed
+            check(servers, program, checker, rng, tally)
+            print(f"{tally.passed - passed:6} passed: {check.__doc__}", flush=True)
+    tally.finish()
+
+
+if __name__ == "__main__":
+    main()

@@ -1,0 +1,138 @@
+"""A front of examples/front.py over the program, and a client of it."""
+
+import os
+import re
+import signal
+import socket
+import subprocess
+import sys
+from contextlib import contextmanager, suppress
+from pathlib import Path
+from typing import Iterator
+
+from checks import Tester
+from program import EXAMPLES
+from sessions import SECONDS, wait_until
+
+sys.path.append(str(EXAMPLES))
+import load
+
+FRONT = [sys.executable, "-B", str(EXAMPLES / "front.py")]
+WORKERS = 4
+
+
+class Front:
+    """A front over the program, with a log and with what the referee judges of it."""
+
+    started: list[subprocess.Popen] = []
+
+    def __init__(self, tester: Tester, name: str, *words: str, rows=b"", log=None, waits=True, program=None, **how):
+        self.folder = tester.folder / name
+        self.folder.mkdir()
+        self.log, self.audit, self.said = log or self.folder / "rows", self.folder / "audit", self.folder / "said"
+        if log is None:
+            self.log.write_bytes(rows)
+        self.words = [*FRONT, "--log", str(self.log), "--audit", str(self.audit), "--workers", str(WORKERS), *words, str(program or tester.program), "--split", "4096"]
+        self.port, self.how = 0, how
+        self.start()
+        if waits:
+            wait_until(lambda: self.process.poll() is not None or self.is_there())
+
+    def is_there(self) -> bool:
+        """Whether it serves. Then its port is known."""
+        found = re.search(r"serves at \('127.0.0.1', (\d+)\)", self.said.read_text())
+        self.port = int(found[1]) if found else 0
+        return found is not None
+
+    def start(self) -> None:
+        place = ("--port", str(self.port))
+        with self.said.open("ab") as said:
+            self.process = subprocess.Popen([*self.words[:3], *place, *self.words[3:]], stderr=said, **self.how)
+        self.started.append(self.process)
+
+    def engine(self) -> int:
+        """The program's process."""
+        for stat in Path("/proc").glob("[0-9]*/stat"):
+            with suppress(OSError):
+                pid, parent = re.match(r"(\d+) \(.*\) \S (\d+)", stat.read_text()).groups()
+                if int(parent) == self.process.pid:
+                    return int(pid)
+        return 0
+
+    def kill_engine(self) -> None:
+        with suppress(ProcessLookupError):
+            if engine := self.engine():
+                os.kill(engine, signal.SIGKILL)
+
+    def kill(self) -> None:
+        """Kills the front, and starts it again, as systemd does."""
+        self.process.kill()
+        self.process.wait()
+        self.start()
+
+    @contextmanager
+    def held(self) -> Iterator[int]:
+        """The program does nothing meanwhile."""
+        engine = self.engine()
+        os.kill(engine, signal.SIGSTOP)
+        try:
+            yield engine
+        finally:
+            with suppress(ProcessLookupError):
+                os.kill(engine, signal.SIGCONT)
+
+    def close(self) -> int:
+        self.process.terminate()
+        return self.process.wait(SECONDS)
+
+    def most_megabytes(self) -> float:
+        return int(re.search(r"VmHWM:\s+(\d+)", Path(f"/proc/{self.process.pid}/status").read_text())[1]) * 1024 / 1e6
+
+    def client(self, **how) -> "Client":
+        return Client(self.port, **how)
+
+    def info(self) -> dict[str, int]:
+        with self.client() as client:
+            return client.info()
+
+
+class Client:
+    """A client that waits for its replies."""
+
+    def __init__(self, place: int | Path, receive=0):
+        self.socket = socket.socket(socket.AF_UNIX if isinstance(place, Path) else socket.AF_INET)
+        self.socket.settimeout(SECONDS)
+        if receive:
+            self.socket.setsockopt(socket.SOL_SOCKET, socket.SO_RCVBUF, receive)
+        self.socket.connect(str(place) if isinstance(place, Path) else ("127.0.0.1", place))
+        self.replies = self.socket.makefile("rb")
+
+    def __enter__(self) -> "Client":
+        return self
+
+    def __exit__(self, *_) -> None:
+        self.replies.close()
+        self.socket.close()
+
+    def send(self, data: bytes) -> None:
+        self.socket.sendall(data)
+
+    def reply(self) -> bytes:
+        """The next line, or nothing if the server has closed the connection."""
+        with suppress(ConnectionError):
+            return self.replies.readline().removesuffix(b"\r\n")
+        return b""
+
+    def ask(self, *commands: bytes) -> list[bytes]:
+        self.send(b"".join(command + b"\n" for command in commands))
+        return [self.reply() for _ in commands]
+
+    def info(self) -> dict[str, int]:
+        self.send(b"INFO\n")
+        text = self.replies.read(int(self.reply()[1:]) + 2).decode()
+        return {name: int(count) for name, count in (line.split(":") for line in text.split())}
+
+
+def packed(*words: bytes) -> bytes:
+    """A command as an array of words, as far as a line goes."""
+    return load.packed(words).removesuffix(b"\n")

@@ -1,0 +1,362 @@
+#!/usr/bin/env python3
+"""Shows that an auction of examples/front_quorum.py on three machines goes on while any one of them fails, and that all its leaders served one auction: what 50
+clients saw is judged over all of them. The machines are network namespaces, or all on loopback where those cannot be made. Needs Debian's etcd-server and etcd-client.
+
+    tests/quorum.py [PROGRAM] [--check REFEREE]
+"""
+
+import argparse
+import asyncio
+import ctypes
+import json
+import os
+import shutil
+import signal
+import socket
+import subprocess
+import sys
+import tempfile
+import threading
+from contextlib import suppress
+from pathlib import Path
+from types import SimpleNamespace
+from typing import Callable
+
+from checks import Tester, tell_of
+from fronts import WORKERS, Front, load
+from program import BUILT, EXAMPLES, Tally, built, run
+from serving import ENDS, UNKNOWN
+from sessions import SECONDS, wait_until
+from watched import PIPELINE, Outcome, Watcher, against_time, judge, judged_by_itself, mix, whole_lines
+
+MACHINES = (1, 2, 3)
+CLIENTS = 50
+MORE = 1000  # replies show that it goes on: more than were under way
+PATIENCE = 2e9  # nanoseconds in which a client expects a reply
+ELECTION = ("--heartbeat-interval", "200", "--election-timeout", "2000", "--pre-vote")
+LIBC, NEW_NETWORK = ctypes.CDLL(None), 0x40000000
+
+
+class Network:
+    """A namespace for each machine, and this one, on a bridge; or none, and all are on loopback."""
+
+    def __init__(self):
+        home, self.spaces = os.open("/proc/self/ns/net", os.O_RDONLY), {}
+        if not (shutil.which("ip") and shutil.which("nsenter") and self.make()):
+            LIBC.setns(home, NEW_NETWORK)
+            self.spaces = {}
+
+    def make(self) -> bool:
+        """They are gone with their last process."""
+        for machine in (*MACHINES, 0):
+            if LIBC.unshare(NEW_NETWORK):
+                return False
+            self.spaces[machine] = os.open("/proc/self/ns/net", os.O_RDONLY)
+        if not self.ip(0, "link set lo up", "link add hub type bridge", "addr add 10.87.65.254/24 dev hub", "link set hub up"):
+            return False
+        return all(
+            self.ip(0, f"link add port{machine} type veth peer name eth0 netns {self.path(machine)}", f"link set port{machine} master hub up")
+            and self.ip(machine, f"addr add {self.address(machine)}/24 dev eth0", "link set eth0 up", "link set lo up")
+            for machine in MACHINES
+        )
+
+    def ip(self, machine: int, *commands: str) -> bool:
+        return run([*self.inside(machine), "ip", "-batch", "-"], "\n".join(commands).encode()).status == 0
+
+    def inside(self, machine: int) -> list[str]:
+        """The words before a command that runs on a machine."""
+        return ["nsenter", f"--net={self.path(machine)}"] if self.spaces else []
+
+    def path(self, machine: int) -> str:
+        return f"/proc/{os.getpid()}/fd/{self.spaces[machine]}"
+
+    def address(self, machine: int) -> str:
+        return f"10.87.65.{machine}" if self.spaces else "127.0.0.1"
+
+    def cut(self, machine: int) -> bool:
+        """Between a machine and the others everything is lost, as at an address that nobody has; clients still reach it."""
+        pairs = [pair for other in MACHINES if other != machine for pair in ((machine, other), (other, machine))]
+        return all(self.ip(one, f"neigh replace {self.address(two)} lladdr 02:00:00:00:00:00 nud permanent dev eth0") for one, two in pairs)
+
+    def heal(self) -> None:
+        for one in MACHINES:
+            self.ip(one, *(f"neigh del {self.address(two)} dev eth0" for two in MACHINES if two != one))
+
+
+def free_port() -> int:
+    with socket.create_server(("127.0.0.1", 0)) as server:
+        return server.getsockname()[1]
+
+
+class Machine(Front):
+    """A server of etcd, and a front."""
+
+    def __init__(self, number: int, cluster: "Cluster"):
+        self.number, self.folder, self.inside = number, cluster.folder / str(number), cluster.network.inside(number)
+        self.folder.mkdir()
+        self.log, self.said, self.address = self.folder / "rows", self.folder / "said", cluster.network.address(number)
+        self.port, self.asked_at, self.agrees_at = free_port(), *(f"{self.address}:{free_port()}" for _ in range(2))
+
+    def start(self) -> None:
+        with self.said.open("ab") as said:
+            self.process = subprocess.Popen(self.words, stderr=said)
+        self.started.append(self.process)
+
+    def start_etcd(self, machines: list["Machine"]) -> None:
+        members = ",".join(f"{machine.number}=http://{machine.agrees_at}" for machine in machines)
+        places = {"listen-client": self.asked_at, "advertise-client": self.asked_at, "listen-peer": self.agrees_at, "initial-advertise-peer": self.agrees_at}
+        urls = (word for name, place in places.items() for word in (f"--{name}-urls", f"http://{place}"))
+        words = [*self.inside, "etcd", "--name", str(self.number), "--data-dir", self.folder / "etcd", "--initial-cluster", members, *urls, *ELECTION]
+        with (self.folder / "etcd_said").open("ab") as said:
+            self.etcd = subprocess.Popen(words, stdout=said, stderr=said)
+        self.started.append(self.etcd)
+
+    def has_started(self) -> bool:
+        return self.said.read_text().splitlines()[-1].startswith(("front: waits", "front: serves"))
+
+    def ask_late(self, undo: Callable[[], None]) -> bytes:
+        """What is replied to a client of this front that asked for a view before something was undone."""
+        with suppress(OSError), socket.create_connection((self.address, self.port), SECONDS) as client:
+            client.sendall(b"VIEWITEM 0.0\n")
+            undo()
+            return client.recv(1000)
+        undo()
+        return b""
+
+
+class Cluster:
+    """Three machines. Their fronts are started again whenever they end, as by systemd."""
+
+    is_over = threading.Event()
+
+    def __init__(self, tester: Tester, network: Network):
+        self.tester, self.network, self.folder = tester, network, tester.folder / "machines"
+        self.audit = self.folder / "audit"
+        self.folder.mkdir()
+        self.machines = [Machine(number, self) for number in MACHINES]
+        self.etcd = ",".join(machine.asked_at for machine in self.machines)
+        for machine in self.machines:
+            machine.start_etcd(self.machines)
+            machine.words = self.words(machine)
+        tester.tally.check(any(self.etcdctl("del", "leader") == b"0\n" for _ in range(SECONDS)), "etcd serves")
+
+    def words(self, machine: Machine) -> list[str]:
+        """The command of a front."""
+        place = ("--host", machine.address, "--port", machine.port, "--log", machine.log, "--audit", self.audit)
+        words = (sys.executable, "-B", EXAMPLES / "front_quorum.py", "--etcd", self.etcd, "--workers", WORKERS, *place, self.tester.program, "--split", 4096)
+        return [*machine.inside, *map(str, words)]
+
+    def start(self, rows: bytes) -> None:
+        self.etcdctl("put", "log/0000000000000000", stdin=rows)
+        for machine in self.machines:
+            machine.start()
+        threading.Thread(target=self.start_again, daemon=True).start()
+
+    def start_again(self) -> None:
+        while not self.is_over.wait(0.1):
+            for machine in self.machines:
+                if machine.process.poll() is not None:
+                    machine.start()
+
+    def etcdctl(self, *words: str, at=None, stdin=b"") -> bytes:
+        return run(["etcdctl", "--endpoints", at or self.etcd, *words], stdin).stdout
+
+    def leader(self) -> Machine:
+        """The machine of the front that leads, as the first server of etcd says that can tell."""
+        fronts = {f"{machine.address}:{machine.port}": machine for machine in self.machines}
+        for machine in self.machines * SECONDS:
+            place = self.etcdctl("get", "leader", "--print-value-only", "--command-timeout", "1s", at=machine.asked_at).decode().strip()
+            if place in fronts:
+                return fronts[place]
+        raise LookupError("no front leads")
+
+    def leader_of_etcd(self) -> Machine:
+        states = {each["Endpoint"]: each["Status"] for each in json.loads(self.etcdctl("endpoint", "status", "--write-out", "json"))}
+        [leader] = (machine for machine in self.machines if (state := states[machine.asked_at])["leader"] == state["header"]["member_id"])
+        return leader
+
+    def serves(self, what: str) -> None:
+        wanted = self.replies() + MORE
+        wait_until(lambda: self.replies() >= wanted)
+        self.tester.tally.check(self.replies() >= wanted, f"goes on {what}: {wanted - self.replies()} replies are lacking")
+
+    def close(self) -> list[int]:
+        """The statuses of the fronts, once all have started: of those that wait, and of the leader."""
+        wait_until(lambda: all(machine.has_started() for machine in self.machines))
+        self.is_over.set()
+        *waiting, leader = sorted(self.machines, key=lambda machine, leader=self.leader(): machine is leader)
+        for front in waiting:
+            front.process.terminate()
+        return [*(front.process.wait(SECONDS) for front in waiting), leader.close()]
+
+
+class Follower(Watcher):
+    """A client that tries one front after the other."""
+
+    sent = ()
+
+    async def run(self, places) -> None:
+        loop = asyncio.get_running_loop()
+        while load.CLOCK() < self.asked.until:
+            for place in places:
+                self.closed = loop.create_future()
+                with suppress(OSError):
+                    await asyncio.wait_for(loop.create_connection(lambda: self, *place), 1)
+                    await self.closed
+            await asyncio.sleep(0.1)
+
+    def hang_up(self) -> None:
+        """If there is no reply for too long."""
+        if self.sent and load.CLOCK() - self.sent[-1] > PATIENCE:
+            self.transport.abort()
+
+
+def followed(cluster: Cluster, *events: Callable[[Cluster], None]) -> Outcome:
+    """A load of 50 clients, and events one after the other meanwhile."""
+    commands = load.commands_of(mix()[1])
+    asked = SimpleNamespace(pipeline=PIPELINE, seconds=SECONDS * len(events))
+    followers = [Follower(commands, at, asked) for at in range(0, len(commands), len(commands) // CLIENTS)]
+    cluster.replies = lambda: sum(len(follower.seen) for follower in followers)
+
+    async def lead() -> None:
+        for event in events:
+            await asyncio.to_thread(event, cluster)
+        asked.until = 0
+
+    async def hang_up() -> None:
+        while True:
+            await asyncio.sleep(0.2)
+            for follower in followers:
+                follower.hang_up()
+
+    async def drive() -> None:
+        places = [(machine.address, machine.port) for machine in cluster.machines]
+        impatience = asyncio.create_task(hang_up())
+        await asyncio.gather(load.drive(followers, asked, places=places), lead())
+        impatience.cancel()
+
+    asyncio.run(drive())
+    outcome = Outcome()
+    for follower in followers:
+        outcome.seen |= follower.seen
+        outcome.refused += follower.refused
+    return outcome
+
+
+# What happens to the machines.
+
+
+def nothing(cluster: Cluster) -> None:
+    cluster.serves("at the beginning")
+
+
+def kill_program(cluster: Cluster) -> None:
+    cluster.leader().kill_engine()
+    cluster.serves("after a kill of the program")
+
+
+def kill_leader(cluster: Cluster) -> None:
+    cluster.leader().process.kill()
+    cluster.serves("after a kill of the leader")
+
+
+def kill_etcd(cluster: Cluster) -> None:
+    machine = cluster.leader_of_etcd()
+    machine.etcd.kill()
+    machine.etcd.wait()
+    cluster.serves("without a server of etcd")
+    machine.start_etcd(cluster.machines)
+
+
+def freeze_leader(cluster: Cluster) -> None:
+    leader = cluster.leader()
+    process = leader.process
+    process.send_signal(signal.SIGSTOP)
+    cluster.serves("while the leader is frozen")
+    leads_no_longer(cluster, leader, process, lambda: process.send_signal(signal.SIGCONT))
+
+
+def cut_leader(cluster: Cluster) -> None:
+    if not cluster.network.spaces:
+        return cluster.tester.tally.skip("a machine that is cut off", "network namespaces cannot be made")
+    leader = cluster.leader()
+    process = leader.process
+    cluster.tester.tally.check(cluster.network.cut(leader.number), "a machine is cut off")
+    cluster.serves("while the leader is cut off")
+    leads_no_longer(cluster, leader, process, cluster.network.heal)
+
+
+def cut_idle_leader(cluster: Cluster) -> None:
+    """It has no write that waits for etcd, and views behind it."""
+    if cluster.network.spaces:
+        leader = cluster.leader()
+        cluster.tester.tally.check(cluster.network.cut(leader.number), "an idle machine is cut off")
+        leads_no_longer(cluster, leader, leader.process, cluster.network.heal)
+
+
+def leads_no_longer(cluster: Cluster, leader: Machine, process: subprocess.Popen, undo: Callable[[], None]) -> None:
+    """Once another front leads, a front answers nothing, not even a view, and ends."""
+    wait_until(lambda: cluster.leader() is not leader)
+    got = leader.ask_late(undo)
+    cluster.tester.tally.check(got == b"" and process.wait(SECONDS) == 6, f"what a front replies that leads no longer: {got}, status {process.poll()}")
+
+
+def stop_leader(cluster: Cluster) -> None:
+    process = cluster.leader().process
+    process.terminate()
+    cluster.tester.tally.check(process.wait(SECONDS) == 0, "the status of a leader that is stopped")
+    cluster.serves("after the leader was stopped")
+
+
+def keeps_rows(cluster: Cluster) -> None:
+    """A front does not write a log anew if that has all rows that there are."""
+    machine, rows = cluster.machines[0], mix()[0]
+    machine.log.write_bytes(rows)
+    got = run(machine.words)
+    cluster.tester.tally.check(got.status == 1 and b"has rows, and etcd has none" in got.stderr and machine.log.read_bytes() == rows, f"an etcd without rows: {got}")
+    machine.log.unlink()
+    cluster.etcdctl("del", "leader")
+
+
+def failures(tester: Tester) -> None:
+    """50 clients of three machines while programs, a leader and a server of etcd are killed, leaders are frozen, cut off and stopped; judged over all leaders"""
+    check, cluster = tester.tally.check, Cluster(tester, Network())
+    keeps_rows(cluster)
+    cluster.start(mix()[0])
+    outcome = followed(cluster, nothing, kill_program, kill_leader, kill_etcd, freeze_leader, cut_leader, stop_leader)
+    cut_idle_leader(cluster)
+    check(set(outcome.refused) <= {UNKNOWN, ENDS}, f"refused: {outcome.refused}")
+    last, rows = cluster.leader(), cluster.etcdctl("get", "log/", "--prefix", "--print-value-only").decode()
+    check(cluster.close() == [0, 0, 0], "statuses of fronts that wait, and of the leader, when they are stopped")
+    log = whole_lines(last.log)
+    check(log == [row for row in rows.split("\n") if row], "the log of the last leader has the rows of etcd")
+    served = SimpleNamespace(audit=cluster.audit, log=last.log, folder=last.folder, said=last.said)
+    starts = judge(tester, served, outcome)
+    judged_by_itself(tester, served)
+    check(len(starts) >= 5 + bool(cluster.network.spaces), f"{len(starts)} starts")
+    check("against time" in against_time(starts[::-1], outcome), "leaders in another order are against time")
+
+
+def main() -> None:
+    words = argparse.ArgumentParser(description=__doc__, formatter_class=argparse.RawDescriptionHelpFormatter)
+    words.add_argument("program", nargs="?", type=Path, default=BUILT)
+    words.add_argument("--check", type=Path, default=built("rubis_check"), help="the referee")
+    options = words.parse_args()
+    tally = Tally()
+    if not (shutil.which("etcd") and shutil.which("etcdctl")):
+        tally.skip("several machines", "etcd is not installed")
+        tally.finish()
+    with tempfile.TemporaryDirectory() as folder:
+        tester = Tester(options.program.resolve(), Path(folder), tally)
+        tester.referee = options.check.resolve()
+        try:
+            tell_of(failures, tester)
+        finally:
+            Cluster.is_over.set()
+            for process in Front.started:
+                process.kill()
+    tally.finish()
+
+
+if __name__ == "__main__":
+    main()

@@ -1,0 +1,474 @@
+#!/usr/bin/env python3
+"""Shows what clients of examples/front.py may rely on, as docs/SERVING.md says: replies in order, bounds that hold, clients that disturb no other, and an auction
+that outlasts kills of the program and of the front. What many clients saw is judged: whether it is strictly serializable, and whether the log has what was answered.
+
+    tests/serving.py [PROGRAM] [--check REFEREE] [--kills 5] [--only CHECK]
+"""
+
+import argparse
+import fcntl
+import os
+import random
+import re
+import resource
+import shutil
+import signal
+import socket
+import subprocess
+import sys
+import tempfile
+import threading
+import time
+from collections import Counter
+from contextlib import suppress
+from dataclasses import replace
+from pathlib import Path
+from types import SimpleNamespace
+
+from checks import Tester, tell_of
+from fronts import FRONT, Client, Front, packed
+from misbehaving import hang_up, keep_asking, read_nothing, send_rubbish
+from program import BUILT, EXAMPLES, Tally, built, run
+from sessions import SECONDS, wait_until
+from watched import MIX, Outcome, Seen, Start, against_time, judge, judged_by_itself, log_is_exact, mix, referee, seen_otherwise, watched, whole_lines
+
+MEGABYTES = 50
+# What front.py bounds; of the requests of one client, with as many as it may read at once.
+MOST_CLIENTS, MOST_UNDER_WAY, MOST_OF_A_CLIENT, MOST_BYTES = 512, 16384, 1000 + 1500, 512
+ENDS = b"-ERR the auction ends"
+UNKNOWN = b"-UNKNOWN whether this was done: the auction ended before its reply"
+PROTOCOL, UNKNOWN_COMMAND = b"-ERR Protocol error", b"-ERR unknown command"
+SEEN = b"+user rating=0 comments=0"
+
+
+# Commands and replies.
+
+
+NAME = b'A, "quoted"  name'
+VIEWED = b"+viewitem seller=1 category=2 start=10 closes=100 highest=500 bidder=3 bids=1 left=1 name="
+# Commands of one connection, and their replies.
+ASKED = (
+    (b"ITEM 1 2 Vase 10 100 1\r", b"+item 0.0"),
+    (b"item 1 2 Vase 10 100 1 1", b"+item 0.1"),
+    (packed(b"Item", b"1", b"2", NAME, b"10", b"100", b"1"), b"+item 0.2"),
+    (b"BID 3 0.0 500 5", b"+bid 0.0"),
+    (packed(b"BID", b"3", b"0.2", b"500", b"5"), b"+bid 0.1"),
+    (b"VIEWITEM 0.0", VIEWED + b"Vase"),
+    (packed(b"VIEWITEM", b"0.2"), VIEWED + NAME),
+    (b"VIEWBIDS 0.0", b"+bids 500:5:3:0.0"),
+    (b"BID 3 0.0 500 *", b"+refused 5 Closed"),
+    (b"BID 3 0.0 9 5", b"+refused 4 BelowStart"),
+    (b"BUYNOW 3 0.1 1 5", b"+buynow 0.0"),
+    (b"COMMENT 3 4 0.1 -5", b"+comment 0.0"),
+    (b"VIEWUSER 4", b"+user rating=-5 comments=1"),
+    (b"VIEWCATEGORY 2", b"+latest 1:0.2 1:0.1 1:0.0"),
+    (b"BID 3 0.0", b"-ERR wrong number of fields"),
+    (packed(b"BID", b"3,0.0", b"500", b"5"), b"-ERR wrong number of fields"),
+    (packed(b"BID", b"3", b"0.0", b'5"00', b"5"), b"-ERR not a number"),
+    (packed(b"VIEWUSER", b"0\r0,viewuser,0"), b"-ERR not a number"),
+    (packed(b"VIEWUSER", b"0\r1"), b"-ERR wrong number of fields"),
+    (packed(b"ITEM", b"1", b"2", b"\xff", b"10", b"100", b"1"), b"-ERR not a name"),
+    (b"VIEWUSER 04", b"-ERR not a number"),
+    (b"VIEWITEM *", b"-ERR not an item id"),
+    (b"COMMENT 3 4 0.1 6", b"-ERR not stars"),
+    (b"+ITEM 1 2 Vase 10 100 1", UNKNOWN_COMMAND),
+    (b"0,viewuser,0", UNKNOWN_COMMAND),
+    (b"HELLO 3", UNKNOWN_COMMAND),
+    (b"PING", b"+PONG"),
+    (b"COMMAND DOCS", b"*0"),
+    (b"VIEWUSER 0", SEEN),
+)
+
+
+def commands(tester: Tester) -> None:
+    """each kind of request, as a line and as an array, names with commas and quotes, faults in their places, and the other commands"""
+    front = Front(tester, "commands")
+    with front.client() as client:
+        for command, reply in ASKED:
+            got = client.ask(command)
+            tester.tally.check(got == [reply], f"{command!r}: {got}, not {reply!r}")
+    with front.client() as client:
+        got = client.ask(*(command for command, _ in ASKED[3:11]))
+        tester.tally.check(got[0] == b"+bid 1.0", f"a second connection is another worker's: {got}")
+        got = client.ask(b"PLACES ON", b"VIEWUSER 0", b"BID 3", b"VIEWUSER 0", b"QUIT", b"PING")
+        tester.tally.check(got == [b"+OK", b"+1.1.8 user rating=0 comments=0", b"-ERR wrong number of fields", b"+1.1.9 user rating=0 comments=0", b"+OK", b""], f"places: {got}")
+    got = front.info()
+    tester.tally.check(got["connected_clients"] == 1 and got["starts"] == 1 and got["under_way"] == 0 and got["requests"] == 25 and 0 < got["groups"] <= 25, f"INFO: {got}")
+    tester.tally.check(front.close() == 0, "the status after SIGTERM")
+    tester.tally.check(whole_lines(front.log)[2] == '0,+item,1,2,"A, ""quoted""  name",10,100,1,1', "the log")
+    judged_by_itself(tester, front)
+
+
+def pipelines(tester: Tester) -> None:
+    """pipelines of thousands of commands on one connection, cut anywhere: each reply in its place"""
+    front, draw = Front(tester, "pipelines", rows=mix()[0]), random.Random(1)
+    with front.client() as client:
+        data, wanted = b"", []
+        for number in range(1500):
+            command, reply = draw.choice(((b"PING", b"+PONG"), (b"BID 1", b"-ERR wrong number of fields"), (b"VIEWUSER 1", SEEN), (b"", None), (b"X", UNKNOWN_COMMAND)))
+            if draw.random() < 0.5:
+                command, reply = (b"BID 1 0.0 500 %d" % number, b"+bid 0.%d" % sum(line[:4] == b"+bid" for line in wanted))
+            data += packed(*command.split()) + b"\n" if command and draw.random() < 0.5 else command + b"\r\n"
+            wanted += [] if reply is None else [reply]
+        threading.Thread(target=in_pieces, args=(client, data, draw), daemon=True).start()
+        got = [client.reply() for _ in wanted]
+    at = next((at for at, (one, two) in enumerate(zip(got, wanted)) if one != two), None)
+    tester.tally.check(at is None, f"reply {at} of a pipeline: {got[at or 0]!r}, not {wanted[at or 0]!r}")
+    front.close()
+    judged_by_itself(tester, front)
+
+
+def in_pieces(client: Client, data: bytes, draw: random.Random) -> None:
+    while data:
+        size = draw.choice((1, 7, 100, 5000, 20_000))
+        client.send(data[:size])
+        data = data[size:]
+
+
+def other_clients(tester: Tester) -> None:
+    """redis-cli, redis-benchmark, nc, python3-redis and examples/load.py"""
+    front = Front(tester, "others", rows=b'0,+item,1,2,"Vase",10,100,1,1\n')
+    port = str(front.port)
+    said = (
+        (["redis-cli", "-p", port, "BID", "3", "0.0", "500", "5"], b"", b"bid "),
+        (["redis-cli", "-p", port, "ITEM", "1", "2", 'Old, "red" vase', "10", "100", "1"], b"", b"item "),
+        (["redis-cli", "-p", port, "BID", "3"], b"", b"ERR wrong number of fields"),
+        (["redis-cli", "-p", port], b"PING\nVIEWUSER 0\n", b"PONG\nuser rating=0 comments=0"),
+        (["redis-benchmark", "-p", port, "-c", "20", "-n", "2000", "-P", "4", "--csv", "BID", "1", "0.0", "500", "5"], b"", b'"BID 1 0.0 500 5"'),
+        (["nc", "-N", "127.0.0.1", port], b"VIEWUSER 0\r\nPING\r\n", b"+user rating=0 comments=0\r\n+PONG\r\n"),
+        ([sys.executable, "-B", EXAMPLES / "load.py", "--port", port, "--clients", "10", "--pipeline", "2", "--seconds", "0.3"], b"", b" replies, 0 errors, "),
+    )
+    for words, given, wanted in said:
+        if shutil.which(words[0]) is None:
+            tester.tally.skip(f"{words[0]} as a client", f"{words[0]} is not installed")
+            continue
+        got = run(words, given)
+        tester.tally.check(wanted in got.stdout, f"{words}: {got}")
+    of_python(tester, front.port)
+    tester.tally.check(front.info()["starts"] == 1 and front.close() == 0, "the front after other clients")
+    judged_by_itself(tester, front)
+
+
+OF_PYTHON = """
+import sys, redis
+client = redis.Redis(port=int(sys.argv[1]))
+print(client.ping(), client.execute_command("VIEWUSER", 0))
+pipeline = client.pipeline(transaction=False)
+for _ in range(100):
+    pipeline.execute_command("BID", 1, "0.0", 500, 5)
+print({reply[:4] for reply in pipeline.execute()})
+try:
+    client.execute_command("BID", 1)
+except redis.ResponseError as error:
+    print(error)
+"""
+
+
+def of_python(tester: Tester, port: int) -> None:
+    """By the first Python that has it: Debian's is in its own."""
+    python = next((python for python in (sys.executable, "/usr/bin/python3") if run([python, "-c", "import redis"]).status == 0), None)
+    if python is None:
+        return tester.tally.skip("python3-redis as a client", "python3-redis is not installed")
+    got = run([python, "-c", OF_PYTHON, str(port)])
+    tester.tally.check(got.stdout == b"True b'user rating=0 comments=0'\n{b'bid '}\nwrong number of fields\n", f"python3-redis: {got}")
+
+
+# Bounds, and clients that misbehave.
+
+
+def bounds(tester: Tester) -> None:
+    """the length of a command, connections, and requests under way, of one client and of all"""
+    front = Front(tester, "bounds")
+    for command in (b"A" * (MOST_BYTES + 1), packed(b"PING", b"A" * (MOST_BYTES + 1)) + b"\n", b"*2\r\n$3\r\nBID\r\n$9\r\n1\r\n", b"*x\r\n",
+                    packed(b"VIEWUSER", b"0\n1") + b"\n", b"*99\r\n" + b"$1\r\nA\r\n" * 98 + b"$1\r\n"):
+        with front.client() as client:
+            client.send(b"PING\n" + command)
+            got = [client.reply(), client.reply(), client.reply()]
+            tester.tally.check(got == [b"+PONG", PROTOCOL, b""], f"{command[:20]!r}: {got}")
+    with front.client() as client:
+        got = client.ask(b"VIEWUSER " + b"1" * 5000, packed(b"ITEM", *[b'"' * 500] * 7), b"PING")
+        tester.tally.check(got == [b"-ERR not a number", b"-ERR wrong number of fields", b"+PONG"], f"longer requests: {got}")
+    clients = [front.client() for _ in range(MOST_CLIENTS)]
+    tester.tally.check(all(client.ask(b"PING") == [b"+PONG"] for client in clients), f"{MOST_CLIENTS} connections")
+    with front.client() as client:
+        tester.tally.check(client.reply() == b"-ERR max number of clients reached" and client.reply() == b"", "one connection more")
+    for client in clients[100:]:
+        client.__exit__()
+    wait_until(lambda: front.info()["connected_clients"] == 101)
+    under_way(tester, front, clients[:1], 5000, MOST_OF_A_CLIENT)
+    under_way(tester, front, clients[:100], 200, MOST_UNDER_WAY)
+    for client in clients[:100]:
+        client.__exit__()
+    tester.tally.check(front.info()["starts"] == 1 and front.close() == 0, "the front after all")
+
+
+def under_way(tester: Tester, front: Front, clients: list[Client], each: int, most: int) -> None:
+    """Clients that each send more than may be under way, while nothing is answered."""
+    with front.held(), front.client() as client:
+        for one in clients:
+            threading.Thread(target=one.send, args=(b"VIEWUSER 0\n" * each,), daemon=True).start()
+        counts = [0]
+        while counts[-1] == 0 or counts[-1] != counts[-2]:
+            time.sleep(0.3)
+            counts.append(client.info()["under_way"])
+        tester.tally.check(most // 100 <= counts[-1] <= most, f"{counts} requests under way, of {len(clients)} clients")
+    got = Counter(client.reply() for client in clients for _ in range(each))
+    tester.tally.check(got == {SEEN: each * len(clients)}, f"replies to {len(clients)} clients: {got}")
+
+
+def misbehaving(tester: Tester) -> None:
+    """readers that do not read, clients that hang up, and rubbish: another client waits less than a second, and the front stays small"""
+    front, draw = Front(tester, "misbehaving", rows=mix()[0]), random.Random(2)
+    waits, over = [], threading.Event()
+    steady = threading.Thread(target=keep_asking, args=(front, waits, over))
+    steady.start()
+    with front.client() as client:
+        client.ask(*(b"BID 99 0.0 %d 99999999" % (10**19 + number) for number in range(10)))
+    for misbehave in (read_nothing, hang_up, send_rubbish):
+        count = len(waits)
+        misbehave(front, draw)
+        wait_until(lambda: len(waits) > count)
+        longest = max(waits[count:])
+        tester.tally.check(longest < 1 and front.most_megabytes() < MEGABYTES, f"{misbehave.__name__}: a wait of {longest:.2f} s, {front.most_megabytes():.0f} MB")
+    over.set()
+    steady.join()
+    wait_until(lambda: front.info()["under_way"] == 0)
+    tester.tally.check(front.info()["starts"] == 1, "the program was not started again")
+    tester.tally.check(front.close() == 0, "the status after all")
+    judged_by_itself(tester, front)
+
+
+# One wait for the disk; and ends.
+
+
+def group_commit(tester: Tester) -> None:
+    """what 100 clients ask for while the program is busy is one part, or two"""
+    front = Front(tester, "groups", rows=mix()[0])
+    clients = [front.client() for _ in range(100)]
+    before = front.info()
+    with front.held():
+        for client in clients:
+            client.send(b"BID 1 0.0 500 5\n")
+        wait_until(lambda: front.info()["under_way"] == 100)
+    got = sorted(client.reply() for client in clients)
+    after = front.info()
+    tester.tally.check(len(set(got)) == 100 and all(line.startswith(b"+bid ") for line in got), f"replies to 100 clients: {got[:3]}")
+    tester.tally.check(after["groups"] - before["groups"] <= 2, f"{after['groups'] - before['groups']} groups")
+    for client in clients:
+        client.__exit__()
+    front.close()
+
+
+def outcomes(tester: Tester) -> None:
+    """a program that is killed: its writes are unknown, its views are asked again, in the order of their requests; and nothing else is disturbed"""
+    front = Front(tester, "outcomes", rows=b"0,+bi")
+    with front.client() as client, front.client() as other:
+        client.ask(b"ITEM 1 2 Vase 10 100 1")
+        with front.held() as engine:
+            client.send(b"BID 3 0.0 500 5\nVIEWUSER 0\nPING\nBUYNOW 3 0.0 1 5\nVIEWBIDS 0.0\n")
+            wait_until(lambda: front.info()["under_way"] == 4)
+            os.kill(engine, signal.SIGKILL)
+        got = [client.reply() for _ in range(5)]
+        tester.tally.check(got == [UNKNOWN, SEEN, b"+PONG", UNKNOWN, b"+bids"], f"after a kill: {got}")
+        tester.tally.check(other.ask(b"BID 3 0.0 500 5") == [b"+bid 1.0"], "another client goes on")
+    tester.tally.check(front.info()["starts"] == 2 and "5 bytes of a cut line" in front.said.read_text(), f"the program was started again: {front.said.read_text()}")
+    front.close()
+    judged_by_itself(tester, front)
+
+
+# A program that is asked for three bids, and ends when it has answered the last and the first.
+CUT_OFF = """\
+#!/usr/bin/env python3
+import sys
+for _ in range(3):
+    sys.stdin.readline()
+print("0 1 0 2 bid 0.0\\n0 2 0 0 bid 0.1")
+sys.exit(7)
+"""
+
+
+def cut_parts(tester: Tester) -> None:
+    """a program that ends in the middle of its replies: none that has an unanswered request before it is released, and what is kept is a history"""
+    program = tester.folder / "cut_off"
+    program.write_text(CUT_OFF)
+    program.chmod(0o755)
+    front = Front(tester, "cut_parts", program=program)
+    with front.client() as client:
+        got = client.ask(*[b"BID 1 0.0 500 5"] * 3)
+    kept = [(front.audit / name).read_bytes() for name in ("1.csv", "1.history")]
+    tester.tally.check(got == [UNKNOWN] * 3 and kept == [b"", b""], f"a part that is cut off: {got}, {kept}")
+    front.process.kill()
+
+
+def waits_for_the_log(tester: Tester) -> None:
+    """a log that another program still has, as that of a front that was killed: what is kept begins with all of its rows"""
+    log, row = tester.folder / "waited", mix()[0].splitlines(True)[0]
+    log.write_bytes(row)
+    with log.open("ab") as other:
+        fcntl.flock(other, fcntl.LOCK_EX)
+        front = Front(tester, "waits_for_the_log", log=log, waits=False)
+        wait_until(lambda: "status 5" in front.said.read_text())
+        other.write(row)
+    wait_until(front.is_there)
+    with front.client() as client:
+        tester.tally.check(client.ask(b"VIEWITEM 0.1")[0].startswith(b"+viewitem"), "a row that was written late")
+    front.close()
+    kept = [path.read_bytes() for path in front.audit.glob("*.csv")]
+    tester.tally.check(kept == [row + row + b"0,viewitem,0.1\n"], f"the rows of a log that was waited for: {kept}")
+
+
+def terminated(tester: Tester) -> None:
+    """SIGTERM: what was asked is answered, nothing more is taken, and the status is 0; by itself and under load"""
+    front = Front(tester, "terminated")
+    with front.client() as client, front.client() as other:
+        client.ask(b"ITEM 1 2 Vase 10 100 1")
+        with front.held():
+            client.send(b"BID 3 0.0 500 5\n")
+            wait_until(lambda: front.info()["under_way"] == 1)
+            front.process.terminate()
+            # Once it has replied a few times it has taken the signal.
+            got = [*(reply for _ in range(3) for reply in other.ask(b"PING"))]
+            other.send(b"VIEWUSER 0\n")
+            wait_until(lambda: front.info()["under_way"] == 2)
+        got += [client.reply(), other.reply(), other.reply()]
+        tester.tally.check(got == [b"+PONG"] * 3 + [b"+bid 0.0", ENDS, b""], f"replies after SIGTERM: {got}")
+    tester.tally.check(front.process.wait(SECONDS) == 0, "the status after SIGTERM")
+    front = Front(tester, "under_load", rows=mix()[0])
+    outcome = watched(front, front.process.terminate)
+    status = front.process.wait(SECONDS)
+    tester.tally.check(status == 0 and UNKNOWN not in outcome.refused, f"status {status}, {outcome.refused}")
+    judge(tester, front, outcome)
+    judged_by_itself(tester, front)
+
+
+UNIT = EXAMPLES / "front.service"
+
+
+def service(tester: Tester) -> None:
+    """front.service: systemd takes it, and its command, with a socket of the file system, serves by its own clock and ends with status 0"""
+    text = UNIT.read_text().replace("/usr/local/lib/fundreivo", str(EXAMPLES)).replace("/usr/local/bin/rubis_auction", str(tester.program))
+    unit, place, state = tester.folder / "auction.service", tester.folder / "socket", tester.folder / "state"
+    unit.write_text(text)
+    state.mkdir()
+    if shutil.which("systemd-analyze") is None:
+        tester.tally.skip("front.service", "systemd-analyze is not installed")
+    else:
+        got = run(["systemd-analyze", "verify", unit])
+        tester.tally.check((got.status, got.stderr) == (0, b""), f"systemd-analyze: {got}")
+    words = re.search(r"(?m)^ExecStart=(.*)", text)[1].replace("${STATE_DIRECTORY}", str(state)).split()
+    process = subprocess.Popen([sys.executable, "-B", words[1], "--unix", place, *words[2:]], stderr=subprocess.DEVNULL)
+    Front.started.append(process)
+    wait_until(place.exists)
+    with Client(place) as client:
+        tester.tally.check(client.ask(b"ITEM 1 2 Vase 10 99999999999999 *") == [b"+item 0.0"], "a reply of the service")
+    process.terminate()
+    tester.tally.check(process.wait(SECONDS) == 0, "the status of the service")
+    (row,) = whole_lines(state / "auction.rows")
+    written = re.fullmatch(r'0,\+item,1,2,"Vase",10,99999999999999,(\d+),1', row)
+    tester.tally.check(written is not None and abs(int(written[1]) / 1000 - time.time()) < SECONDS, f"the log of the service: {row}")
+
+
+def without_a_way_on(tester: Tester) -> None:
+    """ends with status 1: a program that dies without a log, a log that cannot be opened, no program, a port in use, an audit that cannot be kept"""
+    free = Front(tester, "unlogged")
+    words = [word for word in free.words if word not in ("--log", str(free.log))]
+    free.close()
+    with tempfile.TemporaryFile() as said:
+        process = subprocess.Popen([*words[:3], "--port", str(free.port), *words[3:]], stderr=said)
+        front = SimpleNamespace(process=process, port=free.port)
+        wait_until(lambda: is_served(free.port))
+        with Client(free.port) as client:
+            tester.tally.check(client.ask(b"VIEWUSER 0") == [SEEN], "a front without a log")
+            os.kill(Front.engine(front), signal.SIGKILL)
+            tester.tally.check(process.wait(SECONDS) == 1, "the status of a front without a log")
+    front = Front(tester, "foreign", rows=b"not a log\n")
+    tester.tally.check(front.process.wait(SECONDS) == 1 and front.said.read_text().count("record 1: not a number") == 6, f"a foreign log: {front.said.read_text()}")
+    front = Front(tester, "missing", program=tester.folder / "none")
+    tester.tally.check(front.process.wait(SECONDS) == 1 and "No such file" in front.said.read_text(), f"no program: {front.said.read_text()}")
+    with socket.create_server(("127.0.0.1", 0)) as taken:
+        got = run([*FRONT, "--port", str(taken.getsockname()[1]), tester.program])
+        tester.tally.check(got.status == 1 and got.stderr.startswith(b"front: ") and b"in use" in got.stderr, f"a port in use: {got}")
+    limit = lambda: resource.setrlimit(resource.RLIMIT_FSIZE, (10_000, 10_000))
+    front = Front(tester, "unkept", preexec_fn=limit)
+    with front.client() as client:
+        client.send(b"VIEWUSER 0\n" * 2000)
+        got = Counter(iter(client.reply, b""))
+        tester.tally.check(front.process.wait(SECONDS) == 1 and got[SEEN] < 2000, f"an audit that cannot be kept: {got}, {front.said.read_text()}")
+
+
+def is_served(port: int) -> bool:
+    with suppress(OSError), Client(port) as client:
+        return client.ask(b"PING") == [b"+PONG"]
+    return False
+
+
+# Kills, judged; and whether the judge sees errors.
+
+
+def engine_kills(tester: Tester) -> None:
+    """100 clients while the program is killed and started again; and errors planted in what was kept and seen, which are found"""
+    front = Front(tester, "engine_kills", rows=mix()[0])
+    outcome = watched(front, *[front.kill_engine] * tester.kills)
+    tester.tally.check(front.info()["starts"] == tester.kills + 1, f"{front.info()['starts']} starts")
+    tester.tally.check(set(outcome.refused) <= {UNKNOWN} and not outcome.lost, f"{outcome.refused}, {outcome.lost} lost")
+    tester.tally.check(front.most_megabytes() < MEGABYTES and front.close() == 0, "memory and status")
+    starts = judge(tester, front, outcome)
+    judged_by_itself(tester, front)
+    planted(tester, starts, outcome, whole_lines(front.log))
+
+
+def planted(tester: Tester, starts: list[Start], outcome: Outcome, log: list[str]) -> None:
+    start = max(starts, key=lambda start: len(start.history))
+    of_bids = [at for at, (_, _, text) in enumerate(start.history) if text.startswith("bid ")]
+    swapped = start.history.copy()
+    for at, other in zip(of_bids[:2], of_bids[1::-1]):
+        swapped[at] = start.history[at][:2] + start.history[other][2:]
+    place, seen = next((place, seen) for place, seen in outcome.seen.items() if seen.text.startswith("bid "))
+    changed = replace(outcome, seen=outcome.seen | {place: replace(seen, text=seen.text + "0")})
+    first, last = ((start.number, *start.history[at][:2]) for at in (0, -1))
+    late = Outcome({first: Seen(sent=9, answered=10, text=""), last: Seen(sent=5, answered=6, text="")})
+    for what, wanted, found in (
+        ("a changed reply", "1 seen otherwise", seen_otherwise(starts, changed)),
+        ("two swapped replies", " was due", referee(tester, replace(start, history=swapped))),
+        ("a lost row", "the log has other rows", log_is_exact(starts, log[:MIX.items] + log[MIX.items + 1 :])),
+        ("a row too many", "1 rows behind", log_is_exact(starts, [*log, log[-1]])),
+        ("a request that comes before one that was answered earlier", "1 against time", against_time(starts, late)),
+    ):
+        tester.tally.check(wanted in found, f"{what}: {found!r}")
+
+
+def front_kills(tester: Tester) -> None:
+    """100 clients while the front is killed and started again"""
+    front = Front(tester, "front_kills", rows=mix()[0])
+    outcome = watched(front, *[front.kill] * tester.kills)
+    tester.tally.check(front.close() == 0, "the status after kills")
+    starts = judge(tester, front, outcome)
+    tester.tally.check(len(starts) > tester.kills and outcome.lost > 0, f"{len(starts)} starts, {outcome.lost} replies lost")
+
+
+CHECKS = (commands, pipelines, other_clients, bounds, misbehaving, group_commit, outcomes, cut_parts, waits_for_the_log, terminated, service, without_a_way_on, engine_kills, front_kills)
+
+
+def main() -> None:
+    words = argparse.ArgumentParser(description=__doc__, formatter_class=argparse.RawDescriptionHelpFormatter)
+    words.add_argument("program", nargs="?", type=Path, default=BUILT)
+    words.add_argument("--check", type=Path, default=built("rubis_check"), help="the referee")
+    words.add_argument("--kills", type=int, default=5, help="of the program, and of the front")
+    words.add_argument("--only", choices=[check.__name__ for check in CHECKS], help="only this check")
+    options = words.parse_args()
+    tally = Tally()
+    with tempfile.TemporaryDirectory() as folder:
+        tester = Tester(options.program.resolve(), Path(folder), tally)
+        tester.referee, tester.kills = options.check.resolve(), options.kills
+        try:
+            for check in CHECKS:
+                if options.only in (None, check.__name__):
+                    tell_of(check, tester)
+        finally:
+            for process in Front.started:
+                process.kill()
+    tally.finish()
+
+
+if __name__ == "__main__":
+    main()
