@@ -19,7 +19,8 @@ LAYERS = {
     "engine": {"shard_boxes": 690, "phase_permits": 600, "closing_laws": 640, "phase_floor": 630,
                "phase_workers": 420, "auction_run": 560},
     "texts": {"program_options": 420, "auction_reading": 940, "auction_text": 940, "part_log": 860, "log_opening": 700, "history_check": 230},
-    "programs": {"auction_program": 735, "load_program": 985, "check_program": 300, "rubis_auction": 680, "rubis_load": 985, "rubis_check": 300},
+    "programs": {"program_opening": 680, "program_serving": 700, "auction_program": 680, "load_program": 985, "check_program": 300, "rubis_auction": 640,
+                 "rubis_load": 985, "rubis_check": 300},
     "examples and tests": {"example_vase": 235, "example_phases": 370, "engine_tests": 500, "phase_tests": 605, "program_tests": 745,
                            "example_watch": 865, "bench_windows": 985},
 }

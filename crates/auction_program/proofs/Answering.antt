@@ -1,5 +1,5 @@
 -- What is said of an input, from what its parts answered.
-use Rattle.std.proofs.Common.{◌≡◌, ℕ, ◌<◌, List, length, Option, IfSome, Result, Ok, Err, IfErr, OnOk, sym, ap, subst, ◌∙◌}
+use Rattle.std.proofs.Common.{◌≡◌, ℕ, ◌<◌, List, length, Option, IfSome, Result, Ok, Err, sym, ap, subst, ◌∙◌}
 use Rattle.std.specs.Prelude.{◌↔◌}
 use Rattle.std.specs.Result.{IsErr, IsErrAnd}
 use Rattle.std.proofs.lemmas.Option.{IfSome_then}
@@ -14,26 +14,16 @@ use Rattle.item_shards.specs.declared.openings.ResumeFault.TheVariants as resume
 use Rattle.run_laws.specs.Answers.{IsAnswer}
 use Rattle.auction_rows.specs.declared.limits.Policy.{Policy}
 use Rattle.auction_text.specs.declared.writing.WriteFault.{WriteFault}
-use Rattle.auction_program.specs.Execution.{added_text, commits_text, Answers, IsAllowed, IsCausedBy, IsNotPerformed, IsNotRun, IsRefused, OfInput, Performs}
-use Rattle.auction_program.specs.Options.{opening_asked, policy_of}
+use Rattle.program_opening.specs.Options.{commits_text, opening_asked, policy_of}
+use Rattle.auction_program.specs.Execution.{added_text, Answers, IsAllowed, IsCausedBy, IsNotPerformed, IsNotRun, IsRefused, OfInput, Performs}
 use Rattle.auction_run.specs.Beginning.{HaveWorkers, HasShards, HasQuotas, AreShort}
-use Rattle.auction_run.specs.Phases.{hot_sets}
+use Rattle.auction_run.specs.Phases.{HaveMetLastNumber, hot_sets}
 use Rattle.auction_run.specs.declared.checks.RunFault.{RunFault}
 use Rattle.auction_run.specs.declared.checks.RunFault.TheVariants as run
-use Rattle.auction_program.specs.declared.faults.Fault.{Fault}
-use Rattle.auction_program.specs.declared.faults.Fault.TheVariants.{Usage, Read, Resume, Row, Make, Run, Limit, Write, Report, OpenLog, Log}
-use Rattle.auction_program.specs.declared.options.Options.{Options}
+use Rattle.program_opening.specs.declared.faults.Fault.{Fault}
+use Rattle.program_opening.specs.declared.faults.Fault.TheVariants.{Usage, Read, Resume, Row, Make, Run, Limit, Write, Report, OpenLog, Log}
+use Rattle.program_opening.specs.declared.options.Options.{Options}
 use Rattle.auction_program.specs.declared.execution.Performed.{Performed}
-
--- what holds of the error that there is
-pub error_is : {T E : Type 0} (r : Result T E) (e : E) (Q : E → Type 0) → IsErr r × IsErrAnd r (λ x. x ≡ e) → Q e → IfErr r Q
-error_is (Ok x) e Q is holds = tt
-error_is (Err x) e Q is holds = subst Q (sym is.1) holds
-
--- nothing is said of a success that there is not
-pub no_success : {T E : Type 0} (r : Result T E) (e : E) (P : Type 0) → IsErr r × IsErrAnd r (λ x. x ≡ e) → OnOk r P
-no_success (Ok x) e P is = absurd (let no = is.0 in cc)
-no_success (Err x) e P is = tt
 
 pub is_error : {T E : Type 0} (r : Result T E) (e x : E) → IsErr r × IsErrAnd r (λ y. y ≡ e) → r ≡ Err x → x ≡ e
 is_error (Ok t) e x is same = absurd (let no = same in cc)
@@ -61,14 +51,15 @@ pub not_run : {T : Type 0} (policy : Policy) (book : Book) (scripts : List (List
     → (result ≡ Err run.Quota ↔ (HaveWorkers book scripts × (HasShards policy × ¬ HasQuotas policy)))
     → (result ≡ Err run.TooLong ↔ (HaveWorkers book scripts × (HasShards policy × (HasQuotas policy × ¬ AreShort book scripts))))
     → (result ≡ Err run.Spawn → 1 < length scripts)
+    → (result ≡ Err run.NumberFull → HaveMetLastNumber scripts)
     → IsNotRun policy fault book scripts
-not_run policy book scripts result run.Workers is workers shards quotas short spawn = workers.0 is
-not_run policy book scripts result run.Shards is workers shards quotas short spawn = shards.0 is
-not_run policy book scripts result run.Quota is workers shards quotas short spawn = quotas.0 is
-not_run policy book scripts result run.TooLong is workers shards quotas short spawn = short.0 is
-not_run policy book scripts result run.Spawn is workers shards quotas short spawn = spawn is
-not_run policy book scripts result run.Memory is workers shards quotas short spawn = tt
-not_run policy book scripts result run.NumberFull is workers shards quotas short spawn = tt
+not_run policy book scripts result run.Workers is workers shards quotas short spawn numbers = workers.0 is
+not_run policy book scripts result run.Shards is workers shards quotas short spawn numbers = shards.0 is
+not_run policy book scripts result run.Quota is workers shards quotas short spawn numbers = quotas.0 is
+not_run policy book scripts result run.TooLong is workers shards quotas short spawn numbers = short.0 is
+not_run policy book scripts result run.Spawn is workers shards quotas short spawn numbers = spawn is
+not_run policy book scripts result run.Memory is workers shards quotas short spawn numbers = tt
+not_run policy book scripts result run.NumberFull is workers shards quotas short spawn numbers = numbers is
 
 -- the book of the rows, and the policy, are those of the options
 module _ (options : Options) (rows : List Opened) (scripts : List (List Request)) (remaining : Option (List ℕ))

@@ -16,9 +16,9 @@ use Rattle.item_shards.specs.declared.openings.Opened.{Opened}
 use Rattle.run_laws.specs.Answers.{IsAnswer}
 use Rattle.auction_rows.specs.declared.limits.Policy.{Policy}
 use Rattle.run_laws.proofs.OneWorkerLemmas.{same_history, same_hots}
-use Rattle.auction_program.specs.Execution.{added_text, commits_text, IsAnsweredBy}
-use Rattle.auction_program.specs.Options.{opening_asked, policy_of}
-use Rattle.auction_program.specs.declared.options.Options.{Options}
+use Rattle.program_opening.specs.Options.{commits_text, opening_asked, policy_of}
+use Rattle.program_opening.specs.declared.options.Options.{Options}
+use Rattle.auction_program.specs.Execution.{added_text, IsAnsweredBy}
 
 asked_or_none : Result Asked ReadFault → Asked
 asked_or_none (Ok asked) = asked

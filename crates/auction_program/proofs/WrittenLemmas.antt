@@ -1,7 +1,5 @@
 -- Two texts, written one after the other.
-use Rattle.std.proofs.Common.{◌≡◌, Bool, true, if◌then◌else◌, Some, IfSome, ℕ, ◌+◌, ◌≤◌, min, List, [], ◌++◌, Option, length, take, append-nil, sym, subst, ◌∙◌, ap, arith}
-use Rattle.std.proofs.KnownBytes.{Appends-trans}
-use Rattle.std.proofs.Math.Seq.{take-append-add}
+use Rattle.std.proofs.Common.{◌≡◌, Bool, true, if◌then◌else◌, Some, IfSome, ℕ, ◌≤◌, min, List, [], ◌++◌, Option, length, append-nil, sym, subst, ◌∙◌, ap, arith}
 use Rattle.std.proofs.lemmas.List.{take-append-le, take_min}
 use Rattle.std.specs.Io.KnownBytes.{Appends}
 use Rattle.auction_rows.specs.declared.requests.Object.{Object}
@@ -13,7 +11,7 @@ use Rattle.auction_text.specs.Writing.{IsPartWritten}
 use Rattle.auction_text.specs.declared.writing.report.ReportLines.{ReportLines}
 use Rattle.auction_program.specs.Report.{report_of, AreViews}
 
-module _ (old mid new : Option (List ℕ)) (text added : List ℕ) where
+module _ (old new : Option (List ℕ)) (text added : List ℕ) where
   pub nothing_added : added ≡ [] → Appends old new text → Appends old new (text ++ added)
   nothing_added none first = subst (Appends old new) (sym (append-nil text) ∙ ap (λ a. text ++ a) (sym none)) first
 
@@ -22,10 +20,6 @@ module _ (old mid new : Option (List ℕ)) (text added : List ℕ) where
       let n = min part.0 (length text) in
       let within : n ≤ length text = omega arith in
       (n, subst (Appends old new) (sym (take_min part.0 text) ∙ sym (take-append-le n text added within)) part.1)
-
-  pub part_of_added : Appends old mid text → IsPartWritten mid new added → IsPartWritten old new (text ++ added)
-  part_of_added first part =
-      (length text + part.0, subst (Appends old new) (sym (take-append-add text added part.0)) (Appends-trans old mid new text (take part.0 added) first part.1))
 
 -- the text of a report whose views are those of a book is what is added where one is asked for
 pub report_added : (report : Bool) (opening : Opening) (book : Book) (history : List Entry) (hot given : List (List Object)) (lines : Option ReportLines) (shown : ReportLines)

@@ -8,8 +8,6 @@ use Rattle.auction_rows.specs.declared.rows.Entry.{Entry}
 use Rattle.auction_rows.specs.Book.{Book}
 use Rattle.auction_rows.specs.History.{book_after}
 use Rattle.auction_text.specs.Reading.{IsInputFault}
-use Rattle.auction_text.specs.Replies.{replies_text, history_text}
-use Rattle.auction_text.specs.RowLines.{rows_text}
 use Rattle.auction_text.specs.Scripts.{input_of}
 use Rattle.auction_text.specs.Writing.{IsPartWritten}
 use Rattle.auction_text.specs.declared.writing.report.ReportLines.{ReportLines}
@@ -19,26 +17,18 @@ use Rattle.item_shards.specs.declared.openings.ResumeFault.{ResumeFault}
 use Rattle.item_shards.specs.declared.openings.ResumeFault.TheVariants as resume
 use Rattle.run_laws.specs.Answers.{IsAnswer}
 use Rattle.auction_rows.specs.declared.limits.Policy.{Policy}
-use Rattle.auction_program.specs.Options.{opening_asked, policy_of}
+use Rattle.program_opening.specs.Options.{commits_text, opening_asked, policy_of}
 use Rattle.auction_program.specs.Report.{report_of, AreViews}
 use Rattle.auction_run.specs.Beginning.{HaveWorkers, HasShards, HasQuotas, AreShort}
-use Rattle.auction_run.specs.Phases.{hot_sets}
+use Rattle.auction_run.specs.Phases.{HaveMetLastNumber, hot_sets}
 use Rattle.auction_run.specs.declared.checks.RunFault.{RunFault}
 use Rattle.auction_run.specs.declared.checks.RunFault.TheVariants as run
-use Rattle.auction_run.specs.declared.runs.Outcome.{Outcome}
-use Rattle.auction_program.specs.declared.faults.Fault.{Fault}
-use Rattle.auction_program.specs.declared.faults.Fault.TheVariants.{Usage, Read, Resume, Row, Make, Run, Limit, Write, Report, OpenLog, Log}
-use Rattle.auction_program.specs.declared.options.Options.{Options}
+use Rattle.program_opening.specs.declared.faults.Fault.{Fault}
+use Rattle.program_opening.specs.declared.faults.Fault.TheVariants.{Usage, Read, Resume, Row, Make, Run, Limit, Write, Report, OpenLog, Log}
+use Rattle.program_opening.specs.declared.options.Options.{Options}
 use Rattle.auction_program.specs.declared.execution.Performed.{Performed}
 
--- what the options ask for: the rows, or else the history, or else the replies
-abbrev pub commits_text : Options → Book → List Entry → List ℕ
-commits_text options book history =
-    if options.rows then rows_text book history
-    else if options.history then history_text history
-    else replies_text history
-
--- what is added to that: the report, if the options ask for it
+-- what is added to what the options ask for: the report, if they ask for it
 abbrev pub added_text : Options → Book → List Entry → List (List Object) → List ℕ
 added_text options book history hot =
     if options.report then report_of (opening_asked options)
@@ -120,8 +110,8 @@ IsRefused opening (resume.BadRow n) rows = (¬ IsTooLong rows) × IsFirstBad ope
 IsRefused opening resume.Memory rows = ¬ IsTooLong rows
 
 -- why a run of scripts from a book was refused, by the first that doesn't hold; the last three
--- faults are met while it goes on: Spawn if there is a thread to start, and of the other two no
--- clause says when
+-- faults are met while it goes on: Spawn if there is a thread to start, NumberFull if a worker met
+-- the end of commit numbers, and of Memory no clause says when
 abbrev pub IsNotRun : Policy → RunFault → Book → List (List Request) → Type 0
 IsNotRun policy run.Workers book scripts = ¬ HaveWorkers book scripts
 IsNotRun policy run.Shards book scripts = HaveWorkers book scripts × ¬ HasShards policy
@@ -131,13 +121,7 @@ IsNotRun policy run.TooLong book scripts =
     HaveWorkers book scripts × (HasShards policy × (HasQuotas policy × ¬ AreShort book scripts))
 IsNotRun policy run.Spawn book scripts = 1 < length scripts
 IsNotRun policy run.Memory book scripts = Unit {0}
-IsNotRun policy run.NumberFull book scripts = Unit {0}
-
--- the outcome of a run answers these scripts, from a book
-abbrev pub AnswersScripts : Options → Book → List (List Request) → Outcome → Type 0
-AnswersScripts options book scripts outcome =
-    IsAnswer (opening_asked options) book (policy_of options) scripts
-    (hot_sets outcome.hot.items) outcome.history.entries
+IsNotRun policy run.NumberFull book scripts = HaveMetLastNumber scripts
 
 -- the lines of its report, if there are some, are the views that the book at its end gives
 abbrev pub HasLastViews : Options → Book → List Entry → Option ReportLines → Type 0

@@ -6,17 +6,18 @@ ghost use Rattle.auction_rows.specs.Book.{Book};
 ghost use Rattle.auction_rows.specs.Replies.{reply};
 ghost use Rattle.auction_rows.specs.Requests.{is_view};
 ghost use Rattle.auction_text.specs.Writing.{WritesText};
-ghost use Rattle.auction_program.specs.Execution.{commits_text, AreWritten, ArePartWritten, HasLastViews, IsOneWritten, OfTexts};
+ghost use Rattle.program_opening.specs.Options.{commits_text};
+ghost use Rattle.auction_program.specs.Execution.{AreWritten, ArePartWritten, HasLastViews, IsOneWritten, OfTexts};
 ghost use Rattle.auction_program.specs.Report.{category_views, user_views, view_of, views, IsEnd};
 
 use crate::execution::Performed;
-use crate::options::Options;
 use auction_rows::{Opening, Reply, Request, Row};
 use auction_text::{
     ReportLines, WriteFault, write_history, write_replies_by_threads, write_report, write_rows,
 };
 use auction_window::{Window, WindowName};
 use phase_floor::Joined;
+use program_opening::Options;
 use std::alloc::{AllocError, Global};
 use std::io::Write;
 use std::thread::Threads;
@@ -25,7 +26,7 @@ use worker_journals::History;
 /// Writes what the options ask for of a run from these rows, and then its report, if they ask for
 /// it. Without lines a report is refused as memory was for them. After `Write` a prefix of both
 /// was written; after `Memory` nothing, or all but the report.
-#[tactic(auto, using(crate::proofs::WrittenLemmas::part_of_first, crate::proofs::WrittenLemmas::part_of_added))]
+#[tactic(auto, using(crate::proofs::WrittenLemmas::part_of_first))]
 pub fn write_texts<R: Threads + Sync, W: Write>(
     rt: &R,
     alloc: Global,

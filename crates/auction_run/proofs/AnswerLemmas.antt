@@ -95,6 +95,7 @@ module _ (opening : Opening) (rows : Book) (policy : Policy) (scripts : List (Li
       too_long = neither (told_met result met TooLong) (λ no. no.1.1.1 have.1.1.1);
     };
     spawn = told_met result met Spawn;
+    numbers = told_met result met NumberFull;
   }
 
   -- or no memory was left before the first
@@ -113,6 +114,7 @@ module _ (opening : Opening) (rows : Book) (policy : Policy) (scripts : List (Li
         limit = tt;
         refused = refused_first other own;
         spawn = λ told. let same : other ≡ Spawn = cc told in absurd (subst first same own);
+        numbers = λ told. let same : other ≡ NumberFull = cc told in absurd (subst first same own);
       }
 
   -- a run of what was checked is not refused for it

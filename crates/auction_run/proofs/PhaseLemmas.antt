@@ -24,7 +24,6 @@ use Rattle.shard_boxes.specs.Keys.{BoxId}
 use Rattle.shard_boxes.specs.States.{ShardState, state_of}
 use Rattle.phase_permits.specs.Slicing.{hot_objects, stocks_of, slices_of}
 use Rattle.phase_permits.specs.Stashes.{StashState}
-use Rattle.phase_permits.specs.declared.transaction.PermitFault.{PermitFault}
 use Rattle.phase_permits.specs.declared.transaction.PermitFault.TheVariants as permit
 use Rattle.phase_permits.specs.Workers.{WorkerState}
 use Rattle.phase_permits.specs.Performing.{HaveOpening}
@@ -42,7 +41,7 @@ use Rattle.auction_run.specs.Phases.{told, IsMet, MayPerform, waiting_in, quota_
 use Rattle.auction_run.specs.Serving.{CanPerform, HasBegunPhase, HasEnded}
 use Rattle.phase_workers.specs.declared.round.ServingFault.{ServingFault}
 use Rattle.phase_workers.specs.declared.round.ServingFault.TheVariants as serving
-use Rattle.phase_workers.specs.Tasks.{Task, task, tasks, to_do, calls_for, CanBeDone, HasDoneTask, IsFaultBy}
+use Rattle.phase_workers.specs.Tasks.{Task, task, tasks, to_do, calls_for, CanBeDone, HasDoneTask, IsFaultBy, IsFirstFault}
 use Rattle.phase_workers.specs.Working.{committed, stashed, taken, still_waiting, hot_for, put_off, not_put_off, AreOfPhase, IsSamePermit, IsPermitOf, ArePermitsOf}
 use Rattle.phase_workers.proofs.WorkLemmas.{cold_kept, cold_off}
 use Rattle.auction_run.proofs.ScriptLemmas.{past_stashes}
@@ -100,11 +99,13 @@ given_quotas policy scripts phase first given quotas split is at same are w less
 -- ---- the answer of a phase
 
 -- what the workers of a phase met is told
-pub fault_met : (scripts : List (List Request)) (HasMet : PermitFault → Type 0) (fault : ServingFault) → IsFaultBy (length scripts) HasMet fault → IsMet scripts (told fault)
-fault_met scripts HasMet serving.Spawn is = is
-fault_met scripts HasMet serving.Memory is = tt
-fault_met scripts HasMet (serving.Worker permit.Memory) is = tt
-fault_met scripts HasMet (serving.Worker permit.NumberFull) is = tt
+pub fault_met : (takes : Bool) (initial : List ShardState) (permits : List WorkerState) (scripts : List (List Request)) (first : ℕ) (fault : ServingFault) → length permits ≡ length scripts →
+    IsFaultBy (length scripts) (IsFirstFault takes initial (tasks permits scripts first)) fault → IsMet scripts (told fault)
+fault_met takes initial permits scripts first serving.Spawn same is = is
+fault_met takes initial permits scripts first serving.Memory same is = tt
+fault_met takes initial permits scripts first (serving.Worker permit.Memory) same is = tt
+fault_met takes initial permits scripts first (serving.Worker permit.NumberFull) same is =
+    record { takes = takes; initial = initial; permits = permits; first = first; permits_are = same; met = is }
 
 -- ---- small facts
 

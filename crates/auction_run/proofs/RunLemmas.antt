@@ -274,6 +274,8 @@ module _ (opening : Opening) (rows : Book) (policy : Policy) (some : 0 < policy.
         (λ worker. (subst (λ n. length (script_of scripts worker) ≤ n) is (none worker).0, (none worker).1));
     chosen = run.chosen;
     replays = run.replayed.replays;
+    last = sym run.last_entries ∙ run.last
+        ∙ ap (λ n. segment_of (n - 1) running.history.entries) (sym run.run.phase_count ∙ length-map running.hot.items (λ set. set.keys));
     stands = run.replayed.stands;
     opening_is = run.opening_is;
     phases = phases_counted;

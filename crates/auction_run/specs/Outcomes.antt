@@ -1,5 +1,5 @@
 -- What a run answers, and what its board has then.
-use Rattle.std.specs.Prelude.{ℕ, ◌≡◌, ◌<◌, ◌⊎◌, List, [], Result, length, IfOk, IsErrOf}
+use Rattle.std.specs.Prelude.{ℕ, ◌≡◌, ◌-◌, ◌<◌, ◌⊎◌, List, [], Result, length, IfOk, IsErrOf}
 use Rattle.auction_rows.specs.declared.limits.TheConstants.{MOST_OF_A_WORKER}
 use Rattle.auction_rows.specs.declared.requests.Object.{Object}
 use Rattle.auction_rows.specs.declared.values.Opening.{Opening}
@@ -11,13 +11,14 @@ use Rattle.auction_rows.specs.History.{ReplaysFrom, book_after}
 use Rattle.phase_floor.specs.States.{StandsFor, IsBookOf}
 use Rattle.auction_rows.specs.declared.limits.Policy.{Policy}
 use Rattle.run_laws.specs.Run.{AreChosen, HasRun}
-use Rattle.run_laws.specs.Serving.{AreNumbered, Serves}
+use Rattle.run_laws.specs.Serving.{AreNumbered, Serves, segment_of}
+use Rattle.worker_journals.specs.Merged.{merged}
 use Rattle.auction_window.specs.Published.{book_of}
 use Rattle.auction_run.specs.Beginning.{IsRefusedInOrder}
 use Rattle.auction_run.specs.Boards.{HasShown, HasShownAfter}
-use Rattle.auction_run.specs.Phases.{hot_sets}
+use Rattle.auction_run.specs.Phases.{HaveMetLastNumber, hot_sets}
 use Rattle.auction_run.specs.declared.checks.RunFault.{RunFault}
-use Rattle.auction_run.specs.declared.checks.RunFault.TheVariants.{Memory, Spawn}
+use Rattle.auction_run.specs.declared.checks.RunFault.TheVariants.{Memory, NumberFull, Spawn}
 use Rattle.auction_run.specs.declared.runs.Outcome.{Outcome}
 
 -- The outcome of a run of these scripts, from an opening book on.
@@ -31,6 +32,9 @@ pub record IsOutcome (opening : Opening) (rows : Book) (policy : Policy)
   -- it replays on an auction of one thread: each reply, every highest bid, bidder, count, rating
   -- and top list in it, is the one computed afresh from the rows committed before it
   pub replays : ReplaysFrom opening rows outcome.history.entries
+  -- the journals of its last phase have the entries of that phase
+  pub last : merged outcome.history.last
+      ≡ segment_of (length outcome.hot.items - 1) outcome.history.entries
   -- the state left is that of the rows at the end
   pub stands : StandsFor outcome.state (book_after opening rows outcome.history.entries)
   -- it is of the same users and categories
@@ -56,6 +60,8 @@ pub record AnswersRun (opening : Opening) (rows : Book) (policy : Policy)
   pub refused : IsRefusedInOrder result policy rows scripts
   -- Spawn comes only if there is a thread to start
   pub spawn : IsErrOf result Spawn → 1 < length scripts
+  -- NumberFull comes only of a worker that met the end of commit numbers
+  pub numbers : IsErrOf result NumberFull → HaveMetLastNumber scripts
 
 -- A board has all phases of a run, of an auction that was opened with these rows.
 abbrev pub HasShownAll : {B : Type 0} → (B → Opening → Book → List (List Row) → Type 0) →

@@ -1,10 +1,12 @@
 -- What a phase of a run begins with, and the faults that it meets.
-use Rattle.std.specs.Prelude.{ℕ, ◌≡◌, ◌+◌, ◌<◌, ◌≤◌, ◌^◌, true, false, List, [], map, length, ⊤}
+use Rattle.std.specs.Prelude.{ℕ, ◌≡◌, ◌+◌, ◌<◌, ◌≤◌, ◌^◌, Bool, true, false, List, [], map, length, ⊤}
 use Rattle.std.specs.HashSet.{HashSet}
 use Rattle.auction_rows.specs.declared.limits.TheConstants.{MOST_OF_A_WORKER}
 use Rattle.auction_rows.specs.declared.requests.Object.{Object}
 use Rattle.auction_rows.specs.declared.requests.Request.{Request}
+use Rattle.shard_boxes.specs.States.{ShardState}
 use Rattle.phase_permits.specs.Stashes.{StashState}
+use Rattle.phase_permits.specs.Workers.{WorkerState}
 use Rattle.closing_laws.specs.Standing.{counters_at}
 use Rattle.phase_floor.specs.Floors.{stash_at}
 use Rattle.phase_floor.specs.States.{JoinedState, states_of, DoAllExist}
@@ -15,6 +17,7 @@ use Rattle.run_laws.specs.Serving.{script_of}
 use Rattle.phase_permits.specs.declared.transaction.PermitFault.TheVariants as worker_fault
 use Rattle.phase_workers.specs.declared.round.ServingFault.{ServingFault}
 use Rattle.phase_workers.specs.declared.round.ServingFault.TheVariants as serving
+use Rattle.phase_workers.specs.Tasks.{IsFirstFault, tasks}
 use Rattle.auction_run.specs.declared.phase.PhasePlan.{PhasePlan}
 pub use Rattle.run_laws.specs.Serving.{lists}
 use Rattle.auction_run.specs.declared.checks.RunFault.{RunFault}
@@ -66,9 +69,21 @@ told serving.Memory = Memory
 told (serving.Worker worker_fault.Memory) = Memory
 told (serving.Worker worker_fault.NumberFull) = NumberFull
 
+-- Of the workers of a phase, each with a permit and its script, the first that was not done met the
+-- end of commit numbers: the greatest clock that it found for a request was the last number.
+pub record HaveMetLastNumber (scripts : List (List Request)) : Type 0 where
+  -- whether the phase takes stashes, and the shards with which it began
+  pub takes : Bool
+  pub initial : List ShardState
+  -- the permits, and the index from which on each script is gone on with
+  pub permits : List WorkerState
+  pub first : ℕ
+  pub permits_are : length permits ≡ length scripts
+  pub met : IsFirstFault takes initial (tasks permits scripts first) worker_fault.NumberFull
+
 -- Why a phase of such scripts fails: a thread, of those of all workers but the first, could not be
--- started; or no memory was left, or numbers ended, of which no clause says when. None of the
--- faults that are found before a run begins is met.
+-- started; or a worker met the end of commit numbers; or no memory was left, of which no clause
+-- says when. None of the faults that are found before a run begins is met.
 abbrev pub IsMet : List (List Request) → RunFault → Type 0
 IsMet scripts Workers = ⊥
 IsMet scripts Shards = ⊥
@@ -76,4 +91,4 @@ IsMet scripts Quota = ⊥
 IsMet scripts TooLong = ⊥
 IsMet scripts Spawn = 1 < length scripts
 IsMet scripts Memory = ⊤
-IsMet scripts NumberFull = ⊤
+IsMet scripts NumberFull = HaveMetLastNumber scripts

@@ -58,8 +58,8 @@ pub struct Outcome {
 /// top list shown is the one computed afresh from the rows committed before it.
 ///
 /// The first four faults are found first, in their order, exactly for their causes. `Spawn` comes
-/// only if there is a thread to start; a fault gives no part of a history. No clause says when
-/// memory is refused, that `NumberFull` is of a worker that met the end of numbers, nor which of
+/// only if there is a thread to start, `NumberFull` only of a worker that met the end of commit
+/// numbers; a fault gives no part of a history. No clause says when memory is refused, nor which of
 /// several faults of a phase is told: it is `Spawn` before that of the least worker, and this
 /// before that of the close. The state left can be gone on with, by `run_on`. Each script is copied
 /// to a `Script`, of 32 bytes per request, and then let go.

@@ -119,16 +119,21 @@ module _ (start : List ℕ) (scripts : List (List Request)) where
   pub counted_none : Counted start scripts start 0
   counted_none = record { counted = λ k less. absurd (omega (arith, less)); others = λ k more. refl }
 
+  -- the next count, by what is read for it
+  pub next_count : (now : List ℕ) (w held len : ℕ) (script : List Request) → w < length now → w < length scripts → held ≡ get_or now w held → script ≡ get_or scripts w script
+      → len ≡ length script → Counted start scripts now w → held + len ≡ get_or start w 0 + length (get_or scripts w [])
+  next_count now w held len script within in_scripts held_is script_is len_is so_far =
+      let before : held ≡ get_or start w 0 = held_is ∙ get_or_default now w held 0 within ∙ so_far.others w (omega arith) in
+      let more : len ≡ length (get_or scripts w []) = len_is ∙ ap length (script_is ∙ get_or_default scripts w script [] in_scripts) in
+      ap₂ (λ (m n : ℕ). m + n) before more
+
   pub counted_more : (now : List ℕ) (w count held len : ℕ) (script : List Request) → w < length now → w < length scripts → held ≡ get_or now w held → script ≡ get_or scripts w script
       → len ≡ length script → count ≡ held + len → Counted start scripts now w → Counted start scripts (set now w count) (w + 1)
   counted_more now w count held len script within in_scripts held_is script_is len_is count_is so_far = record {
     counted = λ k less. elim (cases_eq k w) [
       | inl same ↦
-          let before : held ≡ get_or start w 0 = held_is ∙ get_or_default now w held 0 within ∙ so_far.others w (omega arith) in
-          let more : len ≡ length (get_or scripts w []) =
-          len_is ∙ ap length (script_is ∙ get_or_default scripts w script [] in_scripts) in
           let here : get_or (set now w count) w 0 ≡ get_or start w 0 + length (get_or scripts w []) =
-          get_or-set_same now w count 0 within ∙ count_is ∙ ap₂ (λ (m n : ℕ). m + n) before more in
+          get_or-set_same now w count 0 within ∙ count_is ∙ next_count now w held len script within in_scripts held_is script_is len_is so_far in
           subst (λ (i : ℕ). get_or (set now w count) i 0 ≡ get_or start i 0 + length (get_or scripts i [])) (sym same) here
       | inr other ↦ get_or-set_other now w k count 0 other ∙ so_far.counted k (omega (arith, less, other))
     ];

@@ -1,5 +1,7 @@
 -- The entries of a part of a run, as they stand in the whole.
-use Rattle.std.specs.Prelude.{ℕ, ◌+◌, List, map, slice_index}
+use Rattle.std.specs.Prelude.{ℕ, ◌+◌, ◌^◌, ◌<◌, ◌≤◌, ◌⊎◌, List, [], length, map, slice_index, slice_index_or}
+use Rattle.auction_rows.specs.declared.limits.TheConstants.{MOST_WORKERS}
+use Rattle.auction_rows.specs.declared.requests.Request.{Request}
 use Rattle.auction_rows.specs.declared.rows.Entry.{Entry}
 use Rattle.auction_text.specs.Replies.{reply_line}
 
@@ -16,6 +18,17 @@ pub record BeforeView : Type 0 where
 
 abbrev pub gone_by : BeforeView → Gone
 gone_by before = record { phases = before.phases; requests = slice_index before.requests }
+
+-- a count is past 64 bits
+abbrev pub IsPastCount : ℕ → Type 0
+IsPastCount count = 2 ^ 64 ≤ count
+
+-- the requests of scripts cannot be counted behind those that went before: there are too many
+-- scripts, or a worker's count is past 64 bits
+abbrev pub CannotCount : BeforeView → List (List Request) → Type 0
+CannotCount before scripts = (MOST_WORKERS < length scripts)
+    ⊎ ((worker : ℕ) × IsPastCount (slice_index before.requests worker
+    + length (slice_index_or scripts worker [])))
 
 -- an entry of a part, as it stands in the whole: its phase and its index go on counting
 abbrev pub moved : Gone → Entry → Entry

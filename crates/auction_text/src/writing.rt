@@ -3,8 +3,8 @@
 //!
 //! The lines of replies, histories and rows are put together in a `block`; a report is made in
 //! memory.
-ghost use Rattle.std.specs.Prelude.{ℕ, ◌≡◌, ◌+◌, [], length, slice_index, slice_index_or, IfSome};
-ghost use Rattle.auction_text.specs.Moved.{gone_by, moved};
+ghost use Rattle.std.specs.Prelude.{ℕ, ◌≡◌, ◌+◌, [], length, slice_index, slice_index_or, IfNone, IfSome};
+ghost use Rattle.auction_text.specs.Moved.{CannotCount, IsPastCount, gone_by, moved};
 
 use auction_rows::MOST_WORKERS;
 use std::marker::Model;
@@ -66,6 +66,7 @@ impl Before {
         ensures requests { IfSome result (λ next. (worker : ℕ) →
             slice_index next.requests worker ≡ slice_index self.now.requests worker
             + length (slice_index_or scripts.now worker [])) }
+        ensures none { IfNone result (CannotCount self.now scripts.now) }
     {
         let mut requests = self.requests;
         for (worker, script) in scripts.iter().enumerate() {
@@ -83,6 +84,7 @@ impl Before {
         ensures phases { IfSome result (λ next. next.phases ≡ self.phases + count) }
         ensures requests { IfSome result (λ next. (worker : ℕ) →
             slice_index next.requests worker ≡ slice_index self.requests worker) }
+        ensures none { IfNone result (IsPastCount (self.phases + count)) }
     {
         let phases = self.phases.checked_add(count as u64)?;
         let requests = self.requests;

@@ -1,5 +1,5 @@
 -- Rows of a text that are added to an auction one after the other.
-use Rattle.std.proofs.Common.{◌≡◌, ◌==◌, count_by, ◌⊎◌, ◌||◌, Bool, true, false, not, nat_lt, if◌then◌else◌, Option, Some, None, inl, inr, codes, ap₂, slice_index, ℕ, ◌+◌, ◌-◌, ◌<◌, ◌≤◌, List, [], ◌∷◌, ◌++◌, Result, Ok, Err, IsErrOf, drop, get_or, length, take, refl, sym, ap, subst, ◌∙◌, arith, append_assoc}
+use Rattle.std.proofs.Common.{◌≡◌, ◌==◌, All, count_by, ◌⊎◌, ◌||◌, Bool, true, false, not, nat_lt, if◌then◌else◌, Option, Some, None, inl, inr, codes, ap₂, slice_index, ℕ, ◌+◌, ◌-◌, ◌<◌, ◌≤◌, List, [], ◌∷◌, ◌++◌, Result, Ok, Err, IsErrOf, drop, get_or, length, take, refl, sym, ap, subst, ◌∙◌, arith, append_assoc}
 use Rattle.std.specs.Option.{ok_or}
 use Rattle.std.specs.Result.{result_map_both}
 use Rattle.std.proofs.lemmas.Grind.{common_steps}
@@ -11,11 +11,12 @@ use Rattle.std.proofs.lemmas.List.Sums.{count_by-le-length, fold_push}
 use Rattle.phase_laws.proofs.ReplayLemmas.{replays_append}
 use Rattle.auction_rows.specs.declared.values.Opening.{Opening}
 use Rattle.auction_rows.specs.declared.rows.Row.{Row}
-use Rattle.auction_rows.specs.Book.{Book}
+use Rattle.auction_rows.specs.Book.{Book, worker_of}
+use Rattle.auction_rows.specs.History.{IsBook}
 use Rattle.item_shards.specs.OpeningRows.{IsRow, with_opened}
 use Rattle.item_shards.specs.declared.openings.Opened.{Opened}
 use Rattle.item_shards.proofs.OpeningLemmas.{one_more}
-use Rattle.phase_floor.specs.Adding.{IsFull, IsOwn, IsSameAuction, IsStartOf}
+use Rattle.phase_floor.specs.Adding.{IsFull, IsOwn, IsSameAuction, IsStartOf, KeepsBooks}
 use Rattle.phase_floor.specs.States.{JoinedState, IsBookOf}
 use Rattle.phase_floor.specs.declared.adding.AddFault.{AddFault}
 use Rattle.phase_floor.specs.declared.adding.AddFault.TheVariants.{TooLong, BadRow, Memory}
@@ -89,6 +90,21 @@ same_then a b c one two = record {
   shards = two.shards ∙ one.shards;
   workers = two.workers ∙ one.workers;
 }
+
+-- an auction that has counted nothing more is a start of the same book
+kept_start : (old new : JoinedState) (book : Book) → IsSameAuction old new → KeepsBooks old new → IsStartOf old book → IsStartOf new book
+kept_start old new book same kept start = record {
+  is_of = record {
+    is_book = subst (λ (o : Opening). IsBook o book) (sym same.opening) start.is_of.is_book;
+    own = subst (λ (n : ℕ). All (λ row. worker_of row < n) book) (sym same.workers) start.is_of.own;
+    stands = kept.books book start.is_of.stands;
+  };
+  counters = λ w below. rw kept.counters (start.counters w (omega (arith, below, same.workers)));
+}
+
+-- rows that were added are, after one that is not
+pub added_yet : (old mid new : JoinedState) (book : Book) (all : List Opened) (rows : Book) → HasAdded old mid book all rows → IsSameAuction mid new → KeepsBooks mid new → HasAdded old new book all rows
+added_yet old mid new book all rows was same kept = record { are_rows = was.are_rows; rows_are = was.rows_are; start = kept_start mid new (book ++ rows) same kept was.start; in_range = was.in_range }
 
 -- the first that is not taken is one of the requests
 pub place_within : (limit : ℕ) (fault : AddFault) (workers : ℕ) (opening : Opening) (book : Book) (all : List Opened) (place : ℕ) → IsFirstRefused limit fault workers opening book all place → place < length all

@@ -1,5 +1,5 @@
 -- Rows that are added to an auction while the text of a log is read.
-use Rattle.std.specs.Prelude.{◌≡◌, ◌≢◌, ◌≤◌, ◌<◌, ◌+◌, ◌^◌, ◌++◌, ℕ, List, [], ◌∷◌, All, Option, Some, fold, length, slice_index}
+use Rattle.std.specs.Prelude.{◌≡◌, ◌≢◌, ◌≤◌, ◌<◌, ◌+◌, ◌^◌, ◌++◌, ℕ, List, [], ◌∷◌, All, Option, Some, fold, length, slice_index, take}
 use Rattle.std.specs.Io.KnownBytes.{Appends}
 use Rattle.phase_laws.specs.Replay.{Replays}
 use Rattle.auction_rows.specs.declared.values.Opening.{Opening}
@@ -32,6 +32,12 @@ pub record HasAdded (old new : JoinedState) (book : Book) (all : List Opened) (a
   pub rows_are : rows_from old.opening book all ≡ book ++ added
   pub start : IsStartOf new (book ++ added)
   pub in_range : All IsInRange added
+
+-- of rows that were to be added to an auction that was a start of a book, just those before a place
+-- were
+abbrev pub HasAddedFirst : JoinedState → JoinedState → Book → List Opened → ℕ → Type 0
+HasAddedFirst old new book all place =
+    (added : Book) × HasAdded old new book (take place all) added
 
 -- a request is not taken after a book, by this fault, where each worker may commit so many
 abbrev pub IsNotTaken : ℕ → AddFault → ℕ → Opening → Book → Opened → Type 0

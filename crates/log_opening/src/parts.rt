@@ -7,7 +7,7 @@ ghost use Rattle.phase_floor.specs.Adding.{HasBook, IsSameAuction, IsStartOf};
 ghost use Rattle.log_opening.specs.CutRows.{is_cut_row};
 ghost use Rattle.log_opening.specs.Lines.{AreLines};
 ghost use Rattle.log_opening.specs.Opening.{AreNotRows, IsRefused, IsRefusedIn, TellsFirst, counted_after, place_of, row_fault};
-ghost use Rattle.log_opening.specs.Parts.{CanReadOn, HasAdded, HasNoEnd, HasRead, IsFirstRefused, IsReadTo, ReadsRows, TellsRows, TellsSome};
+ghost use Rattle.log_opening.specs.Parts.{CanReadOn, HasAdded, HasAddedFirst, HasNoEnd, HasRead, IsFirstRefused, IsReadTo, ReadsRows, TellsRows, TellsSome};
 
 use crate::lines::{line_at, whole_lines};
 use crate::opening::{LoggedAuction, OpenFault};
@@ -47,7 +47,7 @@ pub struct Refused {
     pub fault: AddFault,
 }
 
-/// Adds the rows of requests to an auction, and gives them. After a fault those before it are
+/// Adds the rows of requests to an auction, and gives them. After a fault just those before it are
 /// added.
 pub fn add_rows(alloc: Global, auction: &mut Joined, opened: &[Opened]) -> Result<Vec<Row>, Refused>
     requires { HasBook auction.old }
@@ -57,18 +57,21 @@ pub fn add_rows(alloc: Global, auction: &mut Joined, opened: &[Opened]) -> Resul
     ensures refused { IfErr result (λ refused. (book : Book) → IsStartOf auction.old book →
         IsFirstRefused auction.old.limit refused.fault (length auction.old.counters)
         auction.old.opening book opened.now refused.place) }
+    ensures first { IfErr result (λ refused. (book : Book) → IsStartOf auction.old book →
+        HasAddedFirst auction.old auction.new book opened.now refused.place) }
 {
     let mut rows = Vec::new(alloc);
     for (place, opened) in opened.iter().enumerate() {
+        let Ok(()) = rows.reserve(1) else {
+            let fault = AddFault::Memory;
+            return Err(Refused { place, fault });
+        };
         let row = match auction.add(opened) {
             Ok(row) => row,
             Err(fault) => return Err(Refused { place, fault }),
         };
         is_in_range(&row);
-        let Ok(()) = rows.push(row) else {
-            let fault = AddFault::Memory;
-            return Err(Refused { place, fault });
-        };
+        rows.push_reserved(row);
     }
     Ok(rows)
 }

@@ -1,5 +1,5 @@
 //! Which bytes behind the last line of a log are a cut row.
-ghost use Rattle.std.specs.Prelude.{◌≡◌};
+ghost use Rattle.std.specs.Prelude.{◌≡◌, length, nat_le};
 ghost use Rattle.std.specs.List.{list_all};
 ghost use Rattle.auction_text.specs.Fields.{is_printing};
 ghost use Rattle.log_opening.specs.CutRows.{begins_row, has_at, has_digit_at, is_cut_row};
@@ -30,11 +30,25 @@ fn begins_row(text: &[u8]) -> bool
     has_digit_at(text, 0) && (one || two)
 }
 
+// Whether a byte prints.
+fn prints(byte: u8) -> bool
+    ensures { result ≡ is_printing byte }
+{
+    0x20 <= byte && byte <= 0x7E
+}
+
 // Whether each byte of a text prints.
 fn all_print(text: &[u8]) -> bool
     ensures { result ≡ list_all is_printing text.now }
 {
-    text.iter().all(|byte| 0x20 <= *byte && *byte <= 0x7E)
+    text.iter().all(|byte| prints(*byte))
+}
+
+// Whether a text is no longer than a row.
+fn is_short(text: &[u8]) -> bool
+    ensures { result ≡ nat_le (length text.now) MOST_OF_A_ROW }
+{
+    text.len() <= MOST_OF_A_ROW
 }
 
 /// Whether a text may be the beginning of a row that was being written: it is no longer than a row,
@@ -42,5 +56,5 @@ fn all_print(text: &[u8]) -> bool
 pub fn is_cut_row(text: &[u8]) -> bool
     ensures { result ≡ is_cut_row text.now }
 {
-    text.len() <= MOST_OF_A_ROW && (all_print(text) && begins_row(text))
+    is_short(text) && (all_print(text) && begins_row(text))
 }

@@ -1,10 +1,13 @@
 -- What was put by, and what was written after it.
-use Rattle.std.proofs.Common.{arith, ◌≡◌, ◌==◌, ◌∷◌, ℕ, true, List, [], Option, Result, Ok, Err, IfErr, OnOk, length, take, refl, sym, ap, subst}
-use Rattle.std.proofs.lemmas.Bool.{eqb-true}
+use Rattle.std.proofs.Common.{arith, ◌≡◌, ◌==◌, ◌∷◌, ℕ, Bool, true, false, List, [], Option, Result, Ok, Err, IfErr, OnOk, length, take, refl, sym, ap, subst}
+use Rattle.std.proofs.lemmas.Bool.{eqb-true, false≢true}
 use Rattle.std.proofs.KnownBytes.{Appends-nil}
 use Rattle.std.specs.Io.KnownBytes.{Appends}
 use Rattle.auction_text.specs.Writing.{IsPartWritten}
 use Rattle.auction_text.specs.declared.writing.WriteFault.{WriteFault}
+use Rattle.part_log.specs.Telling.{IsEndedBy, IsFoundBy, IsUnlogged}
+use Rattle.part_log.specs.declared.log.TellFault.{TellFault}
+use Rattle.part_log.specs.declared.log.TellFault.TheVariants as tell
 
 -- no rows add nothing
 pub none_added : (log : Option (List ℕ)) (rows : List ℕ) → true ≡ (length rows == 0) → Appends log log rows
@@ -12,6 +15,11 @@ none_added log [] none = Appends-nil log
 none_added log (row ∷ rows) none =
     let zero : length (row ∷ rows) ≡ 0 = eqb-true (length (row ∷ rows)) 0 (sym none) in
     absurd (omega (arith, zero))
+
+-- rows that are not none are some
+pub some_rows : (rows : List ℕ) → false ≡ (length rows == 0) → rows ≡ [] → ⊥
+some_rows [] is none = absurd (false≢true is)
+some_rows (row ∷ rows) is none = absurd (cc none)
 
 take_all : (xs : List ℕ) → take (length xs) xs ≡ xs
 take_all [] = refl
@@ -22,3 +30,14 @@ pub prefix_written : {T : Type 0} (r : Result T WriteFault) (is : WriteFault) (o
     → OnOk r (Appends old new text) → IfErr r (λ fault. (fault ≡ is) × IsPartWritten old new text) → IsPartWritten old new text
 prefix_written (Ok x) is old new text whole part = (length text, subst (Appends old new) (sym (take_all text)) whole)
 prefix_written (Err fault) is old new text whole part = part.1
+
+-- no fault of the log is told of a write
+pub found_by : (result : Result Unit TellFault) → IfErr result (λ fault. IsUnlogged fault → ⊥) → (accepted found : Option (List ℕ)) (rows : List ℕ) → found ≡ accepted → IsFoundBy result accepted found rows
+found_by (Ok done) never accepted found rows same = same
+found_by (Err (tell.Log fault)) never accepted found rows same = absurd (never tt)
+found_by (Err (tell.Write fault)) never accepted found rows same = same
+
+pub ended_by : (result : Result Unit TellFault) → IfErr result (λ fault. IsUnlogged fault → ⊥) → (before after : Bool) → after ≡ before → IsEndedBy result before after
+ended_by (Ok done) never before after same = same
+ended_by (Err (tell.Log fault)) never before after same = absurd (never tt)
+ended_by (Err (tell.Write fault)) never before after same = same

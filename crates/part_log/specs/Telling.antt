@@ -1,8 +1,9 @@
 -- What is put by before it is told.
-use Rattle.std.specs.Prelude.{◌≡◌, ◌⊎◌, ℕ, List, Option}
+use Rattle.std.specs.Prelude.{◌≡◌, ◌⊎◌, ℕ, Bool, List, Option, Result, Ok, Err}
 use Rattle.std.specs.Io.KnownBytes.{Appends, Keeps}
 use Rattle.auction_text.specs.Writing.{IsPartWritten}
 use Rattle.auction_text.specs.declared.writing.WriteFault.TheVariants as write
+use Rattle.part_log.specs.Files.{IsEndedAfter, IsFoundAfter}
 use Rattle.part_log.specs.declared.log.TellFault.{TellFault}
 use Rattle.part_log.specs.declared.log.TellFault.TheVariants.{Log, Write}
 
@@ -28,3 +29,16 @@ IsToldSoFar (Log fault) log next_log rows writer next_writer text =
 IsToldSoFar (Write fault) log next_log rows writer next_writer text =
     (fault ≡ write.Write)
     × (Appends log next_log rows × IsPartWritten writer next_writer text)
+
+-- what a start finds in a log that was told a part with these rows: just what the log has accepted,
+-- unless rows that were not put by could not be taken back
+abbrev pub IsFoundBy : Result Unit TellFault → Option (List ℕ) → Option (List ℕ) → List ℕ → Type 0
+IsFoundBy (Ok done) accepted found rows = found ≡ accepted
+IsFoundBy (Err (Log fault)) accepted found rows = IsFoundAfter fault accepted found rows
+IsFoundBy (Err (Write fault)) accepted found rows = found ≡ accepted
+
+-- whether a log has ended after it was told a part: only a fault of the log ends it
+abbrev pub IsEndedBy : Result Unit TellFault → Bool → Bool → Type 0
+IsEndedBy (Ok done) before after = after ≡ before
+IsEndedBy (Err (Log fault)) before after = IsEndedAfter fault before after
+IsEndedBy (Err (Write fault)) before after = after ≡ before

@@ -1,8 +1,8 @@
 //! Where rows are put by before a part is told.
-ghost use Rattle.std.specs.Prelude.{◌≡◌, ℕ, Bool, true, false, List, Option, None, Err, IsErr, OnOk, IfErr};
+ghost use Rattle.std.specs.Prelude.{◌≡◌, ◌≢◌, ℕ, Bool, true, false, List, [], Option, None, Err, IsErr, OnOk, IfErr};
 ghost use Rattle.std.specs.Io.KnownBytes.{Appends, Keeps};
 ghost use Rattle.part_log.specs.Files.{IsEndedAfter, IsFoundAfter};
-ghost use Rattle.part_log.specs.Telling.{IsLoggedFirst, IsToldSoFar, IsUnlogged};
+ghost use Rattle.part_log.specs.Telling.{IsEndedBy, IsFoundBy, IsLoggedFirst, IsToldSoFar, IsUnlogged};
 
 use auction_text::{WriteFault, write_last};
 use std::io::Write;
@@ -104,6 +104,10 @@ pub fn tell_part<L: Log, W: Write>(
     ensures fault { IfErr result (λ fault. IsToldSoFar fault
         (L.accepted log.old) (L.accepted log.new) rows.now
         (W.contents writer.old) (W.contents writer.new) text.now) }
+    ensures some { IfErr result (λ fault. IsUnlogged fault → rows.now ≢ []) }
+    ensures found { L.has_ended log.old ≡ false → L.found log.old ≡ L.accepted log.old →
+        IsFoundBy result (L.accepted log.new) (L.found log.new) rows.now }
+    ensures ended { IsEndedBy result (L.has_ended log.old) (L.has_ended log.new) }
 {
     if !rows.is_empty() {
         if let Err(fault) = log.put(rows) {
@@ -136,6 +140,11 @@ impl<L: Log, W: Write> Teller<L, W> {
         ensures fault { IfErr result (λ fault. IsToldSoFar fault
             (L.accepted self.old.log) (L.accepted self.new.log) rows.now
             (W.contents self.old.writer) (W.contents self.new.writer) text.now) }
+        ensures some { IfErr result (λ fault. IsUnlogged fault → rows.now ≢ []) }
+        ensures found { L.has_ended self.old.log ≡ false →
+            L.found self.old.log ≡ L.accepted self.old.log →
+            IsFoundBy result (L.accepted self.new.log) (L.found self.new.log) rows.now }
+        ensures ended { IsEndedBy result (L.has_ended self.old.log) (L.has_ended self.new.log) }
     {
         tell_part(&mut self.log, &mut self.writer, rows, text)
     }

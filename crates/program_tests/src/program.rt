@@ -1,3 +1,5 @@
-//! Tests of `auction_program`: its options, a run, and its faults. Other runs stand in `tests/`.
+//! Tests of `auction_program`: its options, a run, its faults and limits. Other runs stand in
+//! `tests/`.
 mod failing_tests;
+mod limit_tests;
 mod running_tests;

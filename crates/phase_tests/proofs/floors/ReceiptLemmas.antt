@@ -1,11 +1,10 @@
 -- Receipts of workers, in order.
-use Rattle.std.proofs.Common.{◌≡◌, ℕ, zero, suc, ◌+◌, ◌<◌, List, [], ◌∷◌, ◌++◌, length, Result, Ok, Err, ap, subst, ◌∙◌, arith}
+use Rattle.std.proofs.Common.{◌≡◌, ℕ, zero, suc, ◌+◌, ◌<◌, List, [], ◌∷◌, ◌++◌, length, Result, Ok, Err, subst, arith}
 use Rattle.std.specs.Prelude.{⊤, IfOk, IfErr}
 use Rattle.closing_laws.specs.Phases.{receipt_at}
 use Rattle.phase_floor.specs.Closings.{IsReceipt, AreReceiptsOf}
 use Rattle.phase_floor.specs.Floors.{FloorState}
-use Rattle.phase_floor.proofs.Receipts.{committed, dealt}
-use Rattle.phase_permits.specs.Slicing.{stocks_of}
+use Rattle.phase_floor.proofs.Receipts.{committed, dealt, failed}
 use Rattle.phase_permits.specs.Workers.{WorkerState, with_try}
 use Rattle.phase_permits.specs.declared.transaction.Done.{Done}
 use Rattle.phase_permits.specs.declared.transaction.PermitFault.{PermitFault}
@@ -59,22 +58,12 @@ of_all floor receipts many are = (
 
 -- a permit is its worker's whatever it answers
 module _ (initial : List ShardState) (floor : FloorState) (w : ℕ) (old new : WorkerState) (was : IsReceipt floor w old) (request : Request) (index : ℕ) where
-  failed_still : (fault : PermitFault) → HasFailed initial (with_try old) new request fault → IsReceipt floor w new
-  failed_still fault failed = record {
-    boxes_are = failed.lines.boxes ∙ was.boxes_are;
-    worker_is = failed.lines.worker ∙ was.worker_is;
-    opening_is = ap (λ (s : WorkerState). s.opening) failed.worker ∙ was.opening_is;
-    phase_is = ap (λ (s : WorkerState). s.journal.phase) failed.worker ∙ was.phase_is;
-    stocks_are = ap (λ (s : WorkerState). stocks_of s.slices) failed.worker ∙ was.stocks_are;
-    begun = ap (λ (s : WorkerState). s.begun) failed.worker ∙ was.begun;
-  }
-
   pub performed : (answer : Result Reply PermitFault) → IfOk answer (λ reply. HasCommitted initial (with_try old) new request index reply)
       → IfErr answer (HasFailed initial (with_try old) new request) → IsReceipt floor w new
-  performed (Ok reply) done failed = committed initial floor w old new was request index reply done
-  performed (Err fault) done failed = failed_still fault failed
+  performed (Ok reply) done fails = committed initial floor w old new was request index reply done
+  performed (Err fault) done fails = failed was fails
 
   pub dealt_with : (answer : Result Done PermitFault) → IfOk answer (HasDealtWith initial (with_try old) new request index)
       → IfErr answer (HasFailed initial (with_try old) new request) → IsReceipt floor w new
-  dealt_with (Ok done) is failed = dealt initial floor w old new was request index done is
-  dealt_with (Err fault) is failed = failed_still fault failed
+  dealt_with (Ok done) is fails = dealt initial floor w old new was request index done is
+  dealt_with (Err fault) is fails = failed was fails

@@ -1,10 +1,11 @@
 use Rattle.std.proofs.Common.{◌≡◌, IfSome, ap, subst, ◌∙◌}
 use Rattle.item_shards.specs.OpeningBooks as book
 use Rattle.item_shards.specs.OpeningRows.{AreRows, opening_rows}
+use Rattle.program_opening.specs.Options.{opening_asked}
+use Rattle.program_opening.specs.declared.faults.Fault.TheVariants.{Resume, Write}
 use Rattle.auction_program.specs.Execution.{ArePartWritten, AreWritten, IsCausedBy, IsNotPerformed, IsOneWritten, IsRefused}
-use Rattle.auction_program.specs.Options.{opening_asked}
-use Rattle.auction_program.specs.declared.faults.Fault.TheVariants.{Resume, Write}
-use Rattle.auction_program.proofs.Answering.{answered, error_is, not_long, not_performed, of_input, refused, write_is}
+use Rattle.program_opening.proofs.ErrorLemmas.{error_is}
+use Rattle.auction_program.proofs.Answering.{answered, not_long, not_performed, of_input, refused, write_is}
 use Rattle.auction_program.proofs.execution.execute.Goals as goal
 
 pub returns-in_err-book-clause-cause : goal.returns-in_err-book-clause-cause

@@ -1,9 +1,10 @@
 use Rattle.std.proofs.Common.{subst}
 use Rattle.std.proofs.lemmas.Result.{IfOk-weaker}
 use Rattle.item_shards.specs.OpeningBooks as opened
+use Rattle.program_opening.specs.declared.faults.Fault.TheVariants.{Run}
 use Rattle.auction_program.specs.Execution.{IsNotPerformed, IsNotRun}
-use Rattle.auction_program.specs.declared.faults.Fault.TheVariants.{Run}
-use Rattle.auction_program.proofs.Answering.{error_is, not_run}
+use Rattle.program_opening.proofs.ErrorLemmas.{error_is}
+use Rattle.auction_program.proofs.Answering.{not_run}
 use Rattle.auction_program.proofs.execution.perform.Goals as goal
 
 pub perform_watched-requires-clause-report : goal.perform_watched-requires-clause-report
@@ -22,4 +23,4 @@ returns-in_err-outcome-clause-cause g c =
     error_is c.from_residual.result (Run fault) (λ f. IsNotPerformed options f rows scripts) c.from_residual.ensures
     (subst (λ p. IsNotRun p fault rows scripts) c.policy.ensures
     (not_run c.policy.result rows scripts c.run_compact.result fault c.in_err-outcome.was refused.workers refused.shards refused.quota refused.too_long
-    c.run_compact.ensures.spawn))
+    c.run_compact.ensures.spawn c.run_compact.ensures.numbers))

@@ -10,12 +10,13 @@ use Rattle.auction_run.proofs.BoardLemmas.{rows_length}
 use Rattle.auction_window.specs.Published.{book_of}
 use Rattle.item_shards.specs.OpeningBooks as opened
 use Rattle.phase_floor.specs.States.{StandsFor}
+use Rattle.program_opening.specs.Options.{opening_asked}
+use Rattle.program_opening.specs.declared.faults.Fault.TheVariants.{Run}
 use Rattle.auction_program.specs.Execution.{HasLastViews, IsNotPerformed, IsNotRun}
-use Rattle.auction_program.specs.Options.{opening_asked}
 use Rattle.auction_program.specs.Report.{AreViews, IsEnd}
-use Rattle.auction_program.specs.declared.faults.Fault.TheVariants.{Run}
 use Rattle.auction_program.specs.declared.execution.Performed.{Performed}
-use Rattle.auction_program.proofs.Answering.{error_is, not_run}
+use Rattle.program_opening.proofs.ErrorLemmas.{error_is}
+use Rattle.auction_program.proofs.Answering.{not_run}
 use Rattle.auction_program.proofs.execution.watch.Goals as goal
 
 pub returns-clause-performs : goal.returns-clause-performs
@@ -56,4 +57,4 @@ returns-in_err-outcome-clause-cause g c =
     error_is c.from_residual.result (Run fault) (λ f. IsNotPerformed options f rows scripts) c.from_residual.ensures
     (subst (λ p. IsNotRun p fault rows scripts) c.policy.ensures
     (not_run c.policy.result rows scripts c.run_compact_shown.result fault c.in_err-outcome.was refused.workers refused.shards refused.quota refused.too_long
-    c.run_compact_shown.ensures.answer.spawn))
+    c.run_compact_shown.ensures.answer.spawn c.run_compact_shown.ensures.answer.numbers))

@@ -5,11 +5,12 @@ use Rattle.std.proofs.lemmas.Result.{IfErr-weaker, on_ok_weaker}
 use Rattle.auction_rows.specs.History.{book_after}
 use Rattle.auction_text.specs.Writing.{IsPartWritten}
 use Rattle.auction_text.specs.declared.writing.WriteFault.{WriteFault}
-use Rattle.auction_program.specs.Execution.{added_text, commits_text, ArePartWritten, IsOneWritten}
-use Rattle.auction_program.specs.Options.{opening_asked}
+use Rattle.program_opening.specs.Options.{commits_text, opening_asked}
+use Rattle.auction_program.specs.Execution.{added_text, ArePartWritten, IsOneWritten}
 use Rattle.auction_program.specs.Report.{report_of}
 use Rattle.auction_run.specs.Phases.{hot_sets}
-use Rattle.auction_program.proofs.WrittenLemmas.{nothing_added, part_of_added, report_added}
+use Rattle.program_serving.proofs.TextLemmas.{part_of_added}
+use Rattle.auction_program.proofs.WrittenLemmas.{nothing_added, report_added}
 use Rattle.auction_program.proofs.texts.write_texts.Goals as goal
 
 pub returns-in-Some : goal.returns-in-Some
@@ -45,6 +46,6 @@ returns-then-not-options-clause-whole g c =
     let history = c.args.performed.now.history.entries in
     let hot = hot_sets c.args.performed.now.hot.items in
     let new = g.W.Write.contents c.write_commits.new.writer in
-    nothing_added (g.W.Write.contents c.args.writer.now) new new (commits_text options rows history) (added_text options rows history hot)
+    nothing_added (g.W.Write.contents c.args.writer.now) new (commits_text options rows history) (added_text options rows history hot)
     (ap (λ b. if b then report_of (opening_asked options) (book_after (opening_asked options) rows history) history hot else []) c.if-not-options.true)
     c.in_ok-write_commits.ensures.whole

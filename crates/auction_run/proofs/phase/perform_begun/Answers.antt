@@ -20,7 +20,8 @@ pub returns-in_err-receipts-clause-fault : goal.returns-in_err-receipts-clause-f
 returns-in_err-receipts-clause-fault g c =
     let fault = c.in_err-receipts.field-0.0 in
     let scripts = c.args.round.scripts.now in
-    err_as c.from_residual.result (told fault) (IsMet scripts) c.from_residual.ensures.1 (fault_met scripts _ fault c.in_err-receipts.ensures.fault)
+    err_as c.from_residual.result (told fault) (IsMet scripts) c.from_residual.ensures.1
+    (fault_met g.K.Kind.IS_JOINED g.N.PhaseName.initial c.args.begun.1.items scripts c.args.round.first fault c.requires.ready.permits_are c.in_err-receipts.ensures.fault)
 
 pub returns-clause-history : goal.returns-clause-history
 returns-clause-history g c = c.close.ensures.history

@@ -1,5 +1,4 @@
-use Rattle.phase_floor.proofs.Receipts.{performed_first}
-use Rattle.example_phases.proofs.Failing.{failed_first}
+use Rattle.phase_floor.proofs.Receipts.{failed_first, performed_first}
 use Rattle.example_phases.proofs.joined.perform_deferred.Goals as goal
 
 pub returns-in-Some-2 : goal.returns-in-Some-2

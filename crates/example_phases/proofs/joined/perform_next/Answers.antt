@@ -1,5 +1,4 @@
-use Rattle.phase_floor.proofs.Receipts.{committed}
-use Rattle.example_phases.proofs.Failing.{failed}
+use Rattle.phase_floor.proofs.Receipts.{committed, failed}
 use Rattle.example_phases.proofs.joined.perform_next.Goals as goal
 
 pub returns : goal.returns

@@ -1,5 +1,4 @@
-use Rattle.phase_floor.proofs.Receipts.{dealt}
-use Rattle.example_phases.proofs.Failing.{failed}
+use Rattle.phase_floor.proofs.Receipts.{dealt, failed}
 use Rattle.example_phases.proofs.split.perform_next.Goals as goal
 
 pub returns-in-Committed : goal.returns-in-Committed

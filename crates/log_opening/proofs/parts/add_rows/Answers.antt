@@ -1,7 +1,8 @@
-use Rattle.std.proofs.Common.{rules, ◌<◌, ◌+◌, ◌++◌, length, take, subst, sym}
+use Rattle.std.proofs.Common.{rules, ◌<◌, ◌+◌, ◌∷◌, ◌++◌, ◌∙◌, [], ap, length, take, subst, sym}
+use Rattle.auction_rows.specs.Book.{Book}
 use Rattle.phase_floor.specs.declared.adding.AddFault.TheVariants.{Memory}
 use Rattle.log_opening.specs.Parts.{HasAdded}
-use Rattle.log_opening.proofs.PartLemmas.{added_next, first_refused, not_taken, same_then}
+use Rattle.log_opening.proofs.PartLemmas.{added_next, added_yet, first_refused, not_taken, same_then}
 use Rattle.log_opening.proofs.parts.add_rows.Goals as goal
 
 pub returns-in-Err-clause-refused : goal.returns-in-Err-clause-refused
@@ -33,11 +34,20 @@ loop-place-preserved c =
     let within : c.loop-place.place < length all = search rules in
     let has = c.loop-place.invariant.has in
     record {
-      has = record { book = _; is_of = c.in-Ok.ensures.book has.book has.is_of };
+      has = record { book = _; is_of = c.in-Ok-add.ensures.book has.book has.is_of };
       same = same_then old mid new c.loop-place.invariant.same c.add.ensures.same;
       added = λ book start.
           let was = c.loop-place.invariant.added book start in
-          let row = c.in-Ok.ensures.row (book ++ rows) was.start.is_of in
-          subst (HasAdded old new book (take (c.loop-place.place + 1) all)) (sym c.in-Ok-push.ensures.items)
-          (added_next old mid book all c.loop-place.place opened within c.index-opened-place.is rows c.loop-place.invariant.same was new c.in-Ok.row row.0 row.1 (c.in-Ok.ensures.start (book ++ rows) was.start) c.is_in_range.ensures);
+          let row = c.in-Ok-add.ensures.row (book ++ rows) was.start.is_of in
+          subst (HasAdded old new book (take (c.loop-place.place + 1) all)) (sym (c.push_reserved.ensures.items ∙ ap (λ (before : Book). before ++ c.in-Ok-add.row ∷ []) c.reserve.ensures.items))
+          (added_next old mid book all c.loop-place.place opened within c.index-opened-place.is rows c.loop-place.invariant.same was new c.in-Ok-add.row row.0 row.1 (c.in-Ok-add.ensures.start (book ++ rows) was.start) c.is_in_range.ensures);
     }
+
+pub returns-in-Err-clause-first : goal.returns-in-Err-clause-first
+returns-in-Err-clause-first c = λ book start. (
+  c.loop-place.rows.items,
+  added_yet c.args.auction.now c.loop-place.auction c.add.new.self book (take c.loop-place.place c.args.opened.now) c.loop-place.rows.items (c.loop-place.invariant.added book start) c.add.ensures.same c.in-Err.ensures.kept,
+)
+
+pub returns-in_default-clause-first : goal.returns-in_default-clause-first
+returns-in_default-clause-first c = λ book start. (c.loop-place.rows.items, c.loop-place.invariant.added book start)

@@ -1,5 +1,4 @@
-use Rattle.phase_floor.proofs.Receipts.{committed}
-use Rattle.engine_tests.proofs.calls.ReceiptLemmas.{failed}
+use Rattle.phase_floor.proofs.Receipts.{committed, failed}
 use Rattle.engine_tests.proofs.calls.joined.attempt.Goals as goal
 
 pub returns-in-Ok : goal.returns-in-Ok

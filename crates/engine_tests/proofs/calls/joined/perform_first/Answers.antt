@@ -1,5 +1,4 @@
-use Rattle.phase_floor.proofs.Receipts.{performed_first}
-use Rattle.engine_tests.proofs.calls.ReceiptLemmas.{failed_first}
+use Rattle.phase_floor.proofs.Receipts.{failed_first, performed_first}
 use Rattle.engine_tests.proofs.calls.joined.perform_first.Goals as goal
 
 pub returns-in-Ok : goal.returns-in-Ok

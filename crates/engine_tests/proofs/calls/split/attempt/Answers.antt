@@ -1,5 +1,4 @@
-use Rattle.phase_floor.proofs.Receipts.{dealt}
-use Rattle.engine_tests.proofs.calls.ReceiptLemmas.{failed}
+use Rattle.phase_floor.proofs.Receipts.{dealt, failed}
 use Rattle.engine_tests.proofs.calls.split.attempt.Goals as goal
 
 pub returns-in-Ok : goal.returns-in-Ok

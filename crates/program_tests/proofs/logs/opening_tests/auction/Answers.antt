@@ -1,5 +1,5 @@
 use Rattle.std.proofs.Common.{[]}
-use Rattle.auction_program.proofs.AddedRows.{new_start}
+use Rattle.auction_program.proofs.StartLemmas.{new_start}
 use Rattle.program_tests.proofs.logs.opening_tests.auction.Goals as goal
 
 pub returns-in-Ok-clause-start : goal.returns-in-Ok-clause-start

@@ -1,0 +1,4 @@
+pub mod ErrorLemmas
+pub mod OpenedLogs
+pub mod ProgramWords
+pub mod StartLemmas

@@ -1,0 +1,4 @@
+pub mod Options
+pub mod Words
+pub mod Faults
+pub mod Opened

@@ -1,0 +1,21 @@
+//! How the program begins: its options, the auction that it opens, with the rows of a log if there
+//! is one, and the faults with which it can end.
+#![tactic(auto)]
+
+mod faults;
+mod log_file;
+mod opening;
+mod options;
+
+pub use auction_run::RunFault;
+pub use auction_text::{Cause, ReadFault, WriteFault};
+pub use auction_window::MakeFault;
+pub use faults::{Fault, status, write_fault};
+pub use item_shards::ResumeFault;
+pub use log_file::{LogFileFault, OpenedLog, open_log};
+pub use log_opening::OpenFault;
+pub use opening::new_auction;
+pub use options::{Options, read_options};
+pub use part_log::{FileLog, LogFault};
+pub use phase_floor::{AddFault, Joined};
+pub use program_options::UsageFault;

@@ -1,0 +1,11 @@
+pub mod FaultLemmas
+pub mod OneHistory
+pub mod PartSteps
+pub mod PastLimits
+pub mod RowsBefore
+pub mod ServedBook
+pub mod ServedParts
+pub mod Sessions
+pub mod StoppedRuns
+pub mod TextLemmas
+pub mod ToldLemmas

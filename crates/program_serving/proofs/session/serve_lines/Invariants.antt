@@ -1,0 +1,16 @@
+use Rattle.std.proofs.Common.{List}
+use Rattle.auction_rows.specs.Book.{Book}
+use Rattle.auction_text.specs.Said.{Said}
+use Rattle.part_log.specs.declared.log.Teller.{Teller}
+use Rattle.phase_floor.specs.Adding.{HasBook}
+use Rattle.program_serving.specs.PartRuns.{GoesOnTo, IsSession}
+use Rattle.program_serving.specs.Serving.{AreTold}
+use Rattle.program_serving.proofs.session.serve_lines.Given as goal
+
+abbrev pub invariant-loop : goal.invariant-loop
+invariant-loop g l = record {
+  has : HasBook l.served.auction;
+  session : (book : Book) (all : List Said) (start : Teller _ _)
+      → IsSession l.options book all l.fn.session.served (GoesOnTo g.I.Read.remaining l.options.workers l.fn.session.end) (AreTold g.L.Log.accepted g.W.Write.contents start l.fn.teller.teller)
+      → IsSession l.options book all l.served (GoesOnTo g.I.Read.remaining l.options.workers l.end) (AreTold g.L.Log.accepted g.W.Write.contents start l.teller.teller);
+}

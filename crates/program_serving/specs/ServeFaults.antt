@@ -1,0 +1,184 @@
+-- Why serving ends with a fault, and how far was told by then.
+use Rattle.std.specs.Prelude.{ℕ, ◌≡◌, ◌<◌, ◌≤◌, ◌+◌, ◌++◌, ◌∷◌, ◌⊎◌, List, [], Option, false, true, length, slice_index_or}
+use Rattle.auction_rows.specs.declared.requests.Request.{Request}
+use Rattle.auction_rows.specs.declared.values.Opening.{Opening}
+use Rattle.auction_rows.specs.Book.{Book}
+use Rattle.auction_run.specs.Beginning.{AreShortFor, HasQuotas}
+use Rattle.auction_run.specs.Phases.{HaveMetLastNumber}
+use Rattle.auction_run.specs.declared.checks.RunFault.{RunFault}
+use Rattle.auction_run.specs.declared.checks.Stopped.{Stopped}
+use Rattle.auction_run.specs.declared.checks.Stopped.TheVariants.{Failed, Refused}
+use Rattle.auction_run.specs.declared.checks.RunFault.TheVariants as run
+use Rattle.auction_text.specs.LiveReading.{records_said}
+use Rattle.auction_text.specs.Moved.{Gone, IsPastCount}
+use Rattle.auction_text.specs.Reading.{IsInputFault}
+use Rattle.auction_text.specs.Scripts.{Asked, asked_in, requests_in}
+use Rattle.auction_text.specs.ReadFault.{ReadFault}
+use Rattle.auction_text.specs.LineFault.{LineFault}
+use Rattle.auction_text.specs.Said.{Said}
+use Rattle.auction_text.specs.Said.TheVariants as says
+use Rattle.auction_text.specs.Record.{Record}
+use Rattle.auction_text.specs.declared.writing.WriteFault.TheVariants as write
+use Rattle.item_shards.specs.declared.openings.Opened.{Opened}
+use Rattle.log_opening.specs.Parts.{IsFirstRefused, rows_from}
+use Rattle.part_log.specs.declared.log.Teller.{Teller}
+use Rattle.phase_floor.specs.States.{JoinedState}
+use Rattle.phase_floor.specs.declared.adding.AddFault.{AddFault}
+use Rattle.shard_boxes.specs.declared.limits.TheConstants.{MOST_COMMITS}
+use Rattle.program_opening.specs.Options.{opening_asked, policy_of}
+use Rattle.program_opening.specs.declared.faults.Fault.{Fault}
+use Rattle.program_opening.specs.declared.faults.Fault.TheVariants.{Read, Row, Run, Limit, Write, Log}
+use Rattle.program_opening.specs.declared.options.Options.{Options}
+use Rattle.program_serving.specs.PartRuns.{AreDoneOf, RunsPart, done_of, rows_before}
+use Rattle.program_serving.specs.Serving.{ArePartTold, AreTold, IsNothingTold, IsTurnedAway, ServesFirst, book_left, ends_at_fault, gone_after, line_answer}
+
+-- how far rows and a text are told at a fault: not at all, or if the writer fails, the rows are
+-- logged and a prefix of the text is written; no other fault comes while they are told
+abbrev pub AreToldAt : {L W : Type 0} → (L → Option (List ℕ)) → (W → Option (List ℕ)) →
+    Teller L W → Teller L W → Fault → List ℕ → List ℕ → Type 0
+AreToldAt accepted contents old new (Log fault) rows text =
+    IsNothingTold accepted contents old new
+AreToldAt accepted contents old new (Write write.Memory) rows text =
+    IsNothingTold accepted contents old new
+AreToldAt accepted contents old new (Write write.Write) rows text =
+    ArePartTold accepted contents old new rows text
+AreToldAt accepted contents old new _ rows text = ⊥
+
+-- ---- why a part is not served
+
+-- Of requests behind a book, so many of which were read before them, the one with this number is
+-- the first that is not taken by an auction of so many workers with this limit, for this fault.
+pub record IsFirstBadRow (workers limit : ℕ) (opening : Opening) (book : Book)
+    (asked : List Opened) (before number : ℕ) (fault : AddFault) : Type 0 where
+  pub place : ℕ
+  pub first : IsFirstRefused limit fault workers opening book asked place
+  pub number_is : number ≡ before + place + 1
+
+-- why requests are not added to an auction of a book, so many of which were read before them
+abbrev pub IsFirstNotAdded : JoinedState → Book → List Opened → ℕ → Fault → Type 0
+IsFirstNotAdded auction book asked before (Row number fault) =
+    IsFirstBadRow (length auction.counters) auction.limit auction.opening book asked before number
+    fault
+IsFirstNotAdded auction book asked before _ = ⊥
+
+-- why scripts are not run from a book: for NumberFull a worker met the end of commit numbers, and
+-- of Memory no clause says when
+abbrev pub IsNotRunOn : Options → RunFault → Book → List (List Request) → Type 0
+IsNotRunOn options run.Workers book scripts = ⊥
+IsNotRunOn options run.Shards book scripts = ⊥
+IsNotRunOn options run.Quota book scripts = ¬ HasQuotas (policy_of options)
+IsNotRunOn options run.TooLong book scripts = ⊥
+IsNotRunOn options run.Spawn book scripts = 1 < length scripts
+IsNotRunOn options run.Memory book scripts = Unit {0}
+IsNotRunOn options run.NumberFull book scripts = HaveMetLastNumber scripts
+
+-- the fault that is told of a run that stopped: past its limit, a state tells it
+abbrev pub told_fault : Stopped → Fault
+told_fault (Refused back run.TooLong) = Limit back.limit
+told_fault (Refused back fault) = Run fault
+told_fault (Failed fault) = Run fault
+
+-- why scripts are not run from a book: the limit is told if one is past it
+abbrev pub AreNotRunOn : Options → Fault → Book → List (List Request) → Type 0
+AreNotRunOn options (Run fault) book scripts = IsNotRunOn options fault book scripts
+AreNotRunOn options (Limit most) book scripts = (most ≡ MOST_COMMITS)
+    × (HasQuotas (policy_of options) × ¬ AreShortFor MOST_COMMITS book scripts)
+AreNotRunOn options _ book scripts = ⊥
+
+-- What is asked for is done from a book, and the count of phases is past 64 bits with it.
+pub record HasPastPhases (options : Options) (book : Book) (gone : Gone) (asked : Asked)
+    : Type 0 where
+  pub runs : RunsPart options book gone asked (λ rows text. Unit {0})
+  pub past : IsPastCount (gone.phases + length runs.hot)
+
+-- behind what went before, a count is past 64 bits with what is asked for: that of the rows of the
+-- input, of a worker's requests, or of the phases
+abbrev pub IsPastCounts : Options → Book → Gone → ℕ → Asked → Type 0
+IsPastCounts options book gone before asked =
+    IsPastCount (before + length asked.rows)
+    ⊎ (((worker : ℕ) × IsPastCount (gone.requests worker
+    + length (slice_index_or asked.scripts worker [])))
+    ⊎ HasPastPhases options book gone asked)
+
+-- why what is asked for is not done from a book: a row is not added, for the first that is not, or
+-- the scripts are not run behind the rows, or a count is past 64 bits, which is told as NumberFull;
+-- a limit ends only an input that a fault ends; so many rows were read before
+abbrev pub IsPartRefused : Options → Book → Gone → ℕ → Asked → Fault → Type 0
+IsPartRefused options book gone before asked (Row number fault) =
+    IsFirstBadRow options.workers MOST_COMMITS (opening_asked options) book asked.rows before number
+    fault
+IsPartRefused options book gone before asked (Run fault) =
+    IsNotRunOn options fault (rows_from (opening_asked options) book asked.rows) asked.scripts
+    ⊎ ((fault ≡ run.NumberFull) × IsPastCounts options book gone before asked)
+IsPartRefused options book gone before asked (Limit most) = (ends_at_fault options ≡ true)
+    × AreNotRunOn options (Limit most) (rows_from (opening_asked options) book asked.rows)
+    asked.scripts
+IsPartRefused options book gone before asked _ = ⊥
+
+-- why a part is not served from a book: it is not done, or it is and is not told
+abbrev pub IsPartFault : {L W : Type 0} → (L → Option (List ℕ)) → (W → Option (List ℕ)) →
+    Teller L W → Teller L W → Options → Book → Gone → ℕ → Asked → Fault → Type 0
+IsPartFault accepted contents old new options book gone before asked fault =
+    (IsNothingTold accepted contents old new × IsPartRefused options book gone before asked fault)
+    ⊎ RunsPart options book gone asked (AreToldAt accepted contents old new fault)
+
+-- Of what is asked for from a book, what is done is not served, for this fault.
+pub record FailsPart {L W : Type 0} (accepted : L → Option (List ℕ))
+    (contents : W → Option (List ℕ)) (old new : Teller L W) (options : Options) (book : Book)
+    (gone : Gone) (before : ℕ) (asked : Asked) (fault : Fault) : Type 0 where
+  pub past : Option ℕ
+  pub are : AreDoneOf options book asked past
+  pub fails : IsPartFault accepted contents old new options book gone before (done_of past asked)
+      fault
+
+-- ---- why serving ends
+
+-- Of what lines have yet to say, the next part is not served.
+pub record StopsAtPart {L W : Type 0} (accepted : L → Option (List ℕ))
+    (contents : W → Option (List ℕ)) (old new : Teller L W) (options : Options) (book : Book)
+    (gone : Gone) (before : ℕ) (rest : List Said) (fault : Fault) : Type 0 where
+  pub next : List Record
+  pub behind : List Said
+  pub rest_is : rest ≡ records_said next ++ behind
+  pub few : 1 ≤ options.live → requests_in next ≤ options.live
+  pub stops : IsPartFault accepted contents old new options book gone before
+      (asked_in options.workers next) fault
+
+-- The next line is turned away, which does not end the input, and this holds of its answer.
+pub record StopsAtAnswer (options : Options) (book : Book) (gone : Gone) (rest : List Said)
+    (Holds : List ℕ → List ℕ → Type 0) : Type 0 where
+  pub line : Said
+  pub behind : List Said
+  pub rest_is : rest ≡ line ∷ behind
+  pub goes_on : ends_at_fault options ≡ false
+  pub turned_away : IsTurnedAway book line
+  pub holds : Holds [] (line_answer options gone line)
+
+-- The next line has this fault, which ends the input.
+pub record EndsAtFault (options : Options) (rest : List Said) (fault : ReadFault) : Type 0 where
+  pub met : LineFault
+  pub behind : List Said
+  pub rest_is : rest ≡ says.Fault met ∷ behind
+  pub fault_is : fault ≡ met.fault
+  pub ends : ends_at_fault options ≡ true
+
+-- why serving goes no further than to a book: the next line ends the input or is not answered, the
+-- next part is not served, or the input cannot be read on
+abbrev pub IsStop : {L W : Type 0} → (L → Option (List ℕ)) → (W → Option (List ℕ)) →
+    Teller L W → Teller L W → Options → Book → Gone → ℕ → List Said → Fault → Type 0
+IsStop accepted contents old new options book gone before rest (Read fault) =
+    IsNothingTold accepted contents old new
+    × (IsInputFault fault → EndsAtFault options rest fault)
+IsStop accepted contents old new options book gone before rest fault =
+    StopsAtAnswer options book gone rest (AreToldAt accepted contents old new fault)
+    ⊎ StopsAtPart accepted contents old new options book gone before rest fault
+
+-- Why serving ends: the first of what lines say is served from a book and told whole, and then it
+-- goes no further.
+pub record IsServeFault {L W : Type 0} (accepted : L → Option (List ℕ))
+    (contents : W → Option (List ℕ)) (old new : Teller L W) (options : Options) (book : Book)
+    (all : List Said) (fault : Fault) : Type 0 where
+  pub between : Teller L W
+  pub told : ServesFirst options book all (AreTold accepted contents old between)
+  pub stops : IsStop accepted contents between new options (book_left options book told.steps)
+      (gone_after options told.steps) (rows_before told.steps) told.rest fault

@@ -1,0 +1,267 @@
+-- What the program answers while requests come.
+use Rattle.std.specs.Prelude.{ℕ, ◌≡◌, ◌==◌, ◌≤◌, ◌+◌, ◌++◌, ◌⊎◌, ◌||◌, Bool, false, List, [], ◌∷◌, Option, None, Some, codes, decimal, flat_map, fold, length, slice_index_or, if◌then◌else◌}
+use Rattle.std.specs.Io.KnownBytes.{Appends, Keeps}
+use Rattle.auction_rows.specs.declared.requests.Object.{Object}
+use Rattle.auction_rows.specs.declared.requests.Request.{Request}
+use Rattle.auction_rows.specs.declared.rows.Entry.{Entry}
+use Rattle.auction_rows.specs.declared.values.Opening.{Opening}
+use Rattle.auction_rows.specs.Book.{Book}
+use Rattle.auction_rows.specs.History.{book_after}
+use Rattle.auction_text.specs.FaultLines.{fault_line}
+use Rattle.auction_text.specs.LiveReading.{records_said}
+use Rattle.auction_text.specs.Moved.{Gone, all_moved}
+use Rattle.auction_text.specs.Replies.{labelled}
+use Rattle.auction_text.specs.RowLines.{rows_text}
+use Rattle.auction_text.specs.Scripts.{asked_in, requests_in, rows}
+use Rattle.auction_text.specs.Writing.{IsPartWritten}
+use Rattle.auction_text.specs.ReadFault.{ReadFault}
+use Rattle.auction_text.specs.LineFault.{LineFault}
+use Rattle.auction_text.specs.Said.{Said}
+use Rattle.auction_text.specs.Said.TheVariants as says
+use Rattle.auction_text.specs.Record.{Record}
+use Rattle.item_shards.specs.OpeningRows.{rows_by}
+use Rattle.item_shards.specs.declared.openings.Opened.{Opened}
+use Rattle.log_opening.specs.Parts.{AreRowsFrom, rows_from}
+use Rattle.part_log.specs.declared.log.Teller.{Teller}
+use Rattle.run_laws.specs.Answers.{IsAnswer}
+use Rattle.shard_boxes.specs.declared.limits.TheConstants.{MOST_COMMITS}
+use Rattle.program_opening.specs.Options.{commits_text, opening_asked, policy_of}
+use Rattle.program_opening.specs.declared.options.Options.{Options}
+
+-- A part: what its records say, the rows that it adds to the auction, and then the hot sets and the
+-- history of a run of its requests.
+pub record PartRun : Type 0 where
+  pub said : List Record
+  pub added : Book
+  pub hot : List (List Object)
+  pub history : List Entry
+
+-- A part of an input is run, or a line is answered that has a fault, or a request past a limit.
+pub data Step : Type 0 where
+  Part : PartRun → Step
+  Answer : Said → Step
+
+-- what the lines say that are served so
+abbrev pub step_said : Step → List Said
+step_said (Part part) = records_said part.said
+step_said (Answer line) = line ∷ []
+
+-- ---- what is run
+
+-- Requests are rows from a book on, each at its place, and this is what they add to it.
+pub record AddsRows (opening : Opening) (book : Book) (asked : List Opened) (added : Book)
+    : Type 0 where
+  pub are_rows : AreRowsFrom opening book asked
+  pub adds : rows_from opening book asked ≡ book ++ added
+
+-- the scripts of records
+abbrev pub scripts_in : Options → List Record → List (List Request)
+scripts_in options said = (asked_in options.workers said).scripts
+
+-- A part is run from a book: it adds its rows, its history and hot sets answer its scripts from
+-- there, and it has no more requests than are answered at a time.
+pub record IsPartRun (options : Options) (book : Book) (part : PartRun) : Type 0 where
+  pub few : 1 ≤ options.live → requests_in part.said ≤ options.live
+  pub adds : AddsRows (opening_asked options) book (rows part.said) part.added
+  pub answer : IsAnswer (opening_asked options) (book ++ part.added) (policy_of options)
+      (scripts_in options part.said) part.hot part.history
+
+-- whether a line that is turned away ends the input
+abbrev pub ends_at_fault : Options → Bool
+ends_at_fault options = options.ends_at_fault || (options.live == 0)
+
+-- a line is turned away behind a book: it has a fault, or it is a request, and its worker has as
+-- many rows as it may have
+abbrev pub IsTurnedAway : Book → Said → Type 0
+IsTurnedAway book (says.Fault met) = Unit {0}
+IsTurnedAway book (says.Record one) =
+    (one.is_row ≡ false) × (MOST_COMMITS ≤ rows_by book one.worker)
+
+-- a step is taken from this book: a line is answered so only if it is turned away, and does not end
+-- the input
+abbrev pub IsStepRun : Options → Book → Step → Type 0
+IsStepRun options book (Part part) = IsPartRun options book part
+IsStepRun options book (Answer line) = (ends_at_fault options ≡ false) × IsTurnedAway book line
+
+-- the book that a step leaves: an answer changes nothing
+abbrev pub book_past : Options → Book → Step → Book
+book_past options book (Part part) =
+    book_after (opening_asked options) (book ++ part.added) part.history
+book_past options book (Answer line) = book
+
+-- each step is taken from the book that those before it leave
+unfoldable pub AreStepRuns : Options → Book → List Step → Type 0
+AreStepRuns options book [] = Unit {0}
+AreStepRuns options book (step ∷ more) = IsStepRun options book step
+    × AreStepRuns options (book_past options book step) more
+
+-- the book that steps leave
+abbrev pub book_left : Options → Book → List Step → Book
+book_left options = fold (book_past options)
+
+-- Of what lines say, some is served in steps from a book, and the rest is left.
+pub record IsServed (options : Options) (book : Book) (all : List Said) (steps : List Step)
+    (rest : List Said) : Type 0 where
+  pub all_is : all ≡ flat_map step_said steps ++ rest
+  pub runs : AreStepRuns options book steps
+
+-- ---- what is logged and written
+
+-- nothing went before
+abbrev pub nothing_gone : Gone
+nothing_gone = record { phases = 0; requests = λ worker. 0 }
+
+-- what went before what follows a step: an answer is no request
+abbrev pub gone_past : Options → Gone → Step → Gone
+gone_past options gone (Part part) = record {
+  phases = gone.phases + length part.hot;
+  requests = λ worker. gone.requests worker
+      + length (slice_index_or (scripts_in options part.said) worker []);
+}
+gone_past options gone (Answer line) = gone
+
+-- what went before what follows steps
+abbrev pub gone_after : Options → List Step → Gone
+gone_after options steps = fold (gone_past options) nothing_gone steps
+
+-- what the options ask for of a part that adds these rows and has this history, after what went
+-- before it
+abbrev pub part_text : Options → Gone → Book → List Entry → List ℕ
+part_text options gone added history = commits_text options added (all_moved gone history)
+
+-- this holds of what a part logs that adds these rows and has this history, and of what is written
+-- of it
+abbrev pub OfPart : Options → Gone → Book → List Entry → (List ℕ → List ℕ → Type 0) → Type 0
+OfPart options gone added history Holds =
+    Holds (rows_text added history) (part_text options gone added history)
+
+-- the answer to a fault, if its line names a worker: with the index of the worker's next request
+abbrev pub named_answer : Gone → Option ℕ → ReadFault → List ℕ
+named_answer gone None fault = []
+named_answer gone (Some worker) fault = fault_line worker (gone.requests worker) fault
+
+-- the answer to a line with a fault, after what went before it, if the options ask for replies
+abbrev pub fault_answer : Options → Gone → LineFault → List ℕ
+fault_answer options gone met =
+    if options.rows || options.history then [] else named_answer gone met.worker met.fault
+
+-- the words of a limit
+abbrev pub limit_text : ℕ → List ℕ
+limit_text limit = labelled (codes "more than ") limit ++ codes " requests for a worker"
+
+-- the line that tells a worker its limit, with the index of its next request
+abbrev pub limit_line : ℕ → ℕ → ℕ → List ℕ
+limit_line worker index limit =
+    decimal worker ++ labelled (codes ",") index ++ codes ",fault " ++ limit_text limit
+    ++ codes "\n"
+
+-- the answer to a worker's request past a limit, if the options ask for replies
+abbrev pub limit_answer : Options → Gone → ℕ → ℕ → List ℕ
+limit_answer options gone limit worker =
+    if options.rows || options.history then []
+    else limit_line worker (gone.requests worker) limit
+
+-- the answer to a line that is turned away
+abbrev pub line_answer : Options → Gone → Said → List ℕ
+line_answer options gone (says.Fault met) = fault_answer options gone met
+line_answer options gone (says.Record one) = limit_answer options gone MOST_COMMITS one.worker
+
+-- what is written of a step
+abbrev pub step_text : Options → Gone → Step → List ℕ
+step_text options gone (Part part) = part_text options gone part.added part.history
+step_text options gone (Answer line) = line_answer options gone line
+
+-- what is written of steps: phases and indexes go on counting
+unfoldable pub served_text : Options → Gone → List Step → List ℕ
+served_text options gone [] = []
+served_text options gone (step ∷ more) =
+    step_text options gone step ++ served_text options (gone_past options gone step) more
+
+-- the rows that are logged of a step
+abbrev pub step_rows : Step → List ℕ
+step_rows (Part part) = rows_text part.added part.history
+step_rows (Answer line) = []
+
+-- the rows that are logged of steps
+abbrev pub served_rows : List Step → List ℕ
+served_rows steps = flat_map step_rows steps
+
+-- All that lines say is served, and this holds of the rows and of the text.
+pub record ServesAll (options : Options) (book : Book) (all : List Said)
+    (Holds : List ℕ → List ℕ → Type 0) : Type 0 where
+  pub steps : List Step
+  pub served : IsServed options book all steps []
+  pub holds : Holds (served_rows steps) (served_text options nothing_gone steps)
+
+-- The first of what lines say is served, and this holds of the rows and of the text.
+pub record ServesFirst (options : Options) (book : Book) (all : List Said)
+    (Holds : List ℕ → List ℕ → Type 0) : Type 0 where
+  pub steps : List Step
+  pub rest : List Said
+  pub served : IsServed options book all steps rest
+  pub holds : Holds (served_rows steps) (served_text options nothing_gone steps)
+
+-- rows are logged, and a text is written whole
+abbrev pub AreTold : {L W : Type 0} → (L → Option (List ℕ)) → (W → Option (List ℕ)) →
+    Teller L W → Teller L W → List ℕ → List ℕ → Type 0
+AreTold accepted contents old new rows text = Appends (accepted old.log) (accepted new.log) rows
+    × Appends (contents old.writer) (contents new.writer) text
+
+-- rows are logged, and of a text a prefix is written
+abbrev pub ArePartTold : {L W : Type 0} → (L → Option (List ℕ)) → (W → Option (List ℕ)) →
+    Teller L W → Teller L W → List ℕ → List ℕ → Type 0
+ArePartTold accepted contents old new rows text = Appends (accepted old.log) (accepted new.log) rows
+    × IsPartWritten (contents old.writer) (contents new.writer) text
+
+-- nothing is logged or written
+abbrev pub IsNothingTold : {L W : Type 0} → (L → Option (List ℕ)) → (W → Option (List ℕ)) →
+    Teller L W → Teller L W → Type 0
+IsNothingTold accepted contents old new = Keeps (accepted old.log) (accepted new.log)
+    × Keeps (contents old.writer) (contents new.writer)
+
+-- no byte is written of a part whose rows are not logged: those of the parts that are written, to
+-- the last one's, are
+abbrev pub IsLoggedBefore : {L W : Type 0} → (L → Option (List ℕ)) → (W → Option (List ℕ)) →
+    Teller L W → Teller L W → Options → Book → List Said → Type 0
+IsLoggedBefore accepted contents old new options book all =
+    ServesFirst options book all (ArePartTold accepted contents old new)
+
+-- a log has the rows of a book, and nothing else
+abbrev pub LogHasBook : Option (List ℕ) → Book → Type 0
+LogHasBook accepted book = accepted ≡ Some (rows_text book [])
+
+-- The first of what lines say is served from a book, and a log has the book that this leaves.
+pub record HasServedBook (accepted : Option (List ℕ)) (options : Options) (book : Book)
+    (all : List Said) : Type 0 where
+  pub steps : List Step
+  pub rest : List Said
+  pub served : IsServed options book all steps rest
+  pub has : LogHasBook accepted (book_left options book steps)
+
+-- ---- the history of all parts
+
+-- the history of a step: an answer is none
+abbrev pub step_history : Step → List Entry
+step_history (Part part) = part.history
+step_history (Answer line) = []
+
+-- the rows that a step adds
+abbrev pub step_added : Step → Book
+step_added (Part part) = part.added
+step_added (Answer line) = []
+
+-- the rows that steps add
+abbrev pub added_rows : List Step → Book
+added_rows steps = flat_map step_added steps
+
+-- no rows are added behind a history
+unfoldable pub RowsComeFirst : List Step → Type 0
+RowsComeFirst [] = Unit {0}
+RowsComeFirst (step ∷ more) =
+    ((step_history step ≡ []) ⊎ (added_rows more ≡ [])) × RowsComeFirst more
+
+-- the history of all steps, one after the other: phases and indexes go on counting
+unfoldable pub served_history : Options → Gone → List Step → List Entry
+served_history options gone [] = []
+served_history options gone (step ∷ more) =
+    all_moved gone (step_history step) ++ served_history options (gone_past options gone step) more

@@ -1,0 +1,11 @@
+//! Replies while requests come: an input is performed part by part, and the rows of a part are
+//! logged before one byte of its replies is written.
+#![tactic(auto)]
+
+mod limits;
+mod parts;
+mod session;
+
+pub use part_log::{Log, NoLog, Teller};
+pub use parts::LiveTeller;
+pub use session::{LoggedInput, parts_are_one_history, serve};

@@ -1,0 +1,155 @@
+//! Requests past their worker's limit. The auction of these tests does not last, so a worker may
+//! commit 1,000,000 requests in place of 2^31.
+ghost use Rattle.phase_floor.specs.Adding.{HasBook};
+
+use crate::comparing::assert_same;
+use crate::program::running_tests::options_of;
+use crate::testing::FIRST;
+use auction_program::{Fault, Joined, LiveTeller, LoggedInput, NoLog, Teller, serve};
+use auction_rows::{Facts, Name, Opening, Quantity, Request, Stars};
+use item_shards::Opened;
+use std::alloc::Global;
+use std::process::Abort;
+use std::sync::Wait;
+use std::thread::Threads;
+
+// What the options of these tests say.
+const OPENING: Opening = Opening {
+    users: 100,
+    categories: 10,
+};
+
+fn item(rt: &impl Abort) -> Request {
+    let facts = Facts {
+        seller: 0,
+        category: 0,
+        name: Name::new(b"Vase").expect(rt, "a name"),
+        start: 10,
+        closes: 1000,
+        quantity: Quantity::new(3).expect(rt, "a quantity"),
+    };
+    Request::StoreItem { facts, time: 1 }
+}
+
+fn comment(rt: &impl Abort) -> Request {
+    Request::StoreComment {
+        author: 1,
+        about: 2,
+        item: FIRST,
+        stars: Stars::new(1).expect(rt, "stars"),
+    }
+}
+
+// An auction of two workers in which nothing is stored.
+fn auction(rt: &impl Abort, alloc: Global) -> Joined
+    ensures { HasBook result }
+{
+    Joined::new(alloc, OPENING, 2, 4).expect(rt, "memory")
+}
+
+// Adds a row of worker 0.
+fn add(rt: &impl Abort, auction: &mut Joined, request: Request)
+    requires { HasBook auction.old }
+    ensures { HasBook auction.new }
+{
+    let Ok(_row) = auction.add(&Opened { worker: 0, request }) else {
+        panic!(rt; "a row is refused");
+    };
+}
+
+// An auction of two workers, of whom worker 0 may commit three requests more.
+fn almost_full(rt: &impl Abort, alloc: Global) -> Joined
+    ensures { HasBook result }
+{
+    let mut auction = auction(rt, alloc);
+    add(rt, &mut auction, item(rt));
+    for _comment in 0..999_996 {
+        add(rt, &mut auction, comment(rt));
+    }
+    auction
+}
+
+// A row, which is taken in, and requests of which worker 0 commits two.
+const LINES: &[u8] = b"\
+0,+comment,1,2,0.0,1
+0,comment,1,3,0.0,5
+0,viewuser,3
+0,comment,1,3,0.0,5
+0,viewuser,3
+1,comment,1,3,0.0,-1
+0,bid,1,0.0,20,5
+0,foo
+1,viewitem,0.0
+1,viewuser,3
+";
+
+// Asserts how these lines are served, by these words of a command line: what is written, what is
+// told apart from it, and how they end.
+fn assert_served<R: Abort + Alloc<A = Global> + Threads + Wait + Sync>(
+    rt: &R,
+    words: &[&str],
+    written: &[u8],
+    errors: &[u8],
+    ended: Result<(), Fault>,
+) {
+    let alloc = rt.alloc();
+    let source = LoggedInput {
+        auction: almost_full(rt, alloc),
+        reader: LINES,
+    };
+    let texts = Teller {
+        log: NoLog,
+        writer: Vec::new(alloc),
+    };
+    let mut teller = LiveTeller::of(alloc, texts, Vec::new(alloc));
+    let options = options_of(rt, alloc, words);
+    let served = serve(rt, alloc, source, &mut teller, &options);
+    assert_same(rt, &served, &ended);
+    assert_same(rt, &teller.teller.writer.as_slice(), &written);
+    assert_same(rt, &teller.errors.as_slice(), &errors);
+}
+
+#[test]
+fn a_request_past_a_limit_is_answered_and_changes_nothing(rt: HostRuntime) {
+    let answers: &[u8] = b"\
+0,0,comment 0.999997
+0,1,user rating=5 comments=1
+0,2,comment 0.999998
+0,3,fault more than 1000000 requests for a worker
+1,0,comment 1.0
+0,3,fault more than 1000000 requests for a worker
+0,3,fault record 8: unknown kind
+1,1,viewitem seller=0 category=0 start=10 closes=1000 highest=- bidder=- bids=0 left=3 name=Vase
+1,2,user rating=9 comments=3
+";
+    assert_served(&rt, &["--workers=2", "--live=10"], answers, b"", Ok(()));
+}
+
+#[test]
+fn beside_the_rows_a_request_past_a_limit_is_told_as_a_fault(rt: HostRuntime) {
+    let rows: &[u8] = b"\
+0,+comment,1,2,0.0,1
+0,+comment,1,3,0.0,5
+0,+comment,1,3,0.0,5
+1,+comment,1,3,0.0,-1
+";
+    let faults: &[u8] = b"\
+rubis_auction: more than 1000000 requests for a worker
+rubis_auction: more than 1000000 requests for a worker
+rubis_auction: record 8: unknown kind
+";
+    let words = ["--workers=2", "--live=10", "--rows"];
+    assert_served(&rt, &words, rows, faults, Ok(()));
+}
+
+#[test]
+fn a_request_past_a_limit_may_end_the_input(rt: HostRuntime) {
+    let answers: &[u8] = b"\
+0,0,comment 0.999997
+0,1,user rating=5 comments=1
+0,2,comment 0.999998
+";
+    let words = ["--workers=2", "--live=10", "--faults=end"];
+    let limit = Err(Fault::Limit(1_000_000));
+    assert_served(&rt, &words, answers, b"", limit);
+}
