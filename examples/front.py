@@ -14,7 +14,7 @@ import signal
 import socket
 import sys
 import time
-from collections import deque
+from collections import Counter, deque
 from itertools import cycle
 from pathlib import Path
 
@@ -28,6 +28,8 @@ MOST_FAILURES = 5  # starts of the program in a row that answer nothing
 
 # Of each kind of request the place of its time, or 0 if it has none.
 TIMES = {b"ITEM": 6, b"BID": 4, b"BUYNOW": 4, b"COMMENT": 0, b"VIEWITEM": 0, b"VIEWBIDS": 0, b"VIEWCATEGORY": 0, b"VIEWUSER": 0}
+# Of each kind of request that names an item the place of its id.
+ITEMS = {b"bid": 2, b"buynow": 2, b"comment": 3, b"viewitem": 1, b"viewbids": 1}
 COUNTS = {b"*%d\r" % count: count for count in range(1, 100)}
 SIZES = {size: b"$%d\r" % size for size in range(MOST_BYTES)}
 
@@ -69,6 +71,12 @@ def record_of(kind, words):
     return record[:MOST_BYTES]
 
 
+def item_of(record):
+    """The item that a record names, if it names one."""
+    fields = record.split(b",")
+    return next(iter(fields[ITEMS.get(fields[0], len(fields)) :]), None)
+
+
 class Request:
     """A command, and its reply, which its client may have once it is released."""
 
@@ -87,11 +95,13 @@ class Audit:
 
     def __init__(self, folder, number, log):
         folder.mkdir(parents=True, exist_ok=True)
+        paths = [folder / f"{number}.{kind}" for kind in ("csv", "history")]
         with open(log if log and log.exists() else "/dev/null", "rb") as rows:
             # The program of a front that was killed may still be writing it.
             fcntl.flock(rows, fcntl.LOCK_SH | fcntl.LOCK_NB)
-            self.files = self.input, self.history = [open(folder / f"{number}.{kind}", "wb", buffering=0) for kind in ("csv", "history")]
-            self.input.writelines(row for row in rows if row.endswith(b"\n"))
+            with open(paths[0], "wb") as copy:
+                copy.writelines(row for row in rows if row.endswith(b"\n"))
+        self.files = self.input, self.history = open(paths[0], "ab", buffering=0), open(paths[1], "wb", buffering=0)
 
     def keep(self, lines, requests):
         self.input.write(b"".join(b"%d,%s\n" % (request.client.worker, request.record) for request in requests))
@@ -103,7 +113,7 @@ class Engine(asyncio.SubprocessProtocol):
 
     def __init__(self, asked):
         self.asked, self.clients, self.sessions = asked, set(), cycle(range(asked.workers))
-        self.waiting, self.unanswered, self.stdin, self.audit, self.is_stopping = [], deque(), None, None, False
+        self.waiting, self.unanswered, self.group, self.stdin, self.audit, self.is_stopping = [], deque(), [], None, None, False
         self.failures = self.requests = self.groups = self.seconds = self.sent_at = 0
         self.starts = max((int(path.stem) for path in asked.audit.glob("*.csv")), default=0) if asked.audit else 0
         self.share_out()
@@ -190,6 +200,7 @@ class Engine(asyncio.SubprocessProtocol):
 
     def release(self, lines, requests):
         """Releases replies whose rows are logged: lines of the history, and their requests in the order in which they were sent."""
+        self.group = requests
         if self.audit:
             self.audit.keep(lines, requests)
         for request in requests:
@@ -228,9 +239,16 @@ class Engine(asyncio.SubprocessProtocol):
         self.is_stopping = True
         self.send()
 
+    def busiest_item(self):
+        """The item that most requests of the last group of replies name, if any does, and how many these are."""
+        items = Counter(item for request in self.group if (item := item_of(request.record)))
+        return next(((item.decode(errors="replace"), count) for item, count in items.most_common(1)), ("none", 0))
+
     def info(self):
+        item, count = self.busiest_item()
         counts = {"connected_clients": len(self.clients), "requests": self.requests, "under_way": len(self.unanswered) + len(self.waiting),
-                  "starts": self.starts, "groups": self.groups, "group_microseconds": int(1e6 * self.seconds / max(1, self.groups))}
+                  "starts": self.starts, "groups": self.groups, "group_microseconds": int(1e6 * self.seconds / max(1, self.groups)),
+                  "last_group_requests": len(self.group), "busiest_item": item, "busiest_item_requests": count}
         text = "".join(f"{name}:{count}\r\n" for name, count in counts.items()).encode()
         return b"$%d\r\n%s\r\n" % (len(text), text)
 

@@ -91,7 +91,7 @@ class Front:
     def client(self, **how) -> "Client":
         return Client(self.port, **how)
 
-    def info(self) -> dict[str, int]:
+    def info(self) -> dict[str, int | str]:
         with self.client() as client:
             return client.info()
 
@@ -127,10 +127,10 @@ class Client:
         self.send(b"".join(command + b"\n" for command in commands))
         return [self.reply() for _ in commands]
 
-    def info(self) -> dict[str, int]:
+    def info(self) -> dict[str, int | str]:
         self.send(b"INFO\n")
         text = self.replies.read(int(self.reply()[1:]) + 2).decode()
-        return {name: int(count) for name, count in (line.split(":") for line in text.split())}
+        return {name: int(told) if told.isdigit() else told for name, told in (line.split(":") for line in text.split())}
 
 
 def packed(*words: bytes) -> bytes:

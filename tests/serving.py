@@ -92,8 +92,13 @@ def commands(tester: Tester) -> None:
         tester.tally.check(got[0] == b"+bid 1.0", f"a second connection is another worker's: {got}")
         got = client.ask(b"PLACES ON", b"VIEWUSER 0", b"BID 3", b"VIEWUSER 0", b"QUIT", b"PING")
         tester.tally.check(got == [b"+OK", b"+1.1.8 user rating=0 comments=0", b"-ERR wrong number of fields", b"+1.1.9 user rating=0 comments=0", b"+OK", b""], f"places: {got}")
+    with front.client() as client:
+        # One write is one group, without the command that has a fault.
+        client.ask(b"BID 1 0.0 700 *", b"VIEWITEM 0.0", b"COMMENT 1 2 0.0 5", b"VIEWITEM 0.1", b"VIEWUSER 0", b"BID 3", b"QUIT")
     got = front.info()
-    tester.tally.check(got["connected_clients"] == 1 and got["starts"] == 1 and got["under_way"] == 0 and got["requests"] == 25 and 0 < got["groups"] <= 25, f"INFO: {got}")
+    told = got["last_group_requests"], got["busiest_item"], got["busiest_item_requests"]
+    tester.tally.check(told == (5, "0.0", 3), f"INFO on the last group: {told}")
+    tester.tally.check(got["connected_clients"] == 1 and got["starts"] == 1 and got["under_way"] == 0 and got["requests"] == 30 and 0 < got["groups"] <= 26, f"INFO: {got}")
     tester.tally.check(front.close() == 0, "the status after SIGTERM")
     tester.tally.check(whole_lines(front.log)[2] == '0,+item,1,2,"A, ""quoted""  name",10,100,1,1', "the log")
     judged_by_itself(tester, front)
