@@ -50,7 +50,7 @@ LINE = "format('%s %s %s %s', number, worker, index, reply)"
 COMMIT = ("COMMIT", "SELECT 'committed'")
 # The status of a psql that has no connection, or no longer.
 BROKEN = 2
-# How often a worker tries to connect, and how many seconds it waits in between.
+# How often a connection is tried, and how many seconds pass in between.
 TRIES, PAUSE = 120, 0.5
 Result = TypeVar("Result")
 
@@ -92,16 +92,7 @@ class Worker:
     def __init__(self, number: int, script: list[list[str]], asked: argparse.Namespace):
         self.number, self.script, self.asked = number, script, asked
         self.broken = 0
-        self.patiently(self.connect)
-
-    def patiently(self, act: Callable[[], Result]) -> Result:
-        """What an act gives; with --keep it is tried again while there is no connection."""
-        for _ in range(TRIES if self.asked.keep else 1):
-            try:
-                return act()
-            except ConnectionError:
-                time.sleep(PAUSE)
-        raise SystemExit(f"worker {self.number}: no connection")
+        patiently(asked, self.connect)
 
     def connect(self) -> None:
         self.psql = Popen(psql(self.asked), stdin=PIPE, stdout=PIPE, stderr=PIPE, text=True)
@@ -121,7 +112,7 @@ class Worker:
             if not self.asked.keep:
                 raise SystemExit(f"worker {self.number}: {error}")
         self.broken += 1
-        return self.patiently(partial(self.find_or_execute, index, request))
+        return patiently(self.asked, partial(self.find_or_execute, index, request))
 
     def find_or_execute(self, index: int, request: list[str]) -> Line:
         self.connect()
@@ -170,8 +161,24 @@ def psql(asked: argparse.Namespace) -> list[str]:
     return ["psql", "-qAtX", "-v", "ON_ERROR_STOP=1", *(["-d", asked.database] if asked.database else [])]
 
 
+def patiently(asked: argparse.Namespace, act: Callable[[], Result]) -> Result:
+    """What an act gives; with --keep it is tried again while there is no connection."""
+    for _ in range(TRIES if asked.keep else 1):
+        try:
+            return act()
+        except ConnectionError as error:
+            said = error
+            time.sleep(PAUSE)
+    raise SystemExit(f"no connection: {said}")
+
+
 def ask(asked: argparse.Namespace, text: str) -> list[str]:
-    return run(psql(asked), input=text, text=True, stdout=PIPE, check=True).stdout.splitlines()
+    ran = run(psql(asked), input=text, text=True, stdout=PIPE, stderr=PIPE)
+    if ran.returncode == BROKEN:
+        raise ConnectionError(ran.stderr)
+    if ran.returncode:
+        raise SystemExit(ran.stderr)
+    return ran.stdout.splitlines()
 
 
 def open_auction(rows: list[list[str]], asked: argparse.Namespace) -> None:
@@ -204,7 +211,7 @@ def main() -> None:
     with ThreadPoolExecutor(len(workers)) as threads:
         lines = {line for lines in threads.map(Worker.perform, workers) for line in lines}
     if asked.keep:
-        kept = set(map(Line.of, ask(asked, f"SELECT {LINE} FROM history;")))
+        kept = set(map(Line.of, patiently(asked, partial(ask, asked, f"SELECT {LINE} FROM history;"))))
         broken = sum(worker.broken for worker in workers)
         print(f"{len(lines)} requests acknowledged, {len(lines - kept)} of them lost; {broken} connections broken", file=sys.stderr)
         lines = kept
